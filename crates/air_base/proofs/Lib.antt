@@ -1,0 +1,3 @@
+pub mod NumberFacts
+pub mod PartFacts
+pub mod ListLaws

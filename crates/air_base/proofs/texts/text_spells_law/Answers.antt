@@ -1,0 +1,5 @@
+use Rattle.air_base.proofs.NumberFacts.{text_spells}
+use Rattle.air_base.proofs.texts.text_spells_law.Goals as goal
+
+pub returns : goal.returns
+returns c = text_spells

@@ -1,0 +1,71 @@
+-- Numbers as texts: decimal digits without sign and without a leading zero except for `0` itself.
+--
+-- `number_of` says which number a text spells, `number_text` how a number is spelled. The two laws say
+-- that they answer each other, so each number of 64 bits has one text. Whatever is read or printed
+-- stands on them.
+use Rattle.std.specs.Prelude.{◌≡◌, ◌==◌, ◌&&◌, ◌||◌, ◌+◌, ◌/◌, ◌%◌, ◌^◌, ◌<◌, ◌++◌, ℕ, zero, suc, List, [], ◌∷◌, Bool, false, not, Option, Some, None, length, nat_lt, if◌then◌else◌, codes, refl}
+use Rattle.std.specs.Char.{is_ascii_digit}
+use Rattle.std.specs.List.{list_all}
+use Rattle.std.specs.Str.Parse.{digits_value}
+
+-- The text has digits alone, at least one, and begins with a zero only where that is all of it.
+abbrev pub is_numeral : List ℕ → Bool
+is_numeral [] = false
+is_numeral (first ∷ rest) = (not (first == 48) || length rest == 0) && list_all is_ascii_digit (first ∷ rest)
+
+-- The number of 64 bits that the text spells, if it spells one.
+unfoldable pub number_of : List ℕ → Option ℕ
+number_of text = if is_numeral text && nat_lt (digits_value 10 text) (2 ^ 64) then Some (digits_value 10 text) else None
+
+-- The digits of n, the highest first, and only the last ones where there are more than so many.
+abbrev pub last_digits : ℕ → ℕ → List ℕ
+last_digits zero n = []
+last_digits (suc many) n = if nat_lt n 10 then (48 + n) ∷ [] else last_digits many (n / 10) ++ (48 + n % 10) ∷ []
+
+-- The text of a number of 64 bits: its digits, of which there are at most 20.
+unfoldable pub number_text : ℕ → List ℕ
+number_text n = last_digits 20 n
+
+-- The text of a number of 64 bits spells that number.
+abbrev pub TextSpellsLaw : Type 0
+TextSpellsLaw = (n : ℕ) → n < 2 ^ 64 → number_of (number_text n) ≡ Some n
+
+-- No other text spells it.
+abbrev pub OneSpellingLaw : Type 0
+OneSpellingLaw = (text : List ℕ) (n : ℕ) → number_of text ≡ Some n → text ≡ number_text n
+
+zero_alone : number_of (codes "0") ≡ Some 0
+unfolding number_of
+zero_alone = refl
+
+zero_first : number_of (codes "01") ≡ None
+unfolding number_of
+zero_first = refl
+
+plus_first : number_of (codes "+1") ≡ None
+unfolding number_of
+plus_first = refl
+
+no_digit : number_of [] ≡ None
+unfolding number_of
+no_digit = refl
+
+greatest : number_of (codes "18446744073709551615") ≡ Some 18446744073709551615
+unfolding number_of
+greatest = refl
+
+one_more : number_of (codes "18446744073709551616") ≡ None
+unfolding number_of
+one_more = refl
+
+zero_text : number_text 0 ≡ codes "0"
+unfolding number_text
+zero_text = refl
+
+small_text : number_text 1200 ≡ codes "1200"
+unfolding number_text
+small_text = refl
+
+greatest_text : number_text 18446744073709551615 ≡ codes "18446744073709551615"
+unfolding number_text
+greatest_text = refl

@@ -1,0 +1,140 @@
+//! Lists of numbers as texts: parts with one space between each two.
+//!
+//! The empty text is the empty list. A leading, trailing or double space makes an empty part, which
+//! spells no number. The first part that spells none is reported by the byte at which it begins.
+
+ghost use Rattle.std.specs.Prelude.{◌≡◌, ◌<◌, ◌^◌, length, Some, IfOk, IfErr};
+ghost use Rattle.air_base.specs.Numbers.{number_of};
+ghost use Rattle.air_base.specs.NumberLists.{list_of, bad_part_at, ListIsItsPartsLaw, ListOrBadPartLaw, ListTextSpellsLaw, OneListSpellingLaw};
+ghost use Rattle.air_base.specs.ListFault.{TellsBadPart};
+
+use crate::texts::read_u64;
+use std::alloc::{AllocFailed, Global};
+use std::error::Error;
+use std::fmt;
+
+/// Why a text gave no list.
+#[derive(Clone, Copy, Debug, PartialEq, Eq)]
+pub enum ListFault {
+    /// The first part that spells no number begins at this byte.
+    BadNumber { at: u32 },
+    /// There was no memory for the list.
+    NoMemory,
+}
+
+impl<T: Drop> From<AllocFailed<T>> for ListFault {
+    ghost use Rattle.std.specs.Prelude.{◌≡◌};
+    ghost use Rattle.air_base.specs.declared.number_lists.ListFault.TheVariants.{NoMemory};
+
+    ghost from_gives = { λ _ e. e ≡ NoMemory };
+
+    fn from(_error: AllocFailed<T>) -> Self {
+        ListFault::NoMemory
+    }
+}
+
+impl fmt::Display for ListFault {
+    fn fmt<W: fmt::Write>(&self, f: &mut fmt::Formatter<W>) -> fmt::Result {
+        match self {
+            ListFault::BadNumber { at } => write!(f, "no number at byte {at}"),
+            ListFault::NoMemory => f.write_str("out of memory"),
+        }
+    }
+}
+
+impl Error for ListFault {}
+
+/// The numbers of the list that the text spells.
+pub fn read_list(alloc: Global, text: &[u8]) -> Result<Vec<u64>, ListFault>
+    requires { length text.now < 2 ^ 32 }
+    ensures numbers { IfOk result (λ list. list_of number_of text.now ≡ Some list.items) }
+    ensures bad_number { IfErr result (λ fault. TellsBadPart fault (bad_part_at number_of text.now)) }
+{
+    let mut numbers = Vec::new(alloc);
+    if text.is_empty() {
+        return Ok(numbers);
+    }
+    let mut at = 0_u64;
+    for part in text.split(|byte| *byte == b' ') {
+        match read_u64(part) {
+            Some(number) => numbers.push(number)?,
+            None => return Err(ListFault::BadNumber { at: at as u32 }),
+        }
+        at += part.len() as u64 + 1;
+    }
+    Ok(numbers)
+}
+
+/// A list has the numbers of its parts, one for each.
+pub fn list_is_its_parts_law()
+    ensures { ListIsItsPartsLaw }
+{}
+
+/// A text that spells no list has a first part that spells no number, and no other text has one.
+pub fn list_or_bad_part_law()
+    ensures { ListOrBadPartLaw }
+{}
+
+/// The texts of numbers with one space between each two spell these numbers.
+pub fn list_text_spells_law()
+    ensures { ListTextSpellsLaw }
+{}
+
+/// No other text spells them.
+pub fn one_list_spelling_law()
+    ensures { OneListSpellingLaw }
+{}
+
+#[cfg(test)]
+mod tests {
+    use super::*;
+    use std::test::Fail;
+
+    #[test]
+    fn lists_of_single_spaces_are_read(rt: HostRuntime) -> Result<(), Fail> {
+        assert_eq!(rt; read_list(rt.alloc(), b"")?.len(), 0);
+        assert_eq!(rt; read_list(rt.alloc(), b"7")?.as_slice(), [7].as_slice());
+        assert_eq!(rt;
+            read_list(rt.alloc(), b"1 2")?.as_slice(),
+            [1, 2].as_slice()
+        );
+        let greatest = read_list(rt.alloc(), b"0 18446744073709551615 0")?;
+        assert_eq!(rt;
+            greatest.as_slice(),
+            [0, 18446744073709551615, 0].as_slice()
+        );
+        Ok(())
+    }
+
+    #[test]
+    fn the_first_bad_part_is_reported(rt: HostRuntime) {
+        let bad: [(&str, u32); 9] = [
+            (" ", 0),
+            (" 1", 0),
+            ("1 ", 2),
+            ("1  2", 2),
+            ("1 x 2", 2),
+            ("12 34 05 x", 6),
+            ("+1", 0),
+            ("1 18446744073709551616", 2),
+            ("1,2", 0),
+        ];
+        for (text, at) in bad {
+            match read_list(rt.alloc(), text.as_bytes()) {
+                Ok(_) => assert!(rt; false, "a list: {text}"),
+                Err(fault) => assert_eq!(rt; fault, ListFault::BadNumber { at }, "{text}"),
+            }
+        }
+    }
+
+    #[test]
+    fn faults_are_shown(rt: HostRuntime) -> Result<(), Fail> {
+        let bad = ListFault::BadNumber { at: 12 };
+        assert_eq!(rt; bad.to_string(rt.alloc())?.as_str(), "no number at byte 12");
+        assert_eq!(rt;
+            ListFault::NoMemory.to_string(rt.alloc())?.as_str(),
+            "out of memory"
+        );
+        Ok(())
+    }
+}
