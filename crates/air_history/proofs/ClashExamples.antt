@@ -1,0 +1,91 @@
+-- Small histories, computed: which reads are consistent, and which clash under each policy.
+use Rattle.std.specs.Prelude.{◌≡◌, ℕ, List, [], ◌∷◌, Option, Some, None, true, false, refl}
+use Rattle.air_base.specs.declared.verdicts.Policy.{Policy}
+use Rattle.air_base.specs.declared.verdicts.Policy.TheVariants.{FMatrix, Datacycle, RMatrix}
+use Rattle.air_base.specs.declared.verdicts.Clash.{Clash}
+use Rattle.air_history.specs.declared.histories.Event.{Event}
+use Rattle.air_history.specs.declared.histories.Event.TheVariants.{Start}
+use Rattle.air_history.specs.Places.{last_place, greatest}
+use Rattle.air_history.specs.Histories.{is_start, reads, writes, cycle_at, front, writer_before, writer}
+use Rattle.air_history.specs.Descents.{descends_within, descends}
+use Rattle.air_history.specs.Columns.{column_entry, vector_entry, aired_entries}
+use Rattle.air_history.specs.Tables.{based, write_of, value_after, table}
+use Rattle.air_history.specs.Reads.{ReadAt, origin, stale, read_value}
+use Rattle.air_history.specs.Consistency.{descends_from, runs_alone, picked, alone, last_alone, consistent}
+use Rattle.air_history.specs.Clashes.{least, is_late, clash_by_history, Heard, clash_by_entries}
+use Rattle.air_history.specs.ClashLaws.{current_cycle_after, current_cycle}
+use Rattle.air_history.proofs.HistoryExamples.{set_to, commit, chained, then_blind, tens}
+
+abbrev pub at : ℕ → ℕ → ReadAt
+at i c = record { item = i; cycle = c }
+
+-- the read as a receiver hears it
+abbrev pub heard : Policy → List Event → ℕ → ℕ → Heard
+heard policy H i c = record { item = i; cycle = c; entries = aired_entries policy 2 H c i }
+
+-- both items are written in cycle 1, by updates that read nothing
+abbrev pub apart : List Event
+apart = Start ∷ commit 0 [] (set_to 0 11) ∷ commit 1 [] (set_to 1 21) ∷ Start ∷ []
+
+-- item 0 alone is written
+abbrev pub one_written : List Event
+one_written = Start ∷ commit 0 [] (set_to 0 11) ∷ Start ∷ []
+
+-- a clash with item 0 of cycle 1
+abbrev with_first : Option Clash
+with_first = Some (record { item = 0; cycle = 1 })
+
+-- the clash of item 1 of cycle 2 with item 0 of cycle 1, by the history and by the entries
+abbrev Both : Policy → List Event → Option Clash → Type 0
+Both policy H answer =
+    (clash_by_history policy H (at 0 1 ∷ []) (at 1 2) ≡ answer)
+    × (clash_by_entries policy (heard policy H 0 1 ∷ []) (heard policy H 1 2) ≡ answer)
+
+pub record Consistency : Type 0 where
+  -- item 1 of cycle 2 descends from a write of item 0 that the first read has not seen
+  chain : consistent chained (at 0 1 ∷ at 1 2 ∷ []) ≡ false
+  one_cycle : consistent chained (at 0 2 ∷ at 1 2 ∷ []) ≡ true
+  -- no single cycle has both, and yet they are consistent
+  no_cycle : consistent apart (at 0 1 ∷ at 1 2 ∷ []) ≡ true
+  blind : consistent then_blind (at 0 1 ∷ at 1 3 ∷ []) ≡ true
+  -- what runs alone for item 2 of cycle 2: the first two commits
+  alone_for_two : alone chained (at 2 2 ∷ []) ≡ commit 0 [] (set_to 0 11) ∷ commit 1 (0 ∷ []) (Rattle.air_history.proofs.HistoryExamples.add_to 2 0 1) ∷ []
+  value : read_value (Rattle.air_history.specs.Tables.values_of tens) chained (at 2 2) ≡ 12
+
+pub consistency : Consistency
+unfolding consistent alone picked last_alone runs_alone descends_from origin read_value table value_after write_of based writer writer_before last_place writes descends descends_within reads front
+consistency = record { chain = refl; one_cycle = refl; no_cycle = refl; blind = refl; alone_for_two = refl; value = refl }
+
+pub record Clashes : Type 0 where
+  f_matrix_apart : Both FMatrix apart None
+  datacycle_apart : Both Datacycle apart with_first
+  r_matrix_apart : Both RMatrix apart with_first
+  f_matrix_chain : Both FMatrix chained with_first
+  f_matrix_one : Both FMatrix one_written None
+  datacycle_one : Both Datacycle one_written with_first
+  r_matrix_one : Both RMatrix one_written None
+  -- an older read comes late under R-Matrix alone, and Datacycle names what it holds of the newest cycle
+  late : is_late RMatrix (at 0 2 ∷ []) (at 1 1) ≡ true
+  in_time : is_late FMatrix (at 0 2 ∷ []) (at 1 1) ≡ false
+  older : clash_by_history Datacycle apart (at 0 2 ∷ []) (at 1 1) ≡ Some (record { item = 0; cycle = 2 })
+  -- the least item number is named, whatever the order of reading
+  least_named : clash_by_history Datacycle apart (at 1 1 ∷ at 0 1 ∷ []) (at 2 2) ≡ with_first
+  -- the reads of item 0 and 1 share the first cycle, since item 1 stays there
+  shares : current_cycle one_written (at 0 1 ∷ at 1 2 ∷ []) ≡ 1
+
+pub clashes : Clashes
+unfolding clash_by_history clash_by_entries is_late least stale consistent last_alone runs_alone descends_from origin column_entry vector_entry greatest writer writer_before last_place writes descends descends_within reads front cycle_at is_start current_cycle_after
+clashes = record {
+  f_matrix_apart = (refl, refl);
+  datacycle_apart = (refl, refl);
+  r_matrix_apart = (refl, refl);
+  f_matrix_chain = (refl, refl);
+  f_matrix_one = (refl, refl);
+  datacycle_one = (refl, refl);
+  r_matrix_one = (refl, refl);
+  late = refl;
+  in_time = refl;
+  older = refl;
+  least_named = refl;
+  shares = refl;
+}

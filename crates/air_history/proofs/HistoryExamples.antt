@@ -1,0 +1,115 @@
+-- Small histories, computed: what the definitions say of them.
+use Rattle.std.specs.Prelude.{◌≡◌, ℕ, ◌^◌, ◌-◌, List, [], ◌∷◌, ◌++◌, Some, None, true, false, refl}
+use Rattle.air_history.specs.declared.updates.Write.{Write}
+use Rattle.air_history.specs.declared.updates.UpdateFault.TheVariants.{Limit, Repeated, BaseNotRead}
+use Rattle.air_history.specs.declared.histories.Event.{Event}
+use Rattle.air_history.specs.declared.histories.Event.TheVariants.{Commit, Start}
+use Rattle.air_history.specs.UpdateRules.{has_repeat, update_fault}
+use Rattle.air_history.specs.Places.{last_place, greatest}
+use Rattle.air_history.specs.Histories.{is_start, reads, writes, writes_of, starts, cycle_at, front, writer_before, writer}
+use Rattle.air_history.specs.Descents.{descends_within, descends}
+use Rattle.air_history.specs.Columns.{column_entry, vector_entry, column, vector}
+use Rattle.air_history.specs.Tables.{based, write_of, value_after, table, table_list}
+use Rattle.air_history.specs.Boards.{reply_of, board_of, frame_of}
+
+-- a write of a constant, of a base and an amount more, of a base less an amount
+abbrev pub set_to : ℕ → ℕ → Write
+set_to i v = record { item = i; base = None; minus = false; amount = v }
+
+abbrev pub add_to : ℕ → ℕ → ℕ → Write
+add_to i b v = record { item = i; base = Some b; minus = false; amount = v }
+
+abbrev pub take_from : ℕ → ℕ → ℕ → Write
+take_from i b v = record { item = i; base = Some b; minus = true; amount = v }
+
+-- a commit of updater 0
+abbrev pub commit : ℕ → List ℕ → Write → Event
+commit seq reads write = Commit 0 seq (record { reads = reads; writes = write ∷ [] })
+
+-- item 0 becomes 11, item 2 that and 1, item 1 that and 1; all in cycle 1
+abbrev pub chained : List Event
+chained = Start ∷ commit 0 [] (set_to 0 11) ∷ commit 1 (0 ∷ []) (add_to 2 0 1) ∷ commit 2 (2 ∷ []) (add_to 1 2 1) ∷ Start ∷ []
+
+-- then item 1 is written without a read, in cycle 2
+abbrev pub then_blind : List Event
+then_blind = chained ++ commit 3 [] (set_to 1 5) ∷ Start ∷ []
+
+-- the same chain before the first cycle
+abbrev pub before_all : List Event
+before_all = commit 0 [] (set_to 0 11) ∷ commit 1 (0 ∷ []) (add_to 2 0 1) ∷ commit 2 (2 ∷ []) (add_to 1 2 1) ∷ Start ∷ Start ∷ []
+
+-- the catalog's values
+abbrev pub tens : List ℕ
+tens = 10 ∷ 20 ∷ 30 ∷ []
+
+pub record Rules : Type 0 where
+  no_write : update_fault [] [] ≡ Some Limit
+  read_twice : update_fault (3 ∷ 4 ∷ 3 ∷ []) (set_to 0 1 ∷ []) ≡ Some Repeated
+  written_twice : update_fault [] (set_to 0 1 ∷ set_to 0 2 ∷ []) ≡ Some Repeated
+  base_not_read : update_fault (1 ∷ []) (add_to 0 2 1 ∷ []) ≡ Some BaseNotRead
+  minus_alone : update_fault [] (record { item = 0; base = None; minus = true; amount = 1 } ∷ []) ≡ Some BaseNotRead
+  read_and_written : update_fault (0 ∷ []) (add_to 0 0 1 ∷ []) ≡ None
+
+pub rules : Rules
+unfolding update_fault has_repeat
+rules = record { no_write = refl; read_twice = refl; written_twice = refl; base_not_read = refl; minus_alone = refl; read_and_written = refl }
+
+pub record Places : Type 0 where
+  first_cycle : cycle_at chained 0 ≡ 0
+  second_cycle : cycle_at chained 4 ≡ 1
+  no_front : front chained 0 ≡ []
+  front_of_one : front chained 1 ≡ []
+  front_of_two : front chained 2 ≡ Start ∷ commit 0 [] (set_to 0 11) ∷ commit 1 (0 ∷ []) (add_to 2 0 1) ∷ commit 2 (2 ∷ []) (add_to 1 2 1) ∷ []
+  writer_of_one : writer chained 1 ≡ Some 3
+  no_writer : writer (front chained 1) 1 ≡ None
+
+pub places : Places
+unfolding cycle_at is_start front writer writer_before last_place writes
+places = record { first_cycle = refl; second_cycle = refl; no_front = refl; front_of_one = refl; front_of_two = refl; writer_of_one = refl; no_writer = refl }
+
+pub record Descents : Type 0 where
+  -- the writer of item 1 descends from that of item 0 through that of item 2
+  through_two : descends chained 3 1 ≡ true
+  -- and not from the start between
+  not_a_start : descends chained 3 0 ≡ false
+  -- the blind write descends from itself alone
+  cut : descends then_blind 5 3 ≡ false
+  itself : descends then_blind 5 5 ≡ true
+
+pub descents : Descents
+unfolding descends descends_within reads writer_before last_place writes
+descents = record { through_two = refl; not_a_start = refl; cut = refl; itself = refl }
+
+pub record Entries : Type 0 where
+  column_of_0 : column 3 chained 0 ≡ 1 ∷ 0 ∷ 0 ∷ []
+  column_of_1 : column 3 chained 1 ≡ 1 ∷ 1 ∷ 1 ∷ []
+  column_of_2 : column 3 chained 2 ≡ 1 ∷ 0 ∷ 1 ∷ []
+  all_in_one : vector 3 chained ≡ 1 ∷ 1 ∷ 1 ∷ []
+  after_blind : column 3 then_blind 1 ≡ 0 ∷ 2 ∷ 0 ∷ []
+  vector_after : vector 3 then_blind ≡ 1 ∷ 2 ∷ 1 ∷ []
+  before_cycles : column 3 before_all 1 ≡ 0 ∷ 0 ∷ 0 ∷ []
+
+pub entries : Entries
+unfolding column_entry vector_entry greatest writer writer_before last_place writes descends descends_within reads cycle_at is_start
+entries = record { column_of_0 = refl; column_of_1 = refl; column_of_2 = refl; all_in_one = refl; after_blind = refl; vector_after = refl; before_cycles = refl }
+
+pub record Values : Type 0 where
+  in_cycle_one : table_list tens (front chained 1) ≡ tens
+  in_cycle_two : table_list tens (front chained 2) ≡ 11 ∷ 13 ∷ 12 ∷ []
+  wraps_up : table_list ((2 ^ 64 - 1) ∷ []) (commit 0 (0 ∷ []) (add_to 0 0 1) ∷ []) ≡ 0 ∷ []
+  wraps_down : table_list (0 ∷ []) (commit 0 (0 ∷ []) (take_from 0 0 1) ∷ []) ≡ (2 ^ 64 - 1) ∷ []
+  -- two items change places, since all written values come from the values before
+  swapped : table_list (7 ∷ 8 ∷ []) (Commit 0 0 (record { reads = 0 ∷ 1 ∷ []; writes = add_to 0 1 0 ∷ add_to 1 0 0 ∷ [] }) ∷ []) ≡ 8 ∷ 7 ∷ []
+
+pub values : Values
+unfolding table value_after write_of based front
+values = record { in_cycle_one = refl; in_cycle_two = refl; wraps_up = refl; wraps_down = refl; swapped = refl }
+
+pub record Boards : Type 0 where
+  reply : reply_of tens chained 2 ≡ record { number = 2; cycle = 1; read = 11 ∷ []; written = 12 ∷ [] }
+  board : board_of tens chained ≡ record { cycle = 2; values = 11 ∷ 13 ∷ 12 ∷ []; columns = (1 ∷ 0 ∷ 0 ∷ []) ∷ (1 ∷ 1 ∷ 1 ∷ []) ∷ (1 ∷ 0 ∷ 1 ∷ []) ∷ []; vector = 1 ∷ 1 ∷ 1 ∷ [] }
+  frame : frame_of tens chained ≡ record { cycle = 2; values = 11 ∷ 13 ∷ 12 ∷ []; columns = (1 ∷ 0 ∷ 0 ∷ []) ∷ (1 ∷ 1 ∷ 1 ∷ []) ∷ (1 ∷ 0 ∷ 1 ∷ []) ∷ []; total = 36 }
+
+pub boards : Boards
+unfolding table value_after write_of based starts column_entry vector_entry greatest writer writer_before last_place writes writes_of descends descends_within reads cycle_at is_start
+boards = record { reply = refl; board = refl; frame = refl }

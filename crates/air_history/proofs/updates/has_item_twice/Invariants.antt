@@ -1,0 +1,6 @@
+use Rattle.std.proofs.Common.{◌≡◌, drop, map}
+use Rattle.air_history.specs.UpdateRules.{has_repeat, item_of}
+use Rattle.air_history.proofs.updates.has_item_twice.Given as goal
+
+abbrev pub invariant-loop-i : goal.invariant-loop-i
+invariant-loop-i l = has_repeat (map item_of (drop l.i l.writes)) ≡ has_repeat (map item_of l.writes)

@@ -1,0 +1,41 @@
+-- Control columns and write vectors: cycles of commits, by which receivers judge what they read.
+use Rattle.std.specs.Prelude.{ℕ, ◌&&◌, List, length, map, Option, Some, None}
+use Rattle.std.specs.List.{range_with_len}
+use Rattle.air_base.specs.declared.verdicts.Policy.{Policy}
+use Rattle.air_base.specs.declared.verdicts.Policy.TheVariants.{FMatrix, Datacycle, RMatrix}
+use Rattle.air_history.specs.declared.histories.Event.{Event}
+use Rattle.air_history.specs.Places.{greatest, place_and}
+use Rattle.air_history.specs.Histories.{writes, event_at, cycle_at, front, writer}
+use Rattle.air_history.specs.Descents.{descends}
+
+-- entry i of the column of item j: the greatest cycle of a commit that writes item i, among those from
+-- which the last writer of item j descends, else 0
+unfoldable pub column_entry : List Event → ℕ → ℕ → ℕ
+column_entry G j i = greatest (length G) (λ p. place_and (writer G j) (λ w. descends G w p) && writes (event_at G p) i) (cycle_at G)
+
+-- the cycle of a place, and 0 where there is none
+abbrev pub cycle_of : List Event → Option ℕ → ℕ
+cycle_of G None = 0
+cycle_of G (Some w) = cycle_at G w
+
+-- entry i of the write vector: the cycle of the last writer of item i, 0 where there is none
+unfoldable pub vector_entry : List Event → ℕ → ℕ
+vector_entry G i = cycle_of G (writer G i)
+
+-- the control column of item j over n items
+abbrev pub column : ℕ → List Event → ℕ → List ℕ
+column n G j = map (column_entry G j) (range_with_len 0 n)
+
+-- the write vector over n items
+abbrev pub vector : ℕ → List Event → List ℕ
+vector n G = map (vector_entry G) (range_with_len 0 n)
+
+-- the entry of item i in the control column of item j at cycle c
+abbrev pub entry_at : List Event → ℕ → ℕ → ℕ → ℕ
+entry_at H c j i = column_entry (front H c) j i
+
+-- the entries that are aired with item j in cycle c: its control column under F-Matrix, else the write vector
+abbrev pub aired_entries : Policy → ℕ → List Event → ℕ → ℕ → List ℕ
+aired_entries FMatrix n H c j = column n (front H c) j
+aired_entries Datacycle n H c j = vector n (front H c)
+aired_entries RMatrix n H c j = vector n (front H c)

@@ -1,0 +1,62 @@
+-- A history is a list of events, commits and cycle starts, and a place is an index into it from 0.
+-- Here: what an event reads and writes, the cycle of a place, the front of a cycle, the last writer.
+use Rattle.std.specs.Prelude.{ℕ, zero, suc, Bool, true, false, ◌==◌, List, [], ◌∷◌, length, get_or, take, count_by, Option}
+use Rattle.std.specs.List.{list_any}
+use Rattle.air_history.specs.declared.histories.Event.{Event}
+use Rattle.air_history.specs.declared.histories.Event.TheVariants.{Commit, Start}
+use Rattle.air_history.specs.declared.updates.Write.{Write}
+use Rattle.air_history.specs.UpdateRules.{UpdateFits}
+use Rattle.air_history.specs.Places.{last_place}
+
+-- whether the event is a cycle start
+unfoldable pub is_start : Event → Bool
+is_start (Commit by seq update) = false
+is_start Start = true
+
+-- the items that the event's update reads; a start reads nothing
+unfoldable pub reads : Event → List ℕ
+reads (Commit by seq update) = update.reads
+reads Start = []
+
+-- the writes of the event's update; a start writes nothing
+unfoldable pub writes_of : Event → List Write
+writes_of (Commit by seq update) = update.writes
+writes_of Start = []
+
+-- whether the event is a commit that writes the item
+unfoldable pub writes : Event → ℕ → Bool
+writes (Commit by seq update) item = list_any (λ w. w.item == item) update.writes
+writes Start item = false
+
+-- the event at a place; past the end it counts as a start, which reads and writes nothing
+abbrev pub event_at : List Event → ℕ → Event
+event_at H p = get_or H p Start
+
+-- the number of starts
+unfoldable pub starts : List Event → ℕ
+starts H = count_by is_start H
+
+-- the cycle of a place: the number of starts before it
+unfoldable pub cycle_at : List Event → ℕ → ℕ
+cycle_at H p = count_by is_start (take p H)
+
+-- the front of cycle c: the events before the c-th start, none for c = 0, and all where there are fewer starts
+unfoldable pub front : List Event → ℕ → List Event
+front H zero = []
+front [] (suc c) = []
+front (Start ∷ H) (suc zero) = []
+front (Start ∷ H) (suc (suc c)) = Start ∷ front H (suc c)
+front (Commit by seq update ∷ H) (suc c) = Commit by seq update ∷ front H (suc c)
+
+-- the last place before p whose commit writes the item
+unfoldable pub writer_before : List Event → ℕ → ℕ → Option ℕ
+writer_before G p item = last_place p (λ q. writes (event_at G q) item)
+
+-- the last writer: the last place of the list whose commit writes the item; None is the catalog
+unfoldable pub writer : List Event → ℕ → Option ℕ
+writer G item = writer_before G (length G) item
+
+-- all items of the event's update are below n
+unfoldable pub EventFits : ℕ → Event → Type 0
+EventFits n (Commit by seq update) = UpdateFits n update
+EventFits n Start = Unit {0}

@@ -1,0 +1,196 @@
+//! Updates: what a transaction of the server reads and writes.
+//!
+//! The type keeps the rules: reads distinct and at most 16, writes distinct and 1 to 16, each base read, a minus
+//! only with a base. Contracts see an update as its two lists.
+
+ghost use Rattle.std.specs.Prelude.{◌≡◌, ◌↔◌, ℕ, length, map, Bool, MatchResult, IfOk, IsTrue, All, ◌⊎◌, ◌==◌, Some, None};
+ghost use Rattle.std.specs.List.{list_any, list_all};
+ghost use Rattle.air_history.specs.UpdateRules.{has_repeat, item_of, base_is_read, update_fault, KeepsRules, UpdateFits};
+
+use air_base::NoMemory;
+use std::alloc::Global;
+use std::error::Error;
+use std::fmt;
+use std::marker::Model;
+
+/// A write of an item: a constant, or a read item's value plus or minus a constant, modulo 2^64.
+#[derive(Clone, Copy, Debug, PartialEq, Eq)]
+pub struct Write {
+    pub item: u16,
+    pub base: Option<u16>,
+    pub minus: bool,
+    pub amount: u64,
+}
+
+/// Why two lists make no update.
+#[derive(Clone, Copy, Debug, PartialEq, Eq)]
+pub enum UpdateFault {
+    /// There are more than 16 reads, no write, or more than 16 writes.
+    Limit,
+    /// An item stands twice among the reads or among the writes.
+    Repeated,
+    /// A base isn't read, or a minus stands without a base.
+    BaseNotRead,
+    /// There was no memory for the update.
+    NoMemory,
+}
+
+impl fmt::Display for UpdateFault {
+    fn fmt<W: fmt::Write>(&self, f: &mut fmt::Formatter<W>) -> fmt::Result {
+        f.write_str(match self {
+            UpdateFault::Limit => "an update has at most 16 reads and 1 to 16 writes",
+            UpdateFault::Repeated => "an item stands twice among the reads or the writes",
+            UpdateFault::BaseNotRead => "a base isn't among the reads, or a minus has no base",
+            UpdateFault::NoMemory => "out of memory",
+        })
+    }
+}
+
+impl Error for UpdateFault {}
+
+/// An update: the items that it reads, and its writes.
+#[derive(Debug, Drop)]
+pub struct Update {
+    reads: Vec<u16>,
+    writes: Vec<Write>,
+}
+
+impl Model for Update {
+    ghost use Rattle.air_history.specs.UpdateLists.{UpdateLists};
+
+    ghost Value = { UpdateLists };
+
+    ghost use Rattle.air_history.specs.UpdateRules.{KeepsRules};
+    ghost use Rattle.air_history.specs.UpdateView.{lists_of};
+
+    ghost view = { lists_of };
+
+    ghost invariant = { λ u. KeepsRules (lists_of u) };
+}
+
+impl Update {
+    /// An update of these lists, or the first rule that they break: `Limit`, `Repeated`, then `BaseNotRead`.
+    #[tactic(auto, unfolding(crate::specs::UpdateRules::update_fault))]
+    pub fn new(alloc: Global, reads: &[u16], writes: &[Write]) -> Result<Update, UpdateFault>
+        ensures made { IfOk result (λ u. u ≡ record { reads = reads.now; writes = writes.now }) }
+        ensures cause { MatchResult result (λ _. update_fault reads.now writes.now ≡ None)
+            (λ e. (e ≡ UpdateFault.NoMemory) ⊎ (update_fault reads.now writes.now ≡ Some e)) }
+    {
+        if reads.len() > 16 || writes.is_empty() || writes.len() > 16 {
+            return Err(UpdateFault::Limit);
+        }
+        if has_number_twice(reads) || has_item_twice(writes) {
+            return Err(UpdateFault::Repeated);
+        }
+        if !all_based(reads, writes) {
+            return Err(UpdateFault::BaseNotRead);
+        }
+        let Ok(reads) = reads.to_vec(alloc) else {
+            return Err(UpdateFault::NoMemory);
+        };
+        let Ok(writes) = writes.to_vec(alloc) else {
+            return Err(UpdateFault::NoMemory);
+        };
+        Ok(Update { reads, writes })
+    }
+
+    /// An equal update.
+    pub fn copy(&self, alloc: Global) -> Result<Update, NoMemory>
+        ensures { IfOk result (λ u. u ≡ self.now) }
+    {
+        Ok(Update {
+            reads: self.reads.to_vec(alloc)?,
+            writes: self.writes.to_vec(alloc)?,
+        })
+    }
+
+    /// The items that it reads, in order.
+    pub fn reads(&self) -> &[u16]
+        ensures { result.now ≡ self.now.reads }
+    {
+        &self.reads
+    }
+
+    /// Its writes, in order.
+    pub fn writes(&self) -> &[Write]
+        ensures { result.now ≡ self.now.writes }
+    {
+        &self.writes
+    }
+
+    /// Whether all its items are below `n`.
+    pub fn fits(&self, n: u16) -> bool
+        ensures { IsTrue result ↔ UpdateFits n self.now }
+    {
+        self.reads.iter().all(|item| *item < n) && self.writes.iter().all(|write| write.item < n)
+    }
+
+    /// Hands the rules of its type to a caller's proof; it does nothing.
+    pub fn keeps_rules(&self)
+        ensures { KeepsRules self.now }
+    {
+        let _reads = &self.reads;
+    }
+}
+
+/// Whether the number is one of the list.
+fn contains_number(numbers: &[u16], number: u16) -> bool
+    ensures { result ≡ list_any (λ y. y == number) numbers.now }
+{
+    numbers.iter().any(|other| *other == number)
+}
+
+/// Whether a write is of the item.
+pub fn writes_item(writes: &[Write], item: u16) -> bool
+    ensures { result ≡ list_any (λ w. w.item == item) writes.now }
+{
+    writes.iter().any(|write| write.item == item)
+}
+
+/// Whether a number stands twice.
+#[tactic(auto, using(crate::proofs::RuleLemmas::repeats_none, crate::proofs::RuleLemmas::repeats_here, crate::proofs::RuleLemmas::repeats_more, crate::proofs::RuleLemmas::repeats_all))]
+fn has_number_twice(numbers: &[u16]) -> bool
+    ensures { result ≡ has_repeat numbers.now }
+{
+    for (i, number) in numbers.iter().enumerate() {
+        if contains_number(&numbers[i + 1..], *number) {
+            return true;
+        }
+    }
+    false
+}
+
+/// Whether two writes are of one item.
+#[tactic(auto, using(crate::proofs::RuleLemmas::items_none, crate::proofs::RuleLemmas::items_here, crate::proofs::RuleLemmas::items_more, crate::proofs::RuleLemmas::items_all))]
+fn has_item_twice(writes: &[Write]) -> bool
+    ensures { result ≡ has_repeat (map item_of writes.now) }
+{
+    for (i, write) in writes.iter().enumerate() {
+        if writes_item(&writes[i + 1..], write.item) {
+            return true;
+        }
+    }
+    false
+}
+
+/// Whether the write's base is read, and a minus stands only with a base.
+fn is_based(reads: &[u16], write: &Write) -> bool
+    ensures { result ≡ base_is_read reads.now write.now }
+{
+    match write.base {
+        None => !write.minus,
+        Some(base) => contains_number(reads, base),
+    }
+}
+
+/// Whether each write's base is read, and each minus stands with a base.
+fn all_based(reads: &[u16], writes: &[Write]) -> bool
+    ensures { result ≡ list_all (base_is_read reads.now) writes.now }
+{
+    for write in writes {
+        if !is_based(reads, write) {
+            return false;
+        }
+    }
+    true
+}
