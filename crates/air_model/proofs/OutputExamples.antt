@@ -1,0 +1,86 @@
+-- What commands print and write on small decks, byte by byte, through the spelling of buckets and the words of ethers.
+use Rattle.std.specs.Prelude.{◌≡◌, ℕ, List, [], ◌∷◌, ◌++◌, codes, map, replicate, refl}
+use Rattle.csv.specs.Writing.{escaped, fields_text, is_blank}
+use Rattle.air_base.specs.Numbers.{number_text}
+use Rattle.air_base.specs.declared.verdicts.Policy.TheVariants.{Datacycle}
+use Rattle.air_history.specs.Places.{last_place, greatest}
+use Rattle.air_history.specs.Histories.{cycle_at, front, starts, writer, writer_before, writes, reads, is_start}
+use Rattle.air_history.specs.Descents.{descends, descends_within}
+use Rattle.air_history.specs.Columns.{column_entry, vector_entry}
+use Rattle.air_history.specs.Tables.{based, write_of, value_after, table}
+use Rattle.air_history.specs.Reads.{origin, stale}
+use Rattle.air_history.specs.Consistency.{descends_from, runs_alone, last_alone, consistent}
+use Rattle.air_history.specs.Clashes.{least, is_late, clash_by_history, clash_by_entries}
+use Rattle.air_model.specs.Buckets.{Column, body_at, bucket_at, count_of, entries_at, entries_of, entry_count, is_placed, is_shaped, item_of, kind_of, reading, spelling, value_of}
+use Rattle.air_model.specs.Tapes.{record_bytes, tape_of}
+use Rattle.air_model.specs.Draws.{words_by}
+use Rattle.air_model.specs.Ethers.{due_at, due_number, heard, heard_by, heard_places, times_heard}
+use Rattle.air_model.specs.Copies.{keep, without, with_copy}
+use Rattle.air_model.specs.Disks.{order, order_with, cut}
+use Rattle.air_model.specs.Programs.{program, least_common_multiple, num_minors, num_chunks, chunk_len, chunk, minor_cycle}
+use Rattle.air_model.specs.Airings.{disk_number, chunks_of, pix_number}
+use Rattle.air_model.specs.Decks.{Deck, event_of, script_history, values_in}
+use Rattle.air_model.specs.Aired.{body_of, bucket_of, buckets_of, body_fits, fits}
+use Rattle.air_model.specs.Judges.{by_history, by_entries}
+use Rattle.air_model.specs.Sessions.{session, query_of, wanted, line_of, with_line, count_copied, count_opened, count_dozed, count_late, count_refused, count_foreign, next_query, next_attempt, accept_if_whole, hold, abort, is_unusable, drop_copy, copy_of, turn_with, turn, settle, decide, offer, open_bucket, hear_read, hear, hear_all, end_query, end}
+use Rattle.air_model.specs.Rows.{rows_text}
+use Rattle.air_model.specs.Reports.{AirFault, DeckFault, PlanTooLong, ReadFault, ReportFault, TapeCut, TooLarge, TooLong, TooMuch, Words, fault_line, report_text, total_at}
+use Rattle.air_model.specs.Outputs.{run_output, script_output, script_tape, true_sessions, tune_output}
+use Rattle.air_model.proofs.SessionExamples.{judged_by, pair, s, swapped, u}
+
+-- The deck with this seed and these odds.
+abbrev through : ℕ → ℕ → ℕ → ℕ → Deck → Deck
+through seed loss again late d = record d { settings = record d.settings { seed = seed; loss = loss; again = again; late = late } }
+
+-- The bytes of the deck's first bucket.
+abbrev first : List ℕ
+first = 0x41 ∷ 0x44 ∷ 1 ∷ 1 ∷ 0 ∷ 0 ∷ 0 ∷ 2 ∷ 0 ∷ 0 ∷ 0 ∷ 1 ∷ 0 ∷ 0 ∷ 0 ∷ 0 ∷ 0 ∷ 0 ∷ 0 ∷ 0 ∷ 0 ∷ 0 ∷ 0 ∷ 10 ∷ replicate 8 0
+
+-- The bytes of its second bucket.
+abbrev second : List ℕ
+second = 0x41 ∷ 0x44 ∷ 1 ∷ 1 ∷ 0 ∷ 0 ∷ 0 ∷ 2 ∷ 0 ∷ 0 ∷ 0 ∷ 1 ∷ 0 ∷ 1 ∷ 0 ∷ 1 ∷ 0 ∷ 0 ∷ 0 ∷ 0 ∷ 0 ∷ 0 ∷ 0 ∷ 20 ∷ replicate 8 0
+
+-- What is printed and written.
+pub record Printed : Type 0 where
+  script : script_output pair ≡ codes "start\naccept,0,0,1,0@1=10 1@1=20\ncounts,0,2,0,0,0,0,0\n"
+  tape : script_tape pair ≡ 0 ∷ 0 ∷ 0 ∷ 32 ∷ first ++ 0 ∷ 0 ∷ 0 ∷ 32 ∷ second
+  abort : script_output (judged_by Datacycle (swapped (s ∷ u ∷ u ∷ s ∷ [])))
+      ≡ codes "start\ncommit,0,0\ncommit,0,1\nstart\nabort,0,0,1,0@1=10,1@2,0\ncounts,0,2,2,0,0,0,0\n"
+  all_lost : script_output (through 0 100 0 0 pair) ≡ codes "start\nunfinished,0,0,1,\ncounts,0,0,0,0,0,0,0\n"
+  heard_twice : script_output (through 0 0 100 0 pair) ≡ codes "start\naccept,0,0,1,0@1=10 1@1=20\ncounts,0,2,2,0,0,0,0\n"
+  -- Some lost, some heard twice, some late.
+  mixed : script_output (through 7 50 50 50 (record pair { script = s ∷ s ∷ s ∷ s ∷ [] })) ≡ codes "start\nstart\nstart\nstart\naccept,0,0,1,0@2=10 1@3=20\ncounts,0,2,4,0,0,0,0\n"
+  -- A byte too many and an entry that isn't below the cycle are refused, and one entry too many is foreign.
+  tune : tune_output pair (
+      (first ++ 0 ∷ []) ∷ (0x41 ∷ 0x44 ∷ 1 ∷ 1 ∷ 0 ∷ 0 ∷ 0 ∷ 2 ∷ 0 ∷ 0 ∷ 0 ∷ 1 ∷ 0 ∷ 0 ∷ 0 ∷ 0 ∷ 0 ∷ 0 ∷ 0 ∷ 0 ∷ 0 ∷ 0 ∷ 0 ∷ 10 ∷ 0 ∷ 0 ∷ 0 ∷ 1 ∷ replicate 4 0)
+      ∷ spelling (record { edition = 0; cycle = 1; slot = 0; body = Column 0 10 (0 ∷ 0 ∷ 0 ∷ []) }) ∷ first ∷ second ∷ [])
+      ≡ codes "accept,0,0,1,0@1=10 1@1=20\ncounts,0,2,0,0,2,1,0\n"
+  tune_nothing : tune_output pair [] ≡ codes "unfinished,0,0,1,\ncounts,0,0,0,0,0,0,0\n"
+  -- Monitors that saw the catalog and the first cycle.
+  run : let H = script_history pair in
+      run_output pair H (record { cycle = 0; total = total_at (values_in pair) H 0 } ∷ []) (record { cycle = 1; total = total_at (values_in pair) H 1 } ∷ [])
+      ≡ codes "start\naccept,0,0,1,0@1=10 1@1=20\ncounts,0,2,0,0,0,0,0\nglance,0,0,30\nlook,0,1,30\n"
+  total_wraps : total_at (18446744073709551615 ∷ 3 ∷ []) [] 0 ≡ 2
+
+-- And it is.
+pub printed : Printed
+unfolding number_text escaped fields_text is_blank last_place greatest cycle_at front starts writer writer_before writes reads is_start descends descends_within column_entry vector_entry based write_of value_after table origin stale descends_from runs_alone last_alone consistent least is_late clash_by_history clash_by_entries body_at bucket_at count_of entries_at entries_of entry_count is_placed is_shaped item_of kind_of reading spelling value_of record_bytes tape_of words_by due_at due_number heard heard_by heard_places times_heard keep without with_copy order order_with cut program least_common_multiple num_minors num_chunks chunk_len chunk minor_cycle disk_number chunks_of pix_number event_of script_history body_of bucket_of buckets_of body_fits fits by_history by_entries session query_of wanted line_of with_line count_copied count_opened count_dozed count_late count_refused count_foreign next_query next_attempt accept_if_whole hold abort is_unusable drop_copy copy_of turn_with turn settle decide offer open_bucket hear_read hear hear_all end_query end rows_text report_text true_sessions total_at
+printed = record {
+  script = refl;
+  tape = refl;
+  abort = refl;
+  all_lost = refl;
+  heard_twice = refl;
+  mixed = refl;
+  tune = refl;
+  tune_nothing = refl;
+  run = refl;
+  total_wraps = refl;
+}
+
+-- One line for each status that has one.
+pub fault_lines : map fault_line (Words ∷ DeckFault 7 8 ∷ ReadFault ∷ TapeCut 36 ∷ TooLarge 67108864 ∷ ReportFault 2 5 ∷ AirFault 1 ∷ TooMuch 50100000 ∷ TooLong 1085865984 ∷ PlanTooLong 737856 ∷ [])
+    ≡ codes "fault,1\n" ∷ codes "fault,2,7,8\n" ∷ codes "fault,3\n" ∷ codes "fault,6,36\n" ∷ codes "fault,7,67108864\n" ∷ codes "fault,8,2,5\n" ∷ codes "fault,10,1\n"
+    ∷ codes "fault,11,50100000\n" ∷ codes "fault,12,1085865984\n" ∷ codes "fault,13,737856\n" ∷ []
+unfolding number_text escaped fields_text is_blank rows_text fault_line
+fault_lines = refl

@@ -1,0 +1,258 @@
+-- What lines tell: each is sound where the history judges, under F-Matrix it tells whether the reads are consistent, and by
+-- any judge it is the reader's. Each law is an instance of `kept`.
+use Rattle.std.proofs.Common.{◌≡◌, ℕ, zero, suc, ◌<◌, ◌≤◌, true, false, Option, Some, None, List, [], ◌∷◌, ◌++◌, length, map, take, get_or, All, refl, sym, ◌∙◌, ap, subst, append_assoc, append-nil, inl, inr, arith}
+use Rattle.std.specs.Prelude.{Contains, IfSome, IsTrue}
+use Rattle.std.specs.List.{slice_get}
+use Rattle.std.specs.Option.{is_some}
+use Rattle.std.proofs.lemmas.Bool.{cases_lt}
+use Rattle.std.proofs.lemmas.Option.{get_or_from_slice_get, slice_get_within}
+use Rattle.std.proofs.lemmas.Simd.{map-map}
+use Rattle.std.proofs.lemmas.List.{map-append, take_more, length-map, take_all, length_push, get_or_past}
+use Rattle.std.proofs.lemmas.List.Elements.{All-head, All-tail, All-cons, All-push, All-nil, All-map}
+use Rattle.air_base.specs.declared.verdicts.Policy.{Policy}
+use Rattle.air_base.specs.declared.verdicts.Policy.TheVariants.{FMatrix}
+use Rattle.air_base.specs.declared.verdicts.Clash.{Clash}
+use Rattle.air_base.specs.declared.verdicts.VerdictKind.{VerdictKind}
+use Rattle.air_base.specs.declared.verdicts.VerdictKind.TheVariants.{Accept, Abort, Unfinished}
+use Rattle.air_history.specs.declared.histories.Event.{Event}
+use Rattle.air_history.specs.Tables.{table, values_of}
+use Rattle.air_history.specs.Reads.{ReadAt, IsRead, read_value}
+use Rattle.air_history.specs.Consistency.{alone, IsConsistent}
+use Rattle.air_history.specs.Clashes.{is_late, clash_by_history}
+use Rattle.air_history.specs.ClashLaws.{AcceptsAfter, Accepts, IsSound}
+use Rattle.air_history.proofs.TableLemmas.{values}
+use Rattle.air_history.proofs.PolicyLemmas.{stays_consistent}
+use Rattle.air_history.proofs.AcceptedLemmas.{accepted}
+use Rattle.air_model.specs.Buckets.{Bucket, Body, Idle, Column, Vector}
+use Rattle.air_model.specs.Reads.{Read}
+use Rattle.air_model.specs.Aired.{Air, fits}
+use Rattle.air_model.specs.Judges.{Judge, place_of, by_history}
+use Rattle.air_model.specs.Sessions.{Reader, Line, line_of, read_in}
+use Rattle.air_model.specs.SessionLaws.{reads_at, IsSoundLine, SoundLaw, Tells, VerdictLaw, Follows, IsOfReader, ReaderLaw}
+use Rattle.air_model.proofs.MomentLemmas.{item_after, Keeps, Gives, kept}
+
+-- ---- reads that were accepted
+
+-- one more read that is not late and does not clash is accepted after the others
+accepts_push : (p : Policy) (H : List Event) (before R : List ReadAt) (x : ReadAt) → AcceptsAfter p H before R → is_late p (before ++ R) x ≡ false →
+    clash_by_history p H (before ++ R) x ≡ None → AcceptsAfter p H before (R ++ x ∷ [])
+unfolding AcceptsAfter
+accepts_push p H before [] x a late none =
+    (subst (λ S. is_late p S x ≡ false) (append-nil before) late, subst (λ S. clash_by_history p H S x ≡ None) (append-nil before) none, tt)
+accepts_push p H before (y ∷ R) x a late none = (
+  a.0,
+  a.1,
+  accepts_push p H (before ++ y ∷ []) R x a.2 (subst (λ S. is_late p S x ≡ false) (sym (append_assoc before (y ∷ []) R)) late)
+      (subst (λ S. clash_by_history p H S x ≡ None) (sym (append_assoc before (y ∷ []) R)) none),
+)
+
+accepts_none : (p : Policy) (H : List Event) → Accepts p H []
+unfolding AcceptsAfter
+accepts_none p H = tt
+
+-- the read is from cycle 1 on
+abbrev FromOne : Read → Type 0
+FromOne r = 1 ≤ r.cycle
+
+-- reads from cycle 1 on that the policy accepted one after another
+abbrev AreAccepted : Policy → List Event → List Read → Type 0
+AreAccepted p H R = All FromOne R × Accepts p H (map place_of R)
+
+are_none : (p : Policy) (H : List Event) → AreAccepted p H []
+are_none p H = (All-nil FromOne, accepts_none p H)
+
+are_more : (p : Policy) (H : List Event) (R : List Read) (x : Read) → AreAccepted p H R → FromOne x → is_late p (map place_of R) (place_of x) ≡ false →
+    clash_by_history p H (map place_of R) (place_of x) ≡ None → AreAccepted p H (R ++ x ∷ [])
+are_more p H R x k pos late none = (
+  All-push FromOne R x k.0 pos,
+  subst (Accepts p H) (sym (map-append place_of R (x ∷ []))) (accepts_push p H [] (map place_of R) (place_of x) k.1 late none),
+)
+
+are_reads : (R : List Read) → All FromOne R → All IsRead (map place_of R)
+are_reads R are = All-map IsRead place_of R are
+
+are_sound : (p : Policy) (H : List Event) (R : List Read) → AreAccepted p H R → IsSound p H (map place_of R)
+are_sound p H R k = accepted p H (map place_of R) (are_reads R k.0) k.1
+
+all_unmap : (P : ReadAt → Type 0) (R : List Read) → All P (map place_of R) → All (λ r. P (place_of r)) R
+all_unmap P [] h = All-nil (λ r. P (place_of r))
+all_unmap P (r ∷ R) h = All-cons (λ r. P (place_of r)) r R (All-head P (place_of r) (map place_of R) h) (all_unmap P R (All-tail P (place_of r) (map place_of R) h))
+
+-- ---- every line is sound
+
+line_reads : (J : Judge) (q a : ℕ) (kind : VerdictKind) (R : List Read) → reads_at (line_of J q a kind R) ≡ map place_of R
+unfolding line_of
+line_reads J q a kind R = map-map _ _ R
+
+sound_line : (V : List ℕ) (p : Policy) (H : List Event) (q a : ℕ) (kind : VerdictKind) (R : List Read) → AreAccepted p H R → IsSoundLine V p H (line_of (by_history p V H) q a kind R)
+unfolding line_of by_history
+sound_line V p H q a kind R k =
+    let sound : IsSound p H (map place_of R) = are_sound p H R k in
+    let same : map place_of R ≡ reads_at (line_of (by_history p V H) q a kind R) = sym (line_reads (by_history p V H) q a kind R) in
+    record {
+      reads = subst (IsSound p H) same sound;
+      replayed = λ bases. All-map (λ r. r.value ≡ table (values_of V) (alone H (reads_at (line_of (by_history p V H) q a kind R))) r.item)
+          (λ r. record { item = r.item; cycle = r.cycle; value = read_value (values_of V) H (place_of r) }) R
+          (λ i d l. sym (subst (λ S. table (values_of V) (alone H S) (get_or R i d).item ≡ read_value (values_of V) H (place_of (get_or R i d))) same
+          (all_unmap (λ r. table (values_of V) (alone H (map place_of R)) r.item ≡ read_value (values_of V) H r) R (values (values_of V) H (map place_of R) bases sound.consistent) i d l)));
+    }
+
+read_from_one : (air : Air) (o : Option Bucket) → IfSome o (λ b. IsTrue (fits air b) → 1 ≤ b.cycle) → Gives air FromOne o
+read_from_one air None h = tt
+read_from_one air (Some b) h = λ t. by b.body (h t)
+  where
+    by : (y : Body) → 1 ≤ b.cycle → IfSome (read_in b.cycle y) FromOne
+    by (Idle n) h = tt
+    by (Column i v es) h = h
+    by (Vector i v es) h = h
+
+pub sound : SoundLaw
+unfolding by_history
+sound V air H reader heard filled cycles = kept (by_history air.policy V H) air reader FromOne (λ q a R. AreAccepted air.policy H R) (IsSoundLine V air.policy H) filled rules heard
+    (λ k d l. read_from_one air (get_or heard k d) (cycles k d l))
+  where
+    rules : Keeps (by_history air.policy V H) air reader FromOne (λ q a R. AreAccepted air.policy H R) (IsSoundLine V air.policy H)
+    rules = record {
+      first = λ q. are_none air.policy H;
+      again = λ q a R k l. are_none air.policy H;
+      more = λ q a R x k pos judged none. are_more air.policy H R x k pos judged.in_time none;
+      accepted = λ q a R k l e. sound_line V air.policy H q a Accept R k;
+      aborted = λ q a R x c k pos judged e. sound_line V air.policy H q a (Abort x.item x.cycle c.item) R k;
+      unfinished = λ q a R k e. sound_line V air.policy H q a Unfinished R k;
+    }
+
+-- ---- the reads follow the query
+
+-- the reads are of the query's items, in order
+abbrev InQuery : Reader → ℕ → List Read → Type 0
+InQuery reader q R = map (λ r. r.item) R ≡ take (length R) (get_or reader.queries q [])
+
+in_query_more : (reader : Reader) (q : ℕ) (R : List Read) (x : Read) → InQuery reader q R → item_after reader q R ≡ Some x.item → InQuery reader q (R ++ x ∷ [])
+in_query_more reader q R x k e =
+    let query = get_or reader.queries q [] in
+    map-append (λ r. r.item) R (x ∷ []) ∙ ap (λ S. S ++ x.item ∷ []) k
+    ∙ ap (λ i. take (length R) query ++ i ∷ []) (sym (get_or_from_slice_get query (length R) x.item 0 e))
+    ∙ sym (take_more query (length R) 0 (slice_get_within query (length R) x.item e))
+    ∙ ap (λ n. take n query) (sym (length_push R x))
+
+pub whole_query : (query : List ℕ) (n : ℕ) → slice_get query n ≡ None → length query ≤ n
+whole_query [] n e = omega arith
+whole_query (i ∷ query) zero e = cc
+whole_query (i ∷ query) (suc n) e = let rest = whole_query query n e in omega arith
+
+pub part_of_query : (query : List ℕ) (n : ℕ) → is_some (slice_get query n) ≡ true → n < length query
+part_of_query [] n e = cc
+part_of_query (i ∷ query) zero e = omega arith
+part_of_query (i ∷ query) (suc n) e = let rest = part_of_query query n e in omega arith
+
+-- ---- F-Matrix: what a verdict tells
+
+-- a read that clashes makes consistent reads inconsistent
+refuses : (H : List Event) (R : List Read) (x : Read) (c : Clash) → All FromOne R → FromOne x → IsConsistent H (map place_of R) →
+    clash_by_history FMatrix H (map place_of R) (place_of x) ≡ Some c → IsConsistent H (map place_of R ++ place_of x ∷ []) → ⊥
+refuses H R x c are pos k e both =
+    let none : clash_by_history FMatrix H (map place_of R) (place_of x) ≡ None = (stays_consistent H (map place_of R) (place_of x) (are_reads R are) pos k).1 both in
+    let f : ◌≡◌ {A = Option Clash} None (Some c) = sym none ∙ e in
+    cc
+
+pub verdict : VerdictLaw
+unfolding by_history Tells line_of
+verdict V air H reader heard f filled cycles = kept (by_history air.policy V H) air reader FromOne K L filled rules heard
+    (λ k d l. read_from_one air (get_or heard k d) (cycles k d l))
+  where
+    query : ℕ → List ℕ
+    query q = get_or reader.queries q []
+
+    K : ℕ → ℕ → List Read → Type 0
+    K q a R = AreAccepted air.policy H R × InQuery reader q R
+
+    L : Line → Type 0
+    L l = Tells H (get_or reader.queries l.verdict.query []) l.verdict.kind (reads_at l)
+
+    same : (q a : ℕ) (kind : VerdictKind) (R : List Read) → map place_of R ≡ reads_at (line_of (by_history air.policy V H) q a kind R)
+    same q a kind R = sym (line_reads (by_history air.policy V H) q a kind R)
+
+    rules : Keeps (by_history air.policy V H) air reader FromOne K L
+    rules = record {
+      first = λ q. (are_none air.policy H, refl);
+      again = λ q a R k l. (are_none air.policy H, refl);
+      more = λ q a R x k pos judged none. (are_more air.policy H R x k.0 pos judged.in_time none, in_query_more reader q R x k.1 judged.wanted);
+      accepted = λ q a R k l e. subst (λ S. (map (λ r. r.item) S ≡ query q) × IsConsistent H S) (same q a Accept R)
+          (map-map (λ r. r.item) place_of R ∙ k.1 ∙ take_all (length R) (query q) (whole_query (query q) (length R) e), (are_sound air.policy H R k.0).consistent);
+      aborted = λ q a R x c k pos judged e. subst (λ S. IsConsistent H S × (IsConsistent H (S ++ place_of x ∷ []) → ⊥)) (same q a (Abort x.item x.cycle c.item) R) (
+        (are_sound air.policy H R k.0).consistent,
+        refuses H R x c k.0.0 pos (are_sound air.policy H R k.0).consistent (subst (λ p. clash_by_history p H (map place_of R) (place_of x) ≡ Some c) f e),
+      );
+      unfinished = λ q a R k e. subst (λ S. IsConsistent H S × (length S < length (query q))) (same q a Unfinished R)
+          ((are_sound air.policy H R k.0).consistent, subst (λ n. n < length (query q)) (sym (length-map R place_of)) (part_of_query (query q) (length R) e));
+    }
+
+-- ---- every line is the reader's
+
+-- where something is wanted, the query is one of the reader's
+query_within : (reader : Reader) (q n : ℕ) → n < length (get_or reader.queries q []) → q < length reader.queries
+query_within reader q n l = elim (cases_lt q (length reader.queries)) as (λ _. q < length reader.queries) [
+  | inl lt ↦ lt
+  | inr ge ↦ absurd (let e = ap length (get_or_past reader.queries q [] ge) in omega arith)
+]
+
+pub of_reader : ReaderLaw
+unfolding Follows line_of
+of_reader judge air reader heard names filled tries = kept judge air reader Any K (IsOfReader reader) filled rules heard (λ k d l. gives (get_or heard k d))
+  where
+    Any : Read → Type 0
+    Any r = Unit {0}
+
+    -- the attempt is one of the reader's, and reads were made of one of its queries, in order
+    K : ℕ → ℕ → List Read → Type 0
+    K q a R = ((1 ≤ a) × (a ≤ reader.plan.tries)) × InQuery reader q R × (0 < length R → q < length reader.queries)
+
+    gives : (o : Option Bucket) → Gives air Any o
+    gives None = tt
+    gives (Some b) = λ t. by (read_in b.cycle b.body)
+      where
+        by : (o : Option Read) → IfSome o Any
+        by None = tt
+        by (Some x) = tt
+
+    items : (q a : ℕ) (kind : VerdictKind) (R : List Read) → map (λ r. r.item) R ≡ map (λ r. r.item) ((line_of judge q a kind R).reads)
+    items q a kind R = sym (map-map _ _ R)
+
+    within : (q : ℕ) (R : List Read) (x : Read) → item_after reader q R ≡ Some x.item → q < length reader.queries
+    within q R x e = query_within reader q (length R) (slice_get_within (get_or reader.queries q []) (length R) x.item e)
+
+    taken : (q : ℕ) (R : List Read) → InQuery reader q R → map (λ r. r.item) R ≡ take (length (map (λ r. r.item) R)) (get_or reader.queries q [])
+    taken q R k = k ∙ ap (λ n. take n (get_or reader.queries q [])) (sym (length-map R (λ r. r.item)))
+
+    rules : Keeps judge air reader Any K (IsOfReader reader)
+    rules = record {
+      first = λ q. ((omega arith, tries), refl, λ l. absurd (omega arith));
+      again = λ q a R k l. ((omega arith, omega arith), refl, λ l. absurd (omega arith));
+      more = λ q a R x k any judged none. (k.0, in_query_more reader q R x k.1 judged.wanted, λ l. within q R x judged.wanted);
+      accepted = λ q a R k some e. record {
+        query = k.2 some;
+        begun = k.0.0;
+        tried = k.0.1;
+        follows = subst (λ S. S ≡ get_or reader.queries q []) (items q a Accept R) (k.1 ∙ take_all (length R) (get_or reader.queries q []) (whole_query (get_or reader.queries q []) (length R) e));
+      };
+      aborted = λ q a R x c k any judged e. record {
+        query = within q R x judged.wanted;
+        begun = k.0.0;
+        tried = k.0.1;
+        follows = subst (λ S. (S ≡ take (length S) (get_or reader.queries q [])) × (slice_get (get_or reader.queries q []) (length S) ≡ Some x.item) × Contains S c.item)
+            (items q a (Abort x.item x.cycle c.item) R) (
+              taken q R k.1,
+              ap (slice_get (get_or reader.queries q [])) (length-map R (λ r. r.item)) ∙ judged.wanted,
+              names R x c e,
+            );
+      };
+      unfinished = λ q a R k e.
+          let part : length R < length (get_or reader.queries q []) = part_of_query (get_or reader.queries q []) (length R) e in
+          record {
+            query = query_within reader q (length R) part;
+            begun = k.0.0;
+            tried = k.0.1;
+            follows = subst (λ S. (S ≡ take (length S) (get_or reader.queries q [])) × (length S < length (get_or reader.queries q []))) (items q a Unfinished R)
+                (taken q R k.1, subst (λ n. n < length (get_or reader.queries q [])) (sym (length-map R (λ r. r.item))) part);
+          };
+    }

@@ -1,0 +1,5 @@
+use Rattle.air_model.proofs.AiringFacts.{item_airings}
+use Rattle.air_model.proofs.program.airings_law.Goals as goal
+
+pub returns : goal.returns
+returns c = λ disks n d i airable at held. item_airings disks n d i airable at held

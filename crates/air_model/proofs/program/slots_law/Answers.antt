@@ -1,0 +1,5 @@
+use Rattle.air_model.proofs.AiringFacts.{length_program}
+use Rattle.air_model.proofs.program.slots_law.Goals as goal
+
+pub returns : goal.returns
+returns c = λ disks. length_program disks

@@ -1,0 +1,5 @@
+use Rattle.air_model.proofs.SoundLemmas.{of_reader}
+use Rattle.air_model.proofs.sessions.reader_law.Goals as goal
+
+pub returns : goal.returns
+returns c = of_reader

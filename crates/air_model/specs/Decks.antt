@@ -1,0 +1,127 @@
+-- The plain deck: what its records say, whatever their order; the histories that keep to it; its script's history.
+-- `DeckLaws` says what legal histories are by updater, and that the script's history is legal.
+use Rattle.std.specs.Prelude.{◌≡◌, ℕ, ◌^◌, ◌<◌, ◌≤◌, Bool, false, ◌==◌, List, [], length, map, take, get_or, count_by, sum_by, slice_get, All, Option, Some, None}
+use Rattle.std.specs.List.{range_with_len}
+use Rattle.air_history.specs.declared.histories.Event.{Event}
+use Rattle.air_history.specs.declared.histories.Event.TheVariants.{Commit, Start}
+use Rattle.air_history.specs.UpdateLists.{UpdateLists}
+use Rattle.air_history.specs.UpdateRules.{KeepsRules, UpdateFits, has_repeat}
+use Rattle.air_history.specs.Histories.{starts}
+use Rattle.air_model.specs.declared.deck.ReaderPlan.{ReaderPlan}
+use Rattle.air_model.specs.declared.deck.Settings.{Settings}
+use Rattle.air_model.specs.Disks.{Disk, DiskSpec, cut, order}
+
+-- An item of the catalog has its first value and its rate.
+pub record Item : Type 0 where
+  pub value : ℕ
+  pub rate : ℕ
+
+-- A deck has items and disks, the updates of each updater, the readers and the queries of each, the script, whose
+-- parts are starts and numbers of updaters, and the settings.
+pub record Deck : Type 0 where
+  pub items : List Item
+  pub disks : List DiskSpec
+  pub updates : List (List UpdateLists)
+  pub readers : List ReaderPlan
+  pub queries : List (List (List ℕ))
+  pub script : List (Option ℕ)
+  pub settings : Settings
+
+-- The catalog's values, item by item.
+abbrev pub values_in : Deck → List ℕ
+values_in deck = map (λ i. i.value) deck.items
+
+-- The rates, item by item.
+abbrev pub rates_in : Deck → List ℕ
+rates_in deck = map (λ i. i.rate) deck.items
+
+-- The disks with their items: the cut of the order of the items.
+abbrev pub disks_in : Deck → List Disk
+disks_in deck = cut (order (rates_in deck)) deck.disks
+
+-- The updates of an updater, in the order in which it commits them.
+abbrev pub updates_by : Deck → ℕ → List UpdateLists
+updates_by deck by = get_or deck.updates by []
+
+-- ---- histories that keep to the deck
+
+-- An event is the updater's where it is a commit of it.
+unfoldable pub is_by : ℕ → Event → Bool
+is_by by (Commit who seq update) = who == by
+is_by by Start = false
+
+-- The number of commits of an updater.
+abbrev pub count_made : ℕ → List Event → ℕ
+count_made by H = count_by (is_by by) H
+
+-- A commit is its updater's next after the events before it: its number is that of the updater's commits there, and
+-- its update is the deck's of that number.
+pub record IsNext (deck : Deck) (before : List Event) (by seq : ℕ) (update : UpdateLists) : Type 0 where
+  pub number : seq ≡ count_made by before
+  pub given : slice_get (updates_by deck by) seq ≡ Some update
+
+-- A history is legal for the deck where each of its commits is its updater's next.
+abbrev pub IsLegal : Deck → List Event → Type 0
+IsLegal deck H = (p by seq : ℕ) (update : UpdateLists) → slice_get H p ≡ Some (Commit by seq update) → IsNext deck (take p H) by seq update
+
+-- A history is whole for the deck where it is legal and has all of the deck's updates and cycles.
+pub record IsWhole (deck : Deck) (H : List Event) : Type 0 where
+  pub legal : IsLegal deck H
+  pub all : (by : ℕ) → count_made by H ≡ length (updates_by deck by)
+  pub cycles : starts H ≡ deck.settings.cycles
+
+-- ---- the script
+
+-- A part of the script is the updater's where it is its number.
+abbrev pub is_part_of : ℕ → Option ℕ → Bool
+is_part_of by None = false
+is_part_of by (Some who) = who == by
+
+-- The number of an updater's parts.
+abbrev pub count_parts : ℕ → List (Option ℕ) → ℕ
+count_parts by parts = count_by (is_part_of by) parts
+
+-- The deck's update of a number, for a number that it has.
+abbrev pub update_at : Deck → ℕ → ℕ → UpdateLists
+update_at deck by seq = get_or (updates_by deck by) seq (record { reads = []; writes = [] })
+
+-- The event of a part after the parts before it: a start, or the updater's next commit.
+unfoldable pub event_of : Deck → List (Option ℕ) → Option ℕ → Event
+event_of deck before None = Start
+event_of deck before (Some by) = Commit by (count_parts by before) (update_at deck by (count_parts by before))
+
+-- The script's history has the events of its parts in order.
+unfoldable pub script_history : Deck → List Event
+script_history deck = map (λ k. event_of deck (take k deck.script) (get_or deck.script k None)) (range_with_len 0 (length deck.script))
+
+-- The script commits no more updates of an updater than the deck has.
+abbrev pub ScriptFits : Deck → Type 0
+ScriptFits deck = (by : ℕ) → count_parts by deck.script ≤ length (updates_by deck by)
+
+-- ---- what a deck in the grammar keeps
+
+-- An update keeps the rules of updates, its items are below n, and its amounts are numbers of 64 bits.
+pub record IsUpdate (n : ℕ) (u : UpdateLists) : Type 0 where
+  pub rules : KeepsRules u
+  pub fits : UpdateFits n u
+  pub amounts : All (λ w. w.amount < 2 ^ 64) u.writes
+
+-- A query has items, they are distinct, and they are below n.
+pub record IsQuery (n : ℕ) (items : List ℕ) : Type 0 where
+  pub filled : 0 < length items
+  pub distinct : has_repeat items ≡ false
+  pub within : All (λ i. i < n) items
+
+-- A deck is well made where it has 1 to 256 items with values of 64 bits, its disks take all of them, each disk is aired,
+-- and updates, readers, queries and script are right.
+pub record IsDeck (deck : Deck) : Type 0 where
+  pub some : 0 < length deck.items
+  pub most : length deck.items ≤ 256
+  pub values : All (λ i. i.value < 2 ^ 64) deck.items
+  pub sizes : sum_by (λ d. d.size) deck.disks ≡ length deck.items
+  pub aired : All (λ d. (0 < d.size) × (0 < d.freq)) deck.disks
+  pub updates : All (All (IsUpdate (length deck.items))) deck.updates
+  pub readers : length deck.queries ≡ length deck.readers
+  pub tries : All (λ r. 1 ≤ r.tries) deck.readers
+  pub queries : All (All (IsQuery (length deck.items))) deck.queries
+  pub script : ScriptFits deck

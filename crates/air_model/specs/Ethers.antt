@@ -1,0 +1,64 @@
+-- The ether between the air and a receiver: which pushed buckets it loses, gives twice, or gives late.
+-- Each push draws three words, whatever becomes of it. The heard list is told by the places of the pushed list, so nothing in
+-- it depends on what the buckets say.
+use Rattle.std.specs.Prelude.{◌≡◌, ℕ, ◌<◌, ◌≤◌, ◌+◌, ◌*◌, ◌/◌, ◌%◌, ◌⊎◌, ◌==◌, nat_lt, if◌then◌else◌, List, [], length, map, replicate, slice_index, slice_index_or, flat_map, count_by, All, AllPairs, Contains}
+use Rattle.std.specs.List.{range_with_len}
+use Rattle.air_model.specs.Draws.{words_of}
+
+-- How many of a hundred buckets are lost, heard again, and late.
+pub record Odds : Type 0 where
+  pub loss : ℕ
+  pub again : ℕ
+  pub late : ℕ
+
+-- Word k of the three that are drawn for the push at a place.
+abbrev pub word_of : List ℕ → ℕ → ℕ → ℕ
+word_of words place k = slice_index words (3 * place + k)
+
+-- How often a push is heard: not at all where it is lost, else twice or once.
+unfoldable pub times_heard : Odds → List ℕ → ℕ → ℕ
+times_heard odds words place =
+    if nat_lt (word_of words place 0 % 100) odds.loss then 0
+    else if nat_lt (word_of words place 1 % 100) odds.again then 2
+    else 1
+
+-- The due number of a push: it is heard once the push at this place was made. A late one comes one to eight places later.
+unfoldable pub due_number : Odds → List ℕ → ℕ → ℕ
+due_number odds words place =
+    if nat_lt (word_of words place 2 % 100) odds.late then place + 1 + word_of words place 2 / 100 % 8
+    else place
+
+-- Of n pushes those that are due at a number, in order, the two copies of one side by side.
+unfoldable pub due_at : Odds → List ℕ → ℕ → ℕ → List ℕ
+due_at odds words n number =
+    flat_map (λ place. if due_number odds words place == number then replicate (times_heard odds words place) place else []) (range_with_len 0 n)
+
+-- The places of what is heard of n pushes, by due number; none is due above n + 7.
+unfoldable pub heard_places : Odds → List ℕ → ℕ → List ℕ
+heard_places odds words n = flat_map (due_at odds words n) (range_with_len 0 (n + 8))
+
+-- The heard list of a pushed list.
+unfoldable pub heard : Odds → List ℕ → List (List ℕ) → List (List ℕ)
+heard odds words pushed = map (λ place. slice_index_or pushed place []) (heard_places odds words (length pushed))
+
+-- What the receiver of this number hears, by the words of its own stream.
+unfoldable pub heard_by : ℕ → ℕ → Odds → List (List ℕ) → List (List ℕ)
+heard_by seed number odds pushed = heard odds (words_of seed number (3 * length pushed)) pushed
+
+-- ---- laws
+-- Where nothing is lost, heard again or late, the pushed list is heard.
+abbrev pub ClearEtherLaw : Type 0
+ClearEtherLaw = (words : List ℕ) (pushed : List (List ℕ)) → heard (record { loss = 0; again = 0; late = 0 }) words pushed ≡ pushed
+
+-- Each heard bucket was pushed.
+abbrev pub HeardWasPushedLaw : Type 0
+HeardWasPushedLaw = (odds : Odds) (words : List ℕ) (pushed : List (List ℕ)) → All (Contains pushed) (heard odds words pushed)
+
+-- Each push is heard as often as its words say.
+abbrev pub HeardTimesLaw : Type 0
+HeardTimesLaw = (odds : Odds) (words : List ℕ) (n place : ℕ) → place < n → count_by (λ p. p == place) (heard_places odds words n) ≡ times_heard odds words place
+
+-- What is heard later has a greater due number, or the same and no smaller place.
+abbrev pub HeardOrderLaw : Type 0
+HeardOrderLaw = (odds : Odds) (words : List ℕ) (n : ℕ) →
+    AllPairs (λ p q. (due_number odds words p < due_number odds words q) ⊎ ((due_number odds words p ≡ due_number odds words q) × (p ≤ q))) (heard_places odds words n)

@@ -1,0 +1,28 @@
+-- What the receivers of a deck tell, over every list that some history aired: the laws of sessions at a deck's readers.
+-- `script`, `tune`, `run` and `listen` print such sessions; what is heard may be lost, repeated and reordered.
+use Rattle.std.specs.Prelude.{◌≡◌, ℕ, ◌<◌, List, length, All, Option}
+use Rattle.air_base.specs.declared.verdicts.Policy.TheVariants.{FMatrix}
+use Rattle.air_history.specs.declared.histories.Event.{Event}
+use Rattle.air_model.specs.Buckets.{Bucket}
+use Rattle.air_model.specs.Decks.{Deck, IsDeck, values_in}
+use Rattle.air_model.specs.Aired.{IsAired, air_of}
+use Rattle.air_model.specs.Judges.{Judge, by_entries, by_history}
+use Rattle.air_model.specs.Sessions.{State, reader_of, session}
+use Rattle.air_model.specs.SessionLaws.{IsExactLine, IsOfReader, IsSoundLine}
+
+-- The session of the deck's reader of a number.
+abbrev pub session_of : Judge → Deck → ℕ → List (Option Bucket) → State
+session_of judge deck r heard = session judge (air_of deck) (reader_of deck r) heard
+
+-- What the deck's reader decides by the entries is what the history says: the session is the one by the history, each line is
+-- sound and is the reader's, and under F-Matrix each verdict is exact.
+pub record IsTrueSession (deck : Deck) (H : List Event) (r : ℕ) (heard : List (Option Bucket)) : Type 0 where
+  pub same : session_of (by_entries deck.settings.policy) deck r heard ≡ session_of (by_history deck.settings.policy (values_in deck) H) deck r heard
+  pub sound : All (IsSoundLine (values_in deck) deck.settings.policy H) (session_of (by_entries deck.settings.policy) deck r heard).lines
+  pub own : All (IsOfReader (reader_of deck r)) (session_of (by_entries deck.settings.policy) deck r heard).lines
+  pub exact : deck.settings.policy ≡ FMatrix → All (IsExactLine H (reader_of deck r)) (session_of (by_entries deck.settings.policy) deck r heard).lines
+
+-- Wherever a history aired what a reader of a well made deck heard, its session is true. The history needn't be the deck's.
+abbrev pub ReceiverLaw : Type 0
+ReceiverLaw = (deck : Deck) (H : List Event) (r : ℕ) (heard : List (Option Bucket)) → IsDeck deck → r < length deck.readers →
+    IsAired (values_in deck) (air_of deck) H heard → IsTrueSession deck H r heard

@@ -1,0 +1,42 @@
+//! Why bytes are no bucket, and the laws of the bucket's bytes.
+//!
+//! `specs/Buckets.antt` has the words: the spelling, the relation and the reading. The codec stands on them.
+
+/// Why bytes are no bucket: the first of these that applies.
+#[derive(Clone, Copy, Debug, PartialEq, Eq)]
+pub enum BucketFault {
+    /// There are fewer than the 24 bytes of the head; `at` is their number.
+    Short { at: u32 },
+    /// The first two bytes aren't the magic.
+    Magic,
+    /// The version isn't 1.
+    Version,
+    /// The kind is none of idle, column and vector.
+    Kind,
+    /// The number of bytes isn't that of the kind and the count.
+    Length,
+    /// A number is outside its range.
+    Shape,
+}
+
+ghost use Rattle.air_model.specs.Buckets.{FaultLaw, NoPrefixLaw, OneBucketLaw, ReadingLaw};
+
+/// Bytes are a bucket exactly where that bucket is read from them.
+pub fn reading_law()
+    ensures { ReadingLaw }
+{}
+
+/// A fault is found exactly where the bytes are no bucket.
+pub fn fault_law()
+    ensures { FaultLaw }
+{}
+
+/// Bytes are one bucket at most.
+pub fn one_bucket_law()
+    ensures { OneBucketLaw }
+{}
+
+/// No bucket's bytes begin with another's.
+pub fn no_prefix_law()
+    ensures { NoPrefixLaw }
+{}
