@@ -1,0 +1,4 @@
+pub mod NamedLemmas
+pub mod MemoryFacts
+pub mod CallFacts
+pub mod WrittenFacts

@@ -1,0 +1,17 @@
+use Rattle.std.proofs.Common.{◌+◌, ◌-◌, vec_len}
+use Rattle.std.specs.Io.KnownBytes.{Keeps, prepend_known}
+use Rattle.air_devices.specs.Counts.{KeepsCounts}
+use Rattle.air_devices.specs.Frames.{KeepsButLeft}
+use Rattle.air_devices.proofs.reading.read_file.Given as goal
+
+abbrev pub invariant-loop-buf : goal.invariant-loop-buf
+invariant-loop-buf g l =
+    let S = g.S.Shelf in
+    record {
+      read : Keeps ((S.told l.fn.shelf).file l.name) (prepend_known l.bytes.items ((S.told l.shelf).left l.name));
+      rest : KeepsButLeft l.name (S.told l.fn.shelf) (S.told l.shelf);
+      calm : KeepsCounts (S.faults l.fn.shelf) (S.faults l.shelf);
+    }
+
+abbrev pub decreases-loop-buf : goal.decreases-loop-buf
+decreases-loop-buf g l = l.limit + 1 - vec_len l.bytes

@@ -1,0 +1,78 @@
+//! Whole files, read through any shelf up to a stated limit.
+//!
+//! The loop ends by itself: each turn takes at least one byte or returns, and none goes past the limit by more
+//! than one byte. The answer for a file that can't be read names the count of faults that rose.
+
+ghost use Rattle.std.specs.Prelude.{◌≡◌, ◌≢◌, ◌≤◌, ◌<◌, Err, length, IfOk, OnOk};
+ghost use Rattle.std.specs.Io.KnownBytes.{IsAtEnd};
+ghost use Rattle.air_devices.specs.Counts.{KeepsCounts, NoCountFalls, Rose};
+ghost use Rattle.air_devices.specs.Frames.{KeepsButLeft};
+ghost use Rattle.air_devices.specs.Known.{KnownIs, WhereKnown};
+
+use crate::shelves::Shelf;
+use std::alloc::Global;
+use std::error::Error;
+use std::fmt;
+
+/// Why a file was not read.
+#[derive(Clone, Copy, Debug, PartialEq, Eq)]
+pub enum ReadFileError {
+    /// The shelf failed.
+    Failed,
+    /// The file has more bytes than the limit.
+    TooLarge,
+    /// There was no memory for the bytes.
+    NoMemory,
+}
+
+impl fmt::Display for ReadFileError {
+    fn fmt<W: fmt::Write>(&self, f: &mut fmt::Formatter<W>) -> fmt::Result {
+        f.write_str(match self {
+            ReadFileError::Failed => "the file can't be read",
+            ReadFileError::TooLarge => "the file is too large",
+            ReadFileError::NoMemory => "out of memory",
+        })
+    }
+}
+
+impl Error for ReadFileError {}
+
+/// How many bytes one read asks for at most.
+const BLOCK: usize = 4096;
+
+/// The whole of a file that has at most `limit` bytes.
+pub fn read_file<S: Shelf>(
+    alloc: Global,
+    shelf: &mut S,
+    name: &str,
+    limit: usize,
+) -> Result<Vec<u8>, ReadFileError>
+    ensures bytes { IfOk result (λ v. KnownIs ((S.told shelf.old).file name.now) v.items) }
+    ensures fits { IfOk result (λ v. length v.items ≤ limit) }
+    ensures end { OnOk result (IsAtEnd ((S.told shelf.new).left name.now)) }
+    ensures large { result ≡ Err ReadFileError.TooLarge → WhereKnown ((S.told shelf.old).file name.now) (λ xs. limit < length xs) }
+    ensures cause { result ≡ Err ReadFileError.Failed → Rose ((S.faults shelf.old).reading name.now) ((S.faults shelf.new).reading name.now) }
+    ensures rest { KeepsButLeft name.now (S.told shelf.old) (S.told shelf.new) }
+    ensures later { NoCountFalls (S.faults shelf.old) (S.faults shelf.new) }
+    ensures calm { result ≢ Err ReadFileError.Failed → KeepsCounts (S.faults shelf.old) (S.faults shelf.new) }
+{
+    if shelf.pick(name).is_err() {
+        return Err(ReadFileError::Failed);
+    }
+    let mut bytes = Vec::new(alloc);
+    let mut buf = [0u8; BLOCK];
+    while bytes.len() <= limit {
+        let want = (limit - bytes.len()).min(BLOCK - 1) + 1;
+        let part = &mut buf[..want];
+        let Ok(count) = shelf.read(name, part) else {
+            return Err(ReadFileError::Failed);
+        };
+        if count == 0 {
+            return Ok(bytes);
+        }
+        if bytes.extend_from_slice(&part[..count]).is_err() {
+            return Err(ReadFileError::NoMemory);
+        }
+    }
+    Err(ReadFileError::TooLarge)
+}
