@@ -1,0 +1,16 @@
+pub mod RecordFacts
+pub mod FieldFacts
+pub mod ItemFacts
+pub mod QueryFacts
+pub mod StartFacts
+pub mod DeckFacts
+pub mod FirstExamples
+pub mod RowLemmas
+pub mod ReceptionLemmas
+pub mod FlatPrograms
+pub mod QuietHistories
+pub mod ReceptionSessions
+pub mod FirstTexts
+pub mod LimitLemmas
+pub mod AnswerFacts
+pub mod FirstFormExamples

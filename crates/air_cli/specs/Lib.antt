@@ -1,0 +1,10 @@
+pub mod CsvRecords
+pub mod FirstForm
+pub mod FirstFormLaws
+pub mod FirstReports
+pub mod ReportTexts
+pub mod Words
+pub mod Statuses
+pub mod Printing
+pub mod Answers
+pub mod Receptions
