@@ -1,0 +1,72 @@
+//! The program: words in, a status out.
+//!
+//! It hands its words and a shelf over files and standard output to the top call, and ends with the status's
+//! number. `--help` and `--version`, each as the only word, are answered here.
+#![tactic(auto)]
+
+use air_cli::{Status, air_quiet};
+use air_devices::FileShelf;
+use std::alloc::Global;
+use std::env::{self, Env};
+use std::io::{self, Write};
+use std::process::ExitCode;
+use std::rt::Files;
+
+/// What the program can do, a line a command.
+const HELP: &str = "airdisk: data on air, proved
+
+  airdisk script DECK    do the script of a deck, and print the report of its reader
+  airdisk --help         print this text
+  airdisk --version      print the version
+
+The manual is docs/GUIDE.md in the repository.
+";
+
+/// The version of the program.
+const VERSION: &str = "airdisk 0.1.0\n";
+
+fn main(rt: HostRuntime) -> ExitCode {
+    let alloc = rt.alloc();
+    let words = match words_of(&rt, alloc) {
+        Ok(words) => words,
+        Err(status) => return ExitCode::from(status.code()),
+    };
+    match words.as_slice() {
+        [word] if word.as_str() == "--help" => print_text(&rt, HELP),
+        [word] if word.as_str() == "--version" => print_text(&rt, VERSION),
+        words => {
+            let Ok(handle) = rt.clone() else {
+                return ExitCode::from(Status::NoMemory.code());
+            };
+            let mut shelf = FileShelf::new(handle);
+            let status = air_quiet(&rt, alloc, words, &mut shelf);
+            ExitCode::from(status.code())
+        }
+    }
+}
+
+/// The words of the command line without the program's own name. Where one isn't text there are none, so that
+/// they are of no form.
+fn words_of<R: Env + Alloc<A = Global>>(rt: &R, alloc: Global) -> Result<Vec<String>, Status> {
+    let mut words = Vec::new(alloc);
+    match env::args(rt) {
+        Ok(args) => {
+            for word in args.skip(1) {
+                if words.push(word).is_err() {
+                    return Err(Status::NoMemory);
+                }
+            }
+            Ok(words)
+        }
+        Err(error) if error.kind() == io::ErrorKind::OutOfMemory => Err(Status::NoMemory),
+        Err(_) => Ok(words),
+    }
+}
+
+/// Prints a text, and answers the status of that.
+fn print_text<R: Print>(rt: &R, text: &str) -> ExitCode {
+    match io::writer(rt).write_all(text.as_bytes()) {
+        Ok(()) => ExitCode::from(Status::Ok.code()),
+        Err(_) => ExitCode::from(Status::WriteFault.code()),
+    }
+}
