@@ -1,0 +1,4 @@
+pub mod SearchLemmas
+pub mod HeldLemmas
+pub mod NewLemmas
+pub mod LeastFacts

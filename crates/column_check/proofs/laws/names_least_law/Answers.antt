@@ -1,0 +1,5 @@
+use Rattle.column_check.proofs.LeastFacts.{names_least}
+use Rattle.column_check.proofs.laws.names_least_law.Goals as goal
+
+pub returns : goal.returns
+returns c = names_least

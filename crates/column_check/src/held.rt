@@ -1,0 +1,117 @@
+//! The reads that an attempt holds under F-Matrix, each with its control column.
+//!
+//! Contracts see the number of items and the held reads in order. `clashes` is the clash by the entries, and by
+//! every history that aired these columns; a receiver's attempts stand on it. All memory is taken by `new`.
+
+ghost use Rattle.std.specs.Prelude.{◌≡◌, ◌↔◌, ◌<◌, ◌≤◌, [], ◌∷◌, ◌++◌, List, length, map, All, IsNone, IfSome, IfOk, None};
+ghost use Rattle.air_base.specs.declared.verdicts.Policy.TheVariants.{FMatrix};
+ghost use Rattle.air_history.specs.declared.histories.Event.{Event};
+ghost use Rattle.air_history.specs.Reads.{last_cycle};
+ghost use Rattle.air_history.specs.Consistency.{IsConsistent};
+ghost use Rattle.air_history.specs.Clashes.{read_at, clash_by_history, clash_by_entries};
+ghost use Rattle.air_history.specs.ClashLaws.{IsHeard};
+ghost use Rattle.column_check.specs.HeardReads.{heard};
+ghost use Rattle.column_check.specs.HeldReads.{IsNew};
+
+use crate::reads::{HeldRead, least_clash};
+use air_base::{Clash, NoMemory};
+use std::alloc::Global;
+use std::marker::Model;
+
+/// How many reads there is room for.
+pub const ROOM: usize = 16;
+
+/// The held reads of an attempt, in order.
+#[derive(Debug, Drop)]
+pub struct Held {
+    n: u16,
+    len: usize,
+    places: Vec<HeldRead>,
+}
+
+impl Model for Held {
+    ghost use Rattle.column_check.specs.HeldReads.{HeldReads};
+
+    ghost Value = { HeldReads };
+
+    ghost use Rattle.column_check.specs.HeldView.{held_reads, KeepsRoom};
+
+    ghost view = { held_reads };
+
+    ghost invariant = { KeepsRoom };
+}
+
+impl Held {
+    /// Nothing held, with room for sixteen reads over `n` items.
+    pub fn new(alloc: Global, n: u16) -> Result<Held, NoMemory>
+        ensures { IfOk result (λ h. h ≡ record { n = n; reads = [] }) }
+    {
+        let mut places = Vec::new(alloc);
+        for _ in 0..ROOM {
+            let place = HeldRead::blank(alloc, n)?;
+            let Ok(()) = places.push(place) else {
+                return Err(NoMemory);
+            };
+        }
+        Ok(Held { n, len: 0, places })
+    }
+
+    /// The number of held reads, never above the room.
+    pub fn len(&self) -> usize
+        ensures number { result ≡ length self.now.reads }
+        ensures within { result ≤ ROOM }
+    {
+        self.len
+    }
+
+    /// The cycle of the last held read.
+    pub fn last(&self) -> Option<u32>
+        ensures none { IsNone result ↔ (self.now.reads ≡ []) }
+        ensures cycle { IfSome result (λ c. c ≡ last_cycle (map read_at self.now.reads)) }
+    {
+        if self.len == 0 {
+            return None;
+        }
+        Some(self.places[self.len - 1].cycle)
+    }
+
+    /// The held read of least item number that clashes with the new one.
+    pub fn clashes(&self, item: u16, cycle: u32, column: &[u32]) -> Option<Clash>
+        requires { IsNew self.now (heard item cycle column.now) }
+
+        // By the entries, for every order of reads.
+        ensures entries { result ≡ clash_by_entries FMatrix self.now.reads (heard item cycle column.now) }
+
+        // By each history that has these columns at their cycles.
+        ensures history { let x = heard item cycle column.now in (H : List Event) →
+            All (IsHeard FMatrix self.now.n H) self.now.reads → IsHeard FMatrix self.now.n H x →
+            result ≡ clash_by_history FMatrix H (map read_at self.now.reads) (read_at x) }
+        ensures consistent { let x = heard item cycle column.now in (H : List Event) →
+            All (IsHeard FMatrix self.now.n H) self.now.reads → IsHeard FMatrix self.now.n H x →
+            IsConsistent H (map read_at self.now.reads) →
+            (result ≡ None) ↔ IsConsistent H (map read_at self.now.reads ++ read_at x ∷ []) }
+    {
+        least_clash(&self.places[..self.len], item, cycle, column)
+    }
+
+    /// Holds the new read too, after those before it.
+    pub fn hold(&mut self, item: u16, cycle: u32, column: &[u32])
+        requires room { length self.old.reads < ROOM }
+        requires new { IsNew self.old (heard item cycle column.now) }
+        requires clear { clash_by_entries FMatrix self.old.reads (heard item cycle column.now) ≡ None }
+        ensures { self.new ≡ record self.old { reads = self.old.reads ++ heard item cycle column.now ∷ [] } }
+    {
+        let place = &mut self.places[self.len];
+        place.item = item;
+        place.cycle = cycle;
+        place.column.copy_from_slice(column);
+        self.len += 1;
+    }
+
+    /// Holds nothing any more; the room stays.
+    pub fn clear(&mut self)
+        ensures { self.new ≡ record self.old { reads = [] } }
+    {
+        self.len = 0;
+    }
+}

@@ -1,0 +1,14 @@
+//! The held reads of F-Matrix: whether a new read goes together with those that an attempt holds.
+//!
+//! Each read comes with the control column that was heard with it. Two reads clash where either's column has
+//! the other's item at its cycle or later. `Held` keeps the reads in order and names the clash of least item.
+#![tactic(auto)]
+
+pub mod held;
+pub mod laws;
+mod reads;
+
+pub use held::{Held, ROOM};
+
+#[cfg(test)]
+mod tests;
