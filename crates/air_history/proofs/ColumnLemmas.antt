@@ -38,7 +38,8 @@ marked_skip H marks p i h = marked_suc H marks p i ∙ cond-false _ _ _ (and_lef
 pub marked_start : (H : List Event) (marks : List Bool) (p i : ℕ) (e : Event) → p < length H → e ≡ get_or H p e → is_start e ≡ true → marked_entry H marks (p + 1) i ≡ marked_entry H marks p i
 marked_start H marks p i e l is s = marked_suc H marks p i ∙ cond-false _ _ _ (and_right _ _ (ap (λ x. writes x i) (event_read H p e l is) ∙ start_writes_nothing e i s))
 
-written_by : (e : Event) (i : ℕ) → writes e i ≡ list_any (λ w. w.item == i) (writes_of e)
+-- the test that an event writes an item, over its list of writes
+pub written_by : (e : Event) (i : ℕ) → writes e i ≡ list_any (λ w. w.item == i) (writes_of e)
 unfolding writes writes_of
 written_by (Commit by seq u) i = refl
 written_by Start i = refl

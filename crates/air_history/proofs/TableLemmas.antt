@@ -58,7 +58,7 @@ found_reads P i (w ∷ ws) all h = elim (cases_Bool (w.item == i)) as (λ _. (v 
       (r.0, cond-false (w.item == i) _ _ miss ∙ r.1, r.2))
 ]
 
-written_same : (V W : ℕ → ℕ) (e : Event) (i : ℕ) → BasesRead e → writes e i ≡ true → ((k : ℕ) → k < length (reads e) → V (get_or (reads e) k 0) ≡ W (get_or (reads e) k 0)) → value_after V e i ≡ value_after W e i
+pub written_same : (V W : ℕ → ℕ) (e : Event) (i : ℕ) → BasesRead e → writes e i ≡ true → ((k : ℕ) → k < length (reads e) → V (get_or (reads e) k 0) ≡ W (get_or (reads e) k 0)) → value_after V e i ≡ value_after W e i
 unfolding value_after write_of writes reads BasesRead
 written_same V W (Commit by seq u) i bases h same =
     let r = found_reads (λ w. IfSome w.base (Contains u.reads)) i u.writes bases h in

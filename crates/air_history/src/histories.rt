@@ -4,6 +4,7 @@
 
 ghost use Rattle.std.specs.Prelude.{◌≡◌, ◌↔◌, ◌<◌, ◌^◌, length, All, IsTrue};
 ghost use Rattle.air_history.specs.Histories.{is_start, writes, reads, writes_of, event_at, starts, EventFits};
+ghost use Rattle.air_history.specs.Tables.{BasesRead};
 
 use crate::updates::{Update, Write, writes_item};
 use std::marker::Model;
@@ -69,6 +70,16 @@ impl Event {
         match self {
             Event::Commit { update, .. } => writes_item(update.writes(), item),
             Event::Start => false,
+        }
+    }
+
+    /// Hands a rule of its update's type to a caller's proof, that each base is read; it does nothing.
+    pub fn keeps_rules(&self)
+        ensures { BasesRead self.now }
+    {
+        match self {
+            Event::Commit { update, .. } => update.keeps_rules(),
+            Event::Start => {}
         }
     }
 }

@@ -14,7 +14,7 @@ pub mod updates;
 
 pub use histories::{Event, History};
 pub use scans::{column_scan, descends, writer_at};
-pub use tables::table_of;
+pub use tables::{run_event, table_of};
 pub use updates::{Update, UpdateFault, Write};
 
 #[cfg(test)]

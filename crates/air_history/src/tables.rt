@@ -20,8 +20,8 @@ pub fn table_of(h: &History, upto: u64, values: &mut [u64])
     }
 }
 
-/// Runs one event on the values.
-fn run_event(event: &Event, values: &mut [u64])
+/// Runs one event on the values, without memory.
+pub fn run_event(event: &Event, values: &mut [u64])
     requires { EventFits (length values.old) event.now }
     ensures { (i : ℕ) → slice_index_or values.new i 0 ≡ value_after (values_of values.old) event.now i }
 {
