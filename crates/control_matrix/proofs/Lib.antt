@@ -1,0 +1,4 @@
+pub mod FlatLemmas
+pub mod EntryLemmas
+pub mod BoardLemmas
+pub mod StepExamples

@@ -1,0 +1,22 @@
+-- What contracts see of the fields of a board, and what always holds of them.
+use Rattle.std.specs.Prelude.{◌≡◌, ◌*◌, ◌≤◌, length}
+use Rattle.air_history.specs.Boards.{Board}
+use Rattle.control_matrix.specs.declared.board.Board.TheInside.{Inside}
+use Rattle.control_matrix.specs.Columns.{columns_in}
+
+-- the board that the fields hold
+abbrev pub board_in : Inside → Board
+board_in b = record {
+  cycle = b.cycle;
+  values = b.values.items;
+  columns = columns_in (length b.values.items) b.columns.items;
+  vector = b.vector.items;
+}
+
+-- there are 1 to 1,024 values, as many columns of as many entries, and as many vector entries
+pub record IsBoard (b : Inside) : Type 0 where
+  pub some : 1 ≤ length b.values.items
+  pub few : length b.values.items ≤ 1024
+  pub columns : length b.columns.items ≡ length b.values.items * length b.values.items
+  pub vector : length b.vector.items ≡ length b.values.items
+  pub spare : length b.spare.items ≡ length b.values.items

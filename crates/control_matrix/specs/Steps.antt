@@ -1,0 +1,28 @@
+-- How one event steps a board, for every board and every event, and the law that ties it to lists of events.
+use Rattle.std.specs.Prelude.{◌≡◌, ℕ, ◌+◌, cond, List, [], ◌∷◌, ◌++◌, length, get_or, map}
+use Rattle.std.specs.List.{range_with_len}
+use Rattle.air_history.specs.declared.histories.Event.{Event}
+use Rattle.air_history.specs.Histories.{is_start, writes, EventFits}
+use Rattle.air_history.specs.Tables.{table_list, BasesRead}
+use Rattle.air_history.specs.Boards.{Board, board_of}
+use Rattle.control_matrix.specs.Columns.{next_columns}
+
+-- the write vector of n items after the event: the cycle at the items that it writes, else what it was
+abbrev pub next_vector : ℕ → ℕ → List ℕ → Event → List ℕ
+next_vector n cycle vector e = map (λ i. cond (writes e i) cycle (get_or vector i 0)) (range_with_len 0 n)
+
+-- the board after the event: a start begins the next cycle and changes nothing else; a commit writes the values,
+-- the columns and the vector entries of the items that it writes, all from the board before it
+unfoldable pub step_board : Board → Event → Board
+step_board b e = record {
+  cycle = cond (is_start e) (b.cycle + 1) b.cycle;
+  values = table_list b.values (e ∷ []);
+  columns = next_columns (length b.values) b.cycle b.columns e;
+  vector = next_vector (length b.values) b.cycle b.vector e;
+}
+
+-- where the event's items are below the number of values and its bases are read, the step of the board of a list
+-- of events is the board of the list with the event added
+abbrev pub StepLaw : Type 0
+StepLaw = (values : List ℕ) (G : List Event) (e : Event) → EventFits (length values) e → BasesRead e →
+    step_board (board_of values G) e ≡ board_of values (G ++ e ∷ [])
