@@ -1,0 +1,30 @@
+use Rattle.std.proofs.Common.{arith, rules, inl, inr, sym}
+use Rattle.bucket_codec.proofs.FaultFacts.{fault_kind, fault_length, fault_magic, no_fault, fault_shape, fault_short, fault_version}
+use Rattle.bucket_codec.proofs.view.first_fault.Goals as goal
+use Rattle.bucket_codec.proofs.view.first_fault.Goals.{then-bytes-ne65-via-then-bytes-ne65, then-bytes-ne65-via-else-bytes-ne65+then-bytes-ne68}
+
+pub returns-then-bytes-lt24 : goal.returns-then-bytes-lt24
+returns-then-bytes-lt24 c = sym (fault_short c.args.bytes.now (omega arith))
+
+pub returns-then-bytes-ne65 : goal.returns-then-bytes-ne65
+returns-then-bytes-ne65 c =
+    elim c.then-bytes-ne65.branch [
+      | then-bytes-ne65-via-then-bytes-ne65 w ↦ sym (fault_magic c.args.bytes.now (omega arith) (inl (search rules)))
+      | then-bytes-ne65-via-else-bytes-ne65+then-bytes-ne68 w ↦ sym (fault_magic c.args.bytes.now (omega arith) (inr (search rules)))
+    ]
+
+pub returns-then-bytes-ne1 : goal.returns-then-bytes-ne1
+returns-then-bytes-ne1 c = sym (fault_version c.args.bytes.now (omega arith) (search rules) (search rules) (search rules))
+
+pub returns-then-kind-gt2 : goal.returns-then-kind-gt2
+returns-then-kind-gt2 c = sym (fault_kind c.args.bytes.now (omega arith) (search rules) (search rules) (search rules) (search rules))
+
+pub returns-then-bytes-n : goal.returns-then-bytes-n
+returns-then-bytes-n c = sym (fault_length c.args.bytes.now (omega arith) (search rules) (search rules) (search rules) (search rules) c.entries-n.result (search rules) (search rules))
+
+pub returns-then-not-shaped : goal.returns-then-not-shaped
+returns-then-not-shaped c = sym (fault_shape c.args.bytes.now (omega arith) (search rules) (search rules) (search rules) (search rules) c.entries-n.result (search rules) (search rules) (search rules))
+
+pub returns : goal.returns
+returns c =
+    sym (no_fault c.args.bytes.now (omega arith) (search rules) (search rules) (search rules) (search rules) c.entries-n.result (search rules) (search rules) (search rules))

@@ -1,0 +1,23 @@
+-- The head of a bucket: its 24 bytes before the entries, and the numbers in them.
+-- Only the steps of `encode` speak of it.
+use Rattle.std.specs.Prelude.{ℕ, List, [], ◌∷◌, ◌++◌}
+use Rattle.byteorder.specs.Endian.{big_bytes}
+use Rattle.air_model.specs.Buckets.{Bucket, count_of, item_of, kind_of, value_of}
+use Rattle.bucket_codec.specs.declared.encoding.Head.{Head}
+
+-- The numbers in the head of a bucket.
+unfoldable pub head_of : Bucket → Head
+head_of b = record {
+  kind = kind_of b.body;
+  edition = b.edition;
+  count = count_of b.body;
+  cycle = b.cycle;
+  slot = b.slot;
+  item = item_of b.body;
+  value = value_of b.body;
+}
+
+-- The bytes of a head.
+unfoldable pub head_bytes : Head → List ℕ
+head_bytes h =
+    0x41 ∷ 0x44 ∷ 1 ∷ h.kind ∷ [] ++ big_bytes 2 h.edition ++ big_bytes 2 h.count ++ big_bytes 4 h.cycle ++ big_bytes 2 h.slot ++ big_bytes 2 h.item ++ big_bytes 8 h.value

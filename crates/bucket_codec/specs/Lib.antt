@@ -1,0 +1,4 @@
+pub mod Said
+pub mod Heads
+pub mod Views
+pub mod Readers

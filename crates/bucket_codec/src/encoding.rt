@@ -1,0 +1,173 @@
+//! A bucket to be aired, and its bytes.
+//!
+//! The head of 24 bytes is written from front to back and the entries behind it, each byte once. What stands behind
+//! the bucket isn't touched. The sender and the station air what is written here.
+
+ghost use Rattle.std.specs.Prelude.{◌≡◌, ◌≤◌, ◌<◌, ◌+◌, ◌*◌, ◌++◌, drop, length, take, Ok};
+ghost use Rattle.std.specs.List.{flat_map};
+ghost use Rattle.byteorder.specs.Endian.{big_bytes};
+ghost use Rattle.air_model.specs.Buckets.{IsBucket, IsInRange, entries_of, reading, spelling};
+ghost use Rattle.bucket_codec.specs.Heads.{head_bytes, head_of};
+ghost use Rattle.bucket_codec.specs.Said.{said};
+
+use byteorder::{BigEndian, ByteOrder};
+
+/// A bucket to be aired: its place on the air, and what it carries.
+#[derive(Clone, Copy, Debug)]
+pub struct Bucket<'a> {
+    /// The edition of the program.
+    pub edition: u16,
+    /// The cycle, from 1.
+    pub cycle: u32,
+    /// The slot, from 0.
+    pub slot: u16,
+    /// What it carries.
+    pub body: Body<'a>,
+}
+
+/// What a bucket carries.
+#[derive(Clone, Copy, Debug)]
+pub enum Body<'a> {
+    /// No item, for so many items in all.
+    Idle {
+        count: u16,
+    },
+    /// An item, its value, and its control column with an entry for each item.
+    Column {
+        item: u16,
+        value: u64,
+        entries: &'a [u32],
+    },
+    /// An item, its value, and the vector of last writes with an entry for each item.
+    Vector {
+        item: u16,
+        value: u64,
+        entries: &'a [u32],
+    },
+}
+
+/// The numbers of a head that differ from bucket to bucket.
+#[derive(Drop)]
+struct Head {
+    kind: u8,
+    edition: u16,
+    count: u16,
+    cycle: u32,
+    slot: u16,
+    item: u16,
+    value: u64,
+}
+
+/// The entries of a bucket.
+#[tactic(auto, unfolding(crate::specs::Said::body_said, air_model::specs::Buckets::entries_of))]
+fn entries<'a>(bucket: &Bucket<'a>) -> &'a [u32]
+    ensures { result.now ≡ entries_of (said bucket.now).body }
+{
+    match bucket.body {
+        Body::Idle { .. } => &[],
+        Body::Column { entries, .. } => entries,
+        Body::Vector { entries, .. } => entries,
+    }
+}
+
+/// The head of a bucket.
+#[tactic(auto, unfolding(crate::specs::Heads::head_of, crate::specs::Said::body_said, air_model::specs::Buckets::kind_of, air_model::specs::Buckets::count_of, air_model::specs::Buckets::item_of, air_model::specs::Buckets::value_of))]
+fn head_numbers(bucket: &Bucket<'_>) -> Head
+    requires { IsInRange (said bucket.now) }
+    ensures { result ≡ head_of (said bucket.now) }
+{
+    let (kind, count, item, value) = match bucket.body {
+        Body::Idle { count } => (0, count, u16::MAX, 0),
+        Body::Column {
+            item,
+            value,
+            entries,
+        } => (1, entries.len() as u16, item, value),
+        Body::Vector {
+            item,
+            value,
+            entries,
+        } => (2, entries.len() as u16, item, value),
+    };
+    Head {
+        kind,
+        edition: bucket.edition,
+        count,
+        cycle: bucket.cycle,
+        slot: bucket.slot,
+        item,
+        value,
+    }
+}
+
+/// Writes two bytes at a place.
+fn put_two(out: &mut [u8], at: usize, n: u16)
+    requires { at + 2 ≤ length out.old }
+    ensures { out.new ≡ take at out.old ++ (big_bytes 2 n ++ drop (at + 2) out.old) }
+{
+    BigEndian::write_u16(&mut out[at..], n);
+}
+
+/// Writes four bytes at a place.
+pub(crate) fn put_four(out: &mut [u8], at: usize, n: u32)
+    requires { at + 4 ≤ length out.old }
+    ensures { out.new ≡ take at out.old ++ (big_bytes 4 n ++ drop (at + 4) out.old) }
+{
+    BigEndian::write_u32(&mut out[at..], n);
+}
+
+/// Writes eight bytes at a place.
+fn put_eight(out: &mut [u8], at: usize, n: u64)
+    requires { at + 8 ≤ length out.old }
+    ensures { out.new ≡ take at out.old ++ (big_bytes 8 n ++ drop (at + 8) out.old) }
+{
+    BigEndian::write_u64(&mut out[at..], n);
+}
+
+/// Writes the head to the front.
+fn put_head(out: &mut [u8], head: &Head)
+    requires { 24 ≤ length out.old }
+    ensures { out.new ≡ head_bytes head.now ++ drop 24 out.old }
+{
+    out[0] = 0x41;
+    out[1] = 0x44;
+    out[2] = 1;
+    out[3] = head.kind;
+    put_two(out, 4, head.edition);
+    put_two(out, 6, head.count);
+    put_four(out, 8, head.cycle);
+    put_two(out, 12, head.slot);
+    put_two(out, 14, head.item);
+    put_eight(out, 16, head.value);
+}
+
+/// Writes the entries behind the head.
+fn put_entries(out: &mut [u8], entries: &[u32])
+    requires { 24 + 4 * length entries.now ≤ length out.old }
+    ensures { out.new ≡ take 24 out.old ++ (flat_map (big_bytes 4) entries.now ++ drop (24 + 4 * length entries.now) out.old) }
+{
+    for (i, entry) in entries.iter().enumerate() {
+        put_four(out, 24 + 4 * i, *entry);
+    }
+}
+
+/// How many bytes a bucket has: 24, and four for each entry.
+pub fn size_of(bucket: &Bucket<'_>) -> usize
+    ensures { result ≡ length (spelling (said bucket.now)) }
+{
+    24 + 4 * entries(bucket).len()
+}
+
+/// Writes a bucket's bytes to the front of `out` and answers how many there are.
+pub fn encode(bucket: &Bucket<'_>, out: &mut [u8]) -> usize
+    requires range { IsInRange (said bucket.now) }
+    requires room { length (spelling (said bucket.now)) ≤ length out.old }
+    ensures len { result ≡ length (spelling (said bucket.now)) }
+    ensures bytes { out.new ≡ spelling (said bucket.now) ++ drop result out.old }
+    ensures decodes { reading (take result out.new) ≡ Ok (said bucket.now) }
+{
+    let entries = entries(bucket);
+    put_head(out, &head_numbers(bucket));
+    put_entries(out, entries);
+    24 + 4 * entries.len()
+}

@@ -1,0 +1,22 @@
+//! Buckets and tapes as bytes, both ways.
+//!
+//! `encoding` writes the one spelling of a bucket, `view` reads a bucket out of a datagram or names its first fault,
+//! `tape` writes records and reads them back. The words of the contracts are those of `air_model`. No call takes
+//! memory: entries and records are lent from the bytes that were given.
+#![tactic(auto)]
+
+pub mod encoding;
+pub mod tape;
+pub mod view;
+
+pub use air_model::bucket::BucketFault;
+pub use encoding::{Body, Bucket, encode, size_of};
+pub use tape::{TapeFault, TapeReader, tape_record};
+pub use view::{BucketView, ViewKind, decode};
+
+#[cfg(test)]
+mod fault_tests;
+#[cfg(test)]
+mod tape_tests;
+#[cfg(test)]
+mod tests;

@@ -1,0 +1,97 @@
+//! A tape: records one after the other, each with its length in four bytes before it.
+//!
+//! A reader is seen as what its tape has still to give: the whole records that are left, and the byte at which the tape
+//! is cut, if it is. A reader that gave its last record stays as it is, so it answers the same at each later call.
+//! The sender writes records, `tune` reads them.
+
+ghost use Rattle.std.specs.Prelude.{◌≡◌, ◌≤◌, ◌<◌, ◌+◌, ◌++◌, ◌^◌, true, MatchOption, MatchResult, IfSome, drop, length};
+ghost use Rattle.air_model.specs.Tapes.{ends_inside, record_bytes, tape_read, with_record};
+ghost use Rattle.bucket_codec.specs.Readers.{nothing_left, only_cut_at};
+
+use crate::encoding::put_four;
+use byteorder::{BigEndian, ByteOrder};
+use std::marker::Model;
+
+/// The tape ends inside a record.
+#[derive(Clone, Copy, Debug, PartialEq, Eq)]
+pub enum TapeFault {
+    /// The record begins, with its length, at byte `at`.
+    Cut { at: u64 },
+}
+
+/// Writes the length and the bytes of a record to the front of `out` and answers how many there are.
+pub fn tape_record(bytes: &[u8], out: &mut [u8]) -> usize
+    requires short { length bytes.now < 2 ^ 32 }
+    requires room { 4 + length bytes.now ≤ length out.old }
+    ensures len { result ≡ length (record_bytes bytes.now) }
+    ensures bytes { out.new ≡ record_bytes bytes.now ++ drop result out.old }
+{
+    put_four(out, 0, bytes.len() as u32);
+    out[4..4 + bytes.len()].copy_from_slice(bytes);
+    4 + bytes.len()
+}
+
+/// The first record of what is left of a tape, or none where the tape ends inside it.
+fn first_record<'a>(rest: &'a [u8]) -> Option<&'a [u8]>
+    requires { 0 < length rest.now }
+    ensures first { MatchOption result (ends_inside rest.now ≡ true) (λ r. rest.now ≡ record_bytes r.now ++ drop (4 + length r.now) rest.now) }
+    ensures within { IfSome result (λ r. 4 + length r.now ≤ length rest.now) }
+    ensures short { IfSome result (λ r. length r.now < 2 ^ 32) }
+{
+    if rest.len() < 4 {
+        return None;
+    }
+    let len = BigEndian::read_u32(rest) as usize;
+    if rest.len() - 4 < len {
+        return None;
+    }
+    Some(&rest[4..4 + len])
+}
+
+/// The records of a tape, one after the other, lent from its bytes.
+#[derive(Drop)]
+pub struct TapeReader<'a> {
+    rest: &'a [u8],
+    at: u64,
+}
+
+impl<'a> Model for TapeReader<'a> {
+    ghost use Rattle.std.specs.Prelude.{◌<◌, ◌+◌, ◌^◌, length};
+    ghost use Rattle.air_model.specs.Tapes.{TapeRead, read_from};
+
+    ghost Value = { TapeRead };
+
+    ghost view = { λ a. read_from (length a.rest.now) a.at a.rest.now };
+
+    ghost invariant = { λ a. a.at + length a.rest.now < 2 ^ 64 };
+}
+
+impl<'a> TapeReader<'a> {
+    /// A reader at the front of a tape.
+    pub fn new(bytes: &'a [u8]) -> TapeReader<'a>
+        ensures { result ≡ tape_read bytes.now }
+    {
+        TapeReader { rest: bytes, at: 0 }
+    }
+
+    /// The next whole record, or none at the end of the tape.
+    pub fn next(&mut self) -> Result<Option<&'a [u8]>, TapeFault>
+        ensures { MatchResult result
+            (λ o. MatchOption o ((self.old ≡ nothing_left) × (self.new ≡ self.old)) (λ r. self.old ≡ with_record r.now self.new))
+            (λ e. (self.old ≡ only_cut_at e) × (self.new ≡ self.old)) }
+    {
+        let rest = self.rest;
+        if rest.is_empty() {
+            return Ok(None);
+        }
+        match first_record(rest) {
+            None => Err(TapeFault::Cut { at: self.at }),
+            Some(record) => {
+                let len = 4 + record.len();
+                self.rest = &rest[len..];
+                self.at += len as u64;
+                Ok(Some(record))
+            }
+        }
+    }
+}

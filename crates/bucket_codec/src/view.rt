@@ -1,0 +1,260 @@
+//! A bucket in a datagram: read without a copy, or refused by the first fault that applies.
+//!
+//! A view is seen as the bucket that its bytes spell, and exists for such bytes alone. `decode` looks at each byte at
+//! most once; the readers look at theirs again. The receiver stands on this file.
+
+ghost use Rattle.std.specs.Prelude.{◌≡◌, ◌≢◌, ◌≤◌, ◌<◌, ◌+◌, ◌*◌, ◌&&◌, nat_le, nat_lt, MatchResult, Ok, length, slice_index};
+ghost use Rattle.std.specs.List.{flat_map, list_all};
+ghost use Rattle.byteorder.specs.Endian.{big_bytes};
+ghost use Rattle.air_model.specs.Buckets.{IsBucket, bucket_at, count_of, entries_at, entries_of, entry_count, fault_of, is_placed, is_shaped, item_of, kind_of, number_at, reading, value_of};
+ghost use Rattle.bucket_codec.specs.Views.{IsNoBucket, kind_number};
+
+use air_model::bucket::BucketFault;
+use byteorder::{BigEndian, ByteOrder};
+use std::marker::Model;
+
+/// What a bucket carries.
+#[derive(Clone, Copy, Debug, PartialEq, Eq)]
+pub enum ViewKind {
+    /// No item.
+    Idle,
+    /// An item with its control column.
+    Column,
+    /// An item with the vector of last writes.
+    Vector,
+}
+
+/// A bucket whose fields and entries are lent from its bytes.
+#[derive(Drop)]
+pub struct BucketView<'a> {
+    bytes: &'a [u8],
+}
+
+impl<'a> Model for BucketView<'a> {
+    ghost use Rattle.std.specs.Prelude.{◌≡◌, Ok};
+    ghost use Rattle.air_model.specs.Buckets.{Bucket, bucket_at, reading};
+
+    ghost Value = { Bucket };
+
+    ghost view = { λ a. bucket_at a.bytes.now };
+
+    ghost invariant = { λ a. reading a.bytes.now ≡ Ok (bucket_at a.bytes.now) };
+}
+
+/// The number in the two bytes from a place.
+fn two_at(bytes: &[u8], at: usize) -> u16
+    requires { at + 2 ≤ length bytes.now }
+    ensures { result ≡ number_at at 2 bytes.now }
+{
+    BigEndian::read_u16(&bytes[at..])
+}
+
+/// The number in the four bytes from a place.
+fn four_at(bytes: &[u8], at: usize) -> u32
+    requires { at + 4 ≤ length bytes.now }
+    ensures { result ≡ number_at at 4 bytes.now }
+{
+    BigEndian::read_u32(&bytes[at..])
+}
+
+/// The number in the eight bytes from a place.
+fn eight_at(bytes: &[u8], at: usize) -> u64
+    requires { at + 8 ≤ length bytes.now }
+    ensures { result ≡ number_at at 8 bytes.now }
+{
+    BigEndian::read_u64(&bytes[at..])
+}
+
+/// The entry of an item.
+fn entry_at(bytes: &[u8], i: u16) -> u32
+    requires { 24 + 4 * i + 4 ≤ length bytes.now }
+    ensures { result ≡ number_at (24 + 4 * i) 4 bytes.now }
+{
+    four_at(bytes, 24 + 4 * i as usize)
+}
+
+/// Whether each of the first `n` entries is below the cycle.
+fn entries_below(bytes: &[u8], n: u16, cycle: u32) -> bool
+    requires { 24 + 4 * n ≤ length bytes.now }
+    ensures { result ≡ list_all (λ e. nat_lt e cycle) (entries_at n bytes.now) }
+{
+    for i in 0..n {
+        if entry_at(bytes, i) >= cycle {
+            return false;
+        }
+    }
+    true
+}
+
+/// Whether item and value are those of the kind.
+#[tactic(auto, unfolding(air_model::specs::Buckets::is_placed))]
+fn placed(kind: u8, item: u16, value: u64, count: u16) -> bool
+    ensures { result ≡ is_placed kind item value count }
+{
+    if kind == 0 {
+        item == u16::MAX && value == 0
+    } else {
+        item < count
+    }
+}
+
+/// Whether count and cycle are in their limits.
+fn in_limits(count: u16, cycle: u32) -> bool
+    ensures { result ≡ (nat_le 1 count && nat_le count 256 && nat_le 1 cycle) }
+{
+    count >= 1 && count <= 256 && cycle >= 1
+}
+
+/// How many entries there are.
+#[tactic(auto, unfolding(air_model::specs::Buckets::entry_count))]
+fn entries(kind: u8, count: u16) -> u16
+    ensures { result ≡ entry_count kind count }
+{
+    if kind == 0 { 0 } else { count }
+}
+
+/// Whether each number is in its range.
+fn shaped(bytes: &[u8], kind: u8, count: u16, n: u16) -> bool
+    requires long { 24 + 4 * n ≤ length bytes.now }
+    requires kind { kind ≡ slice_index bytes.now 3 }
+    requires count { count ≡ number_at 6 2 bytes.now }
+    requires entries { n ≡ entry_count kind count }
+    ensures { result ≡ is_shaped bytes.now }
+{
+    let cycle = four_at(bytes, 8);
+    let item = two_at(bytes, 14);
+    let value = eight_at(bytes, 16);
+    in_limits(count, cycle) & placed(kind, item, value, count) & entries_below(bytes, n, cycle)
+}
+
+/// The first fault of the bytes, if they have one.
+fn first_fault(bytes: &[u8]) -> Option<BucketFault>
+    ensures { result ≡ fault_of bytes.now }
+{
+    if bytes.len() < 24 {
+        return Some(BucketFault::Short {
+            at: bytes.len() as u32,
+        });
+    }
+    if bytes[0] != 0x41 || bytes[1] != 0x44 {
+        return Some(BucketFault::Magic);
+    }
+    if bytes[2] != 1 {
+        return Some(BucketFault::Version);
+    }
+    let kind = bytes[3];
+    if kind > 2 {
+        return Some(BucketFault::Kind);
+    }
+    let count = two_at(bytes, 6);
+    let n = entries(kind, count);
+    if bytes.len() != 24 + 4 * n as usize {
+        return Some(BucketFault::Length);
+    }
+    if !shaped(bytes, kind, count, n) {
+        return Some(BucketFault::Shape);
+    }
+    None
+}
+
+/// The bucket that the bytes spell, or the first fault that applies.
+pub fn decode<'a>(bytes: &'a [u8]) -> Result<BucketView<'a>, BucketFault>
+    ensures reading { result ≡ reading bytes.now }
+    ensures grammar { MatchResult result (λ b. IsBucket bytes.now b) (λ _. IsNoBucket bytes.now) }
+{
+    match first_fault(bytes) {
+        Some(fault) => Err(fault),
+        None => Ok(BucketView { bytes }),
+    }
+}
+
+/// The bytes of the entries of a bucket.
+fn entry_part<'a>(bytes: &'a [u8]) -> &'a [u8]
+    requires long { 24 ≤ length bytes.now }
+    requires whole { reading bytes.now ≡ Ok (bucket_at bytes.now) }
+    ensures { result.now ≡ flat_map (big_bytes 4) (entries_of (bucket_at bytes.now).body) }
+{
+    &bytes[24..]
+}
+
+impl<'a> BucketView<'a> {
+    /// The edition of the program.
+    pub fn edition(&self) -> u16
+        ensures { result ≡ self.now.edition }
+    {
+        two_at(self.bytes, 4)
+    }
+
+    /// The number of items.
+    pub fn count(&self) -> u16
+        ensures { result ≡ count_of self.now.body }
+    {
+        two_at(self.bytes, 6)
+    }
+
+    /// The cycle.
+    pub fn cycle(&self) -> u32
+        ensures { result ≡ self.now.cycle }
+    {
+        four_at(self.bytes, 8)
+    }
+
+    /// The slot.
+    pub fn slot(&self) -> u16
+        ensures { result ≡ self.now.slot }
+    {
+        two_at(self.bytes, 12)
+    }
+
+    /// What the bucket carries.
+    pub fn kind(&self) -> ViewKind
+        ensures { kind_number result ≡ kind_of self.now.body }
+    {
+        match self.bytes[3] {
+            0 => ViewKind::Idle,
+            1 => ViewKind::Column,
+            _ => ViewKind::Vector,
+        }
+    }
+
+    /// The item; 65,535 in an idle slot.
+    pub fn item(&self) -> u16
+        ensures { result ≡ item_of self.now.body }
+    {
+        two_at(self.bytes, 14)
+    }
+
+    /// The value; 0 in an idle slot.
+    pub fn value(&self) -> u64
+        ensures { result ≡ value_of self.now.body }
+    {
+        eight_at(self.bytes, 16)
+    }
+
+    /// The entry of an item, where the slot isn't idle.
+    pub fn entry(&self, i: u16) -> u32
+        requires busy { kind_of self.now.body ≢ 0 }
+        requires below { i < count_of self.now.body }
+        ensures { result ≡ slice_index (entries_of self.now.body) i }
+    {
+        entry_at(self.bytes, i)
+    }
+
+    /// The bytes of the entries, lent from the datagram.
+    pub fn entry_bytes(&self) -> &'a [u8]
+        ensures { result.now ≡ flat_map (big_bytes 4) (entries_of self.now.body) }
+    {
+        entry_part(self.bytes)
+    }
+
+    /// Fills a slice with the entries, where the slot isn't idle.
+    pub fn fill(&self, out: &mut [u32])
+        requires busy { kind_of self.now.body ≢ 0 }
+        requires room { length out.old ≡ count_of self.now.body }
+        ensures { out.new ≡ entries_of self.now.body }
+    {
+        for (i, entry) in out.iter_mut().enumerate() {
+            *entry = entry_at(self.bytes, i as u16);
+        }
+    }
+}
