@@ -11,7 +11,7 @@ use Rattle.air_history.specs.Reads.{ReadAt, IsRead, origin, stale, newest_cycle,
 use Rattle.air_history.specs.Consistency.{IsConsistent}
 use Rattle.air_history.specs.ConsistencyLaws.{SharesCycle}
 use Rattle.air_history.specs.Clashes.{is_late, clash_by_history, IsCurrent}
-use Rattle.air_history.specs.ClashLaws.{AcceptsAfter, current_cycle_after, IsSound, AcceptedLaw}
+use Rattle.air_history.specs.ClashLaws.{AcceptsAfter, Accepts, current_cycle_after, IsSound}
 use Rattle.air_history.proofs.StaleLemmas.{fresh_same}
 use Rattle.air_history.proofs.PolicyLemmas.{stays_consistent, stays_current, takes, stays_between, one_cycle}
 
@@ -114,5 +114,5 @@ kept_sound RMatrix H R are k = record {
   shared = k.0;
 }
 
-pub accepted : AcceptedLaw
+pub accepted : (policy : Policy) (H : List Event) (R : List ReadAt) → All IsRead R → Accepts policy H R → IsSound policy H R
 accepted p H R are accepts = kept_sound p H R are (kept_after p H [] R 0 (All-nil IsRead) are (kept_none p H) accepts)

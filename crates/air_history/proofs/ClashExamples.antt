@@ -53,7 +53,7 @@ pub record Consistency : Type 0 where
   value : read_value (Rattle.air_history.specs.Tables.values_of tens) chained (at 2 2) ≡ 12
 
 pub consistency : Consistency
-unfolding consistent alone picked last_alone runs_alone descends_from origin read_value table value_after write_of based writer writer_before last_place writes descends descends_within reads front
+unfolding consistent alone picked last_alone runs_alone descends_from origin table value_after write_of based writer writer_before last_place writes descends descends_within reads front
 consistency = record { chain = refl; one_cycle = refl; no_cycle = refl; blind = refl; alone_for_two = refl; value = refl }
 
 pub record Clashes : Type 0 where

@@ -4,6 +4,7 @@ use Rattle.std.specs.Prelude.{AllPairs}
 use Rattle.std.proofs.lemmas.Bool.{leb-true, leb-false, both_ways, eqb-true, eq-eqb}
 use Rattle.std.proofs.lemmas.List.{get_or-map, length-map, get_or_push, get_or_append_left, length_push}
 use Rattle.std.proofs.lemmas.List.Elements.{All-head, All-tail, All-cons}
+use Rattle.air_base.specs.declared.verdicts.Policy.{Policy}
 use Rattle.air_base.specs.declared.verdicts.Policy.TheVariants.{FMatrix, Datacycle, RMatrix}
 use Rattle.air_base.specs.declared.verdicts.Clash.{Clash}
 use Rattle.air_history.specs.declared.histories.Event.{Event}
@@ -12,7 +13,7 @@ use Rattle.air_history.specs.Columns.{column_entry, vector_entry, entry_at}
 use Rattle.air_history.specs.Reads.{ReadAt, stale}
 use Rattle.air_history.specs.Consistency.{consistent}
 use Rattle.air_history.specs.Clashes.{least, named_clash, clash_by_history, Heard, read_at, entry_of, entry_in, newest_heard, clash_by_entries}
-use Rattle.air_history.specs.ClashLaws.{IsHeard, ClashLaw}
+use Rattle.air_history.specs.ClashLaws.{IsHeard, IsAllowed}
 use Rattle.air_history.proofs.StaleLemmas.{pair_test, stale_is}
 use Rattle.air_history.proofs.NamedLemmas.{clash_heard}
 use Rattle.std.proofs.lemmas.List.FromFn.{get_or-map-range_with_len}
@@ -126,7 +127,9 @@ r_matrix n H (r ∷ R) x held new order =
     let le : (get_or (map read_at (r ∷ R)) k (read_at d)).cycle ≤ x.cycle = in_time k (read_at d) (omega (arith, length-map (r ∷ R) read_at)) in
     stale_told n H (get_or (r ∷ R) k d) x new.entries (held k d l).cycle (subst (λ (s : ReadAt). s.cycle ≤ x.cycle) at le) (held k d l).within))
 
-pub clash : ClashLaw
+pub clash : (policy : Policy) (n : ℕ) (H : List Event) (R : List Heard) (x : Heard) →
+    All (IsHeard policy n H) R → IsHeard policy n H x → IsAllowed policy (map read_at R ++ read_at x ∷ []) →
+    clash_by_history policy H (map read_at R) (read_at x) ≡ clash_by_entries policy R x
 clash FMatrix n H R x held new order = f_matrix n H R x held new
 clash Datacycle n H R x held new order = datacycle n H R x held new
 clash RMatrix n H R x held new order = r_matrix n H R x held new order

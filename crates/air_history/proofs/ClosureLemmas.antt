@@ -1,12 +1,12 @@
 -- A descent is the closure of reads-from: the least set that holds the place and, with each of its places, each writer that it read.
-use Rattle.std.proofs.Common.{◌≡◌, ℕ, zero, suc, ◌<◌, Bool, true, ◌==◌, Some, List, length, get_or, sym, ◌∙◌, ap, subst, inl, inr, arith}
+use Rattle.std.proofs.Common.{◌≡◌, ℕ, zero, suc, ◌<◌, Bool, true, ◌==◌, Some, List, length, get_or, sym, ◌∙◌, ap, subst, inl, inr, arith, IsTrue}
 use Rattle.std.proofs.lemmas.Bool.{false≢true, or_right}
 use Rattle.std.proofs.lemmas.List.Folds.{list_any_at}
 use Rattle.air_history.specs.declared.histories.Event.{Event}
 use Rattle.air_history.specs.Places.{place_and}
 use Rattle.air_history.specs.Histories.{reads, event_at, writer_before}
 use Rattle.air_history.specs.Descents.{descends_within, descends}
-use Rattle.air_history.specs.DescentLaws.{ReadsFrom, IsClosed, DescentLaw}
+use Rattle.air_history.specs.DescentLaws.{ReadsFrom, IsClosed}
 use Rattle.air_history.proofs.PlaceLemmas.{place_from}
 use Rattle.air_history.proofs.HistoryLemmas.{descends_cases, descends_top, descends_in_view, descends_self, writer_before_some}
 
@@ -56,7 +56,13 @@ descends_closed (suc n) G p q w e f =
           descends_in_view (suc n) G p w (omega arith) ∙ sym (descends_in_view n G p w lt) ∙ descends_closed n G p q w b f)
     ]
 
-pub closure : DescentLaw
+-- the descent of p is the least closed set that holds p
+pub record IsClosure (G : List Event) (p : ℕ) : Type 0 where
+  pub itself : IsTrue (descends G p p)
+  pub closed : IsClosed G (descends G p)
+  pub least : (S : ℕ → Bool) → IsTrue (S p) → IsClosed G S → (q : ℕ) → IsTrue (descends G p q) → IsTrue (S q)
+
+pub closure : (G : List Event) (p : ℕ) → IsClosure G p
 unfolding descends
 closure G p = record {
   itself = descends_self G p;

@@ -8,7 +8,6 @@ use Rattle.air_history.specs.declared.histories.Event.TheVariants.{Commit, Start
 use Rattle.air_history.specs.Places.{greatest, place_and}
 use Rattle.air_history.specs.Histories.{is_start, writes, writes_of, event_at, cycle_at, front, writer, EventFits}
 use Rattle.air_history.specs.Descents.{descends}
-use Rattle.air_history.specs.Scans.{marked_entry}
 use Rattle.air_history.specs.Columns.{column, column_entry}
 use Rattle.air_history.specs.Reads.{ReadAt, origin}
 use Rattle.air_history.specs.Consistency.{descends_from}
@@ -18,16 +17,18 @@ use Rattle.air_history.proofs.StepLemmas.{cycle_mono}
 use Rattle.air_history.proofs.ScanLemmas.{event_read, start_writes_nothing}
 use Rattle.air_history.proofs.ConsistencyLemmas.{entry_whole, origin_some}
 
+-- the greatest cycle of a marked commit among the first p events that writes item i, else 0
+abbrev pub marked_entry : List Event → List Bool → ℕ → ℕ → ℕ
+marked_entry H marks p i = greatest p (λ q. get_or marks q false && writes (event_at H q) i) (cycle_at H)
+
 pub marked_none : (H : List Event) (marks : List Bool) (i : ℕ) → marked_entry H marks 0 i ≡ 0
-unfolding marked_entry greatest
+unfolding greatest
 marked_none H marks i = refl
 
 marked_suc : (H : List Event) (marks : List Bool) (p i : ℕ) → marked_entry H marks (p + 1) i ≡ cond (get_or marks p false && writes (event_at H p) i) (max (cycle_at H p) (marked_entry H marks p i)) (marked_entry H marks p i)
-unfolding marked_entry
 marked_suc H marks p i = ap (λ m. greatest m (λ q. get_or marks q false && writes (event_at H q) i) (cycle_at H)) (add-one p) ∙ greatest_suc p _ (cycle_at H)
 
 marked_top : (H : List Event) (marks : List Bool) (p i : ℕ) → max (cycle_at H p) (marked_entry H marks p i) ≡ cycle_at H p
-unfolding marked_entry
 marked_top H marks p i = let le = greatest_upto p (λ q. get_or marks q false && writes (event_at H q) i) (cycle_at H) (cycle_at H p) (λ q l _. cycle_mono H q p (omega arith)) in omega arith
 
 -- an event that isn't marked changes nothing
@@ -71,7 +72,7 @@ scanned H w p i = greatest p (λ q. descends H w q && writes (event_at H q) i) (
 
 -- where the marks are the descent of w
 marked_scan : (H : List Event) (marks : List Bool) (w i : ℕ) → marks ≡ map (descends H w) (range_with_len 0 (length H)) → marked_entry H marks (length H) i ≡ scanned H w (length H) i
-unfolding marked_entry scanned
+unfolding scanned
 marked_scan H marks w i e = greatest_same (length H) _ _ (cycle_at H) (cycle_at H)
     (λ q l. ap (λ b. b && writes (event_at H q) i) (ap (λ ms. get_or ms q false) e ∙ get_or-map-range_with_len (descends H w) 0 (length H) q q false l (omega arith)))
     (λ q l. refl)

@@ -1,5 +1,6 @@
 -- Reads are consistent exactly where each column's entry of each read item is below that read's cycle.
 use Rattle.std.proofs.Common.{◌≡◌, ℕ, zero, suc, ◌<◌, ◌≤◌, true, ◌&&◌, ◌⊎◌, Option, Some, None, List, [], ◌∷◌, ◌++◌, length, get_or, All, ◌↔◌, refl, sym, ◌∙◌, ap, subst, inl, inr, arith}
+use Rattle.std.specs.Prelude.{AllPairs}
 use Rattle.std.proofs.lemmas.Bool.{cases_lt, cases_order, both_ways, and_parts, and_from, false_from_ne_true}
 use Rattle.std.proofs.lemmas.List.{get_or_append_left, get_or_push, length_push}
 use Rattle.std.proofs.lemmas.List.Folds.{list_any_at}
@@ -10,7 +11,6 @@ use Rattle.air_history.specs.Descents.{descends}
 use Rattle.air_history.specs.Columns.{column_entry, entry_at}
 use Rattle.air_history.specs.Reads.{ReadAt, origin, IsRead}
 use Rattle.air_history.specs.Consistency.{descends_from, runs_alone, last_alone, IsConsistent}
-use Rattle.air_history.specs.ConsistencyLaws.{Agree, PairLaw, WholeLaw, MoreLaw}
 use Rattle.air_history.proofs.PlaceLemmas.{IsLast, last_place_is, last_place_from, greatest_below, greatest_at, greatest_same, any_at, place_at, place_from, place_same}
 use Rattle.air_history.proofs.HistoryLemmas.{writer_no_start, writes_within, front_cycle, front_holds, front_within, front_event, front_cycle_same, writer_before_same, writer_before_is, descends_self, descends_le, descends_same}
 
@@ -147,6 +147,10 @@ consistent_from_clear H R h k d lk =
 
 -- ---- two reads, and one more read
 
+-- neither read's column has the other's item at its cycle or later
+abbrev pub Agree : List Event → ReadAt → ReadAt → Type 0
+Agree H r s = (entry_at H s.cycle s.item r.item < r.cycle) × (entry_at H r.cycle r.item s.item < s.cycle)
+
 clear_of_two : (H : List Event) (r s : ReadAt) → IsRead r → IsRead s → Agree H r s → AllClear H (r ∷ s ∷ [])
 clear_of_two H r s ir is a zero zero d lk ll = below_self H r ir
 clear_of_two H r s ir is a zero (suc zero) d lk ll = a.0
@@ -169,25 +173,24 @@ pair_agree H r s ir is = (
   λ a. consistent_from_clear H (r ∷ s ∷ []) (clear_of_two H r s ir is a),
 )
 
-pub pair : PairLaw
-pair H r s ir is = record {
-  consistent = pair_agree H r s ir is;
-  inconsistent = (
-    λ apart. elim (cases_lt (entry_at H s.cycle s.item r.item) r.cycle) [
-      | inr above ↦ inl above
-      | inl below ↦ elim (cases_lt (entry_at H r.cycle r.item s.item) s.cycle) [
-        | inr above ↦ inr above
-        | inl also ↦ absurd (apart ((pair_agree H r s ir is).1 (below, also)))
-      ]
-    ],
-    λ either same. let agree = (pair_agree H r s ir is).0 same in let one = agree.0 in let other = agree.1 in
-        elim either [ inl above ↦ omega arith | inr above ↦ omega arith ],
-  );
-}
+-- and inconsistent exactly where an entry isn't below the cycle, in one direction or the other
+pub pair_apart : (H : List Event) (r s : ReadAt) → IsRead r → IsRead s →
+    (IsConsistent H (r ∷ s ∷ []) → ⊥) ↔ ((r.cycle ≤ entry_at H s.cycle s.item r.item) ⊎ (s.cycle ≤ entry_at H r.cycle r.item s.item))
+pair_apart H r s ir is = (
+  λ apart. elim (cases_lt (entry_at H s.cycle s.item r.item) r.cycle) [
+    | inr above ↦ inl above
+    | inl below ↦ elim (cases_lt (entry_at H r.cycle r.item s.item) s.cycle) [
+      | inr above ↦ inr above
+      | inl also ↦ absurd (apart ((pair_agree H r s ir is).1 (below, also)))
+    ]
+  ],
+  λ either same. let agree = (pair_agree H r s ir is).0 same in let one = agree.0 in let other = agree.1 in
+      elim either [ inl above ↦ omega arith | inr above ↦ omega arith ],
+)
 
 -- ---- each two reads
 
-pub whole : WholeLaw
+pub whole : (H : List Event) (R : List ReadAt) → All IsRead R → IsConsistent H R ↔ AllPairs (λ r s. IsConsistent H (r ∷ s ∷ [])) R
 whole H R are = (
   λ h i j d lt within.
       let clear = clear_from_consistent H R are h in
@@ -252,7 +255,8 @@ more_agree H R x are is held = (
   λ a. consistent_from_clear H (R ++ x ∷ []) (clear_of_more H R x is (clear_from_consistent H R are held) a),
 )
 
-pub more : MoreLaw
+pub more : (H : List Event) (R : List ReadAt) (x : ReadAt) → All IsRead R → IsRead x → IsConsistent H R →
+    IsConsistent H (R ++ x ∷ []) ↔ All (λ r. IsConsistent H (r ∷ x ∷ [])) R
 more H R x are is held = (
   λ h k d l. (pair_agree H (get_or R k d) x (are k d l) is).1 ((more_agree H R x are is held).0 h k d l),
   λ all. (more_agree H R x are is held).1 (λ k d l. (pair_agree H (get_or R k d) x (are k d l) is).0 (all k d l)),

@@ -8,9 +8,14 @@ use Rattle.air_history.specs.declared.histories.Event.{Event}
 use Rattle.air_history.specs.Histories.{event_at, reads, writer_before}
 use Rattle.air_history.specs.Descents.{descends}
 use Rattle.air_history.specs.DescentLaws.{ReadsFrom}
-use Rattle.air_history.specs.Scans.{MarksReads}
 use Rattle.air_history.proofs.HistoryLemmas.{writer_before_some}
 use Rattle.air_history.proofs.ClosureLemmas.{closure}
+
+-- the new marks are the old ones and each place from which the commit at `place` reads
+pub record MarksReads (H : List Event) (place : ℕ) (old new : List Bool) : Type 0 where
+  pub kept : (k : ℕ) → IsTrue (get_or old k false) → IsTrue (get_or new k false)
+  pub added : (w : ℕ) → ReadsFrom H place w → IsTrue (get_or new w false)
+  pub just : (k : ℕ) → IsTrue (get_or new k false) → IsTrue (get_or old k false) ⊎ ReadsFrom H place k
 
 pub record Marking (H : List Event) (place at : ℕ) (marks : List Bool) : Type 0 where
   pub sized : length marks ≡ length H

@@ -6,11 +6,11 @@ use Rattle.std.proofs.lemmas.List.{get_or_append_left, get_or_push, length_push}
 use Rattle.air_history.specs.declared.histories.Event.{Event}
 use Rattle.air_history.specs.Histories.{front, writer, cycle_at, writes, event_at}
 use Rattle.air_history.specs.Descents.{descends}
-use Rattle.air_history.specs.Reads.{ReadAt, origin, stale, newest_cycle, first_cycle}
+use Rattle.air_history.specs.Reads.{ReadAt, IsRead, origin, stale, newest_cycle, first_cycle}
 use Rattle.air_history.specs.Consistency.{descends_from, IsConsistent, consistent}
-use Rattle.air_history.specs.ConsistencyLaws.{SharesCycle, OneCycleLaw}
-use Rattle.air_history.specs.Clashes.{named_clash, clash_by_history, IsCurrent}
-use Rattle.air_history.specs.ClashLaws.{StaysConsistentLaw, StaysCurrentLaw, TakesLaw}
+use Rattle.air_history.specs.ConsistencyLaws.{SharesCycle}
+use Rattle.air_base.specs.declared.verdicts.Policy.TheVariants.{FMatrix, Datacycle, RMatrix}
+use Rattle.air_history.specs.Clashes.{named_clash, is_late, clash_by_history, IsCurrent, Takes}
 use Rattle.air_history.proofs.PlaceLemmas.{IsLast, last_unique, place_at}
 use Rattle.air_history.proofs.HistoryLemmas.{front_cycle, writer_no_start, writes_within, front_holds, descends_le}
 use Rattle.air_history.proofs.ScanLemmas.{front_writer_is}
@@ -26,7 +26,8 @@ consistent_of H R e = (consistent_decides H R).0 (not-false _ e)
 not_apart : (H : List Event) (R : List ReadAt) → IsConsistent H R → not (consistent H R) ≡ false
 not_apart H R h = not_from_true _ ((consistent_decides H R).1 h)
 
-pub stays_consistent : StaysConsistentLaw
+pub stays_consistent : (H : List Event) (R : List ReadAt) (x : ReadAt) → All IsRead R → IsRead x → IsConsistent H R →
+    (clash_by_history FMatrix H R x ≡ None) ↔ IsConsistent H (R ++ x ∷ [])
 unfolding clash_by_history
 stays_consistent H R x are is held = (
   λ none. (more H R x are is held).1 (λ k d l. consistent_of H (get_or R k d ∷ x ∷ []) (none_named (λ r. not (consistent H (r ∷ x ∷ []))) R none k d l)),
@@ -81,7 +82,8 @@ current_at H R x is held m e false lt =
       λ all. cond-false (stale H x (newest_cycle R)) _ _ (all_last (λ r. stale H r (newest_cycle R) ≡ false) R x (subst (λ m. All (λ r. stale H r m ≡ false) (R ++ x ∷ [])) (sym at) all)),
     )
 
-pub stays_current : StaysCurrentLaw
+pub stays_current : (H : List Event) (R : List ReadAt) (x : ReadAt) → All IsRead R → IsRead x → IsCurrent H R →
+    (clash_by_history Datacycle H R x ≡ None) ↔ IsCurrent H (R ++ x ∷ [])
 unfolding clash_by_history
 stays_current H R x are is held = current_at H R x is held (newest_cycle (R ++ x ∷ [])) refl (nat_le (newest_cycle R) x.cycle) refl
 
@@ -104,7 +106,8 @@ takes_at H first R x = (
   ],
 )
 
-pub takes : TakesLaw
+pub takes : (H : List Event) (R : List ReadAt) (x : ReadAt) → is_late RMatrix R x ≡ false →
+    (clash_by_history RMatrix H R x ≡ None) ↔ Takes H R x
 unfolding clash_by_history
 takes H R x in_time = (
   λ none. record { in_time = in_time; fresh = (takes_at H (first_cycle R) R x).0 none },
@@ -130,7 +133,7 @@ stays_between H first g R x fg gc one same = All-push (λ r. writer (front H g) 
 -- ---- reads that share a cycle
 
 -- reads of one cycle are clear of each other
-pub one_cycle : OneCycleLaw
+pub one_cycle : (H : List Event) (R : List ReadAt) (g : ℕ) → All IsRead R → SharesCycle H R g → IsConsistent H R
 unfolding descends_from origin
 one_cycle H R c are same = consistent_from_clear H R (λ k l d lk ll.
     entry_below H (get_or R l d) (get_or R k d).item (get_or R k d).cycle (are k d lk) (λ p e w.

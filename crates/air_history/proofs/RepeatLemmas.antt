@@ -1,5 +1,5 @@
 -- No rule is broken exactly where each rule holds.
-use Rattle.std.proofs.Common.{◌≡◌, ◌≢◌, ℕ, suc, Bool, true, false, ◌&&◌, ◌||◌, ◌==◌, nat_le, Option, Some, None, IfSome, List, [], ◌∷◌, length, map, get_or, All, Contains, refl, sym, ◌∙◌, ap, arith}
+use Rattle.std.proofs.Common.{◌≡◌, ◌≢◌, ◌↔◌, ◌≤◌, ℕ, suc, Bool, true, false, ◌&&◌, ◌||◌, ◌==◌, nat_le, Option, Some, None, IfSome, List, [], ◌∷◌, length, map, get_or, All, Contains, refl, sym, ◌∙◌, ap, arith}
 use Rattle.std.specs.Prelude.{AllPairs}
 use Rattle.std.specs.List.{list_any, list_all}
 use Rattle.std.proofs.lemmas.Bool.{or_parts, or_from, le-leb, eq-eqb, ne_eqb, both_ways, not-true, not_from_false}
@@ -7,8 +7,8 @@ use Rattle.std.proofs.lemmas.List.Elements.{All-head, All-tail, All-cons}
 use Rattle.std.proofs.lemmas.List.Kept.{AllPairs-cons}
 use Rattle.std.proofs.lemmas.List.Folds.{list_any_at}
 use Rattle.air_history.specs.declared.updates.Write.{Write}
-use Rattle.air_history.specs.UpdateRules.{has_repeat, item_of, within_limits, base_is_read, base_holds, update_fault}
-use Rattle.air_history.specs.UpdateLaws.{RulesLaw}
+use Rattle.air_history.specs.UpdateLists.{UpdateLists}
+use Rattle.air_history.specs.UpdateRules.{has_repeat, item_of, within_limits, base_is_read, base_holds, update_fault, KeepsRules}
 use Rattle.air_history.proofs.RuleFacts.{rules_kept, few_reads, some_write, few_writes, each_passes, base_read}
 
 -- none of the list is x
@@ -51,24 +51,26 @@ all_hold : (f : Write → Bool) (ws : List Write) → All (λ w. f w ≡ true) w
 all_hold f [] h = refl
 all_hold f (w ∷ ws) h = ap (λ b. b && list_all f ws) (All-head (λ w. f w ≡ true) w ws h) ∙ all_hold f ws (All-tail (λ w. f w ≡ true) w ws h)
 
-pub rules : RulesLaw
+pub rules : (u : UpdateLists) → KeepsRules u ↔
+    ((length u.reads ≤ 16) × (1 ≤ length u.writes) × (length u.writes ≤ 16)
+    × AllPairs (λ a b. a ≢ b) u.reads × AllPairs (λ a b. a ≢ b) (map item_of u.writes)
+    × All (λ w. IfSome w.base (Contains u.reads)) u.writes × All (λ w. w.base ≡ None → w.minus ≡ false) u.writes)
 unfolding update_fault
 rules u = (
   λ kept. let k = rules_kept u.reads u.writes kept in
-      let both = or_parts (has_repeat u.reads) (has_repeat (map item_of u.writes)) k.apart in
-      record {
-        few_reads = few_reads u kept;
-        some_write = some_write u kept;
-        few_writes = few_writes u kept;
-        reads_apart = apart_from u.reads both.0;
-        writes_apart = apart_from (map item_of u.writes) both.1;
-        bases_read = λ i d l. base_read u.reads (get_or u.writes i d).minus (get_or u.writes i d).base (each_passes (base_is_read u.reads) u.writes k.based i d l);
-        minus_based = λ i d l. minus_holds u.reads (get_or u.writes i d).minus (get_or u.writes i d).base (each_passes (base_is_read u.reads) u.writes k.based i d l);
-      },
-  λ is. no_fault
-      (ap (λ a. a && (nat_le 1 (length u.writes) && nat_le (length u.writes) 16)) (le-leb _ _ is.few_reads) ∙ ap (λ a. a && nat_le (length u.writes) 16) (le-leb _ _ is.some_write) ∙ le-leb _ _ is.few_writes)
-      (or_from _ _ (from_apart u.reads is.reads_apart) (from_apart (map item_of u.writes) is.writes_apart))
-      (all_hold (base_is_read u.reads) u.writes (λ i d l. holds_from u.reads (get_or u.writes i d).minus (get_or u.writes i d).base (is.bases_read i d l) (is.minus_based i d l))),
+      let both = or_parts (has_repeat u.reads) (has_repeat (map item_of u.writes)) k.apart in (
+        few_reads u kept,
+        some_write u kept,
+        few_writes u kept,
+        apart_from u.reads both.0,
+        apart_from (map item_of u.writes) both.1,
+        λ i d l. base_read u.reads (get_or u.writes i d).minus (get_or u.writes i d).base (each_passes (base_is_read u.reads) u.writes k.based i d l),
+        λ i d l. minus_holds u.reads (get_or u.writes i d).minus (get_or u.writes i d).base (each_passes (base_is_read u.reads) u.writes k.based i d l),
+      ),
+  λ (few_reads, some_write, few_writes, reads_apart, writes_apart, bases_read, minus_based). no_fault
+      (ap (λ a. a && (nat_le 1 (length u.writes) && nat_le (length u.writes) 16)) (le-leb _ _ few_reads) ∙ ap (λ a. a && nat_le (length u.writes) 16) (le-leb _ _ some_write) ∙ le-leb _ _ few_writes)
+      (or_from _ _ (from_apart u.reads reads_apart) (from_apart (map item_of u.writes) writes_apart))
+      (all_hold (base_is_read u.reads) u.writes (λ i d l. holds_from u.reads (get_or u.writes i d).minus (get_or u.writes i d).base (bases_read i d l) (minus_based i d l))),
 )
   where
     no_fault : within_limits u.reads u.writes ≡ true → (has_repeat u.reads || has_repeat (map item_of u.writes)) ≡ false → list_all (base_is_read u.reads) u.writes ≡ true → update_fault u.reads u.writes ≡ None

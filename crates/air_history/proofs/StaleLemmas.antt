@@ -1,12 +1,13 @@
 -- Tests on places and reads, and what they mean: consistent as a test, two reads by the entries, stale reads.
 use Rattle.std.proofs.Common.{◌≡◌, ℕ, ◌<◌, ◌≤◌, true, false, not, ◌||◌, nat_le, leb, Option, Some, None, List, [], ◌∷◌, length, refl, sym, ◌∙◌, ap, subst, inl, inr, arith, Decides}
 use Rattle.std.specs.List.{list_all}
+use Rattle.std.specs.Option.{option_map_or}
 use Rattle.std.proofs.lemmas.Bool.{cases_lt, both_ways, false≢true, le-leb, lt-leb, eqb-true, eq-eqb, not_from_true, not_from_false, or_from, or_left, or_right, false_from_ne_true, not-false}
 use Rattle.std.proofs.lemmas.Bool.Decides.{Decides-by_and}
 use Rattle.air_history.specs.declared.histories.Event.{Event}
 use Rattle.air_history.specs.Places.{same_place}
 use Rattle.air_history.specs.Histories.{front, writer, cycle_at, writes, event_at}
-use Rattle.air_history.specs.Columns.{entry_at, vector_entry, cycle_of}
+use Rattle.air_history.specs.Columns.{entry_at, vector_entry}
 use Rattle.air_history.specs.Reads.{ReadAt, origin, stale}
 use Rattle.air_history.specs.Consistency.{last_alone, IsConsistent, consistent}
 use Rattle.air_history.proofs.PlaceLemmas.{IsLast, last_unique}
@@ -59,6 +60,10 @@ writer_is H c i o e = subst (IsLast (length (front H c)) (λ q. writes (event_at
 
 pub not_same : (o p : Option ℕ) → (o ≡ p → ⊥) → same_place o p ≡ false
 not_same o p h = false_from_ne_true _ (λ e. h ((same_place_decides o p).0 e))
+
+-- the cycle of a place, and 0 where there is none
+abbrev pub cycle_of : List Event → Option ℕ → ℕ
+cycle_of G o = option_map_or (cycle_at G) o 0
 
 pub stale_at : (H : List Event) (i a c : ℕ) → 1 ≤ a → a ≤ c → (o : Option ℕ) → writer (front H c) i ≡ o → not (same_place o (writer (front H a) i)) ≡ leb a (cycle_of (front H c) o)
 stale_at H i a c pos le None e =

@@ -10,7 +10,6 @@ use Rattle.air_history.specs.Places.{last_place, greatest, place_and, greatest_o
 use Rattle.air_history.specs.Histories.{is_start, writes, reads, event_at, cycle_at, writer_before, writer}
 use Rattle.air_history.specs.Descents.{descends}
 use Rattle.air_history.specs.Columns.{column_entry}
-use Rattle.air_history.specs.ColumnLaws.{entry_after, ColumnLaw}
 use Rattle.air_history.proofs.PlaceLemmas.{last_place_suc, last_place_same, greatest_suc, greatest_same, greatest_upto, greatest_any, any_same, place_at, place_same}
 use Rattle.air_history.proofs.HistoryLemmas.{SameBelow, writer_before_same, writer_before_some, descends_self, descends_le, descends_same, descends_is}
 
@@ -128,7 +127,14 @@ module _ (G : List Event) (e : Event) where
       (λ p l. old_cycle p (omega arith))
       ∙ greatest_any (length G) (reads e) (λ item p. place_and (writer G item) (λ w. descends G w p)) (λ p. writes (event_at G p) i) (cycle_at G)
 
-pub step : ColumnLaw
+-- the entry of item i in the column of item j after the event
+abbrev pub entry_after : List Event → Event → ℕ → ℕ → ℕ
+entry_after G e j i =
+    cond (writes e j)
+    (cond (writes e i) (cycle_at G (length G)) (greatest_of (λ r. column_entry G r i) (reads e)))
+    (column_entry G j i)
+
+pub step : (G : List Event) (e : Event) (j i : ℕ) → column_entry (G ++ e ∷ []) j i ≡ entry_after G e j i
 step G e j i = elim (cases_Bool (writes e j)) as (λ _. column_entry (G ++ e ∷ []) j i ≡ entry_after G e j i) [
   | inl hit ↦ elim (cases_Bool (writes e i)) as (λ _. column_entry (G ++ e ∷ []) j i ≡ entry_after G e j i) [
     | inl also ↦ step_both G e j i hit also ∙ sym (cond-true (writes e j) _ _ hit ∙ cond-true (writes e i) _ _ also)

@@ -11,10 +11,9 @@ use Rattle.air_history.specs.Places.{last_place}
 use Rattle.air_history.specs.Histories.{event_at, writes, reads, front, writer_before}
 use Rattle.air_history.specs.Descents.{descends}
 use Rattle.air_history.specs.DescentLaws.{IsClosed}
-use Rattle.air_history.specs.Reads.{ReadAt, origin}
-use Rattle.air_history.specs.Consistency.{descends_from, runs_alone, last_alone, picked, alone}
+use Rattle.air_history.specs.Reads.{ReadAt, origin, read_value}
+use Rattle.air_history.specs.Consistency.{descends_from, runs_alone, last_alone, picked, alone, IsConsistent}
 use Rattle.air_history.specs.Tables.{based, write_of, put, value_after, table, BasesRead}
-use Rattle.air_history.specs.ConsistencyLaws.{ValuesLaw}
 use Rattle.air_history.proofs.PlaceLemmas.{IsLast, last_place_from, last_place_suc, place_at, place_from}
 use Rattle.air_history.proofs.HistoryLemmas.{front_prefix, front_within, writer_before_is}
 use Rattle.air_history.proofs.ConsistencyLemmas.{origin_whole, alone_at, alone_from}
@@ -165,7 +164,8 @@ alone_closed H R p w h r =
     let v = place_at (origin H (get_or R s.0 d)) (λ o. descends H o p) s.2 in
     alone_from H R w s.0 d s.1 (place_from (origin H (get_or R s.0 d)) (λ o. descends H o w) v.0 v.1 ((closure H v.0).closed p w v.2 r))
 
-pub values : ValuesLaw
+pub values : (V : ℕ → ℕ) (H : List Event) (R : List ReadAt) → All BasesRead H → IsConsistent H R →
+    All (λ r. table V (alone H R) r.item ≡ read_value V H r) R
 unfolding alone last_alone
 values V H R bases consistent k d l =
     let r = get_or R k d in

@@ -1,15 +1,15 @@
--- The laws of clashes: by the entries as by the history; none exactly where the reads stay what the policy wants;
--- and what reads are that a policy accepted one after another.
-use Rattle.std.specs.Prelude.{◌≡◌, ◌↔◌, ℕ, ◌<◌, ◌≤◌, cond, not, false, List, [], ◌∷◌, ◌++◌, map, All, AllPairs, None}
+-- The words of the laws of clashes: entries that a history aired, and reads that a policy accepted one after another.
+-- The laws are `clash_law`, `stays_consistent_law`, `stays_current_law`, `takes_law` and `accepted_law` of `laws`.
+use Rattle.std.specs.Prelude.{◌≡◌, ℕ, ◌<◌, ◌≤◌, cond, not, false, List, [], ◌∷◌, ◌++◌, AllPairs, None}
 use Rattle.std.specs.List.{list_all}
 use Rattle.air_base.specs.declared.verdicts.Policy.{Policy}
 use Rattle.air_base.specs.declared.verdicts.Policy.TheVariants.{FMatrix, Datacycle, RMatrix}
 use Rattle.air_history.specs.declared.histories.Event.{Event}
 use Rattle.air_history.specs.Columns.{aired_entries}
-use Rattle.air_history.specs.Reads.{ReadAt, IsRead, stale, newest_cycle}
+use Rattle.air_history.specs.Reads.{ReadAt, stale, newest_cycle}
 use Rattle.air_history.specs.Consistency.{IsConsistent}
 use Rattle.air_history.specs.ConsistencyLaws.{SharesCycle}
-use Rattle.air_history.specs.Clashes.{Heard, read_at, is_late, clash_by_history, clash_by_entries, IsCurrent, Takes}
+use Rattle.air_history.specs.Clashes.{Heard, is_late, clash_by_history}
 
 -- the read has the entries that H airs with its item in its cycle, over n items
 pub record IsHeard (policy : Policy) (n : ℕ) (H : List Event) (r : Heard) : Type 0 where
@@ -23,33 +23,13 @@ IsAllowed FMatrix R = Unit {0}
 IsAllowed Datacycle R = Unit {0}
 IsAllowed RMatrix R = AllPairs (λ r s. r.cycle ≤ s.cycle) R
 
--- wherever the entries are the history's, the clash by the entries is the clash by the history
-abbrev pub ClashLaw : Type 0
-ClashLaw = (policy : Policy) (n : ℕ) (H : List Event) (R : List Heard) (x : Heard) →
-    All (IsHeard policy n H) R → IsHeard policy n H x → IsAllowed policy (map read_at R ++ read_at x ∷ []) →
-    clash_by_history policy H (map read_at R) (read_at x) ≡ clash_by_entries policy R x
-
--- given consistent reads, F-Matrix has no clash exactly where the reads stay consistent
-abbrev pub StaysConsistentLaw : Type 0
-StaysConsistentLaw = (H : List Event) (R : List ReadAt) (x : ReadAt) → All IsRead R → IsRead x → IsConsistent H R →
-    (clash_by_history FMatrix H R x ≡ None) ↔ IsConsistent H (R ++ x ∷ [])
-
--- given current reads, Datacycle has no clash exactly where the reads stay current
-abbrev pub StaysCurrentLaw : Type 0
-StaysCurrentLaw = (H : List Event) (R : List ReadAt) (x : ReadAt) → All IsRead R → IsRead x → IsCurrent H R →
-    (clash_by_history Datacycle H R x ≡ None) ↔ IsCurrent H (R ++ x ∷ [])
-
--- R-Matrix has no clash with a read that isn't late exactly where it takes the read
-abbrev pub TakesLaw : Type 0
-TakesLaw = (H : List Event) (R : List ReadAt) (x : ReadAt) → is_late RMatrix R x ≡ false →
-    (clash_by_history RMatrix H R x ≡ None) ↔ Takes H R x
-
 -- the policy accepts the reads one after another, after those before them: none is late, and none clashes
 unfoldable pub AcceptsAfter : Policy → List Event → List ReadAt → List ReadAt → Type 0
 AcceptsAfter policy H before [] = Unit {0}
 AcceptsAfter policy H before (x ∷ R) =
     (is_late policy before x ≡ false) × (clash_by_history policy H before x ≡ None) × AcceptsAfter policy H (before ++ x ∷ []) R
 
+-- the policy accepts the reads one after another
 abbrev pub Accepts : Policy → List Event → List ReadAt → Type 0
 Accepts policy H R = AcceptsAfter policy H [] R
 
@@ -59,6 +39,7 @@ current_cycle_after H before g [] = g
 current_cycle_after H before g (x ∷ R) =
     current_cycle_after H (before ++ x ∷ []) (cond (list_all (λ r. not (stale H r x.cycle)) before) x.cycle g) R
 
+-- the current cycle of the reads: of the last one that passed so, 0 where there is none
 abbrev pub current_cycle : List Event → List ReadAt → ℕ
 current_cycle H R = current_cycle_after H [] 0 R
 
@@ -72,6 +53,3 @@ SharesItsCycle RMatrix H R = SharesCycle H R (current_cycle H R)
 pub record IsSound (policy : Policy) (H : List Event) (R : List ReadAt) : Type 0 where
   pub consistent : IsConsistent H R
   pub shared : SharesItsCycle policy H R
-
-abbrev pub AcceptedLaw : Type 0
-AcceptedLaw = (policy : Policy) (H : List Event) (R : List ReadAt) → All IsRead R → Accepts policy H R → IsSound policy H R

@@ -1,6 +1,7 @@
 -- Control columns and write vectors: cycles of commits, by which receivers judge what they read.
-use Rattle.std.specs.Prelude.{ℕ, ◌&&◌, List, length, map, Option, Some, None}
+use Rattle.std.specs.Prelude.{ℕ, ◌&&◌, List, length, map}
 use Rattle.std.specs.List.{range_with_len}
+use Rattle.std.specs.Option.{option_map_or}
 use Rattle.air_base.specs.declared.verdicts.Policy.{Policy}
 use Rattle.air_base.specs.declared.verdicts.Policy.TheVariants.{FMatrix, Datacycle, RMatrix}
 use Rattle.air_history.specs.declared.histories.Event.{Event}
@@ -13,14 +14,9 @@ use Rattle.air_history.specs.Descents.{descends}
 unfoldable pub column_entry : List Event → ℕ → ℕ → ℕ
 column_entry G j i = greatest (length G) (λ p. place_and (writer G j) (λ w. descends G w p) && writes (event_at G p) i) (cycle_at G)
 
--- the cycle of a place, and 0 where there is none
-abbrev pub cycle_of : List Event → Option ℕ → ℕ
-cycle_of G None = 0
-cycle_of G (Some w) = cycle_at G w
-
 -- entry i of the write vector: the cycle of the last writer of item i, 0 where there is none
 unfoldable pub vector_entry : List Event → ℕ → ℕ
-vector_entry G i = cycle_of G (writer G i)
+vector_entry G i = option_map_or (cycle_at G) (writer G i) 0
 
 -- the control column of item j over n items
 abbrev pub column : ℕ → List Event → ℕ → List ℕ

@@ -1,14 +1,10 @@
 pub mod UpdateLists
 pub mod UpdateRules
-pub mod UpdateLaws
-pub mod UpdateView
 pub mod Places
 pub mod Histories
 pub mod Descents
 pub mod DescentLaws
-pub mod Scans
 pub mod Columns
-pub mod ColumnLaws
 pub mod Tables
 pub mod Reads
 pub mod Consistency

@@ -2,12 +2,13 @@
 //!
 //! Each is proved to be its definition for every history. Faster bodies are compared with them.
 
-ghost use Rattle.std.specs.Prelude.{◌≡◌, ◌==◌, ◌<◌, ◌≤◌, ◌^◌, ℕ, cond, All, length, map, IfOk, OnOk, OnErr, slice_index_or};
+ghost use Rattle.std.specs.Prelude.{◌≡◌, ◌⊎◌, ◌==◌, ◌<◌, ◌≤◌, ◌^◌, ℕ, false, ◌&&◌, cond, All, length, map, get_or, IfOk, OnOk, OnErr, slice_index_or, IsTrue};
 ghost use Rattle.std.specs.List.{list_any, range_with_len};
-ghost use Rattle.air_history.specs.Histories.{writer_before, writer, front, starts, EventFits};
+ghost use Rattle.air_history.specs.Places.{greatest};
+ghost use Rattle.air_history.specs.Histories.{writes, event_at, cycle_at, writer_before, writer, front, starts, EventFits};
 ghost use Rattle.air_history.specs.Columns.{column};
 ghost use Rattle.air_history.specs.Descents.{descends};
-ghost use Rattle.air_history.specs.Scans.{MarksReads, marked_entry};
+ghost use Rattle.air_history.specs.DescentLaws.{ReadsFrom};
 
 use crate::histories::{Event, History};
 use crate::updates::Write;
@@ -51,7 +52,10 @@ fn last_writer(events: &[Event], before: usize, item: u16) -> Option<usize>
 fn mark_reads(events: &[Event], place: usize, marks: &mut [bool])
     requires within { place < length events.now }
     requires sized { length marks.old ≡ length events.now }
-    ensures { MarksReads events.now place marks.old marks.new }
+    ensures kept { (k : ℕ) → IsTrue (get_or marks.old k false) → IsTrue (get_or marks.new k false) }
+    ensures added { (w : ℕ) → ReadsFrom events.now place w → IsTrue (get_or marks.new w false) }
+    ensures just { (k : ℕ) → IsTrue (get_or marks.new k false) →
+        IsTrue (get_or marks.old k false) ⊎ ReadsFrom events.now place k }
 {
     for item in events[place].reads() {
         if let Some(writer) = last_writer(events, place, *item) {
@@ -95,7 +99,8 @@ fn stamp_marked(events: &[Event], marks: &[bool], out: &mut [u32])
     requires fits { All (EventFits (length out.old)) events.now }
     requires clear { (i : ℕ) → i < length out.old → slice_index_or out.old i 0 ≡ 0 }
     ensures { (i : ℕ) → i < length out.old →
-        slice_index_or out.new i 0 ≡ marked_entry events.now marks.now (length events.now) i }
+        slice_index_or out.new i 0 ≡ greatest (length events.now)
+        (λ q. get_or marks.now q false && writes (event_at events.now q) i) (cycle_at events.now) }
 {
     let mut seen = 0;
     for (place, event) in events.iter().enumerate() {

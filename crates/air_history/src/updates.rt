@@ -61,11 +61,10 @@ impl Model for Update {
     ghost Value = { UpdateLists };
 
     ghost use Rattle.air_history.specs.UpdateRules.{KeepsRules};
-    ghost use Rattle.air_history.specs.UpdateView.{lists_of};
 
-    ghost view = { lists_of };
+    ghost view = { λ u. record { reads = u.reads.items; writes = u.writes.items } };
 
-    ghost invariant = { λ u. KeepsRules (lists_of u) };
+    ghost invariant = { λ u. KeepsRules (record { reads = u.reads.items; writes = u.writes.items }) };
 }
 
 impl Update {

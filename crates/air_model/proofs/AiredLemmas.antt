@@ -1,5 +1,5 @@
 -- The buckets of a history: they are those that fit and are the history's, they are in range, and their bytes are read back.
-use Rattle.std.proofs.Common.{◌≡◌, ℕ, zero, suc, ◌+◌, ◌-◌, ◌<◌, ◌≤◌, true, ◌==◌, Option, Some, None, List, [], ◌∷◌, length, map, get_or, refl, sym, ◌∙◌, subst, inl, inr, arith}
+use Rattle.std.proofs.Common.{◌≡◌, ℕ, zero, suc, ◌+◌, ◌-◌, ◌<◌, ◌≤◌, true, ◌==◌, Option, Some, None, List, [], ◌∷◌, length, map, get_or, refl, sym, ◌∙◌, subst, inl, inr, arith, ◌↔◌, All}
 use Rattle.std.specs.Prelude.{Contains, IfSome, IsTrue}
 use Rattle.std.specs.List.{flat_map, range_with_len}
 use Rattle.std.proofs.lemmas.Bool.{and_from, and_parts, eq-eqb, lt-ltb, ltb-true}
@@ -13,8 +13,7 @@ use Rattle.air_history.specs.Columns.{aired_entries}
 use Rattle.air_history.specs.Tables.{values_of}
 use Rattle.air_history.specs.Reads.{read_value}
 use Rattle.air_model.specs.Buckets.{Bucket}
-use Rattle.air_model.specs.Aired.{Air, IsAiredBucket, aired_as, body_fits, body_of, bucket_of, buckets_of, fits}
-use Rattle.air_model.specs.AiredLaws.{AiredLaw, OwnBucketsLaw}
+use Rattle.air_model.specs.Aired.{Air, IsAired, IsAiredBucket, aired_as, body_fits, body_of, bucket_of, buckets_of, fits}
 
 -- ---- members of lists of lists
 
@@ -120,7 +119,8 @@ own_aired : (values : List ℕ) (air : Air) (H : List Event) (c s : ℕ) → 1 �
 unfolding bucket_of
 own_aired values air H c s one started = record { from_one = one; started = started; same = refl }
 
-pub own_buckets : OwnBucketsLaw
+pub own_buckets : (values : List ℕ) (air : Air) (H : List Event) (b : Bucket) →
+    Contains (buckets_of values air H) b ↔ (IsTrue (fits air b) × IsAiredBucket values air H b)
 unfolding fits
 own_buckets values air H b = (
   λ h. let own = own_from values air H b h in
@@ -130,7 +130,8 @@ own_buckets values air H b = (
       subst (Contains (buckets_of values air H)) (sym (h.1.same)) (own_to values air H b.cycle b.slot h.1.from_one h.1.started within),
 )
 
-pub aired : AiredLaw
+pub aired : (values : List ℕ) (air : Air) (H : List Event) (heard : List (Option Bucket)) →
+    All (λ o. IfSome o (Contains (buckets_of values air H))) heard → IsAired values air H heard
 aired values air H heard h k d l = by (get_or heard k d) (h k d l)
   where
     by : (o : Option Bucket) → IfSome o (Contains (buckets_of values air H)) → IfSome o (λ b. IsTrue (fits air b) → IsAiredBucket values air H b)

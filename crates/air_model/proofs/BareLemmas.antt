@@ -1,5 +1,5 @@
 -- By the history a session is the same without heard values and entries: each rule commutes with leaving them out.
-use Rattle.std.proofs.Common.{◌≡◌, ℕ, zero, suc, ◌+◌, ◌-◌, max, Bool, true, false, cond, ◌||◌, ◌&&◌, ◌==◌, nat_lt, Option, Some, None, List, [], ◌∷◌, ◌++◌, length, map, get_or, refl, sym, ◌∙◌, ap}
+use Rattle.std.proofs.Common.{◌≡◌, ℕ, zero, suc, ◌+◌, ◌-◌, max, Bool, true, false, cond, ◌||◌, ◌&&◌, ◌==◌, nat_lt, Option, Some, None, List, [], ◌∷◌, ◌++◌, length, map, get_or, refl, sym, ◌∙◌, ap, not}
 use Rattle.std.specs.Prelude.{count_by, sum_by}
 use Rattle.std.specs.List.{filter, find, slice_get}
 use Rattle.std.specs.Option.{is_some, option_map}
@@ -19,10 +19,11 @@ use Rattle.air_history.proofs.ClashLemmas.{cond_same}
 use Rattle.air_model.specs.Buckets.{Body, Bucket, Column, Idle, Vector}
 use Rattle.air_model.specs.Reads.{Read}
 use Rattle.air_model.specs.Copies.{goes_before, keep, with_copy, without}
-use Rattle.air_model.specs.Aired.{Air, airs_columns, airs_vectors, body_fits, fits, has_item}
+use Rattle.air_model.specs.Airings.{carries}
+use Rattle.air_model.specs.Aired.{Air, airs_columns, body_fits, fits}
 use Rattle.air_model.specs.Judges.{Judge, by_history, place_of}
 use Rattle.air_model.specs.Sessions.{Reader, Line, State, start, read_in, is_wanted, wanted, comes_late, query_of, next_query, next_attempt, copy_of, drop_copy, offer, line_of, with_line, count_copied, count_opened, count_dozed, count_late, count_refused, count_foreign, accept_if_whole, hold, abort, is_unusable, turn_with, turn, settle, decide, open_bucket, hear_read, hear, hear_all, end_query, end, session}
-use Rattle.air_model.specs.SessionLaws.{BareLaw, bare, bare_body}
+use Rattle.air_model.specs.SessionLaws.{bare, bare_body}
 
 -- the read without its value, and with 0 for each entry
 bare_read : Read → Read
@@ -104,8 +105,8 @@ late_bare air s x = ap (λ S. is_late air.policy S (place_of x)) (places_bare s.
 body_bare : (air : Air) (o : Option ℕ) (y : Body) → body_fits air o (bare_body y) ≡ body_fits air o y
 unfolding body_fits
 body_bare air o (Idle count) = refl
-body_bare air o (Column item value entries) = ap (λ n. has_item o item && airs_columns air.policy && (n == air.items)) (length-map entries (λ e. 0))
-body_bare air o (Vector item value entries) = ap (λ n. has_item o item && airs_vectors air.policy && (n == air.items)) (length-map entries (λ e. 0))
+body_bare air o (Column item value entries) = ap (λ n. carries item o && airs_columns air.policy && (n == air.items)) (length-map entries (λ e. 0))
+body_bare air o (Vector item value entries) = ap (λ n. carries item o && not (airs_columns air.policy) && (n == air.items)) (length-map entries (λ e. 0))
 
 fits_bare : (air : Air) (b : Bucket) → fits air (bare b) ≡ fits air b
 unfolding fits
@@ -238,7 +239,10 @@ module _ (V : List ℕ) (air : Air) (H : List Event) (reader : Reader) where
       ap (iterate (end_query judge air reader) (length reader.queries)) (hear_all_bare heard start)
       ∙ iterate_bare (end_query judge air reader) end_query_bare (length reader.queries) (hear_all judge air reader heard start)
 
-pub bare_is : BareLaw
+pub bare_is : (values : List ℕ) (air : Air) (H : List Event) (reader : Reader) (heard : List (Option Bucket)) →
+    let s = session (by_history air.policy values H) air reader heard in
+    let t = session (by_history air.policy values H) air reader (map (option_map bare) heard) in
+    (t.lines ≡ s.lines) × (t.counts ≡ s.counts)
 unfolding bare_state
 bare_is V air H reader heard =
     let same = session_bare V air H reader heard in

@@ -1,6 +1,6 @@
 -- The laws of the bucket: the relation and the reading agree, and no bucket's bytes begin with another's.
 -- A bucket is seen as its flat fields (`said`), for which `FieldFacts` has both directions; each reading is one chain of tests.
-use Rattle.std.proofs.Common.{◌≡◌, ◌⊎◌, inl, inr, ◌≤◌, ◌<◌, ◌+◌, ◌*◌, ◌^◌, ◌++◌, ◌&&◌, ◌==◌, not, if◌then◌else◌, nat_lt, nat_le, ℕ, zero, suc, Bool, true, false, Result, Ok, Err, List, [], ◌∷◌, length, drop, length-append, slice_index, refl, sym, ◌∙◌, ap, subst, arith}
+use Rattle.std.proofs.Common.{◌≡◌, ◌⊎◌, inl, inr, ◌≤◌, ◌<◌, ◌+◌, ◌*◌, ◌^◌, ◌++◌, ◌&&◌, ◌==◌, not, if◌then◌else◌, nat_lt, nat_le, ℕ, zero, suc, Bool, true, false, Result, Ok, Err, List, [], ◌∷◌, length, drop, length-append, slice_index, refl, sym, ◌∙◌, ap, subst, arith, ◌↔◌}
 use Rattle.std.specs.Prelude.{All, IsErr}
 use Rattle.std.specs.List.{list_all}
 use Rattle.std.proofs.Math.Dec.{eqb-suc-zero}
@@ -8,8 +8,7 @@ use Rattle.std.proofs.lemmas.Bool.{and_from, and_parts, eq-eqb, eqb-true, leb-tr
 use Rattle.std.proofs.lemmas.List.{drop-append-le, get_or_append_left, get_or_default, length-drop, nil_from_length}
 use Rattle.std.proofs.lemmas.List.Elements.{All-head, All-tail}
 use Rattle.byteorder.specs.Endian.{big_number}
-use Rattle.air_model.specs.Buckets.{Body, Bucket, Idle, Column, Vector, IsBucket, IsInRange, body_at, bucket_at, count_of, entries_at, entries_of, entry_count, is_placed, is_shaped, item_of, kind_of, number_at, reading, spelling, value_of}
-use Rattle.air_model.specs.Buckets.{FaultLaw, NoPrefixLaw, OneBucketLaw, ReadingLaw}
+use Rattle.air_model.specs.Buckets.{Body, Bucket, Idle, Column, Vector, IsBucket, IsInRange, body_at, bucket_at, count_of, entries_at, entries_of, entry_count, is_placed, is_shaped, item_of, kind_of, number_at, reading, spelling, value_of, AreBytes}
 use Rattle.air_model.proofs.ByteFacts.{AllBytes, all_bytes}
 use Rattle.air_model.proofs.FieldFacts.{AreInRange, Fields, IsWhole, are_shaped, bounds, bytes_of, entries_long, fields_of, in_range, made, read_back, same_fields, shaped_is, spelled, whole_bytes}
 
@@ -191,13 +190,13 @@ ok_from_whole bytes w =
     (eq-eqb (length bytes) _ w.exact) w.shaped
 
 -- ---- the laws
-pub reading_agrees : ReadingLaw
+pub reading_agrees : (bytes : List ℕ) (b : Bucket) → AreBytes bytes → IsBucket bytes b ↔ (reading bytes ≡ Ok b)
 reading_agrees bytes b are = (
   λ h. let w = whole_from_bucket bytes b h in ok_from_whole bytes w.0 ∙ ap Ok w.1,
   λ z. let w = whole_from_ok bytes b z in subst (IsBucket bytes) w.1 (bucket_from_whole bytes (all_bytes bytes are) w.0),
 )
 
-pub fault_exactly : FaultLaw
+pub fault_exactly : (bytes : List ℕ) → AreBytes bytes → IsErr (reading bytes) ↔ ((b : Bucket) → IsBucket bytes b → ⊥)
 fault_exactly bytes are = (λ bad b h. no_ok (reading bytes) b bad ((reading_agrees bytes b are).0 h), λ none. by (reading bytes) refl none)
   where
     no_ok : {A F : Type 0} (r : Result A F) (x : A) → IsErr r → r ≡ Ok x → ⊥
@@ -207,10 +206,10 @@ fault_exactly bytes are = (λ bad b h. no_ok (reading bytes) b bad ((reading_agr
     by (Ok b) e none = absurd (none b ((reading_agrees bytes b are).1 e))
     by (Err f) e none = refl
 
-pub one_bucket : OneBucketLaw
+pub one_bucket : (bytes : List ℕ) (a b : Bucket) → IsBucket bytes a → IsBucket bytes b → a ≡ b
 one_bucket bytes a b h g = sym (whole_from_bucket bytes a h).1 ∙ (whole_from_bucket bytes b g).1
 
-pub no_prefix : NoPrefixLaw
+pub no_prefix : (bytes rest : List ℕ) (a b : Bucket) → IsBucket bytes a → IsBucket (bytes ++ rest) b → rest ≡ []
 no_prefix bytes rest a b h g =
     let w = (whole_from_bucket bytes a h).0 in
     let v = (whole_from_bucket (bytes ++ rest) b g).0 in

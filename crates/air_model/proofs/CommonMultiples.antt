@@ -10,7 +10,6 @@ use Rattle.std.proofs.lemmas.Nat.{mod_below}
 use Rattle.std.proofs.Math.Nat.{div-add-mod', dvd-mod_iff, mod_self, mul-le-mul_right, mul-mod_left, mul-mod_right}
 use Rattle.std.specs.List.{All}
 use Rattle.air_model.specs.Disks.{Disk}
-use Rattle.air_model.specs.ProgramLaws.{IsCommonMultiple}
 use Rattle.air_model.specs.Programs.{least_common_multiple, num_minors}
 use Rattle.air_model.proofs.Elements.{all_at, at_all}
 
@@ -155,6 +154,10 @@ num_minors_common disks aired = joined_common 1 disks (omega arith) aired
 pub num_minors_divides : (disks : List Disk) (k : ℕ) → AllAired disks → IsCommon disks k → k % num_minors disks ≡ 0
 unfolding num_minors
 num_minors_divides disks k aired each = joined_divides 1 disks k (omega arith) aired (omega arith) each
+
+-- each frequency divides the number
+abbrev pub IsCommonMultiple : List Disk → ℕ → Type 0
+IsCommonMultiple disks n = All (λ (d : Disk). n % d.freq ≡ 0) disks
 
 pub minors_are : (disks : List Disk) → All (λ (d : Disk). 0 < d.freq) disks
     → (0 < num_minors disks) × IsCommonMultiple disks (num_minors disks) × ((n : ℕ) → IsCommonMultiple disks n → n % num_minors disks ≡ 0)

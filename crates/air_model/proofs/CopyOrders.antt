@@ -1,11 +1,11 @@
 -- The order of copies, and how many go before one: whoever goes before another has fewer before it.
 -- `keep_all` and `keep_one` are the laws that the cache needs; `rank_less` is what sums and counts stand on.
-use Rattle.std.proofs.Common.{◌≡◌, ℕ, zero, suc, ◌<◌, ◌≤◌, ◌+◌, Bool, true, false, cond, ◌&&◌, ◌==◌, ◌++◌, ◌⊎◌, inl, inr, nat_lt, List, [], ◌∷◌, length, get_or, All, refl, sym, ◌∙◌, ap, arith}
+use Rattle.std.proofs.Common.{◌≡◌, ℕ, zero, suc, ◌<◌, ◌≤◌, ◌+◌, Bool, true, false, cond, ◌&&◌, ◌==◌, ◌++◌, ◌⊎◌, inl, inr, nat_lt, List, [], ◌∷◌, length, get_or, All, refl, sym, ◌∙◌, ap, arith, IsTrue}
 use Rattle.std.specs.List.{filter, count_by}
 use Rattle.std.proofs.lemmas.Bool.{and_from, and_parts, cases_order, eq-eqb, or_cases, or_left, or_right, cond-false, cond-true, eqb-true, false_from_ne_true, false≢true, le-ltb, lt-ltb, ltb-true}
 use Rattle.std.proofs.lemmas.List.Elements.{All-head, All-tail, filter-append}
 use Rattle.std.proofs.lemmas.List.Sums.{count_by-le-length, sum_by-append, sum_by-cons}
-use Rattle.air_model.specs.Copies.{KeepAllLaw, KeepOneLaw, goes_before, keep, pix_of}
+use Rattle.air_model.specs.Copies.{goes_before, keep, pix_of}
 use Rattle.air_model.specs.Reads.{Read}
 
 -- how many copies go before this one
@@ -141,7 +141,7 @@ pub filter_all : (f : Read → Bool) (R : List Read) → All (λ r. f r ≡ true
 filter_all f [] h = refl
 filter_all f (r ∷ R) h = cond-true (f r) _ _ (All-head (λ r. f r ≡ true) r R h) ∙ ap (λ S. r ∷ S) (filter_all f R (All-tail (λ r. f r ≡ true) r R h))
 
-pub keep_all : KeepAllLaw
+pub keep_all : (room : ℕ) (pix : List ℕ) (copies : List Read) → length copies ≤ room → keep room pix copies ≡ copies
 unfolding keep
 keep_all room pix copies l = filter_all (λ a. nat_lt (rank pix copies a) room) copies (λ k d within. lt-ltb _ _
     (let few = count_missing (λ b. goes_before pix b (get_or copies k d)) copies k d within (itself pix (get_or copies k d)) in omega arith))
@@ -158,7 +158,8 @@ count_amid p front back x =
 filter_amid : (p : Read → Bool) (front back : List Read) (x : Read) → p x ≡ false → filter p (front ++ x ∷ back) ≡ filter p (front ++ back)
 filter_amid p front back x e = filter-append p front (x ∷ back) ∙ ap (λ l. filter p front ++ l) (cond-false (p x) _ _ e) ∙ sym (filter-append p front back)
 
-pub keep_one : KeepOneLaw
+pub keep_one : (room : ℕ) (pix : List ℕ) (front back : List Read) (least : Read) → length (front ++ back) ≡ room →
+    All (λ r. IsTrue (goes_before pix r least)) (front ++ back) → keep room pix (front ++ least ∷ back) ≡ front ++ back
 unfolding keep
 keep_one room pix front back least size last =
     let copies = front ++ least ∷ back in

@@ -1,7 +1,7 @@
 -- How many copies stay, and that no choice of as many is worth more.
 -- The ranks of copies of different items differ, so one copy has each rank; and some number lies between the PIX numbers of
 -- the copies that stay and those of the others, which settles every sum (`keep_most`).
-use Rattle.std.proofs.Common.{◌≡◌, ◌≢◌, not, ℕ, zero, suc, ◌<◌, ◌≤◌, ◌+◌, ◌-◌, ◌*◌, Bool, true, false, cond, ◌==◌, ◌++◌, ◌⊎◌, inl, inr, nat_lt, List, [], ◌∷◌, length, get_or, All, refl, sym, ◌∙◌, ap, arith}
+use Rattle.std.proofs.Common.{◌≡◌, ◌≢◌, not, ℕ, zero, suc, ◌<◌, ◌≤◌, ◌+◌, ◌-◌, ◌*◌, Bool, true, false, cond, ◌==◌, ◌++◌, ◌⊎◌, inl, inr, nat_lt, List, [], ◌∷◌, length, get_or, All, refl, sym, ◌∙◌, ap, arith, IsPermutation}
 use Rattle.std.specs.Prelude.{min, max}
 use Rattle.std.specs.List.{filter, count_by, sum_by}
 use Rattle.std.proofs.Math.Nat.{min-le_left, min-le_right, le-min, le-max_left, le-max_right, max-le, mul-add, mul-le-mul_left, min-eq_left, min-eq_right}
@@ -10,7 +10,7 @@ use Rattle.std.proofs.lemmas.List.Elements.{All-append, All-cons, All-head, All-
 use Rattle.std.proofs.lemmas.List.Kept.{AllPairs-cons, AllPairs-filter}
 use Rattle.std.proofs.lemmas.List.Sorted.{All-permutation, IsPermutation-sym, sum_by-IsPermutation}
 use Rattle.std.proofs.lemmas.List.Sums.{length-filter, sum_by-append, sum_by-cons}
-use Rattle.air_model.specs.Copies.{HaveOwnItems, KeepCountLaw, KeepMostLaw, KeepOwnLaw, goes_before, keep, pix_of, with_copy, without}
+use Rattle.air_model.specs.Copies.{HaveOwnItems, goes_before, keep, pix_of, with_copy, without}
 use Rattle.air_model.specs.Reads.{Read}
 use Rattle.air_model.proofs.CopyOrders.{count_all, count_cons, count_missing, goes_to, itself, keep_all, one_goes, rank, rank_less}
 
@@ -90,7 +90,7 @@ ranks_differ pix copies own j k d l m e = by (cases_order j k)
     by (inr (inl less)) = absurd (ordered (one_goes pix (get_or copies j d) (get_or copies k d) (own j k d less m)))
     by (inr (inr more)) = absurd (ordered (one_goes pix (get_or copies j d) (get_or copies k d) (λ same. own k j d more l (sym same))))
 
-pub keep_count : KeepCountLaw
+pub keep_count : (room : ℕ) (pix : List ℕ) (copies : List Read) → HaveOwnItems copies → length (keep room pix copies) ≡ min room (length copies)
 unfolding keep
 keep_count room pix copies own = by (cases_lt room (length copies))
   where
@@ -132,7 +132,7 @@ own_pushed (r ∷ R) x own other =
     (All-append (λ b. r.item ≢ b.item) R (x ∷ []) (λ k d l. own 0 (suc k) d (omega arith) (omega arith)) (All-cons (λ b. r.item ≢ b.item) x [] (other 0 x (omega arith)) (λ k d l. absurd (omega arith))))
     (own_pushed R x (λ i j d l m. own (suc i) (suc j) d (omega arith) (omega arith)) (All-tail (λ r. r.item ≢ x.item) r R other))
 
-pub keep_own : KeepOwnLaw
+pub keep_own : (room : ℕ) (pix : List ℕ) (copies : List Read) (x : Read) → HaveOwnItems copies → HaveOwnItems (keep room pix (with_copy x copies))
 unfolding keep with_copy without
 keep_own room pix copies x own =
     AllPairs-filter (λ a b. a.item ≢ b.item) (λ a. nat_lt (rank pix (with_copy x copies) a) room) (with_copy x copies)
@@ -236,7 +236,8 @@ behind : (P : Read → Type 0) (xs ys : List Read) → All P (xs ++ ys) → All 
 behind P [] ys h = h
 behind P (x ∷ xs) ys h = behind P xs ys (All-tail P x (xs ++ ys) h)
 
-pub keep_most : KeepMostLaw
+pub keep_most : (room : ℕ) (pix : List ℕ) (copies chosen rest : List Read) → IsPermutation (chosen ++ rest) copies → length chosen ≤ length (keep room pix copies) →
+    sum_by (pix_of pix) chosen ≤ sum_by (pix_of pix) (keep room pix copies)
 unfolding keep
 keep_most room pix copies chosen rest parts few =
     let f : Read → ℕ = pix_of pix in

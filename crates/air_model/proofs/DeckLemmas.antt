@@ -16,7 +16,9 @@ use Rattle.air_history.specs.Tables.{BasesRead}
 use Rattle.air_model.specs.Disks.{Disk, DiskSpec, cut, is_hotter, order, order_with}
 use Rattle.air_model.specs.Programs.{chunk, minor_cycle, num_chunks, num_minors, program}
 use Rattle.air_model.specs.Decks.{Deck, IsDeck, IsLegal, IsQuery, IsUpdate, disks_in, rates_in, updates_by}
-use Rattle.air_model.specs.DeckLaws.{AirLaw, EventsLaw}
+use Rattle.air_model.specs.Aired.{SlotsFit, air_of}
+use Rattle.air_model.specs.SessionLaws.{QueriesFilled}
+use Rattle.air_model.specs.Sessions.{reader_of}
 use Rattle.air_history.proofs.RuleFacts.{bases_read}
 
 -- what holds of all lists of a list of lists holds of the list at each place, also past the end
@@ -40,7 +42,7 @@ event_is deck H is legal p (Commit by seq u) s =
     let update = update_is deck is by seq u ((legal p by seq u s).given) in
     (update.fits, bases_read by seq u update.rules)
 
-pub events : EventsLaw
+pub events : (deck : Deck) (H : List Event) → IsDeck deck → IsLegal deck H → All (EventFits (length deck.items)) H × All BasesRead H
 events deck H is legal = (
   λ p d l. (event_is deck H is legal p (get_or H p d) (slice_get-get_or H p d l)).0,
   λ p d l. (event_is deck H is legal p (get_or H p d) (slice_get-get_or H p d l)).1,
@@ -100,7 +102,7 @@ order_all rates = fold_all (λ i. i < length rates) rates (range_with_len 0 (len
 
 -- ---- the law
 
-pub air : AirLaw
+pub air : (deck : Deck) → IsDeck deck → SlotsFit (air_of deck) × ((r : ℕ) → QueriesFilled (reader_of deck r))
 air deck is = (
   program_all (λ i. i < length deck.items) (disks_in deck) (cut_all (λ i. i < length deck.items) (order (rates_in deck)) deck.disks
       (subst (λ n. All (λ i. i < n) (order (rates_in deck))) (length-map deck.items (λ i. i.rate)) (order_all (rates_in deck)))),

@@ -11,7 +11,7 @@ use Rattle.std.proofs.lemmas.List.Elements.{All-append, All-cons, All-map, Conta
 use Rattle.std.proofs.lemmas.List.FromFn.{get_or-map-range_with_len, length-map-range_with_len}
 use Rattle.std.proofs.lemmas.List.Kept.{AllPairs-cons}
 use Rattle.std.proofs.lemmas.List.Sums.{sum_by-append, sum_by-cons}
-use Rattle.air_model.specs.Ethers.{ClearEtherLaw, HeardOrderLaw, HeardTimesLaw, HeardWasPushedLaw, Odds, due_at, due_number, heard, heard_places, times_heard, word_of}
+use Rattle.air_model.specs.Ethers.{Odds, due_at, due_number, heard, heard_places, times_heard, word_of}
 
 -- ---- lists over a range
 range_join : (a n m : ℕ) → range_with_len a (n + m) ≡ range_with_len a n ++ range_with_len (a + n) m
@@ -214,13 +214,14 @@ module _ (odds : Odds) (words : List ℕ) where
       inl (omega arith))
 
 -- ---- the laws
-pub heard_times : HeardTimesLaw
+pub heard_times : (odds : Odds) (words : List ℕ) (n place : ℕ) → place < n → count_by (λ p. p == place) (heard_places odds words n) ≡ times_heard odds words place
 heard_times odds words n place within = times_are odds words n place within
 
-pub heard_order : HeardOrderLaw
+pub heard_order : (odds : Odds) (words : List ℕ) (n : ℕ) →
+    AllPairs (λ p q. (due_number odds words p < due_number odds words q) ⊎ ((due_number odds words p ≡ due_number odds words q) × (p ≤ q))) (heard_places odds words n)
 heard_order odds words n = in_order odds words n
 
-pub heard_was_pushed : HeardWasPushedLaw
+pub heard_was_pushed : (odds : Odds) (words : List ℕ) (pushed : List (List ℕ)) → All (Contains pushed) (heard odds words pushed)
 unfolding heard
 heard_was_pushed odds words pushed =
     All-map (Contains pushed) (λ place. slice_index_or pushed place []) (heard_places odds words (length pushed)) (λ k d l. Contains-get_or pushed _ [] (places_below odds words (length pushed) k d l))
@@ -265,7 +266,7 @@ places_clear words n =
     ∙ append-nil (flat_map (due_at clear words n) (range_with_len 0 n))
     ∙ flat_self (due_at clear words n) 0 n (λ number low high. due_alone words n number (omega arith))
 
-pub clear_ether : ClearEtherLaw
+pub clear_ether : (words : List ℕ) (pushed : List (List ℕ)) → heard (record { loss = 0; again = 0; late = 0 }) words pushed ≡ pushed
 unfolding heard
 clear_ether words pushed =
     let read : ℕ → List ℕ = λ place. slice_index_or pushed place [] in

@@ -1,14 +1,17 @@
 -- Under F-Matrix each verdict is exact: what it tells of the reads leaves no other verdict open.
-use Rattle.std.proofs.Common.{◌≡◌, ℕ, List, [], length, map, get_or, refl, ap, arith}
+use Rattle.std.proofs.Common.{◌≡◌, ℕ, List, [], length, map, get_or, refl, ap, arith, Option, All}
 use Rattle.std.proofs.lemmas.List.{length-map}
 use Rattle.air_base.specs.declared.verdicts.VerdictKind.{VerdictKind}
 use Rattle.air_base.specs.declared.verdicts.VerdictKind.TheVariants.{Accept, Abort, Unfinished}
+use Rattle.air_base.specs.declared.verdicts.Policy.TheVariants.{FMatrix}
 use Rattle.air_history.specs.declared.histories.Event.{Event}
 use Rattle.air_history.specs.Reads.{ReadAt}
-use Rattle.air_model.specs.Sessions.{session}
+use Rattle.air_model.specs.Sessions.{session, Reader}
 use Rattle.air_model.specs.Judges.{by_history}
-use Rattle.air_model.specs.SessionLaws.{ExactLaw, IsExact, Tells, decided_on, reads_at}
-use Rattle.air_model.proofs.SoundLemmas.{verdict}
+use Rattle.air_model.specs.SessionLaws.{CyclesFromOne, IsExact, IsExactLine, QueriesFilled, decided_on, reads_at}
+use Rattle.air_model.specs.Aired.{Air}
+use Rattle.air_model.specs.Buckets.{Bucket}
+use Rattle.air_model.proofs.SoundLemmas.{Tells, verdict}
 
 exact_from : (H : List Event) (query : List ℕ) (kind : VerdictKind) (R : List ReadAt) → Tells H query kind R → IsExact H query kind (decided_on kind R)
 unfolding Tells
@@ -30,7 +33,8 @@ exact_from H query Unfinished R t =
       unfinished = (λ _. (t.0, missing), λ _. refl);
     }
 
-pub exact : ExactLaw
+pub exact : (values : List ℕ) (air : Air) (H : List Event) (reader : Reader) (heard : List (Option Bucket)) → air.policy ≡ FMatrix → QueriesFilled reader → CyclesFromOne air heard →
+    All (IsExactLine H reader) (session (by_history air.policy values H) air reader heard).lines
 exact V air H reader heard f filled cycles k d l =
     let line = get_or (session (by_history air.policy V H) air reader heard).lines k d in
     exact_from H (get_or reader.queries line.verdict.query []) line.verdict.kind (reads_at line) (verdict V air H reader heard f filled cycles k d l)

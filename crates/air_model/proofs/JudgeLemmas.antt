@@ -24,10 +24,10 @@ use Rattle.air_history.specs.ClashLaws.{IsHeard, IsAllowed}
 use Rattle.air_history.proofs.ClashLemmas.{clash, cond_same}
 use Rattle.air_model.specs.Buckets.{Bucket}
 use Rattle.air_model.specs.Reads.{Read}
-use Rattle.air_model.specs.Aired.{Air, fits, body_of, aired_as, bucket_of, IsAiredBucket, SlotsFit}
+use Rattle.air_model.specs.Aired.{Air, fits, body_of, aired_as, bucket_of, IsAiredBucket, SlotsFit, IsAired}
 use Rattle.air_model.specs.Judges.{place_of, heard_of, by_history, by_entries}
 use Rattle.air_model.specs.Sessions.{Reader, Line, State, start, read_in, is_wanted, wanted, comes_late, query_of, next_query, next_attempt, copy_of, drop_copy, offer, line_of, with_line, count_copied, count_opened, accept_if_whole, hold, abort, is_unusable, turn_with, turn, settle, decide, open_bucket, hear_read, hear, hear_all, end_query, end, session}
-use Rattle.air_model.specs.SessionLaws.{QueriesFilled, JudgesLaw}
+use Rattle.air_model.specs.SessionLaws.{QueriesFilled}
 use Rattle.air_model.proofs.MomentLemmas.{Good, Keeps, Gives, turn_good, settle_good, hear_good, hear_all_good, end_query_good, start_good, copy_of_is}
 
 -- the read is one of H, with H's value and the entries that were aired with it
@@ -230,5 +230,6 @@ aired_gives V air H slots (Some b) h = λ t.
     subst (λ y. IfSome (read_in b.cycle y) (IsReadOf V air H)) (sym (ap (λ (b : Bucket). b.body) is.same))
     (body_gives V air H b.cycle is.from_one (get_or air.slots b.slot None) (slots b.slot None within))
 
-pub judges : JudgesLaw
+pub judges : (values : List ℕ) (air : Air) (H : List Event) (reader : Reader) (heard : List (Option Bucket)) → SlotsFit air → QueriesFilled reader → IsAired values air H heard →
+    session (by_history air.policy values H) air reader heard ≡ session (by_entries air.policy) air reader heard
 judges V air H reader heard slots filled aired = session_same V air H reader filled heard (λ k d l. aired_gives V air H slots (get_or heard k d) (aired k d l))

@@ -11,7 +11,6 @@ use Rattle.air_history.specs.Tables.{table, values_of}
 use Rattle.air_history.specs.Reads.{read_value}
 use Rattle.air_model.specs.Buckets.{Body, Bucket}
 use Rattle.air_model.specs.Aired.{Air, aired_as, body_of, bucket_of}
-use Rattle.air_model.specs.AiredLaws.{LaterLaw}
 
 starts_start : (H : List Event) → starts (Start ∷ H) ≡ 1 + starts H
 unfolding starts is_start
@@ -54,6 +53,7 @@ body_later values air H later c (Some item) l =
     ∙ ap (λ G. body_by values air G item air.policy) (front_append H later c l)
     ∙ sym (body_is values air H c item air.policy)
 
-pub later : LaterLaw
+pub later : (values : List ℕ) (air : Air) (H later : List Event) (c s : ℕ) → c ≤ starts H →
+    bucket_of values air (H ++ later) c s ≡ bucket_of values air H c s
 unfolding bucket_of
 later values air H more c s l = ap (λ y. let b : Bucket = record { edition = 0; cycle = c; slot = s; body = y } in b) (body_later values air H more c (get_or air.slots s None) l)

@@ -1,5 +1,5 @@
 -- Legal histories, updater by updater; the script's history; and what updates of a deck bring into a history.
-use Rattle.std.proofs.Common.{◌≡◌, ℕ, zero, suc, ◌+◌, Bool, true, false, cond, ◌==◌, Some, List, [], ◌∷◌, length, take, drop, refl, sym, ◌∙◌, ap, subst, arith}
+use Rattle.std.proofs.Common.{◌≡◌, ℕ, zero, suc, ◌+◌, Bool, true, false, cond, ◌==◌, Some, List, [], ◌∷◌, length, take, drop, refl, sym, ◌∙◌, ap, subst, arith, ◌↔◌}
 use Rattle.std.specs.List.{slice_get}
 use Rattle.std.proofs.lemmas.Bool.{eqb-true, eq-eqb}
 use Rattle.std.proofs.lemmas.List.{take_all}
@@ -7,8 +7,9 @@ use Rattle.std.proofs.lemmas.List.Sums.{length-filter}
 use Rattle.air_history.specs.declared.histories.Event.{Event}
 use Rattle.air_history.specs.declared.histories.Event.TheVariants.{Commit, Start}
 use Rattle.air_history.specs.UpdateLists.{UpdateLists}
-use Rattle.air_model.specs.Decks.{Deck, IsLegal, count_made, is_by, updates_by}
-use Rattle.air_model.specs.DeckLaws.{LegalLaw, WholeLaw, commits_from, made_by}
+use Rattle.air_history.specs.Histories.{starts}
+use Rattle.air_model.specs.Decks.{Deck, IsLegal, count_made, is_by, updates_by, IsWhole}
+use Rattle.air_model.specs.DeckLaws.{commits_from, made_by}
 
 -- ---- legal, updater by updater
 
@@ -99,7 +100,8 @@ made_legal deck H h p by seq u e =
     let number : seq ≡ n = omega (arith, is.0) in
     record { number = number ∙ count_of_made by (take p H); given = subst (λ k. slice_get (updates_by deck by) k ≡ Some u) (sym number) (in_take (count_made by H) (updates_by deck by) n u is.1) }
 
-pub legal : LegalLaw
+pub legal : (deck : Deck) (H : List Event) →
+    IsLegal deck H ↔ ((by : ℕ) → made_by by H ≡ commits_from by 0 (take (count_made by H) (updates_by deck by)))
 legal deck H = (legal_made deck H, made_legal deck H)
 
 length_commits : (by m : ℕ) (us : List UpdateLists) → length (commits_from by m us) ≡ length us
@@ -107,7 +109,8 @@ unfolding commits_from
 length_commits by m [] = refl
 length_commits by m (u ∷ us) = let rest = length_commits by (suc m) us in omega arith
 
-pub whole : WholeLaw
+pub whole : (deck : Deck) (H : List Event) →
+    IsWhole deck H ↔ (((by : ℕ) → made_by by H ≡ commits_from by 0 (updates_by deck by)) × (starts H ≡ deck.settings.cycles))
 whole deck H = (
   λ h. (
     λ by. legal_made deck H h.legal by ∙ ap (commits_from by 0) (take_all (count_made by H) (updates_by deck by) (let all = h.all by in omega arith)),

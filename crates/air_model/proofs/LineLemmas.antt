@@ -11,8 +11,9 @@ use Rattle.air_model.specs.Buckets.{Bucket}
 use Rattle.air_model.specs.Reads.{Read}
 use Rattle.air_model.specs.Aired.{Air, fits}
 use Rattle.air_model.specs.Judges.{Judge}
+use Rattle.air_model.specs.Sessions
 use Rattle.air_model.specs.Sessions.{Reader, Line, State, read_in, is_wanted, wanted, comes_late, query_of, next_query, next_attempt, copy_of, drop_copy, offer, with_line, line_of, count_copied, count_opened, count_dozed, count_late, count_refused, count_foreign, accept_if_whole, hold, abort, is_unusable, turn_with, turn, settle, decide, open_bucket, hear_read, hear, end_query}
-use Rattle.air_model.specs.SessionLaws.{after, LinesLaw}
+use Rattle.air_model.specs.SessionLaws.{after}
 
 cond_after : (L : List Line) (b : Bool) (x y : State) → cond b (after L x) (after L y) ≡ after L (cond b x y)
 cond_after L true x y = refl
@@ -90,7 +91,14 @@ module _ (judge : Judge) (air : Air) (reader : Reader) (L : List Line) where
       ap (λ t. let u : State = record t { copies = [] } in u)
       (ap (λ t. cond b (next_query t) (after L s)) (line_after Unfinished s) ∙ cond_after L b (next_query (with_line judge Unfinished s)) s)
 
-pub lines : LinesLaw
+-- Lines are only added at the end, and none is looked at: so each may be handed out as it comes.
+pub record AddsLines (judge : Judge) (air : Air) (reader : Reader) (L : List Line) (s : State) : Type 0 where
+  pub turn : Sessions.turn judge air reader (after L s) ≡ after L (Sessions.turn judge air reader s)
+  pub settle : Sessions.settle judge air reader (after L s) ≡ after L (Sessions.settle judge air reader s)
+  pub hear : (o : Option Bucket) → Sessions.hear judge air reader o (after L s) ≡ after L (Sessions.hear judge air reader o s)
+  pub end_query : Sessions.end_query judge air reader (after L s) ≡ after L (Sessions.end_query judge air reader s)
+
+pub lines : (judge : Judge) (air : Air) (reader : Reader) (L : List Line) (s : State) → AddsLines judge air reader L s
 lines judge air reader L s = record {
   turn = turn_after judge air reader L s;
   settle = settle_after judge air reader L s;

@@ -15,15 +15,16 @@ use Rattle.air_history.specs.declared.updates.Write.{Write}
 use Rattle.air_history.specs.declared.histories.Event.{Event}
 use Rattle.air_history.specs.declared.histories.Event.TheVariants.{Commit, Start}
 use Rattle.air_history.specs.Histories.{cycle_at, front, starts, writer, writes_of}
-use Rattle.air_history.specs.Columns.{aired_entries, column_entry, cycle_of, vector_entry}
+use Rattle.air_history.specs.Columns.{aired_entries, column_entry, vector_entry}
+use Rattle.air_history.proofs.StaleLemmas.{cycle_of}
 use Rattle.air_history.specs.Tables.{based, put, table, value_after, values_of, write_of}
 use Rattle.air_history.specs.Reads.{read_value}
 use Rattle.air_history.proofs.PlaceLemmas.{greatest_below}
 use Rattle.air_history.proofs.HistoryLemmas.{front_cycle, front_cycle_same, front_prefix, writer_before_some}
 use Rattle.air_model.specs.Buckets.{Body, Bucket, IsInRange, bucket_in, count_of, entries_of, item_of, kind_of, spelling, value_of}
 use Rattle.air_model.specs.Decks.{Deck, IsDeck, IsLegal, values_in}
-use Rattle.air_model.specs.Aired.{air_of, aired_as, body_of, bucket_of, buckets_of}
-use Rattle.air_model.specs.AiredLaws.{BytesLaw, CanAir, RangeLaw}
+use Rattle.air_model.specs.Aired.{air_of, aired_as, body_of, bucket_of, buckets_of, IsAired}
+use Rattle.air_model.specs.AiredLaws.{CanAir}
 use Rattle.air_model.proofs.BucketFacts.{ok_from_whole, whole_from_bucket}
 use Rattle.air_model.proofs.DeckLemmas.{air, update_is}
 use Rattle.air_model.proofs.AiredLemmas.{aired, entries_long, own_from}
@@ -167,7 +168,7 @@ own_in_range deck H can b h =
     let own = own_from (values_in deck) (air_of deck) H b h in
     subst IsInRange (sym own.same) (bucket_in_range deck H can own.cycle own.slot own.from_one own.started own.within)
 
-pub range : RangeLaw
+pub range : (deck : Deck) (H : List Event) → CanAir deck H → All IsInRange (buckets_of (values_in deck) (air_of deck) H)
 range deck H can k d l = own_in_range deck H can (get_or (buckets_of (values_in deck) (air_of deck) H) k d) (Contains-get_or (buckets_of (values_in deck) (air_of deck) H) k d l)
 
 -- ---- bytes
@@ -190,7 +191,9 @@ own_bytes deck H can bytes h =
     let at = map_has (buckets_of (values_in deck) (air_of deck) H) bytes h in
     (at.0, at.1, ap bucket_in at.2 ∙ read_back at.0 (own_in_range deck H can at.0 at.1))
 
-pub bytes_aired : BytesLaw
+pub bytes_aired : (deck : Deck) (H : List Event) (heard : List (List ℕ)) → CanAir deck H →
+    All (Contains (map spelling (buckets_of (values_in deck) (air_of deck) H))) heard →
+    IsAired (values_in deck) (air_of deck) H (map bucket_in heard) × All (λ bytes. (b : Bucket) × (bucket_in bytes ≡ Some b)) heard
 bytes_aired deck H heard can h = (
   aired (values_in deck) (air_of deck) H (map bucket_in heard) (All-map Own bucket_in heard (λ k d l.
       let own = own_bytes deck H can (get_or heard k d) (h k d l) in subst Own (sym own.2) own.1)),

@@ -4,15 +4,16 @@ use Rattle.std.specs.Prelude.{IfSome, IsTrue}
 use Rattle.std.specs.List.{range_with_len}
 use Rattle.air_history.specs.declared.histories.Event.{Event}
 use Rattle.air_model.specs.Buckets.{Bucket, bucket_in, spelling}
-use Rattle.air_model.specs.Decks.{values_in}
+use Rattle.air_model.specs.Decks.{values_in, Deck, IsDeck}
 use Rattle.air_model.specs.Draws.{words_of}
 use Rattle.air_model.specs.Ethers.{heard_by}
 use Rattle.air_model.specs.Aired.{Air, IsAired, IsAiredBucket, air_of, buckets_of, fits}
 use Rattle.air_model.specs.Judges.{by_entries, by_history}
 use Rattle.air_model.specs.Sessions.{State, reader_of}
 use Rattle.air_model.specs.SessionLaws.{CyclesFromOne, IsExactLine, IsSoundLine, QueriesFilled}
-use Rattle.air_model.specs.ReceiverLaws.{ReceiverLaw, session_of}
-use Rattle.air_model.specs.Outputs.{TrueSessionsLaw, ether_of, odds_in, true_sessions}
+use Rattle.air_model.specs.ReceiverLaws.{IsTrueSession, session_of}
+use Rattle.air_model.specs.Outputs.{ether_of, odds_in, sessions_over, true_sessions}
+use Rattle.air_model.specs.AiredLaws.{CanAir}
 use Rattle.air_model.proofs.DeckLemmas.{air}
 use Rattle.air_model.proofs.EtherFacts.{heard_was_pushed}
 use Rattle.air_model.proofs.JudgeLemmas.{judges}
@@ -28,7 +29,8 @@ cycles_from values air H heard h k d l = by (get_or heard k d) (h k d l)
     by None h = tt
     by (Some b) h = λ t. (h t).from_one
 
-pub receiver : ReceiverLaw
+pub receiver : (deck : Deck) (H : List Event) (r : ℕ) (heard : List (Option Bucket)) → IsDeck deck → r < length deck.readers →
+    IsAired (values_in deck) (air_of deck) H heard → IsTrueSession deck H r heard
 receiver deck H r heard is l aired =
     let a = air_of deck in
     let reader = reader_of deck r in
@@ -50,7 +52,8 @@ map_numbers f g a (suc n) h =
     ap (λ x. x ∷ map f (range_with_len (a + 1) n)) (h a (omega arith) (omega arith))
     ∙ ap (λ l. g a ∷ l) (map_numbers f g (a + 1) n (λ k low high. h k (omega arith) (omega arith)))
 
-pub true_sessions_are : TrueSessionsLaw
+pub true_sessions_are : (deck : Deck) (H : List Event) → CanAir deck H →
+    sessions_over (by_entries deck.settings.policy) deck (ether_of deck H) ≡ true_sessions deck H
 unfolding true_sessions heard_by
 true_sessions_are deck H can = map_numbers (λ r. session_of (by_entries deck.settings.policy) deck r (map bucket_in (ether_of deck H r)))
     (λ r. session_of (by_history deck.settings.policy (values_in deck) H) deck r (map bucket_in (ether_of deck H r))) 0 (length deck.readers)

@@ -1,5 +1,5 @@
 -- The script's history is legal: a part's event is its updater's next.
-use Rattle.std.proofs.Common.{◌≡◌, ℕ, zero, suc, ◌+◌, ◌<◌, ◌≤◌, Bool, true, false, cond, Option, Some, None, List, [], length, take, get_or, refl, sym, ◌∙◌, ap, subst, arith}
+use Rattle.std.proofs.Common.{◌≡◌, ℕ, zero, suc, ◌+◌, ◌<◌, ◌≤◌, Bool, true, false, cond, Option, Some, None, List, [], length, take, get_or, ◌==◌, refl, sym, ◌∙◌, ap, subst, arith}
 use Rattle.std.proofs.lemmas.Bool.{eq-eqb}
 use Rattle.std.proofs.lemmas.Option.{get_or_from_slice_get, slice_get-get_or, slice_get_within}
 use Rattle.std.proofs.lemmas.List.Sums.{count_by_more_yes, count_by_more_no, sum_by-take-le}
@@ -7,8 +7,12 @@ use Rattle.std.proofs.lemmas.List.FromFn.{get_or-map-range_with_len, length-map-
 use Rattle.air_history.specs.declared.histories.Event.{Event}
 use Rattle.air_history.specs.declared.histories.Event.TheVariants.{Commit, Start}
 use Rattle.air_history.specs.UpdateLists.{UpdateLists}
-use Rattle.air_model.specs.Decks.{Deck, count_made, count_parts, event_of, is_by, is_part_of, script_history, update_at, updates_by}
-use Rattle.air_model.specs.DeckLaws.{ScriptLaw}
+use Rattle.air_model.specs.Decks.{Deck, count_made, count_parts, event_of, is_by, script_history, update_at, updates_by, ScriptFits, IsLegal}
+use Rattle.std.specs.Option.{option_map_or}
+
+-- the part is the updater's
+abbrev is_part_of : ℕ → Option ℕ → Bool
+is_part_of by part = option_map_or (λ who. who == by) part false
 
 part_same : (deck : Deck) (before : List (Option ℕ)) (by : ℕ) (part : Option ℕ) → is_by by (event_of deck before part) ≡ is_part_of by part
 unfolding is_by event_of
@@ -70,7 +74,7 @@ commit_is deck before (Some who) by seq u e =
       update = sym update ∙ ap (update_at deck who) number ∙ ap (λ w. update_at deck w seq) same;
     }
 
-pub script : ScriptLaw
+pub script : (deck : Deck) → ScriptFits deck → IsLegal deck (script_history deck)
 script deck fits p by seq u e =
     let within : p < length deck.script = omega (arith, slice_get_within (script_history deck) p (Commit by seq u) e, script_length deck) in
     let at : get_or (script_history deck) p Start ≡ Commit by seq u = get_or_from_slice_get (script_history deck) p (Commit by seq u) Start e in

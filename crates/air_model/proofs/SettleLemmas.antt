@@ -12,7 +12,6 @@ use Rattle.air_model.specs.Copies.{without}
 use Rattle.air_model.specs.Aired.{Air}
 use Rattle.air_model.specs.Judges.{Judge}
 use Rattle.air_model.specs.Sessions.{Reader, State, wanted, query_of, copy_of, drop_copy, next_query, with_line, count_copied, accept_if_whole, hold, is_unusable, turn_with, turn, settle, turn_to_line, step}
-use Rattle.air_model.specs.SessionLaws.{IsSettling, SettleLaw}
 use Rattle.air_model.proofs.MomentLemmas.{none_from, find_is, cond_keeps}
 use Rattle.air_model.proofs.SoundLemmas.{whole_query, part_of_query}
 
@@ -79,6 +78,15 @@ copy_wanted s x (Some i) e = refl
 copy_none : (s : State) → copy_of None s ≡ None
 unfolding copy_of
 copy_none s = refl
+
+-- After settling the wanted item has no copy, and a turn or a step more makes no difference: so to settle is to take turns
+-- as long as the wanted item has a copy. A step that gives no line settles.
+pub record IsSettling (judge : Judge) (air : Air) (reader : Reader) (s : State) : Type 0 where
+  pub settled : copy_of (wanted reader (settle judge air reader s)) (settle judge air reader s) ≡ None
+  pub stays : copy_of (wanted reader s) s ≡ None → settle judge air reader s ≡ s
+  pub goes_on : settle judge air reader (turn judge air reader s) ≡ settle judge air reader s
+  pub steps : settle judge air reader (step judge air reader s) ≡ settle judge air reader s
+  pub no_line : (step judge air reader s).lines ≡ [] → step judge air reader s ≡ settle judge air reader s
 
 module _ (judge : Judge) (air : Air) (reader : Reader) where
   turn_settled : (s : State) → IsSettled reader s → turn judge air reader s ≡ s
@@ -171,5 +179,5 @@ module _ (judge : Judge) (air : Air) (reader : Reader) where
         no_line = all_turns n s;
       }
 
-pub settle_is : SettleLaw
+pub settle_is : (judge : Judge) (air : Air) (reader : Reader) (s : State) → IsSettling judge air reader s
 settle_is judge air reader s = settling judge air reader s

@@ -27,8 +27,8 @@ use Rattle.air_model.specs.Buckets.{Bucket, Body, Idle, Column, Vector}
 use Rattle.air_model.specs.Reads.{Read}
 use Rattle.air_model.specs.Aired.{Air, fits}
 use Rattle.air_model.specs.Judges.{Judge, place_of, by_history}
-use Rattle.air_model.specs.Sessions.{Reader, Line, line_of, read_in}
-use Rattle.air_model.specs.SessionLaws.{reads_at, IsSoundLine, SoundLaw, Tells, VerdictLaw, Follows, IsOfReader, ReaderLaw}
+use Rattle.air_model.specs.Sessions.{Reader, Line, line_of, read_in, session}
+use Rattle.air_model.specs.SessionLaws.{CyclesFromOne, Follows, IsOfReader, IsSoundLine, NamesHeld, QueriesFilled, reads_at}
 use Rattle.air_model.proofs.MomentLemmas.{item_after, Keeps, Gives, kept}
 
 -- ---- reads that were accepted
@@ -106,7 +106,8 @@ read_from_one air (Some b) h = λ t. by b.body (h t)
     by (Column i v es) h = h
     by (Vector i v es) h = h
 
-pub sound : SoundLaw
+pub sound : (values : List ℕ) (air : Air) (H : List Event) (reader : Reader) (heard : List (Option Bucket)) → QueriesFilled reader → CyclesFromOne air heard →
+    All (IsSoundLine values air.policy H) (session (by_history air.policy values H) air reader heard).lines
 unfolding by_history
 sound V air H reader heard filled cycles = kept (by_history air.policy V H) air reader FromOne (λ q a R. AreAccepted air.policy H R) (IsSoundLine V air.policy H) filled rules heard
     (λ k d l. read_from_one air (get_or heard k d) (cycles k d l))
@@ -155,7 +156,15 @@ refuses H R x c are pos k e both =
     let f : ◌≡◌ {A = Option Clash} None (Some c) = sym none ∙ e in
     cc
 
-pub verdict : VerdictLaw
+-- accepted reads are all of the query's, and consistent; an aborted attempt's reads are consistent, and with the refused
+-- read they aren't; an unfinished attempt's reads are consistent, and some are missing
+unfoldable pub Tells : List Event → List ℕ → VerdictKind → List ReadAt → Type 0
+Tells H query Accept R = (map (λ r. r.item) R ≡ query) × IsConsistent H R
+Tells H query (Abort item cycle clash) R = IsConsistent H R × (IsConsistent H (R ++ record { item = item; cycle = cycle } ∷ []) → ⊥)
+Tells H query Unfinished R = IsConsistent H R × (length R < length query)
+
+pub verdict : (values : List ℕ) (air : Air) (H : List Event) (reader : Reader) (heard : List (Option Bucket)) → air.policy ≡ FMatrix → QueriesFilled reader → CyclesFromOne air heard →
+    All (λ l. Tells H (get_or reader.queries l.verdict.query []) l.verdict.kind (reads_at l)) (session (by_history air.policy values H) air reader heard).lines
 unfolding by_history Tells line_of
 verdict V air H reader heard f filled cycles = kept (by_history air.policy V H) air reader FromOne K L filled rules heard
     (λ k d l. read_from_one air (get_or heard k d) (cycles k d l))
@@ -196,7 +205,8 @@ query_within reader q n l = elim (cases_lt q (length reader.queries)) as (λ _. 
   | inr ge ↦ absurd (let e = ap length (get_or_past reader.queries q [] ge) in omega arith)
 ]
 
-pub of_reader : ReaderLaw
+pub of_reader : (judge : Judge) (air : Air) (reader : Reader) (heard : List (Option Bucket)) → NamesHeld judge → QueriesFilled reader → 1 ≤ reader.plan.tries →
+    All (IsOfReader reader) (session judge air reader heard).lines
 unfolding Follows line_of
 of_reader judge air reader heard names filled tries = kept judge air reader Any K (IsOfReader reader) filled rules heard (λ k d l. gives (get_or heard k d))
   where

@@ -1,13 +1,13 @@
 -- What a tape holds: the reading takes whole records off the front until nothing is left or a record is cut.
 -- `whole_read` and `cut_read` say what is read where the records are known, `tells` what the reading tells of any bytes.
-use Rattle.std.proofs.Common.{◌≡◌, ◌≤◌, ◌<◌, ◌+◌, ◌-◌, ◌^◌, ◌++◌, ◌&&◌, ◌||◌, ◌==◌, if◌then◌else◌, nat_lt, ℕ, zero, suc, Bool, true, false, Option, Some, None, List, [], ◌∷◌, length, take, drop, refl, sym, ◌∙◌, ap, subst, arith, append_assoc}
+use Rattle.std.proofs.Common.{◌≡◌, ◌≤◌, ◌<◌, ◌+◌, ◌-◌, ◌^◌, ◌++◌, ◌&&◌, ◌||◌, ◌==◌, if◌then◌else◌, nat_lt, ℕ, zero, suc, Bool, true, false, Option, Some, None, List, [], ◌∷◌, length, take, drop, refl, sym, ◌∙◌, ap, subst, arith, append_assoc, ◌↔◌}
 use Rattle.std.specs.Prelude.{All}
 use Rattle.std.proofs.lemmas.Bool.{and_right, eqb-false, ltb-false, ne_eqb, or_from, eqb-true, le-ltb, lt-ltb, false≢true}
 use Rattle.std.proofs.lemmas.List.{drop-drop, drop_at, get_or-drop, length-append, length-drop, length-take, nil_from_length, take-append-drop, take_at}
 use Rattle.std.proofs.lemmas.List.Elements.{All-cons, All-head, All-tail}
 use Rattle.byteorder.specs.Endian.{big_bytes, big_number}
 use Rattle.byteorder.specs.Numbers.{big_from-lt, big_number-reads_back}
-use Rattle.air_model.specs.Tapes.{CutTapeLaw, IsCut, TapeRead, WholeTapeLaw, ends_inside, read_from, record_bytes, tape_of, tape_read, with_record}
+use Rattle.air_model.specs.Tapes.{IsCut, IsTape, TapeRead, ends_inside, read_from, record_bytes, tape_of, tape_read, with_record}
 use Rattle.air_model.specs.Buckets.{AreBytes}
 use Rattle.air_model.proofs.ByteFacts.{AllBytes, all_bytes, one_spelling}
 
@@ -220,14 +220,16 @@ cut_from bytes rs at b = record {
 told : (bytes : List ℕ) (read : TapeRead) → AreBytes bytes → tape_read bytes ≡ read → Tells 0 bytes read.records read.cut
 told bytes read are e = subst (λ (r : TapeRead). Tells 0 bytes r.records r.cut) e (tells (length bytes) 0 bytes (all_bytes bytes are) (omega arith))
 
-pub whole_tape : WholeTapeLaw
+pub whole_tape : (bytes : List ℕ) (records : List (List ℕ)) → AreBytes bytes →
+    IsTape bytes records ↔ (tape_read bytes ≡ record { records = records; cut = None })
 unfolding Tells
 whole_tape bytes rs are = (
   λ h. let size = ap length h.1 in ap (read_from (length bytes) 0) h.1 ∙ whole_read rs (length bytes) 0 h.0 (omega arith),
   told bytes (record { records = rs; cut = None }) are,
 )
 
-pub cut_tape : CutTapeLaw
+pub cut_tape : (bytes : List ℕ) (records : List (List ℕ)) (at : ℕ) → AreBytes bytes →
+    IsCut bytes records at ↔ (tape_read bytes ≡ record { records = records; cut = Some at })
 unfolding Tells
 cut_tape bytes rs at are = (
   λ h.

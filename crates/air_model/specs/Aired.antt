@@ -1,6 +1,6 @@
 -- What a history airs: the bucket of each slot of each cycle, and the tape; which buckets fit the deck; and
 -- which heard lists a history aired. Sessions hear such lists, in which None stands for bytes that are no bucket.
-use Rattle.std.specs.Prelude.{◌≡◌, ℕ, ◌<◌, ◌≤◌, Bool, true, false, ◌&&◌, ◌==◌, nat_lt, List, length, map, get_or, All, IfSome, IsTrue, Option, Some, None}
+use Rattle.std.specs.Prelude.{◌≡◌, ℕ, ◌<◌, ◌≤◌, Bool, true, false, not, ◌&&◌, ◌==◌, nat_lt, if◌then◌else◌, is_none, List, length, map, get_or, All, IfSome, IsTrue, Option, Some, None}
 use Rattle.std.specs.List.{range_with_len, flat_map, enumerate_from}
 use Rattle.air_base.specs.declared.verdicts.Policy.{Policy}
 use Rattle.air_base.specs.declared.verdicts.Policy.TheVariants.{FMatrix, Datacycle, RMatrix}
@@ -12,7 +12,7 @@ use Rattle.air_history.specs.Reads.{read_value}
 use Rattle.air_model.specs.Buckets.{Bucket, Body, Idle, Column, Vector, spelling}
 use Rattle.air_model.specs.Tapes.{tape_of}
 use Rattle.air_model.specs.Programs.{program}
-use Rattle.air_model.specs.Airings.{pix_number}
+use Rattle.air_model.specs.Airings.{carries, pix_number}
 use Rattle.air_model.specs.Decks.{Deck, rates_in, disks_in}
 
 -- All receivers know the policy, the number of items, the item of each slot, and the PIX number of each item.
@@ -33,11 +33,15 @@ air_of deck = record {
 
 -- ---- the server's side
 
+-- The policy airs control columns; the others air write vectors.
+abbrev pub airs_columns : Policy → Bool
+airs_columns FMatrix = true
+airs_columns Datacycle = false
+airs_columns RMatrix = false
+
 -- A policy airs each item with its control column, or with the write vector.
 abbrev pub aired_as : Policy → ℕ → ℕ → List ℕ → Body
-aired_as FMatrix = Column
-aired_as Datacycle = Vector
-aired_as RMatrix = Vector
+aired_as policy = if airs_columns policy then Column else Vector
 
 -- The body of a slot in cycle c has the slot's item, its value at the cycle's start, and its entries.
 unfoldable pub body_of : List ℕ → Air → List Event → ℕ → Option ℕ → Body
@@ -59,33 +63,11 @@ history_tape values air H = tape_of (map spelling (buckets_of values air H))
 
 -- ---- the receiver's side
 
--- The slot has this item.
-abbrev pub has_item : Option ℕ → ℕ → Bool
-has_item None i = false
-has_item (Some j) i = j == i
-
--- The slot has no item.
-abbrev pub is_idle : Option ℕ → Bool
-is_idle None = true
-is_idle (Some j) = false
-
--- The policy airs control columns.
-abbrev pub airs_columns : Policy → Bool
-airs_columns FMatrix = true
-airs_columns Datacycle = false
-airs_columns RMatrix = false
-
--- The policy airs write vectors.
-abbrev pub airs_vectors : Policy → Bool
-airs_vectors FMatrix = false
-airs_vectors Datacycle = true
-airs_vectors RMatrix = true
-
 -- A body fits a slot with this item where the count, the item and the kind are the deck's.
 unfoldable pub body_fits : Air → Option ℕ → Body → Bool
-body_fits air item (Idle count) = is_idle item && (count == air.items)
-body_fits air item (Column i value entries) = has_item item i && airs_columns air.policy && (length entries == air.items)
-body_fits air item (Vector i value entries) = has_item item i && airs_vectors air.policy && (length entries == air.items)
+body_fits air item (Idle count) = is_none item && (count == air.items)
+body_fits air item (Column i value entries) = carries i item && airs_columns air.policy && (length entries == air.items)
+body_fits air item (Vector i value entries) = carries i item && not (airs_columns air.policy) && (length entries == air.items)
 
 -- A bucket fits the deck where its edition is 0, its slot is the program's, and its body fits that slot.
 unfoldable pub fits : Air → Bucket → Bool

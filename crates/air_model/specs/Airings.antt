@@ -1,5 +1,5 @@
 -- When an item is aired: how often, how far apart, and how long to wait for it from a slot.
--- The laws of these words are `AiringsLaw`, `GapLaw`, `TimesGapLaw` and `NextWakeLaw`.
+-- The laws of these words are `airings_law`, `gap_law`, `times_gap_law`, `next_wake_law` and `disk_law` of `program`.
 use Rattle.std.specs.Prelude.{◌≡◌, ◌≢◌, ◌<◌, ℕ, ◌+◌, ◌*◌, ◌%◌, ◌++◌, ◌==◌, Bool, false, List, Option, Some, None, count_by, drop, length, slice_get, slice_index_or}
 use Rattle.std.specs.List.{list_any, position_or_len}
 use Rattle.std.specs.Option.{option_map_or}

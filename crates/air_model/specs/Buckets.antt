@@ -1,7 +1,7 @@
 -- The bucket: what it says, its one spelling in bytes, and the first fault of bytes that spell none.
 -- Sessions speak of `Bucket`, the codec and the tape of its bytes. The spelling goes from front to back, the
--- reading by places: that the two meet is a law.
-use Rattle.std.specs.Prelude.{◌≡◌, ◌<◌, ◌≤◌, ◌⊎◌, ℕ, zero, suc, ◌+◌, ◌*◌, ◌^◌, Bool, not, ◌&&◌, ◌==◌, nat_lt, nat_le, if◌then◌else◌, List, [], ◌∷◌, ◌++◌, length, map, drop, slice_index, flat_map, All, Option, Result, Ok, Err, IsErr, ◌↔◌}
+-- reading by places: that the two meet is `reading_law` of `bucket`.
+use Rattle.std.specs.Prelude.{◌≡◌, ◌<◌, ◌≤◌, ◌⊎◌, ℕ, zero, suc, ◌+◌, ◌*◌, ◌^◌, Bool, not, ◌&&◌, ◌==◌, nat_lt, nat_le, if◌then◌else◌, List, [], ◌∷◌, ◌++◌, length, map, drop, slice_index, flat_map, All, Option, Result, Ok, Err}
 use Rattle.std.specs.List.{list_all, range_with_len}
 use Rattle.std.specs.Result.{result_ok, result_err}
 use Rattle.byteorder.specs.Endian.{big_bytes, big_number}
@@ -134,20 +134,3 @@ fault_of bytes = result_err (reading bytes)
 -- The bucket of the bytes, if they spell one: so heard bytes become a member of a heard list.
 abbrev pub bucket_in : List ℕ → Option Bucket
 bucket_in bytes = result_ok (reading bytes)
-
--- ---- laws
--- The relation and the reading agree: the bytes are a bucket exactly where it is read.
-abbrev pub ReadingLaw : Type 0
-ReadingLaw = (bytes : List ℕ) (b : Bucket) → AreBytes bytes → IsBucket bytes b ↔ (reading bytes ≡ Ok b)
-
--- A fault is found exactly where the bytes are no bucket.
-abbrev pub FaultLaw : Type 0
-FaultLaw = (bytes : List ℕ) → AreBytes bytes → IsErr (reading bytes) ↔ ((b : Bucket) → IsBucket bytes b → ⊥)
-
--- Bytes are one bucket at most.
-abbrev pub OneBucketLaw : Type 0
-OneBucketLaw = (bytes : List ℕ) (a b : Bucket) → IsBucket bytes a → IsBucket bytes b → a ≡ b
-
--- No bucket's bytes begin with another's.
-abbrev pub NoPrefixLaw : Type 0
-NoPrefixLaw = (bytes rest : List ℕ) (a b : Bucket) → IsBucket bytes a → IsBucket (bytes ++ rest) b → rest ≡ []

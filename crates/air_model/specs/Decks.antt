@@ -1,7 +1,8 @@
 -- The plain deck: what its records say, whatever their order; the histories that keep to it; its script's history.
--- `DeckLaws` says what legal histories are by updater, and that the script's history is legal.
+-- The laws of `deck` say what legal histories are by updater, and that the script's history is legal.
 use Rattle.std.specs.Prelude.{◌≡◌, ℕ, ◌^◌, ◌<◌, ◌≤◌, Bool, false, ◌==◌, List, [], length, map, take, get_or, count_by, sum_by, slice_get, All, Option, Some, None}
 use Rattle.std.specs.List.{range_with_len}
+use Rattle.std.specs.Option.{option_map_or}
 use Rattle.air_history.specs.declared.histories.Event.{Event}
 use Rattle.air_history.specs.declared.histories.Event.TheVariants.{Commit, Start}
 use Rattle.air_history.specs.UpdateLists.{UpdateLists}
@@ -72,14 +73,9 @@ pub record IsWhole (deck : Deck) (H : List Event) : Type 0 where
 
 -- ---- the script
 
--- A part of the script is the updater's where it is its number.
-abbrev pub is_part_of : ℕ → Option ℕ → Bool
-is_part_of by None = false
-is_part_of by (Some who) = who == by
-
--- The number of an updater's parts.
+-- The number of an updater's parts: those that are its number.
 abbrev pub count_parts : ℕ → List (Option ℕ) → ℕ
-count_parts by parts = count_by (is_part_of by) parts
+count_parts by parts = count_by (λ part. option_map_or (λ who. who == by) part false) parts
 
 -- The deck's update of a number, for a number that it has.
 abbrev pub update_at : Deck → ℕ → ℕ → UpdateLists

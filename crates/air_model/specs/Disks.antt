@@ -1,5 +1,6 @@
 -- The order of the items by their rates, and their cut into disks.
--- `OrderLaw` says that the order is the one list of its kind, `CutLaw` that its disks can be aired and miss no item.
+-- `order_law` of `program` says that the order is the one list of its kind, `cut_law` that its disks can be aired and
+-- miss no item.
 use Rattle.std.specs.Prelude.{ℕ, Bool, List, [], ◌∷◌, ◌==◌, ◌&&◌, ◌||◌, fold, length, take, drop, nat_lt, slice_index, if◌then◌else◌}
 use Rattle.std.specs.List.{flat_map, range_with_len}
 

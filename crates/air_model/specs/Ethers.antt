@@ -1,7 +1,7 @@
 -- The ether between the air and a receiver: which pushed buckets it loses, gives twice, or gives late.
 -- Each push draws three words, whatever becomes of it. The heard list is told by the places of the pushed list, so nothing in
--- it depends on what the buckets say.
-use Rattle.std.specs.Prelude.{◌≡◌, ℕ, ◌<◌, ◌≤◌, ◌+◌, ◌*◌, ◌/◌, ◌%◌, ◌⊎◌, ◌==◌, nat_lt, if◌then◌else◌, List, [], length, map, replicate, slice_index, slice_index_or, flat_map, count_by, All, AllPairs, Contains}
+-- it depends on what the buckets say. The laws are the contracts of `ether`.
+use Rattle.std.specs.Prelude.{ℕ, ◌+◌, ◌*◌, ◌/◌, ◌%◌, ◌==◌, nat_lt, if◌then◌else◌, List, [], length, map, replicate, slice_index, slice_index_or, flat_map}
 use Rattle.std.specs.List.{range_with_len}
 use Rattle.air_model.specs.Draws.{words_of}
 
@@ -44,21 +44,3 @@ heard odds words pushed = map (λ place. slice_index_or pushed place []) (heard_
 -- What the receiver of this number hears, by the words of its own stream.
 unfoldable pub heard_by : ℕ → ℕ → Odds → List (List ℕ) → List (List ℕ)
 heard_by seed number odds pushed = heard odds (words_of seed number (3 * length pushed)) pushed
-
--- ---- laws
--- Where nothing is lost, heard again or late, the pushed list is heard.
-abbrev pub ClearEtherLaw : Type 0
-ClearEtherLaw = (words : List ℕ) (pushed : List (List ℕ)) → heard (record { loss = 0; again = 0; late = 0 }) words pushed ≡ pushed
-
--- Each heard bucket was pushed.
-abbrev pub HeardWasPushedLaw : Type 0
-HeardWasPushedLaw = (odds : Odds) (words : List ℕ) (pushed : List (List ℕ)) → All (Contains pushed) (heard odds words pushed)
-
--- Each push is heard as often as its words say.
-abbrev pub HeardTimesLaw : Type 0
-HeardTimesLaw = (odds : Odds) (words : List ℕ) (n place : ℕ) → place < n → count_by (λ p. p == place) (heard_places odds words n) ≡ times_heard odds words place
-
--- What is heard later has a greater due number, or the same and no smaller place.
-abbrev pub HeardOrderLaw : Type 0
-HeardOrderLaw = (odds : Odds) (words : List ℕ) (n : ℕ) →
-    AllPairs (λ p q. (due_number odds words p < due_number odds words q) ⊎ ((due_number odds words p ≡ due_number odds words q) × (p ≤ q))) (heard_places odds words n)

@@ -1,6 +1,6 @@
 -- What each command prints and writes, as functions of the plain deck and of what else it reads or was run. So an output is a
 -- function of its inputs; only `run` and `cast` have a history besides, and what monitors saw.
-use Rattle.std.specs.Prelude.{◌≡◌, ℕ, List, [], length, map}
+use Rattle.std.specs.Prelude.{ℕ, List, [], length, map}
 use Rattle.std.specs.List.{range_with_len}
 use Rattle.air_history.specs.declared.histories.Event.{Event}
 use Rattle.air_model.specs.Buckets.{bucket_in, spelling}
@@ -8,7 +8,6 @@ use Rattle.air_model.specs.Ethers.{Odds, heard_by}
 use Rattle.air_model.specs.PlanTexts.{plan_text}
 use Rattle.air_model.specs.Decks.{Deck, rates_in, script_history, values_in}
 use Rattle.air_model.specs.Aired.{air_of, buckets_of, history_tape}
-use Rattle.air_model.specs.AiredLaws.{CanAir}
 use Rattle.air_model.specs.Judges.{Judge, by_entries, by_history}
 use Rattle.air_model.specs.Sessions.{State}
 use Rattle.air_model.specs.ReceiverLaws.{session_of}
@@ -62,9 +61,3 @@ run_tape deck H = history_tape (values_in deck) (air_of deck) H
 -- What `cast` prints.
 abbrev pub cast_output : List Event → List Seen → List Seen → List ℕ
 cast_output H glances looks = report_text H [] glances looks
-
--- ---- law
--- Readers that judge by the entries have the sessions that the history judges.
-abbrev pub TrueSessionsLaw : Type 0
-TrueSessionsLaw = (deck : Deck) (H : List Event) → CanAir deck H →
-    sessions_over (by_entries deck.settings.policy) deck (ether_of deck H) ≡ true_sessions deck H

@@ -1,11 +1,11 @@
--- What the receivers of a deck tell, over every list that some history aired: the laws of sessions at a deck's readers.
+-- What the receivers of a deck tell, over every list that some history aired: the words of `receiver_law` of `sessions`.
 -- `script`, `tune`, `run` and `listen` print such sessions; what is heard may be lost, repeated and reordered.
-use Rattle.std.specs.Prelude.{◌≡◌, ℕ, ◌<◌, List, length, All, Option}
+use Rattle.std.specs.Prelude.{◌≡◌, ℕ, List, All, Option}
 use Rattle.air_base.specs.declared.verdicts.Policy.TheVariants.{FMatrix}
 use Rattle.air_history.specs.declared.histories.Event.{Event}
 use Rattle.air_model.specs.Buckets.{Bucket}
-use Rattle.air_model.specs.Decks.{Deck, IsDeck, values_in}
-use Rattle.air_model.specs.Aired.{IsAired, air_of}
+use Rattle.air_model.specs.Decks.{Deck, values_in}
+use Rattle.air_model.specs.Aired.{air_of}
 use Rattle.air_model.specs.Judges.{Judge, by_entries, by_history}
 use Rattle.air_model.specs.Sessions.{State, reader_of, session}
 use Rattle.air_model.specs.SessionLaws.{IsExactLine, IsOfReader, IsSoundLine}
@@ -21,8 +21,3 @@ pub record IsTrueSession (deck : Deck) (H : List Event) (r : ℕ) (heard : List 
   pub sound : All (IsSoundLine (values_in deck) deck.settings.policy H) (session_of (by_entries deck.settings.policy) deck r heard).lines
   pub own : All (IsOfReader (reader_of deck r)) (session_of (by_entries deck.settings.policy) deck r heard).lines
   pub exact : deck.settings.policy ≡ FMatrix → All (IsExactLine H (reader_of deck r)) (session_of (by_entries deck.settings.policy) deck r heard).lines
-
--- Wherever a history aired what a reader of a well made deck heard, its session is true. The history needn't be the deck's.
-abbrev pub ReceiverLaw : Type 0
-ReceiverLaw = (deck : Deck) (H : List Event) (r : ℕ) (heard : List (Option Bucket)) → IsDeck deck → r < length deck.readers →
-    IsAired (values_in deck) (air_of deck) H heard → IsTrueSession deck H r heard

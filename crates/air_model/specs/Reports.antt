@@ -61,10 +61,6 @@ total_at values H c = sum (table_list values (front H c)) % 2 ^ 64
 abbrev pub seen_row : List ℕ → ℕ × Seen → List (List ℕ)
 seen_row tag (monitor, s) = tag ∷ map number_text (monitor ∷ s.cycle ∷ s.total ∷ [])
 
--- The rows of a history.
-abbrev pub history_rows : List Event → List (List (List ℕ))
-history_rows H = map event_row H
-
 -- The rows of the verdicts of sessions, each of the reader of its place.
 abbrev pub verdict_rows : List State → List (List (List ℕ))
 verdict_rows sessions = flat_map (λ p. map (λ l. verdict_row p.0 l.verdict l.reads) p.1.lines) (enumerate_from 0 sessions)
@@ -79,7 +75,7 @@ seen_rows tag seen = map (seen_row tag) (enumerate_from 0 seen)
 
 -- The text of a report: history, verdicts, counts, glances and looks.
 unfoldable pub report_text : List Event → List State → List Seen → List Seen → List ℕ
-report_text H sessions glances looks = rows_text (history_rows H ++ verdict_rows sessions ++ counts_rows sessions
+report_text H sessions glances looks = rows_text (map event_row H ++ verdict_rows sessions ++ counts_rows sessions
     ++ seen_rows (codes "glance") glances ++ seen_rows (codes "look") looks)
 
 -- The text of `script`: a history and its readers' sessions.

@@ -1,6 +1,6 @@
 -- The session of a receiver: the verdict lines and the counts that a heard list gives, by a judge. The rules are words
 -- of their own: `settle` and `turn` use kept copies, `hear` takes one heard member, `end_query` ends one query.
--- `SessionLaws` says that both judges give one session, and what each line tells.
+-- The laws of `sessions` say that both judges give one session, and what each line tells.
 use Rattle.std.specs.Prelude.{ℕ, zero, suc, ◌+◌, ◌-◌, max, Bool, false, cond, ◌||◌, ◌==◌, nat_lt, List, [], ◌∷◌, ◌++◌, length, map, get_or, sum_by, Option, Some, None}
 use Rattle.std.specs.List.{find, slice_get}
 use Rattle.std.specs.Option.{is_some}

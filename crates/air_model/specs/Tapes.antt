@@ -1,8 +1,7 @@
 -- The tape: records, each with its length before it, and the byte at which a tape is cut.
--- `IsTape` and `IsCut` are the relations, `tape_read` the function; that they agree is the law.
-use Rattle.std.specs.Prelude.{◌≡◌, ℕ, zero, suc, ◌<◌, ◌+◌, ◌^◌, Bool, ◌&&◌, ◌||◌, ◌==◌, nat_lt, if◌then◌else◌, List, [], ◌∷◌, ◌++◌, length, take, drop, flat_map, All, IsTrue, Option, Some, None, ◌↔◌}
+-- `IsTape` and `IsCut` are the relations, `tape_read` the function; that they agree are the laws of `tape`.
+use Rattle.std.specs.Prelude.{◌≡◌, ℕ, zero, suc, ◌<◌, ◌+◌, ◌^◌, Bool, ◌&&◌, ◌||◌, ◌==◌, nat_lt, if◌then◌else◌, List, [], ◌∷◌, ◌++◌, length, take, drop, flat_map, All, IsTrue, Option, Some, None}
 use Rattle.byteorder.specs.Endian.{big_bytes, big_number}
-use Rattle.air_model.specs.Buckets.{AreBytes}
 
 -- A record on the tape: the four bytes of its length, then its bytes.
 unfoldable pub record_bytes : List ℕ → List ℕ
@@ -45,15 +44,3 @@ read_from (suc n) at rest =
 -- What the bytes of a tape hold.
 abbrev pub tape_read : List ℕ → TapeRead
 tape_read bytes = read_from (length bytes) 0 bytes
-
--- ---- laws
--- Bytes are the tape of these records exactly where they are read and nothing is cut. So a tape has one list of records.
-abbrev pub WholeTapeLaw : Type 0
-WholeTapeLaw = (bytes : List ℕ) (records : List (List ℕ)) → AreBytes bytes →
-    IsTape bytes records ↔ (tape_read bytes ≡ record { records = records; cut = None })
-
--- Bytes are cut at a byte exactly where they are read so. So a tape is cut, and at one byte, exactly where it is no list of
--- whole records.
-abbrev pub CutTapeLaw : Type 0
-CutTapeLaw = (bytes : List ℕ) (records : List (List ℕ)) (at : ℕ) → AreBytes bytes →
-    IsCut bytes records at ↔ (tape_read bytes ≡ record { records = records; cut = Some at })

@@ -1,30 +1,38 @@
-//! The laws of what a history airs, as `Rattle.air_model.specs.AiredLaws` states them.
+//! The laws of what a history airs: which buckets are its own, so that a heard list of them, lost, repeated and
+//! reordered as it may be, is aired by it; and that they have bytes, which are read back.
 //!
-//! Each function's contract is one law of the definitions in `Aired`; the bodies are empty.
+//! Each function's contract is one law of the definitions in `specs/Aired.antt`; the bodies are empty.
 
-ghost use Rattle.air_model.specs.AiredLaws.{AiredLaw, BytesLaw, LaterLaw, OwnBucketsLaw, RangeLaw};
+ghost use Rattle.std.specs.Prelude.{◌≡◌, ◌↔◌, ℕ, ◌≤◌, List, ◌++◌, map, All, Contains, IsTrue, Some};
+ghost use Rattle.air_history.specs.declared.histories.Event.{Event};
+ghost use Rattle.air_history.specs.Histories.{starts};
+ghost use Rattle.air_model.specs.Buckets.{Bucket, IsInRange, bucket_in, spelling};
+ghost use Rattle.air_model.specs.Decks.{Deck, values_in};
+ghost use Rattle.air_model.specs.Aired.{Air, IsAired, IsAiredBucket, air_of, bucket_of, buckets_of, fits};
+ghost use Rattle.air_model.specs.AiredLaws.{CanAir};
 
 /// The buckets of a history are just those that fit the deck and are the history's.
 pub fn own_buckets_law()
-    ensures { OwnBucketsLaw }
+    ensures { (values : List ℕ) (air : Air) (H : List Event) (b : Bucket) →
+        Contains (buckets_of values air H) b ↔ (IsTrue (fits air b) × IsAiredBucket values air H b) }
 {}
 
-/// A heard list of a history's buckets is aired by it.
-pub fn aired_law()
-    ensures { AiredLaw }
-{}
-
-/// What comes after a history changes no bucket of a cycle that it started.
+/// What comes after a history changes no bucket of a cycle that it started: so cycles can be aired while it grows.
 pub fn later_law()
-    ensures { LaterLaw }
+    ensures { (values : List ℕ) (air : Air) (H later : List Event) (c s : ℕ) → c ≤ starts H →
+        bucket_of values air (H ++ later) c s ≡ bucket_of values air H c s }
 {}
 
-/// The buckets of a history that can be aired are in range.
+/// The buckets of a history that can be aired are in range, so that they have bytes.
 pub fn range_law()
-    ensures { RangeLaw }
+    ensures { (deck : Deck) (H : List Event) → CanAir deck H →
+        All IsInRange (buckets_of (values_in deck) (air_of deck) H) }
 {}
 
 /// A heard list of the bytes of such buckets is aired by the history, and none is refused.
 pub fn bytes_law()
-    ensures { BytesLaw }
+    ensures { (deck : Deck) (H : List Event) (heard : List (List ℕ)) → CanAir deck H →
+        All (Contains (map spelling (buckets_of (values_in deck) (air_of deck) H))) heard →
+        IsAired (values_in deck) (air_of deck) H (map bucket_in heard)
+        × All (λ bytes. (b : Bucket) × (bucket_in bytes ≡ Some b)) heard }
 {}

@@ -2,6 +2,9 @@
 //!
 //! `specs/Buckets.antt` has the words: the spelling, the relation and the reading. The codec stands on them.
 
+ghost use Rattle.std.specs.Prelude.{◌≡◌, ◌↔◌, ℕ, List, [], ◌++◌, Ok};
+ghost use Rattle.air_model.specs.Buckets.{AreBytes, Bucket, IsBucket, reading};
+
 /// Why bytes are no bucket: the first of these that applies.
 #[derive(Clone, Copy, Debug, PartialEq, Eq)]
 pub enum BucketFault {
@@ -19,24 +22,17 @@ pub enum BucketFault {
     Shape,
 }
 
-ghost use Rattle.air_model.specs.Buckets.{FaultLaw, NoPrefixLaw, OneBucketLaw, ReadingLaw};
-
-/// Bytes are a bucket exactly where that bucket is read from them.
+/// Bytes are a bucket exactly where that bucket is read from them. So a fault is found exactly where they are none.
 pub fn reading_law()
-    ensures { ReadingLaw }
-{}
-
-/// A fault is found exactly where the bytes are no bucket.
-pub fn fault_law()
-    ensures { FaultLaw }
+    ensures { (bytes : List ℕ) (b : Bucket) → AreBytes bytes → IsBucket bytes b ↔ (reading bytes ≡ Ok b) }
 {}
 
 /// Bytes are one bucket at most.
 pub fn one_bucket_law()
-    ensures { OneBucketLaw }
+    ensures { (bytes : List ℕ) (a b : Bucket) → IsBucket bytes a → IsBucket bytes b → a ≡ b }
 {}
 
 /// No bucket's bytes begin with another's.
 pub fn no_prefix_law()
-    ensures { NoPrefixLaw }
+    ensures { (bytes rest : List ℕ) (a b : Bucket) → IsBucket bytes a → IsBucket (bytes ++ rest) b → rest ≡ [] }
 {}

@@ -1,9 +1,17 @@
 //! What a deck says of a receiver, and its settings; the laws of plain decks.
 //!
 //! Plain data with public fields. The plain deck of `specs/Decks.antt` has them as they stand here. Each
-//! function's contract is one law of `specs/DeckLaws.antt`; the bodies are empty.
+//! function's contract is one law of its histories; the bodies are empty.
 
-ghost use Rattle.air_model.specs.DeckLaws.{AirLaw, EventsLaw, LegalLaw, ScriptLaw, WholeLaw};
+ghost use Rattle.std.specs.Prelude.{◌≡◌, ◌↔◌, ℕ, List, length, take, All};
+ghost use Rattle.air_history.specs.declared.histories.Event.{Event};
+ghost use Rattle.air_history.specs.Histories.{starts, EventFits};
+ghost use Rattle.air_history.specs.Tables.{BasesRead};
+ghost use Rattle.air_model.specs.Decks.{Deck, IsDeck, IsLegal, IsWhole, ScriptFits, count_made, script_history, updates_by};
+ghost use Rattle.air_model.specs.DeckLaws.{commits_from, made_by};
+ghost use Rattle.air_model.specs.Aired.{SlotsFit, air_of};
+ghost use Rattle.air_model.specs.Sessions.{reader_of};
+ghost use Rattle.air_model.specs.SessionLaws.{QueriesFilled};
 
 use air_base::Policy;
 
@@ -37,27 +45,30 @@ pub struct Settings {
     pub hears: u32,
 }
 
-/// A history is legal exactly where each updater's commits are of its first updates, in order.
+/// A history is legal exactly where each updater's commits are of its first updates, in order, numbered from 0.
 pub fn legal_law()
-    ensures { LegalLaw }
+    ensures { (deck : Deck) (H : List Event) → IsLegal deck H ↔
+        ((by : ℕ) → made_by by H ≡ commits_from by 0 (take (count_made by H) (updates_by deck by))) }
 {}
 
-/// A history is whole exactly where each updater's commits are of all its updates, in order.
+/// A history is whole exactly where each updater's commits are of all its updates so, and it starts the deck's cycles.
 pub fn whole_law()
-    ensures { WholeLaw }
+    ensures { (deck : Deck) (H : List Event) → IsWhole deck H ↔
+        (((by : ℕ) → made_by by H ≡ commits_from by 0 (updates_by deck by)) × (starts H ≡ deck.settings.cycles)) }
 {}
 
 /// The history of a script that fits is legal.
 pub fn script_law()
-    ensures { ScriptLaw }
+    ensures { (deck : Deck) → ScriptFits deck → IsLegal deck (script_history deck) }
 {}
 
 /// A legal history of a well made deck has items of the catalog alone, and each base is read.
 pub fn events_law()
-    ensures { EventsLaw }
+    ensures { (deck : Deck) (H : List Event) → IsDeck deck → IsLegal deck H →
+        All (EventFits (length deck.items)) H × All BasesRead H }
 {}
 
 /// The slots of a well made deck have items of the catalog, and its queries are filled.
 pub fn air_law()
-    ensures { AirLaw }
+    ensures { (deck : Deck) → IsDeck deck → SlotsFit (air_of deck) × ((r : ℕ) → QueriesFilled (reader_of deck r)) }
 {}

@@ -2,24 +2,30 @@
 //!
 //! `specs/Ethers.antt` has the words, `specs/Draws.antt` those on the words that are drawn. The ether of a reader stands on them.
 
-ghost use Rattle.air_model.specs.Ethers.{ClearEtherLaw, HeardOrderLaw, HeardTimesLaw, HeardWasPushedLaw};
+ghost use Rattle.std.specs.Prelude.{◌≡◌, ℕ, ◌<◌, ◌≤◌, ◌⊎◌, ◌==◌, List, count_by, All, AllPairs, Contains};
+ghost use Rattle.air_model.specs.Ethers.{Odds, due_number, heard, heard_places, times_heard};
 
 /// Where nothing is lost, heard again or late, the pushed list is heard.
 pub fn clear_ether_law()
-    ensures { ClearEtherLaw }
+    ensures { (words : List ℕ) (pushed : List (List ℕ)) →
+        heard (record { loss = 0; again = 0; late = 0 }) words pushed ≡ pushed }
 {}
 
 /// Each heard bucket was pushed.
 pub fn heard_was_pushed_law()
-    ensures { HeardWasPushedLaw }
+    ensures { (odds : Odds) (words : List ℕ) (pushed : List (List ℕ)) →
+        All (Contains pushed) (heard odds words pushed) }
 {}
 
 /// Each push is heard as often as its words say.
 pub fn heard_times_law()
-    ensures { HeardTimesLaw }
+    ensures { (odds : Odds) (words : List ℕ) (n place : ℕ) → place < n →
+        count_by (λ p. p == place) (heard_places odds words n) ≡ times_heard odds words place }
 {}
 
-/// What is heard is in the order of due numbers, then of places.
+/// What is heard later has a greater due number, or the same and no smaller place.
 pub fn heard_order_law()
-    ensures { HeardOrderLaw }
+    ensures { (odds : Odds) (words : List ℕ) (n : ℕ) →
+        AllPairs (λ p q. (due_number odds words p < due_number odds words q)
+        ⊎ ((due_number odds words p ≡ due_number odds words q) × (p ≤ q))) (heard_places odds words n) }
 {}

@@ -1,51 +1,71 @@
-//! The laws of the order, the cut and the broadcast program, as `Rattle.air_model.specs.ProgramLaws` states them.
+//! The laws of the order, the cut and the broadcast program.
 //!
-//! Each function's contract is one law of the definitions in `Disks`, `Programs` and `Airings`; the bodies are empty.
-//! `cut` and `plan` stand on them: each item is aired as often as its disk says, at one distance.
+//! Each function's contract is one law of the definitions in `Disks`, `Programs` and `Airings` of `specs/`; the bodies
+//! are empty. `cut` and `plan` stand on them: each item is aired as often as its disk says, at one distance.
 
-ghost use Rattle.air_model.specs.ProgramLaws.{AiringsLaw, CutLaw, DiskLaw, GapLaw, MinorsLaw, NextWakeLaw, OrderLaw, SlotsLaw, TimesGapLaw};
+ghost use Rattle.std.specs.Prelude.{◌≡◌, ◌<◌, ◌↔◌, ℕ, ◌+◌, ◌-◌, ◌*◌, ◌%◌, List, Some, All, Contains, length, slice_get, sum_by};
+ghost use Rattle.air_model.specs.Disks.{Disk, DiskSpec, all_items, cut, order};
+ghost use Rattle.air_model.specs.Programs.{minor_len, num_chunks, num_minors, program};
+ghost use Rattle.air_model.specs.Airings.{ComesEvery, IsNextWake, airings, chunks_of, disk_number, gap_of, next_wake};
+ghost use Rattle.air_model.specs.ProgramLaws.{IsAirable, IsOrder};
 
-/// The order is the one list of all items in which each is hotter than all after it.
+/// The order is the one list that is in order and holds all items, each once.
 pub fn order_law()
-    ensures { OrderLaw }
+    ensures { (rates items : List ℕ) → IsOrder rates items ↔ (items ≡ order rates) }
 {}
 
-/// The cut gives disks that can be aired, and misses no item.
+/// Disks cut from the order can be aired where their frequencies are above 0, and hold all items where their sizes
+/// add up.
 pub fn cut_law()
-    ensures { CutLaw }
+    ensures { (rates : List ℕ) (specs : List DiskSpec) →
+        (All (λ s. 0 < s.freq) specs → IsAirable (cut (order rates) specs))
+        × (sum_by (λ s. s.size) specs ≡ length rates → all_items (cut (order rates) specs) ≡ order rates) }
 {}
 
-/// The number of minor cycles is the least common multiple of the frequencies.
+/// The number of minor cycles is the least common multiple of the frequencies: it is above 0, each frequency divides
+/// it, and it divides each other number that they all divide.
 pub fn minors_law()
-    ensures { MinorsLaw }
+    ensures { (disks : List Disk) → All (λ d. 0 < d.freq) disks →
+        (0 < num_minors disks) × All (λ d. num_minors disks % d.freq ≡ 0) disks
+        × ((n : ℕ) → All (λ d. n % d.freq ≡ 0) disks → n % num_minors disks ≡ 0) }
 {}
 
 /// The number of slots is that of the minor cycles times their length.
 pub fn slots_law()
-    ensures { SlotsLaw }
+    ensures { (disks : List Disk) → length (program disks) ≡ num_minors disks * minor_len (num_minors disks) disks }
 {}
 
-/// An item's disk is the one that holds it.
+/// The number of an item's disk is that of the disk that holds it, and its chunks are that disk's.
 pub fn disk_law()
-    ensures { DiskLaw }
+    ensures { (disks : List Disk) (n : ℕ) (d : Disk) (i : ℕ) → IsAirable disks →
+        slice_get disks n ≡ Some d → Contains d.items i →
+        (disk_number disks i ≡ n) × (chunks_of disks i ≡ num_chunks (num_minors disks) d) }
 {}
 
-/// Each item is aired in exactly as many slots as its disk's frequency says.
+/// Each item of a disk stands in exactly as many slots as the disk's frequency says.
 pub fn airings_law()
-    ensures { AiringsLaw }
+    ensures { (disks : List Disk) (n : ℕ) (d : Disk) (i : ℕ) → IsAirable disks →
+        slice_get disks n ≡ Some d → Contains d.items i → airings (program disks) i ≡ d.freq }
 {}
 
 /// Consecutive airings of an item around the cycle are one gap apart.
 pub fn gap_law()
-    ensures { GapLaw }
+    ensures { (disks : List Disk) (n : ℕ) (d : Disk) (i : ℕ) → IsAirable disks →
+        slice_get disks n ≡ Some d → Contains d.items i → ComesEvery (program disks) i (gap_of disks i) }
 {}
 
 /// An item's airings times its gap are all slots.
 pub fn times_gap_law()
-    ensures { TimesGapLaw }
+    ensures { (disks : List Disk) (n : ℕ) (d : Disk) (i : ℕ) → IsAirable disks →
+        slice_get disks n ≡ Some d → Contains d.items i →
+        airings (program disks) i * gap_of disks i ≡ length (program disks) }
 {}
 
-/// Each slot has one least wait for an item, and it has a closed form.
+/// From each slot one number alone is the least wait for an item; it follows from the gap and the wait from slot 0.
 pub fn next_wake_law()
-    ensures { NextWakeLaw }
+    ensures { (disks : List Disk) (n : ℕ) (d : Disk) (i : ℕ) → IsAirable disks →
+        slice_get disks n ≡ Some d → Contains d.items i → (s : ℕ) → s < length (program disks) →
+        ((k : ℕ) → IsNextWake (program disks) s i k ↔ (k ≡ next_wake (program disks) s i))
+        × (next_wake (program disks) s i
+        ≡ (next_wake (program disks) 0 i + (gap_of disks i - s % gap_of disks i)) % gap_of disks i) }
 {}

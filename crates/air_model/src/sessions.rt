@@ -1,62 +1,104 @@
-//! The laws of sessions, as `SessionLaws`, `ReceiverLaws` and `Outputs` of specs/ state them.
+//! The laws of sessions: both judges give one session of a list that a history aired; what each line tells; settling
+//! comes to an end; lines are only added; and what a deck's readers tell.
 //!
-//! Each function's contract is one law of the definitions in `Judges` and `Sessions`; the bodies are empty.
+//! Each function's contract is one law of the definitions in `Judges` and `Sessions` of `specs/`; the bodies are empty.
 
-ghost use Rattle.air_model.specs.SessionLaws.{BareLaw, ExactLaw, JudgesLaw, LinesLaw, NamesLaw, ReaderLaw, SettleLaw, SoundLaw, VerdictLaw};
-ghost use Rattle.air_model.specs.ReceiverLaws.{ReceiverLaw};
-ghost use Rattle.air_model.specs.Outputs.{TrueSessionsLaw};
+ghost use Rattle.std.specs.Prelude.{◌≡◌, ℕ, ◌<◌, ◌≤◌, List, [], length, map, All, Option, None};
+ghost use Rattle.std.specs.Option.{option_map};
+ghost use Rattle.air_base.specs.declared.verdicts.Policy.{Policy};
+ghost use Rattle.air_base.specs.declared.verdicts.Policy.TheVariants.{FMatrix};
+ghost use Rattle.air_history.specs.declared.histories.Event.{Event};
+ghost use Rattle.air_model.specs.Buckets.{Bucket};
+ghost use Rattle.air_model.specs.Decks.{Deck, IsDeck, values_in};
+ghost use Rattle.air_model.specs.Aired.{Air, IsAired, SlotsFit, air_of};
+ghost use Rattle.air_model.specs.AiredLaws.{CanAir};
+ghost use Rattle.air_model.specs.Judges.{Judge, by_entries, by_history};
+ghost use Rattle.air_model.specs.Sessions.{Line, Reader, State, copy_of, end_query, hear, session, settle, step, turn, wanted};
+ghost use Rattle.air_model.specs.SessionLaws.{CyclesFromOne, IsExactLine, IsOfReader, IsSoundLine, NamesHeld, QueriesFilled, after, bare};
+ghost use Rattle.air_model.specs.ReceiverLaws.{IsTrueSession};
+ghost use Rattle.air_model.specs.Outputs.{ether_of, sessions_over, true_sessions};
 
 /// A list that a history aired has one session, by the history and by the entries.
 pub fn judges_law()
-    ensures { JudgesLaw }
+    ensures { (values : List ℕ) (air : Air) (H : List Event) (reader : Reader) (heard : List (Option Bucket)) →
+        SlotsFit air → QueriesFilled reader → IsAired values air H heard →
+        session (by_history air.policy values H) air reader heard ≡ session (by_entries air.policy) air reader heard }
 {}
 
-/// By the history a session is the same over buckets without values and entries.
+/// By the history a session is the same over bare buckets: no column, no vector and no heard value is looked at.
 pub fn bare_law()
-    ensures { BareLaw }
+    ensures { (values : List ℕ) (air : Air) (H : List Event) (reader : Reader) (heard : List (Option Bucket)) →
+        let s = session (by_history air.policy values H) air reader heard in
+        let t = session (by_history air.policy values H) air reader (map (option_map bare) heard) in
+        (t.lines ≡ s.lines) × (t.counts ≡ s.counts) }
 {}
 
-/// Each line that the history judges has consistent reads, and the values that their updates leave when they run alone.
+/// Every line that the history judges is sound, over every heard list: its reads are consistent and share the policy's
+/// cycle, and its values are those that their updates leave when they run alone.
 pub fn sound_law()
-    ensures { SoundLaw }
+    ensures { (values : List ℕ) (air : Air) (H : List Event) (reader : Reader) (heard : List (Option Bucket)) →
+        QueriesFilled reader → CyclesFromOne air heard →
+        All (IsSoundLine values air.policy H) (session (by_history air.policy values H) air reader heard).lines }
 {}
 
-/// Under F-Matrix a verdict tells whether the attempt's reads are whole and consistent.
-pub fn verdict_law()
-    ensures { VerdictLaw }
-{}
-
-/// Under F-Matrix a query is accepted exactly if its reads are whole and consistent, and aborted exactly if they are not consistent.
+/// Every verdict of the history under F-Matrix is exact, over every heard list: a query is accepted exactly if its reads
+/// are whole and consistent, and aborted exactly if they are not consistent.
 pub fn exact_law()
-    ensures { ExactLaw }
+    ensures { (values : List ℕ) (air : Air) (H : List Event) (reader : Reader) (heard : List (Option Bucket)) →
+        air.policy ≡ FMatrix → QueriesFilled reader → CyclesFromOne air heard →
+        All (IsExactLine H reader) (session (by_history air.policy values H) air reader heard).lines }
 {}
 
 /// Both judges name a held read where a new one clashes.
 pub fn names_law()
-    ensures { NamesLaw }
+    ensures { (policy : Policy) (values : List ℕ) (H : List Event) →
+        NamesHeld (by_history policy values H) × NamesHeld (by_entries policy) }
 {}
 
-/// Each line's query, attempt and reads are the reader's.
+/// Every line is the reader's, by each judge that names held reads and over every heard list: its query, its attempt and
+/// its reads.
 pub fn reader_law()
-    ensures { ReaderLaw }
+    ensures { (judge : Judge) (air : Air) (reader : Reader) (heard : List (Option Bucket)) →
+        NamesHeld judge → QueriesFilled reader → 1 ≤ reader.plan.tries →
+        All (IsOfReader reader) (session judge air reader heard).lines }
 {}
 
-/// To settle is to take turns as long as the wanted item has a copy.
+/// After settling the wanted item has no copy, and a turn or a step more makes no difference: so to settle is to take
+/// turns as long as the wanted item has a copy. A step that gives no line settles.
 pub fn settle_law()
-    ensures { SettleLaw }
+    ensures settled { (judge : Judge) (air : Air) (reader : Reader) (s : State) →
+        copy_of (wanted reader (settle judge air reader s)) (settle judge air reader s) ≡ None }
+    ensures stays { (judge : Judge) (air : Air) (reader : Reader) (s : State) →
+        copy_of (wanted reader s) s ≡ None → settle judge air reader s ≡ s }
+    ensures goes_on { (judge : Judge) (air : Air) (reader : Reader) (s : State) →
+        settle judge air reader (turn judge air reader s) ≡ settle judge air reader s }
+    ensures steps { (judge : Judge) (air : Air) (reader : Reader) (s : State) →
+        settle judge air reader (step judge air reader s) ≡ settle judge air reader s }
+    ensures no_line { (judge : Judge) (air : Air) (reader : Reader) (s : State) →
+        (step judge air reader s).lines ≡ [] → step judge air reader s ≡ settle judge air reader s }
 {}
 
-/// Lines are only added at the end, and none is looked at.
+/// Lines are only added at the end, and none is looked at: so each may be handed out as it comes.
 pub fn lines_law()
-    ensures { LinesLaw }
+    ensures turning { (judge : Judge) (air : Air) (reader : Reader) (L : List Line) (s : State) →
+        turn judge air reader (after L s) ≡ after L (turn judge air reader s) }
+    ensures settling { (judge : Judge) (air : Air) (reader : Reader) (L : List Line) (s : State) →
+        settle judge air reader (after L s) ≡ after L (settle judge air reader s) }
+    ensures hearing { (judge : Judge) (air : Air) (reader : Reader) (L : List Line) (s : State) (o : Option Bucket) →
+        hear judge air reader o (after L s) ≡ after L (hear judge air reader o s) }
+    ensures ending { (judge : Judge) (air : Air) (reader : Reader) (L : List Line) (s : State) →
+        end_query judge air reader (after L s) ≡ after L (end_query judge air reader s) }
 {}
 
-/// What a reader of a well made deck decides over what a history aired is what the history says.
+/// Wherever a history aired what a reader of a well made deck heard, its session is true. The history needn't be the deck's.
 pub fn receiver_law()
-    ensures { ReceiverLaw }
+    ensures { (deck : Deck) (H : List Event) (r : ℕ) (heard : List (Option Bucket)) →
+        IsDeck deck → r < length deck.readers → IsAired (values_in deck) (air_of deck) H heard →
+        IsTrueSession deck H r heard }
 {}
 
 /// Readers that hear a history through their ethers, and judge by the entries, have the sessions that it judges.
 pub fn true_sessions_law()
-    ensures { TrueSessionsLaw }
+    ensures { (deck : Deck) (H : List Event) → CanAir deck H →
+        sessions_over (by_entries deck.settings.policy) deck (ether_of deck H) ≡ true_sessions deck H }
 {}

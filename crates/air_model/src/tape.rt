@@ -2,14 +2,19 @@
 //!
 //! `specs/Tapes.antt` has the words. The codec and the reader of a tape stand on them.
 
-ghost use Rattle.air_model.specs.Tapes.{CutTapeLaw, WholeTapeLaw};
+ghost use Rattle.std.specs.Prelude.{◌≡◌, ◌↔◌, ℕ, List, Some, None};
+ghost use Rattle.air_model.specs.Buckets.{AreBytes};
+ghost use Rattle.air_model.specs.Tapes.{IsCut, IsTape, tape_read};
 
-/// Bytes are the tape of these records exactly where they are read and nothing is cut.
+/// Bytes are the tape of these records exactly where they are read and nothing is cut. So a tape has one list of records.
 pub fn whole_tape_law()
-    ensures { WholeTapeLaw }
+    ensures { (bytes : List ℕ) (records : List (List ℕ)) → AreBytes bytes →
+        IsTape bytes records ↔ (tape_read bytes ≡ record { records = records; cut = None }) }
 {}
 
-/// Bytes are cut at a byte exactly where they are read so.
+/// Bytes are cut at a byte exactly where they are read so. So a tape is cut, and at one byte, exactly where it is no
+/// list of whole records.
 pub fn cut_tape_law()
-    ensures { CutTapeLaw }
+    ensures { (bytes : List ℕ) (records : List (List ℕ)) (at : ℕ) → AreBytes bytes →
+        IsCut bytes records at ↔ (tape_read bytes ≡ record { records = records; cut = Some at }) }
 {}

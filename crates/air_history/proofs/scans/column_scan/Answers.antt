@@ -3,7 +3,7 @@ use Rattle.std.proofs.lemmas.List.{get_or-replicate}
 use Rattle.std.proofs.lemmas.List.FromFn.{length-map-range_with_len}
 use Rattle.air_history.specs.declared.histories.Event.{Event}
 use Rattle.air_history.specs.Descents.{descends}
-use Rattle.air_history.specs.Scans.{marked_entry}
+use Rattle.air_history.proofs.ColumnLemmas.{marked_entry}
 use Rattle.air_history.proofs.ColumnLemmas.{column_marked, column_zeros, writer_inside}
 use Rattle.air_history.proofs.scans.column_scan.Goals as goal
 

@@ -2,7 +2,7 @@ use Rattle.std.proofs.Common.{arith, rules, length, sym, ap, ◌∙◌, ◌≡�
 use Rattle.std.specs.List.{range_with_len}
 use Rattle.std.proofs.lemmas.List.{get_or_read}
 use Rattle.air_history.specs.Descents.{descends}
-use Rattle.air_history.specs.Scans.{MarksReads}
+use Rattle.air_history.proofs.MarkLemmas.{MarksReads}
 use Rattle.air_history.proofs.MarkLemmas.{marking_none, marking_skip, marking_more, marking_all, written_back, Marking}
 use Rattle.air_history.proofs.scans.descends.Goals as goal
 
@@ -19,8 +19,9 @@ loop-at-preserved-then-index c =
     let lt : c.loop-at.at - 1 < length c.loop-at.marks.items = omega (arith, m.sized, c.loop-at.auto.at) in
     let hit : get_or c.loop-at.marks.items (c.loop-at.at - 1) false ≡ true = sym (get_or_read c.loop-at.marks.items (c.loop-at.at - 1) c.index.result.now lt c.index.ensures false) ∙ c.if-index.true in
     let same : length c.mark_reads.new.marks ≡ length c.loop-at.marks.items = c.mark_reads.auto.marks ∙ ap length c.deref_mut.ensures.value in
+    let read : MarksReads c.events-events.result.now (c.loop-at.at - 1) c.deref_mut.result.now c.mark_reads.new.marks = record { kept = c.mark_reads.ensures.kept; added = c.mark_reads.ensures.added; just = c.mark_reads.ensures.just } in
     let step : Marking c.events-events.result.now c.args.place (c.loop-at.at - 1) c.mark_reads.new.marks = marking_more c.events-events.result.now c.args.place (c.loop-at.at - 1) c.loop-at.marks.items c.mark_reads.new.marks hit same
-    (subst (λ xs. MarksReads c.events-events.result.now (c.loop-at.at - 1) xs c.mark_reads.new.marks) c.deref_mut.ensures.value c.mark_reads.ensures) m in
+    (subst (λ xs. MarksReads c.events-events.result.now (c.loop-at.at - 1) xs c.mark_reads.new.marks) c.deref_mut.ensures.value read) m in
     subst (Marking c.events-events.result.now c.args.place (c.loop-at.at - 1)) (sym (written_back c.mark_reads.new.marks c.loop-at.marks.items c.loop-at.marks.len (same ∙ sym c.loop-at.marks.ok.0))) step
 
 pub loop-at-preserved : goal.loop-at-preserved

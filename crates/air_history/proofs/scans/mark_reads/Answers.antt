@@ -28,5 +28,7 @@ loop-item-preserved c = elim c.match-last_writer.branch [
 ]
 
 pub returns : goal.returns
-returns c = read_marks_all c.args.events.now c.args.place c.loop-item.item-index c.reads-item-items.result.now c.args.marks.now c.loop-item.marks c.loop-item-test.false
-    (items_are (goal.at.returns c).After-reads-item-items) c.loop-item.invariant
+returns c =
+    let all = read_marks_all c.args.events.now c.args.place c.loop-item.item-index c.reads-item-items.result.now c.args.marks.now c.loop-item.marks c.loop-item-test.false
+    (items_are (goal.at.returns c).After-reads-item-items) c.loop-item.invariant in
+    record { kept = all.kept; added = all.added; just = all.just }

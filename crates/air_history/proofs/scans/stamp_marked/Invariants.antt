@@ -1,6 +1,6 @@
 use Rattle.std.proofs.Common.{◌≡◌, ℕ, ◌<◌, get_or, length}
 use Rattle.air_history.specs.Histories.{cycle_at}
-use Rattle.air_history.specs.Scans.{marked_entry}
+use Rattle.air_history.proofs.ColumnLemmas.{marked_entry}
 use Rattle.air_history.proofs.scans.stamp_marked.Given as goal
 
 abbrev pub invariant-loop-place : goal.invariant-loop-place
