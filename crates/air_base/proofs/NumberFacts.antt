@@ -1,20 +1,20 @@
--- Which number a text spells: what `parse` gives of a numeral, and the laws of spelling.
+-- Which number a text spells, digit by digit, and the laws of spelling.
 --
--- `parsed` and `no_numeral` answer `read_u64`; `number_text-decimal` ties a number's text to what
+-- `DigitsRead` is the invariant of `read_u64`, and the lemmas on it its answers; `number_text-decimal` ties a number's text to what
 -- the library prints; `text_spells` and `one_spelling` are the two laws. Readers and printers cite them.
-use Rattle.std.proofs.Common.{◌≡◌, ◌^◌, ◌<◌, ◌∷◌, [], ℕ, zero, suc, List, Some, None, Result, Ok, Err, Bool, true, false, refl, cond, arith, rules, nat_lt, length, not, sym, ap, ◌∙◌, get_or}
+use Rattle.std.proofs.Common.{◌≡◌, ◌+◌, ◌-◌, ◌*◌, ◌^◌, ◌<◌, ◌≤◌, ◌∷◌, [], ℕ, zero, suc, List, Some, None, Bool, true, false, refl, cond, arith, rules, nat_lt, length, take, not, sym, ap, ◌∙◌, get_or}
 use Rattle.std.specs.Prelude.{◌&&◌, ◌||◌, ◌==◌}
-use Rattle.std.specs.Char.{is_ascii_digit}
+use Rattle.std.specs.Char.{is_ascii_digit, IsAsciiDigit}
 use Rattle.std.specs.Fmt.{decimal}
 use Rattle.std.specs.List.{list_all}
-use Rattle.std.specs.Result.{OkIff, result_ok}
-use Rattle.std.specs.Str.{IsUtf8}
-use Rattle.std.specs.Str.Parse.{ParsesUnsigned, digits_value}
-use Rattle.std.proofs.lemmas.Bool.{and_parts}
+use Rattle.std.specs.Str.Parse.{digits_value}
+use Rattle.std.proofs.lemmas.Bool.{and_from, and_parts, both_ways, false_from_ne_true, ltb-true}
 use Rattle.std.proofs.lemmas.Bool.Decides.{nat_tests}
-use Rattle.std.proofs.lemmas.Fmt.{AppendsLastDigit, IsAscii-from_digits, decimal_digit, decimal_from_appends, decimal_nonempty, decimal-digits_value, digits_decimal, digits_value-decimal, first_decimal, length-decimal-le}
-use Rattle.std.proofs.lemmas.Str.{IsUtf8-from_ascii}
-use Rattle.std.proofs.lemmas.Str.Parse.{IsNumeralModel, numerals_by_value, parse_digits}
+use Rattle.std.proofs.lemmas.Fmt.{AppendsLastDigit, decimal_digit, decimal_from_appends, decimal_nonempty, decimal-digits_value, digits_decimal, digits_value-decimal, first_decimal, length-decimal-le}
+use Rattle.std.proofs.lemmas.Int.Digits.{digits_value_more}
+use Rattle.std.proofs.lemmas.List.Folds.{list_all_at, list_all_more}
+use Rattle.std.proofs.lemmas.Str.{digit_value_digit}
+use Rattle.std.proofs.lemmas.Str.Parse.{IsNumeralModel, digits_value-take-le, numerals_by_value}
 use Rattle.air_base.specs.Numbers.{is_numeral, number_of, number_text, last_digits, TextSpellsLaw, OneSpellingLaw}
 
 -- the library's laws on digits, at this test of digits
@@ -41,26 +41,60 @@ numeral_from_parts : (text : List ℕ) → NumeralParts text → is_numeral text
 numeral_from_parts [] parts = absurd (omega (arith, parts.some))
 numeral_from_parts (c ∷ cs) parts = rw parts.digits (grind (arith, nat_tests, parts.zero_alone))
 
-pub numeral_utf8 : (text : List ℕ) → is_numeral text ≡ true → IsUtf8 text
-numeral_utf8 text h = IsUtf8-from_ascii text (IsAscii-from_digits text (own.to text (parts_of_numeral text h).digits))
-
 pub no_numeral : (text : List ℕ) → is_numeral text ≡ false → None ≡ number_of text
 unfolding number_of
 no_numeral text h = rw h refl
 
-pub parsed : {E : Type 0} (text : List ℕ) (r : Result ℕ E) → is_numeral text ≡ true → ParsesUnsigned 64 10 text r → result_ok r ≡ number_of text
+-- a text that begins badly spells no number: without a byte, or with a zero before more
+pub bad_front : (text : List ℕ) → ((0 < length text) × (get_or text 0 0 ≡ 48 → length text ≡ 1) → ⊥) → None ≡ number_of text
+bad_front text bad = no_numeral text (false_from_ne_true (is_numeral text) (λ is. let parts = parts_of_numeral text is in bad (parts.some, parts.zero_alone)))
+
+-- nor does one with another byte than a digit
+pub no_digit : (text : List ℕ) (i : ℕ) → i < length text → is_ascii_digit (get_or text i 0) ≡ false → None ≡ number_of text
+no_digit text i within other = no_numeral text (false_from_ne_true (is_numeral text) (λ is.
+    both_ways (list_all is_ascii_digit text) (list_all_at is_ascii_digit text i 0 within other) (parts_of_numeral text is).digits))
+
+-- nor one whose first digits have a value above the greatest
+pub too_great : (text : List ℕ) (i : ℕ) → 2 ^ 64 ≤ digits_value 10 (take i text) → None ≡ number_of text
 unfolding number_of
-parsed {E = E} text r h given =
-    let parts = parts_of_numeral text h in
-    rw h (by r (digits_value 10 text) (parse_digits own 64 text r given parts.digits) parts.some)
+too_great text i above = by (is_numeral text) (nat_lt (digits_value 10 text) (2 ^ 64)) refl
   where
-    by : (r : Result ℕ E) (v : ℕ) → OkIff r ((0 < length text) × (v < 2 ^ 64)) v → 0 < length text → result_ok r ≡ cond (nat_lt v (2 ^ 64)) (Some v) None
-    by (Ok x) v ok some = let fits : nat_lt v (2 ^ 64) ≡ true = grind (arith, ok) in rw (fits, ok.1) refl
-    by (Err e) v none some = over (nat_lt v (2 ^ 64)) refl
-      where
-        over : (b : Bool) → nat_lt v (2 ^ 64) ≡ b → None ≡ cond b (Some v) None
-        over false e = refl
-        over true e = absurd (none (some, grind arith))
+    by : (a b : Bool) → nat_lt (digits_value 10 text) (2 ^ 64) ≡ b → None ≡ cond (a && b) (Some (digits_value 10 text)) None
+    by false b fits = refl
+    by true false fits = refl
+    by true true fits = absurd (let below = ltb-true (digits_value 10 text) (2 ^ 64) fits in omega (arith, digits_value-take-le 10 text i (omega arith)))
+
+-- a numeral spells the value of its digits
+pub spelled : (text : List ℕ) (n : ℕ) → 0 < length text → (get_or text 0 0 ≡ 48 → length text ≡ 1) → list_all is_ascii_digit text ≡ true → n ≡ digits_value 10 text → n < 2 ^ 64 → Some n ≡ number_of text
+unfolding number_of
+spelled text n some alone digits value below =
+    let numeral = numeral_from_parts text (record { digits = digits; some = some; zero_alone = alone }) in
+    let fits : nat_lt n (2 ^ 64) ≡ true = grind (arith, below) in
+    rw (numeral, ← value, fits) refl
+
+-- ---- digit by digit
+
+-- the first i bytes are digits, and have this value
+pub record DigitsRead (text : List ℕ) (i n : ℕ) : Type 0 where
+  pub digits : list_all is_ascii_digit (take i text) ≡ true
+  pub value : n ≡ digits_value 10 (take i text)
+  pub below : n < 2 ^ 64
+
+pub digits_none : (text : List ℕ) → DigitsRead text 0 0
+digits_none text = record { digits = refl; value = refl; below = omega arith }
+
+-- the value with one more digit
+pub value_more : (text : List ℕ) (i n : ℕ) → i < length text → is_ascii_digit (get_or text i 0) ≡ true → DigitsRead text i n → digits_value 10 (take (i + 1) text) ≡ n * 10 + (get_or text i 0 - 48)
+value_more text i n within digit reading =
+    let range : IsAsciiDigit (get_or text i 0) = grind (arith, nat_tests, digit) in
+    omega (arith, digits_value_more 10 text i within, digit_value_digit (get_or text i 0) range, reading.value)
+
+pub digits_more_read : (text : List ℕ) (i n m : ℕ) → i < length text → is_ascii_digit (get_or text i 0) ≡ true → m ≡ n * 10 + (get_or text i 0 - 48) → n * 10 + (get_or text i 0 - 48) < 2 ^ 64 → DigitsRead text i n → DigitsRead text (i + 1) m
+digits_more_read text i n m within digit is below reading = record {
+  digits = list_all_more is_ascii_digit text i 0 within ∙ and_from _ _ reading.digits digit;
+  value = is ∙ sym (value_more text i n within digit reading);
+  below = omega (arith, is, below);
+}
 
 appends : AppendsLastDigit last_digits
 appends = search rules

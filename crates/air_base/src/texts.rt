@@ -3,40 +3,56 @@
 //! A number has no sign and no leading zero except for `0` itself, and is at most 18446744073709551615.
 //! Decks, reports and command lines are read and printed by these calls.
 
-ghost use Rattle.std.specs.Prelude.{◌≡◌, ◌++◌, OnOk, OnErr};
+ghost use Rattle.std.specs.Prelude.{◌≡◌, ◌↔◌, ◌<◌, ◌+◌, ◌-◌, ◌*◌, ◌^◌, ◌++◌, length, slice_index, IsTrue, OnOk, OnErr};
 ghost use Rattle.std.specs.Char.{is_ascii_digit};
-ghost use Rattle.std.specs.List.{list_all};
-ghost use Rattle.air_base.specs.Numbers.{is_numeral, number_of, number_text, TextSpellsLaw, OneSpellingLaw};
+ghost use Rattle.std.specs.Option.{SomeIff};
+ghost use Rattle.air_base.specs.Numbers.{number_of, number_text, TextSpellsLaw, OneSpellingLaw};
 
 use crate::memory::NoMemory;
 
-/// Tells whether the text has digits alone, and a leading zero only in `0` itself.
-fn is_numeral(text: &[u8]) -> bool
-    ensures { result ≡ is_numeral text.now }
+/// Whether a number may begin so: with a byte, and with a zero only in `0` itself.
+fn begins_well(text: &[u8]) -> bool
+    ensures { IsTrue result ↔
+        ((0 < length text.now) × (slice_index text.now 0 ≡ 48 → length text.now ≡ 1)) }
 {
-    if text.is_empty() || (text[0] == b'0' && text.len() > 1) {
-        return false;
-    }
-    all_digits(text)
+    !text.is_empty() && (text[0] != b'0' || text.len() == 1)
 }
 
-fn all_digits(text: &[u8]) -> bool
-    ensures { result ≡ list_all is_ascii_digit text.now }
+/// The value of a digit, and None of each other byte.
+fn digit_of(byte: u8) -> Option<u8>
+    ensures { SomeIff result (IsTrue (is_ascii_digit byte)) (byte - 48) }
 {
-    text.iter().all(|c| c.is_ascii_digit())
+    if byte.is_ascii_digit() {
+        Some(byte - b'0')
+    } else {
+        None
+    }
+}
+
+/// The number with one more digit at its end, and None where that is above the greatest.
+fn with_digit(number: u64, digit: u8) -> Option<u64>
+    requires { digit < 10 }
+    ensures { SomeIff result (number * 10 + digit < 2 ^ 64) (number * 10 + digit) }
+{
+    let most = u64::MAX / 10;
+    if number >= most && (number > most || u64::from(digit) > u64::MAX % 10) {
+        return None;
+    }
+    Some(number * 10 + u64::from(digit))
 }
 
 /// The number that the text spells, and None where it spells none.
 pub fn read_u64(text: &[u8]) -> Option<u64>
     ensures { result ≡ number_of text.now }
 {
-    if !is_numeral(text) {
+    if !begins_well(text) {
         return None;
     }
-    match std::str::from_utf8(text) {
-        Ok(text) => text.parse::<u64>().ok(),
-        Err(_) => None,
+    let mut number = 0;
+    for byte in text {
+        number = with_digit(number, digit_of(*byte)?)?;
     }
+    Some(number)
 }
 
 /// Appends the number's text.
@@ -66,17 +82,20 @@ mod tests {
 
     #[test]
     fn texts_spell_their_numbers(rt: HostRuntime) {
-        let spelled: [(&str, Option<u64>); 11] = [
+        let spelled: [(&str, Option<u64>); 14] = [
             ("0", Some(0)),
             ("7", Some(7)),
             ("1200", Some(1200)),
             ("18446744073709551615", Some(18446744073709551615)),
             ("18446744073709551616", None),
+            ("20000000000000000000", None),
+            ("100000000000000000000", None),
             ("01", None),
             ("00", None),
             ("+1", None),
             ("-1", None),
             ("1 ", None),
+            ("1:", None),
             ("", None),
         ];
         for (text, number) in spelled {
