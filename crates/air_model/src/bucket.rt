@@ -5,6 +5,9 @@
 ghost use Rattle.std.specs.Prelude.{◌≡◌, ◌↔◌, ℕ, List, [], ◌++◌, Ok};
 ghost use Rattle.air_model.specs.Buckets.{AreBytes, Bucket, IsBucket, reading};
 
+use std::error::Error;
+use std::fmt;
+
 /// Why bytes are no bucket: the first of these that applies.
 #[derive(Clone, Copy, Debug, PartialEq, Eq)]
 pub enum BucketFault {
@@ -21,6 +24,23 @@ pub enum BucketFault {
     /// A number is outside its range.
     Shape,
 }
+
+impl fmt::Display for BucketFault {
+    fn fmt<W: fmt::Write>(&self, f: &mut fmt::Formatter<W>) -> fmt::Result {
+        match self {
+            BucketFault::Short { at } => write!(f, "{at} bytes, and a bucket has at least 24"),
+            BucketFault::Magic => f.write_str("the first two bytes aren't a bucket's"),
+            BucketFault::Version => f.write_str("the version isn't 1"),
+            BucketFault::Kind => f.write_str("the kind is none of idle, column and vector"),
+            BucketFault::Length => {
+                f.write_str("the number of bytes isn't that of the kind and the count")
+            }
+            BucketFault::Shape => f.write_str("a number is outside its range"),
+        }
+    }
+}
+
+impl Error for BucketFault {}
 
 /// Bytes are a bucket exactly where that bucket is read from them. So a fault is found exactly where they are none.
 pub fn reading_law()

@@ -2,7 +2,7 @@
 //!
 //! `specs/` is the second half of what must be believed: each definition is opened by one plain sentence and
 //! computed on small examples in `proofs/`. What is proved of the definitions alone is the contract of a law,
-//! a public function with an empty body. Nothing runs here.
+//! a public function with an empty body. Nothing runs here but the text of a bucket's fault.
 #![tactic(auto)]
 
 pub mod aired;

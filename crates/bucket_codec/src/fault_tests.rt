@@ -4,6 +4,7 @@
 
 use crate::tests::{FIRST, IDLE};
 use crate::{BucketFault, decode};
+use std::test::Fail;
 
 /// The fault of the bytes.
 fn fault(bytes: &[u8]) -> Option<BucketFault> {
@@ -133,4 +134,28 @@ fn of_two_faults_the_first_is_told(rt: HostRuntime) {
         let front = bytes.get_mut(..len).expect(&rt, "so many bytes");
         assert_eq!(rt; fault_with(front, &edits), Some(want), "{want:?}");
     }
+}
+
+#[test]
+fn each_fault_is_shown(rt: HostRuntime) -> Result<(), Fail> {
+    for (fault, text) in [
+        (
+            BucketFault::Short { at: 23 },
+            "23 bytes, and a bucket has at least 24",
+        ),
+        (BucketFault::Magic, "the first two bytes aren't a bucket's"),
+        (BucketFault::Version, "the version isn't 1"),
+        (
+            BucketFault::Kind,
+            "the kind is none of idle, column and vector",
+        ),
+        (
+            BucketFault::Length,
+            "the number of bytes isn't that of the kind and the count",
+        ),
+        (BucketFault::Shape, "a number is outside its range"),
+    ] {
+        assert_eq!(rt; fault.to_string(rt.alloc())?.as_str(), text);
+    }
+    Ok(())
 }

@@ -10,6 +10,8 @@ ghost use Rattle.bucket_codec.specs.Readers.{nothing_left, only_cut_at};
 
 use crate::encoding::put_four;
 use byteorder::{BigEndian, ByteOrder};
+use std::error::Error;
+use std::fmt;
 use std::marker::Model;
 
 /// The tape ends inside a record.
@@ -18,6 +20,16 @@ pub enum TapeFault {
     /// The record begins, with its length, at byte `at`.
     Cut { at: u64 },
 }
+
+impl fmt::Display for TapeFault {
+    fn fmt<W: fmt::Write>(&self, f: &mut fmt::Formatter<W>) -> fmt::Result {
+        match self {
+            TapeFault::Cut { at } => write!(f, "the tape ends inside the record at byte {at}"),
+        }
+    }
+}
+
+impl Error for TapeFault {}
 
 /// Writes the length and the bytes of a record to the front of `out` and answers how many there are.
 pub fn tape_record(bytes: &[u8], out: &mut [u8]) -> usize

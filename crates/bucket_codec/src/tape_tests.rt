@@ -4,6 +4,7 @@
 
 use crate::tests::{FIRST, SECOND};
 use crate::{TapeFault, TapeReader, tape_record};
+use std::test::Fail;
 
 /// The tape of the two buckets of a cycle: `FIRST` and `SECOND`, each with its length before it.
 const TAPE: [u8; 72] = [
@@ -53,4 +54,14 @@ fn records_have_any_length(rt: HostRuntime) {
     assert_eq!(rt; reader.next(), Ok(None));
     let mut longest = TapeReader::new(&[0xff; 9]);
     assert_eq!(rt; longest.next(), Err(TapeFault::Cut { at: 0 }));
+}
+
+#[test]
+fn a_cut_is_shown(rt: HostRuntime) -> Result<(), Fail> {
+    let cut = TapeFault::Cut { at: 36 };
+    assert_eq!(rt;
+        cut.to_string(rt.alloc())?.as_str(),
+        "the tape ends inside the record at byte 36"
+    );
+    Ok(())
 }
