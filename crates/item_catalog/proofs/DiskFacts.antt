@@ -1,0 +1,35 @@
+-- Disks with their frequencies: how many there are, and what each says.
+use Rattle.std.proofs.Common.{◌≡◌, ◌<◌, ◌≤◌, ◌+◌, ◌-◌, ◌*◌, ◌∷◌, [], ℕ, zero, suc, List, Some, length, map, get_or, slice_get, refl, ap, subst, sym, ◌∙◌, arith}
+use Rattle.std.specs.Prelude.{All, IfSome, unwrap_or}
+use Rattle.std.proofs.lemmas.List.{get_or-map, length-map}
+use Rattle.std.proofs.lemmas.Option.{get_or_from_slice_get}
+use Rattle.air_model.specs.Disks.{DiskSpec}
+use Rattle.item_catalog.specs.Decks.{with_freqs}
+use Rattle.item_catalog.specs.declared.parts.DiskPart.{DiskPart}
+
+-- What holds of all that a function gives of a list holds of what it gives of an element.
+pub all_at : {A B : Type 0} (f : A → B) (P : B → Type 0) (xs : List A) (i : ℕ) (x : A) → i < length xs → x ≡ get_or xs i x → All P (map f xs) → P (f x)
+all_at f P xs i x below at all = subst P (get_or-map f xs i x (f x) below ∙ ap f (sym at)) (all i (f x) (omega (arith, length-map xs f)))
+
+pub freqs_len : (delta : ℕ) (disks : List DiskPart) → length (with_freqs delta disks) ≡ length disks
+freqs_len delta [] = refl
+freqs_len delta (disk ∷ disks) = rw (freqs_len delta disks) refl
+
+-- A disk with its frequency, by the number of disks after it.
+abbrev pub spec_of : ℕ → ℕ → DiskPart → DiskSpec
+spec_of delta after disk = record { size = disk.size; freq = unwrap_or disk.freq (after * delta + 1) }
+
+pub freqs_at : (delta : ℕ) (disks : List DiskPart) (i : ℕ) (x : DiskPart) → i < length disks → x ≡ get_or disks i x
+    → slice_get (with_freqs delta disks) i ≡ Some (spec_of delta (length disks - 1 - i) x)
+freqs_at delta [] i x below at = absurd (omega arith)
+freqs_at delta (disk ∷ disks) zero x below at = let e : suc (length disks) - 1 - 0 ≡ length disks = omega arith in rw (e, at) refl
+freqs_at delta (disk ∷ disks) (suc i) x below at =
+    let e : suc (length disks) - 1 - suc i ≡ length disks - 1 - i = omega arith in
+    rw e (freqs_at delta disks i x (omega arith) at)
+
+-- What holds of all disks holds of one of them.
+pub freqs_all : (P : DiskSpec → Type 0) (delta : ℕ) (disks : List DiskPart) (i : ℕ) (x : DiskPart) → i < length disks → x ≡ get_or disks i x
+    → All P (with_freqs delta disks) → P (spec_of delta (length disks - 1 - i) x)
+freqs_all P delta disks i x below at all =
+    let s = spec_of delta (length disks - 1 - i) x in
+    subst P (get_or_from_slice_get (with_freqs delta disks) i s s (freqs_at delta disks i x below at)) (all i s (omega (arith, freqs_len delta disks)))

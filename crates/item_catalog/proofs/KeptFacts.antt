@@ -1,0 +1,133 @@
+-- What the parts keep that entries declare to which no kind applies, one entry after the other.
+--
+-- `Kept` is the sum of it, and `Spelt` what an entry is that a record spells. `KeptSteps` has the steps.
+use Rattle.std.proofs.Common.{◌≡◌, ◌≢◌, ◌<◌, ◌≤◌, ◌+◌, ◌^◌, ◌++◌, ◌∷◌, [], ℕ, zero, suc, List, Option, Some, None, Bool, true, false, not, cond, ◌∙◌, sym, refl, ap, subst, arith, map, get_or, length, nat_lt, nat_le, max, inl, inr, ◌⊎◌, length-append, set}
+use Rattle.std.specs.Prelude.{◌==◌, ◌||◌, All, sum_by}
+use Rattle.std.specs.List.{list_all, list_any, filter_map}
+use Rattle.std.proofs.lemmas.Bool.{and_parts, cases_eq, cases_lt}
+use Rattle.std.proofs.lemmas.Bool.Decides.{nat_tests}
+use Rattle.std.proofs.lemmas.List.{append-nil, get_or-set_other, get_or-set_same, get_or_past, length-set, set_past}
+use Rattle.std.proofs.lemmas.List.Elements.{All-append, filter_map-append}
+use Rattle.std.proofs.lemmas.List.FromFn.{length-map-range_with_len, get_or-map-range_with_len}
+use Rattle.std.proofs.lemmas.List.Sums.{sum_by-set}
+use Rattle.air_history.specs.declared.updates.Write.{Write}
+use Rattle.air_history.specs.UpdateLists.{UpdateLists}
+use Rattle.air_history.specs.UpdateRules.{UpdateFits, has_repeat}
+use Rattle.air_model.specs.Decks.{IsQuery, IsUpdate, count_parts}
+use Rattle.air_model.specs.declared.deck.ReaderPlan.{ReaderPlan}
+use Rattle.item_catalog.specs.DeckLimits.{ReaderWithin}
+use Rattle.item_catalog.specs.Decks.{for_each}
+use Rattle.item_catalog.specs.Drafts.{DraftValue, draft_tests, push_at, with_entry}
+use Rattle.item_catalog.specs.Entries.{Entry}
+use Rattle.item_catalog.specs.Entries as e
+use Rattle.item_catalog.specs.Faults.{count_starts, first_of, option_any, reaches, script_passes, some_below, write_reaches}
+use Rattle.item_catalog.specs.Limits.{outside}
+use Rattle.item_catalog.specs.Parts.{count_queries, count_updates, disks_in, items_in, its_update, its_updaters, queries_in, readers_in, script_in, set_in, updaters_in, updates_in}
+use Rattle.item_catalog.specs.Settings.{range_of}
+use Rattle.item_catalog.specs.declared.parts.ItemPart.{ItemPart}
+use Rattle.item_catalog.specs.declared.parts.DiskPart.{DiskPart}
+use Rattle.item_catalog.specs.declared.settings.Setting.{Setting}
+use Rattle.item_catalog.specs.declared.settings.Setting.TheVariants as setting
+use Rattle.item_catalog.proofs.DraftFacts.{count_kept, count_more, none_more, one_more, pushed, script_kept, same_from, updaters_kept, updaters_more, eq_other, eq_self}
+use Rattle.item_catalog.proofs.EntryFacts.{UpdateTested, is_signed, none_of_one, none_of_three, none_of_two, or_none, rules_kept, update_tested}
+use Rattle.item_catalog.proofs.ScriptFacts.{none_below, parts_all, starts_all}
+
+-- ---- lists
+
+pub all_push : {A : Type 0} (P : A → Type 0) (xs : List A) (x : A) → All P xs → P x → All P (xs ++ x ∷ [])
+all_push {A = A} P xs x all here = All-append P xs (x ∷ []) all at
+  where
+    at : All P (x ∷ [])
+    at zero d below = here
+    at (suc k) d below = absurd (omega arith)
+
+pub all_more : {A : Type 0} (P Q : A → Type 0) (xs : List A) → ((x : A) → P x → Q x) → All P xs → All Q xs
+all_more P Q xs f all k d below = f (get_or xs k d) (all k d below)
+
+pub none_all : {A : Type 0} (p : A → Bool) (xs : List A) → list_any p xs ≡ false → All (λ x. p x ≡ false) xs
+none_all p [] none k d below = absurd (omega arith)
+none_all p (x ∷ xs) none zero d below = (or_none (p x) (list_any p xs) none).0
+none_all p (x ∷ xs) none (suc k) d below = none_all p xs (or_none (p x) (list_any p xs) none).1 k d (omega arith)
+
+pub every : {A : Type 0} (p : A → Bool) (xs : List A) → list_all p xs ≡ true → All (λ x. p x ≡ true) xs
+every p [] all k d below = absurd (omega arith)
+every p (x ∷ xs) all zero d below = (and_parts (p x) (list_all p xs) all).0
+every p (x ∷ xs) all (suc k) d below = every p xs (and_parts (p x) (list_all p xs) all).1 k d (omega arith)
+
+pub sum_push : {A : Type 0} (lists : List (List A)) (i : ℕ) (x : A) → sum_by length (push_at lists i x) ≤ sum_by length lists + 1
+sum_push lists i x = elim (cases_lt i (length lists)) [
+  | inl below ↦ let s = sum_by-set length lists i (get_or lists i [] ++ x ∷ []) [] below in omega (arith, s, length-append (get_or lists i []) (x ∷ []))
+  | inr past ↦ let same : push_at lists i x ≡ lists = set_past lists i (get_or lists i [] ++ x ∷ []) past in omega (arith, ap (λ l. sum_by length l) same)
+]
+
+-- ---- what a record's entry is by itself
+
+-- Its numbers fit: a value and amounts 64 bits, a setting its range; a minus has a base.
+abbrev pub InRange : Setting → Type 0
+InRange (setting.Policy policy) = Unit {0}
+InRange (setting.Number name n) = ((range_of name).0 ≤ n) × (n ≤ (range_of name).1)
+
+abbrev pub Spelt : Entry → Type 0
+Spelt (e.Item id value rate) = value < 2 ^ 64
+Spelt (e.Disk size freq) = Unit {0}
+Spelt (e.Update by reads writes) = (list_all is_signed writes ≡ true) × All (λ w. w.amount < 2 ^ 64) writes
+Spelt (e.Reader room age tries) = Unit {0}
+Spelt (e.Query reader items) = Unit {0}
+Spelt (e.Script events) = Unit {0}
+Spelt (e.Set s) = InRange s
+
+-- ---- what is kept
+
+pub record DiskKept (d : DiskPart) : Type 0 where
+  pub some : 1 ≤ d.size
+  pub few : d.size ≤ 256
+  pub freq : option_any (outside 1 64) d.freq ≡ false
+
+pub record ReaderKept (r : ReaderPlan) : Type 0 where
+  pub within : ReaderWithin r
+  pub some : 1 ≤ r.tries
+
+pub record QueryKept (n : ℕ) (items : List ℕ) : Type 0 where
+  pub query : IsQuery n items
+  pub few : length items ≤ 16
+
+pub record ItemsKept (items : List ItemPart) : Type 0 where
+  pub each : All (λ i. (i.value < 2 ^ 64) × (i.rate ≤ 1000000)) items
+  pub few : length items ≤ 256
+
+pub record DisksKept (disks : List DiskPart) : Type 0 where
+  pub each : All DiskKept disks
+  pub few : length disks ≤ 8
+
+pub record UpdatesKept (n : ℕ) (updates : List (List UpdateLists)) (updaters count : ℕ) : Type 0 where
+  pub each : All (All (IsUpdate n)) updates
+  pub lists : length updates ≡ 16
+  pub few : updaters ≤ 16
+  pub past : (by : ℕ) → updaters ≤ by → length (get_or updates by []) ≡ 0
+  pub few_in_all : count ≤ 100000
+  pub all : sum_by length updates ≤ count
+
+pub record ReadersKept (readers : List ReaderPlan) : Type 0 where
+  pub each : All ReaderKept readers
+  pub few : length readers ≤ 64
+
+pub record QueriesKept (n : ℕ) (queries : List (List (List ℕ))) (count : ℕ) : Type 0 where
+  pub each : All (All (QueryKept n)) queries
+  pub lists : length queries ≡ 64
+  pub few_in_all : count ≤ 10000
+  pub all : sum_by length queries ≤ count
+
+pub record EventsKept (updates : List (List UpdateLists)) (script : List (Option ℕ)) : Type 0 where
+  pub few : length script ≤ 200000
+  pub few_starts : count_starts script ≤ 10000
+  pub updaters : list_any (option_any (nat_le 16)) script ≡ false
+  pub fits : (by : ℕ) → count_parts by script ≤ length (get_or updates by [])
+
+pub record Kept (d : DraftValue) : Type 0 where
+  pub items : ItemsKept d.items
+  pub disks : DisksKept d.disks
+  pub updates : UpdatesKept (length d.items) d.updates d.updaters d.update_count
+  pub readers : ReadersKept d.readers
+  pub queries : QueriesKept (length d.items) d.queries d.query_count
+  pub script : EventsKept d.updates d.script
+  pub set : All InRange d.set

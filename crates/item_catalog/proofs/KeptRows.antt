@@ -1,0 +1,94 @@
+-- Records without fault declare parts that keep every limit, up to each place; so what a text spells is well made.
+use Rattle.std.proofs.Common.{◌≡◌, ◌<◌, ◌≤◌, ◌+◌, ◌++◌, ◌∷◌, [], ℕ, zero, suc, List, Option, Some, None, Result, Ok, Err, ◌∙◌, sym, refl, ap, subst, arith, get_or, length, take, inl, inr}
+use Rattle.std.specs.Prelude.{All, slice_get, sum_by}
+use Rattle.std.proofs.lemmas.Bool.{cases_lt}
+use Rattle.std.proofs.lemmas.List.{get_or_past, take_all, take_more}
+use Rattle.std.proofs.lemmas.List.FromFn.{length-map-range_with_len, get_or-map-range_with_len}
+use Rattle.std.proofs.lemmas.Option.{slice_get-get_or}
+use Rattle.air_history.specs.UpdateLists.{UpdateLists}
+use Rattle.air_model.specs.Decks.{Deck, IsDeck}
+use Rattle.item_catalog.specs.DeckLimits.{WithinLimits}
+use Rattle.item_catalog.specs.Decks.{deck_of, for_each}
+use Rattle.item_catalog.specs.Drafts.{deck_from, draft_of, draft_tests, with_entry}
+use Rattle.item_catalog.specs.Entries.{Entry, entry_of}
+use Rattle.item_catalog.specs.Faults.{end_tests, entries_in, first_of, kinds_after, kinds_at, kinds_of, place_kinds, tests_of}
+use Rattle.item_catalog.specs.Grammar.{Faultless, RowsSpell}
+use Rattle.item_catalog.specs.Parts.{disks_in, items_in, queries_in, updates_in}
+use Rattle.item_catalog.proofs.DraftFacts.{draft_more, tests_same}
+use Rattle.item_catalog.proofs.KeptFacts.{Kept}
+use Rattle.item_catalog.proofs.KeptSteps.{kept_more}
+use Rattle.item_catalog.proofs.PlaceFacts.{entries_more, kinds_end, some_apply}
+use Rattle.item_catalog.proofs.SpeltFacts.{entry_spelt}
+use Rattle.item_catalog.proofs.WellMadeFacts.{deck_same, made, within}
+
+-- No entries.
+abbrev no_list : {A : Type 0} → ℕ → List A
+no_list k = []
+
+empty_at : {A : Type 0} (n k : ℕ) (d : List A) → k < n → get_or (for_each n no_list) k d ≡ []
+empty_at n k d below = get_or-map-range_with_len no_list 0 n k k d below (omega arith)
+
+none_at : (A : Type 0) (n k : ℕ) → length (get_or (for_each n (no_list {A = A})) k []) ≡ 0
+none_at A n k = elim (cases_lt k n) [
+  | inl below ↦ ap length (empty_at {A = A} n k [] below)
+  | inr past ↦ ap length (get_or_past (for_each n (no_list {A = A})) k [] (omega (arith, length-map-range_with_len (no_list {A = A}) 0 n)))
+]
+
+pub kept_none : Kept (draft_of [])
+kept_none = record {
+  items = record { each = λ k d below. absurd (omega arith); few = omega arith };
+  disks = record { each = λ k d below. absurd (omega arith); few = omega arith };
+  updates = record {
+    each = λ k d below. λ j e inside. absurd (omega (arith, inside, ap length (empty_at 16 k d below)));
+    lists = refl;
+    few = omega arith;
+    past = λ by past. none_at UpdateLists 16 by;
+    few_in_all = omega arith;
+    all = omega arith;
+  };
+  readers = record { each = λ k d below. absurd (omega arith); few = omega arith };
+  queries = record {
+    each = λ k d below. λ j e inside. absurd (omega (arith, inside, ap length (empty_at 64 k d below)));
+    lists = refl;
+    few_in_all = omega arith;
+    all = omega arith;
+  };
+  script = record { few = omega arith; few_starts = omega arith; updaters = refl; fits = λ by. omega arith };
+  set = λ k d below. absurd (omega arith);
+}
+
+-- One more record at which no kind applies.
+kept_row : (rows : List (List (List ℕ))) (row : List (List ℕ)) → kinds_after (entries_in rows) (entry_of row) ≡ [] → Kept (draft_of (entries_in rows)) → Kept (draft_of (entries_in (rows ++ row ∷ [])))
+kept_row rows row none k = by (entry_of row) refl none
+  where
+    by : (r : Result Entry ℕ) → entry_of row ≡ r → kinds_after (entries_in rows) r ≡ [] → Kept (draft_of (entries_in (rows ++ row ∷ [])))
+    by (Err kind) e h = cc h
+    by (Ok x) e h =
+        let first : first_of (draft_tests (draft_of (entries_in rows)) x) ≡ None = ap first_of (tests_same (entries_in rows) x) ∙ some_apply (tests_of (entries_in rows) x) h in
+        rw (entries_more rows row x e, draft_more (entries_in rows) x) (kept_more (draft_of (entries_in rows)) x k (entry_spelt row x e) first)
+
+pub kept_rows : (rows : List (List (List ℕ))) (n : ℕ) → n ≤ length rows → Faultless rows n → Kept (draft_of (entries_in (take n rows)))
+kept_rows rows zero few none = kept_none
+kept_rows rows (suc n) few none =
+    let d : List (List ℕ) = [] in let row = get_or rows n d in
+    let more : take (suc n) rows ≡ take n rows ++ row ∷ [] = ap (λ k. take k rows) (plus_one n) ∙ take_more rows n d (omega arith) in
+    let here : kinds_after (entries_in (take n rows)) (entry_of row) ≡ [] = sym (at rows n d (omega arith)) ∙ none n (omega arith) in
+    rw more (kept_row (take n rows) row here (kept_rows rows n (omega arith) (λ place below. none place (omega arith))))
+  where
+    plus_one : (n : ℕ) → suc n ≡ n + 1
+    plus_one n = omega arith
+
+    at : (rows : List (List (List ℕ))) (n : ℕ) (d : List (List ℕ)) → n < length rows → kinds_at rows n ≡ kinds_after (entries_in (take n rows)) (entry_of (get_or rows n d))
+    at rows n d below = unfold kinds_at in rw (slice_get-get_or rows n d below) refl
+
+pub kept_all : (rows : List (List (List ℕ))) → Faultless rows (length rows) → Kept (draft_of (entries_in rows))
+kept_all rows none = let P : List (List (List ℕ)) → Type 0 = λ rs. Kept (draft_of (entries_in rs)) in subst P (take_all (length rows) rows (omega arith)) (kept_rows rows (length rows) (omega arith) none)
+
+-- What records spell is well made, and within the limits.
+pub spelled_made : (rows : List (List (List ℕ))) (deck : Deck) → RowsSpell rows deck → IsDeck deck × WithinLimits deck
+spelled_made rows deck spelled =
+    let k = kept_all rows (λ place below. spelled.faultless place (omega arith)) in
+    let end : first_of (end_tests (length (items_in (entries_in rows))) (disks_in (entries_in rows))) ≡ None
+    = some_apply (end_tests (length (items_in (entries_in rows))) (disks_in (entries_in rows))) (sym (kinds_end rows) ∙ spelled.faultless (length rows) (omega arith)) in
+    let same = deck_same (entries_in rows) k ∙ sym spelled.parts in
+    (subst IsDeck same (made (draft_of (entries_in rows)) k end), subst WithinLimits same (within (draft_of (entries_in rows)) k end))

@@ -1,0 +1,280 @@
+-- What the parts keep that entries declare, with one more entry: tag by tag, and `kept_more` for all.
+use Rattle.std.proofs.Common.{◌≡◌, ◌≢◌, ◌<◌, ◌≤◌, ◌+◌, ◌^◌, ◌++◌, ◌∷◌, [], ℕ, zero, suc, List, Option, Some, None, Bool, true, false, not, cond, ◌∙◌, sym, refl, ap, subst, arith, map, get_or, length, nat_lt, nat_le, max, inl, inr, ◌⊎◌, length-append, set}
+use Rattle.std.specs.Prelude.{◌==◌, ◌||◌, All, sum_by}
+use Rattle.std.specs.List.{list_all, list_any, filter_map}
+use Rattle.std.proofs.lemmas.Bool.{and_parts, cases_eq, cases_lt}
+use Rattle.std.proofs.lemmas.Bool.Decides.{nat_tests}
+use Rattle.std.proofs.lemmas.List.{append-nil, get_or-set_other, get_or-set_same, get_or_past, length-set, set_past}
+use Rattle.std.proofs.lemmas.List.Folds.{list_any-append}
+use Rattle.std.proofs.lemmas.List.Elements.{All-append, filter_map-append}
+use Rattle.std.proofs.lemmas.List.FromFn.{length-map-range_with_len, get_or-map-range_with_len}
+use Rattle.std.proofs.lemmas.List.Sums.{sum_by-cons}
+use Rattle.air_history.specs.declared.updates.Write.{Write}
+use Rattle.air_history.specs.UpdateLists.{UpdateLists}
+use Rattle.air_history.specs.UpdateRules.{UpdateFits, has_repeat}
+use Rattle.air_model.specs.Decks.{IsQuery, IsUpdate, count_parts}
+use Rattle.air_model.specs.declared.deck.ReaderPlan.{ReaderPlan}
+use Rattle.item_catalog.specs.DeckLimits.{ReaderWithin}
+use Rattle.item_catalog.specs.Decks.{for_each}
+use Rattle.item_catalog.specs.Drafts.{DraftValue, draft_tests, push_at, with_entry}
+use Rattle.item_catalog.specs.Entries.{Entry}
+use Rattle.item_catalog.specs.Entries as e
+use Rattle.item_catalog.specs.Faults.{count_starts, first_of, option_any, reaches, script_passes, some_below, write_reaches}
+use Rattle.item_catalog.specs.Limits.{outside}
+use Rattle.item_catalog.specs.Parts.{count_queries, count_updates, disks_in, items_in, its_update, its_updaters, queries_in, readers_in, script_in, set_in, updaters_in, updates_in}
+use Rattle.item_catalog.specs.Settings.{range_of}
+use Rattle.item_catalog.specs.declared.parts.ItemPart.{ItemPart}
+use Rattle.item_catalog.specs.declared.parts.DiskPart.{DiskPart}
+use Rattle.item_catalog.specs.declared.settings.Setting.{Setting}
+use Rattle.item_catalog.specs.declared.settings.Setting.TheVariants as setting
+use Rattle.item_catalog.proofs.DraftFacts.{count_kept, count_more, none_more, one_more, pushed, script_kept, same_from, updaters_kept, updaters_more, eq_other, eq_self}
+use Rattle.item_catalog.proofs.EntryFacts.{UpdateTested, is_signed, none_of_one, none_of_three, none_of_two, or_none, rules_kept, update_tested}
+use Rattle.item_catalog.proofs.ScriptFacts.{is_part_of, none_below, parts_all, starts_all}
+use Rattle.item_catalog.proofs.KeptFacts.{DiskKept, DisksKept, EventsKept, InRange, ItemsKept, Kept, QueriesKept, QueryKept, ReaderKept, ReadersKept, Spelt, UpdatesKept, all_push, every, none_all, sum_push}
+
+-- What is right for some items is right for one more.
+update_wider : (n : ℕ) (u : UpdateLists) → IsUpdate n u → IsUpdate (n + 1) u
+update_wider n u h = record {
+  rules = h.rules;
+  fits = record { reads = λ i x below. let less = h.fits.reads i x below in omega arith; writes = λ i x below. let less = h.fits.writes i x below in omega arith };
+  amounts = h.amounts;
+}
+
+query_wider : (n : ℕ) (items : List ℕ) → QueryKept n items → QueryKept (n + 1) items
+query_wider n items h = record {
+  query = record { filled = h.query.filled; distinct = h.query.distinct; within = λ i x below. let less = h.query.within i x below in omega arith };
+  few = h.few;
+}
+
+-- One more in a list of lists.
+each_push : {A : Type 0} (P : A → Type 0) (lists : List (List A)) (i : ℕ) (x : A) → All (All P) lists → P x → All (All P) (push_at lists i x)
+each_push {A = A} P lists i x all here k d below = by (cases_eq k i)
+  where
+    inside : k < length lists
+    inside = omega (arith, below, length-set lists i (get_or lists i [] ++ x ∷ []))
+
+    own : All P (get_or lists i [])
+    own j e less = elim (cases_lt i (length lists)) [
+      | inl there ↦ all i [] there j e less
+      | inr past ↦ absurd (omega (arith, less, ap length (get_or_past lists i [] past)))
+    ]
+
+    by : (k ≡ i) ⊎ (k ≡ i → ⊥) → All P (get_or (push_at lists i x) k d)
+    by (inl e) = rw (e, get_or-set_same lists i (get_or lists i [] ++ x ∷ []) d (omega (arith, inside, e))) (all_push P (get_or lists i []) x own here)
+    by (inr differs) = rw (get_or-set_other lists i k (get_or lists i [] ++ x ∷ []) d differs) (all k d inside)
+
+module _ (d : DraftValue) (k : Kept d) where
+  kept_item : (id value rate : ℕ) → value < 2 ^ 64 → first_of (draft_tests d (e.Item id value rate)) ≡ None → Kept (with_entry d (e.Item id value rate))
+  kept_item id value rate fits none =
+      let t = none_of_two 3 7 (not (id == length d.items)) (nat_lt 1000000 rate || nat_le 256 (length d.items)) none in
+      let seven = or_none (nat_lt 1000000 rate) (nat_le 256 (length d.items)) t.1 in
+      let low : rate ≤ 1000000 = grind (arith, nat_tests, seven.0) in
+      let few : length d.items < 256 = grind (arith, nat_tests, seven.1) in
+      let n : length (d.items ++ record { value = value; rate = rate } ∷ []) ≡ length d.items + 1 = length-append d.items (record { value = value; rate = rate } ∷ []) in
+      record {
+        items = record { each = all_push (λ (i : ItemPart). (i.value < 2 ^ 64) × (i.rate ≤ 1000000)) d.items (record { value = value; rate = rate }) k.items.each (fits, low); few = omega arith };
+        disks = k.disks;
+        updates = record {
+          each = rw n (λ i us below. λ j u inside. update_wider (length d.items) (get_or (get_or d.updates i us) j u) (k.updates.each i us below j u inside));
+          lists = k.updates.lists;
+          few = k.updates.few;
+          past = k.updates.past;
+          few_in_all = k.updates.few_in_all;
+          all = k.updates.all;
+        };
+        readers = k.readers;
+        queries = record {
+          each = rw n (λ i qs below. λ j q inside. query_wider (length d.items) (get_or (get_or d.queries i qs) j q) (k.queries.each i qs below j q inside));
+          lists = k.queries.lists;
+          few_in_all = k.queries.few_in_all;
+          all = k.queries.all;
+        };
+        script = k.script;
+        set = k.set;
+      }
+
+  kept_disk : (size : ℕ) (freq : Option ℕ) → first_of (draft_tests d (e.Disk size freq)) ≡ None → Kept (with_entry d (e.Disk size freq))
+  kept_disk size freq none =
+      let t = none_of_one 7 ((nat_lt size 1 || nat_lt 256 size) || option_any (outside 1 64) freq || nat_le 8 (length d.disks)) none in
+      let all = or_none ((nat_lt size 1 || nat_lt 256 size) || option_any (outside 1 64) freq) (nat_le 8 (length d.disks)) t in
+      let one = or_none (nat_lt size 1 || nat_lt 256 size) (option_any (outside 1 64) freq) all.0 in
+      let sizes = or_none (nat_lt size 1) (nat_lt 256 size) one.0 in
+      let few : length d.disks < 8 = grind (arith, nat_tests, all.1) in
+      record {
+        items = k.items;
+        disks = record {
+          each = all_push DiskKept d.disks (record { size = size; freq = freq }) k.disks.each (record { some = grind (arith, nat_tests, sizes.0); few = grind (arith, nat_tests, sizes.1); freq = one.1 });
+          few = omega (arith, length-append d.disks (record { size = size; freq = freq } ∷ []));
+        };
+        updates = k.updates;
+        readers = k.readers;
+        queries = k.queries;
+        script = k.script;
+        set = k.set;
+      }
+
+  kept_reader : (room age tries : ℕ) → first_of (draft_tests d (e.Reader room age tries)) ≡ None → Kept (with_entry d (e.Reader room age tries))
+  kept_reader room age tries none =
+      let t = none_of_one 7 (nat_lt 256 room || nat_lt 10000 age || (nat_lt tries 1 || nat_lt 16 tries) || nat_le 64 (length d.readers)) none in
+      let all = or_none (nat_lt 256 room || nat_lt 10000 age || (nat_lt tries 1 || nat_lt 16 tries)) (nat_le 64 (length d.readers)) t in
+      let plan = or_none (nat_lt 256 room || nat_lt 10000 age) (nat_lt tries 1 || nat_lt 16 tries) all.0 in
+      let copies = or_none (nat_lt 256 room) (nat_lt 10000 age) plan.0 in
+      let often = or_none (nat_lt tries 1) (nat_lt 16 tries) plan.1 in
+      let few : length d.readers < 64 = grind (arith, nat_tests, all.1) in
+      let reader : ReaderPlan = record { room = room; age = age; tries = tries } in
+      record {
+        items = k.items;
+        disks = k.disks;
+        updates = k.updates;
+        readers = record {
+          each = all_push ReaderKept d.readers reader k.readers.each (record {
+            within = record { room = grind (arith, nat_tests, copies.0); age = grind (arith, nat_tests, copies.1); tries = grind (arith, nat_tests, often.1) };
+            some = grind (arith, nat_tests, often.0);
+          });
+          few = omega (arith, length-append d.readers (reader ∷ []));
+        };
+        queries = k.queries;
+        script = k.script;
+        set = k.set;
+      }
+
+-- ---- lists of updates and of queries, and the script
+
+length_push : {A : Type 0} (lists : List (List A)) (i : ℕ) (x : A) → length (push_at lists i x) ≡ length lists
+length_push lists i x = length-set lists i (get_or lists i [] ++ x ∷ [])
+
+-- A list of lists loses nothing, and one that isn't pushed to stays.
+longer_push : {A : Type 0} (lists : List (List A)) (i k : ℕ) (x : A) → length (get_or lists k []) ≤ length (get_or (push_at lists i x) k [])
+longer_push lists i k x = elim (cases_eq k i) [
+  | inl e ↦ elim (cases_lt i (length lists)) [
+    | inl below ↦ omega (arith, ap (λ j. length (get_or lists j [])) e, ap (λ j. length (get_or (push_at lists i x) j [])) e, ap length (get_or-set_same lists i (get_or lists i [] ++ x ∷ []) [] below), length-append (get_or lists i []) (x ∷ []))
+    | inr past ↦ omega (arith, ap (λ l. length (get_or l k [])) (set_past lists i (get_or lists i [] ++ x ∷ []) past))
+  ]
+  | inr differs ↦ omega (arith, ap length (get_or-set_other lists i k (get_or lists i [] ++ x ∷ []) [] differs))
+]
+
+declared : (n : ℕ) (xs : List ℕ) → reaches n xs ≡ false → All (λ x. x < n) xs
+declared n xs none k d below = let one = none_all (nat_le n) xs none k d below in grind (arith, nat_tests, one)
+
+written : (n : ℕ) (ws : List Write) → list_any (write_reaches n) ws ≡ false → All (λ w. w.item < n) ws
+written n ws none k d below =
+    let one = (or_none (nat_le n (get_or ws k d).item) (option_any (nat_le n) (get_or ws k d).base) (none_all (write_reaches n) ws none k d below)).0 in
+    grind (arith, nat_tests, one)
+
+no_parts : (by : ℕ) (script : List (Option ℕ)) → list_any (option_any (nat_le 16)) script ≡ false → 16 ≤ by → count_parts by script ≡ 0
+no_parts by [] none past = refl
+no_parts by (event ∷ script) none past =
+    let both = or_none (option_any (nat_le 16) event) (list_any (option_any (nat_le 16)) script) none in
+    let more = no_parts by script both.1 past in
+    omega (arith, sum_by-cons (λ x. cond (is_part_of by x) 1 0) event script, one event both.0)
+  where
+    one : (event : Option ℕ) → option_any (nat_le 16) event ≡ false → ◌≡◌ {A = ℕ} (cond (is_part_of by event) 1 0) 0
+    one None h = refl
+    one (Some who) h = let low : who < 16 = grind (arith, nat_tests, h) in let other : (who == by) ≡ false = grind arith in rw other refl
+
+module _ (d : DraftValue) (k : Kept d) where
+  kept_update : (by : ℕ) (rs : List ℕ) (ws : List Write) → list_all is_signed ws ≡ true → All (λ w. w.amount < 2 ^ 64) ws → first_of (draft_tests d (e.Update by rs ws)) ≡ None
+      → Kept (with_entry d (e.Update by rs ws))
+  kept_update by rs ws signed amounts none =
+      let t = update_tested (length d.items) by d.update_count rs ws none in
+      let u : UpdateLists = record { reads = rs; writes = ws } in
+      let right : IsUpdate (length d.items) u = record {
+        rules = rules_kept (length d.items) by d.update_count rs ws signed none;
+        fits = record { reads = declared (length d.items) rs t.reads; writes = written (length d.items) ws t.writes };
+        amounts = amounts;
+      } in
+      record {
+        items = k.items;
+        disks = k.disks;
+        updates = record {
+          each = each_push (IsUpdate (length d.items)) d.updates by u k.updates.each right;
+          lists = length_push d.updates by u ∙ k.updates.lists;
+          few = let old = k.updates.few in let new = t.updater in omega arith;
+          past = λ i above. let other : i ≢ by = (λ e. absurd (omega (arith, above, e))) in
+              ap length (get_or-set_other d.updates by i (get_or d.updates by [] ++ u ∷ []) [] other) ∙ k.updates.past i (omega (arith, above));
+          few_in_all = let few = t.few in omega arith;
+          all = let more = sum_push d.updates by u in let old = k.updates.all in omega arith;
+        };
+        readers = k.readers;
+        queries = k.queries;
+        script = record {
+          few = k.script.few;
+          few_starts = k.script.few_starts;
+          updaters = k.script.updaters;
+          fits = λ i. let old = k.script.fits i in let more = longer_push d.updates by i u in omega arith;
+        };
+        set = k.set;
+      }
+
+  kept_query : (reader : ℕ) (asked : List ℕ) → first_of (draft_tests d (e.Query reader asked)) ≡ None → Kept (with_entry d (e.Query reader asked))
+  kept_query reader asked none =
+      let t = none_of_three 4 5 7 (nat_le (length d.readers) reader || reaches (length d.items) asked) (has_repeat asked) ((nat_lt (length asked) 1 || nat_lt 16 (length asked)) || nat_le 10000 d.query_count) none in
+      let four = or_none (nat_le (length d.readers) reader) (reaches (length d.items) asked) t.0 in
+      let seven = or_none (nat_lt (length asked) 1 || nat_lt 16 (length asked)) (nat_le 10000 d.query_count) t.2 in
+      let size = or_none (nat_lt (length asked) 1) (nat_lt 16 (length asked)) seven.0 in
+      let few : d.query_count < 10000 = grind (arith, nat_tests, seven.1) in
+      let right : QueryKept (length d.items) asked = record {
+        query = record { filled = grind (arith, nat_tests, size.0); distinct = t.1; within = declared (length d.items) asked four.1 };
+        few = grind (arith, nat_tests, size.1);
+      } in
+      record {
+        items = k.items;
+        disks = k.disks;
+        updates = k.updates;
+        readers = k.readers;
+        queries = record {
+          each = each_push (QueryKept (length d.items)) d.queries reader asked k.queries.each right;
+          lists = length_push d.queries reader asked ∙ k.queries.lists;
+          few_in_all = omega arith;
+          all = let more = sum_push d.queries reader asked in let old = k.queries.all in omega arith;
+        };
+        script = k.script;
+        set = k.set;
+      }
+
+  kept_script : (events : List (Option ℕ)) → first_of (draft_tests d (e.Script events)) ≡ None → Kept (with_entry d (e.Script events))
+  kept_script events none =
+      let t = none_of_two 7 11 (script_passes d.script events) (some_below 16 (λ by. nat_lt (length (get_or d.updates by [])) (count_parts by (d.script ++ events)))) none in
+      let seven = or_none (list_any (option_any (nat_le 16)) events || nat_lt 200000 (length d.script + length events)) (nat_lt 10000 (count_starts d.script + count_starts events)) t.0 in
+      let front = or_none (list_any (option_any (nat_le 16)) events) (nat_lt 200000 (length d.script + length events)) seven.0 in
+      let few : length d.script + length events ≤ 200000 = grind (arith, nat_tests, front.1) in
+      let starts : count_starts d.script + count_starts events ≤ 10000 = grind (arith, nat_tests, seven.1) in
+      let updaters : list_any (option_any (nat_le 16)) (d.script ++ events) ≡ false = list_any-append (option_any (nat_le 16)) d.script events ∙ rw (k.script.updaters, front.0) refl in
+      record {
+        items = k.items;
+        disks = k.disks;
+        updates = k.updates;
+        readers = k.readers;
+        queries = k.queries;
+        script = record {
+          few = omega (arith, length-append d.script events);
+          few_starts = omega (arith, starts_all d.script events);
+          updaters = updaters;
+          fits = λ by. elim (cases_lt by 16) [
+            | inl below ↦ let one = none_below 16 by (λ by. nat_lt (length (get_or d.updates by [])) (count_parts by (d.script ++ events))) below t.1 in grind (arith, nat_tests, one)
+            | inr past ↦ let no = no_parts by (d.script ++ events) updaters past in omega arith
+          ];
+        };
+        set = k.set;
+      }
+
+  kept_set : (s : Setting) → InRange s → Kept (with_entry d (e.Set s))
+  kept_set s range = record {
+    items = k.items;
+    disks = k.disks;
+    updates = k.updates;
+    readers = k.readers;
+    queries = k.queries;
+    script = k.script;
+    set = all_push InRange d.set s k.set range;
+  }
+
+-- One more entry.
+pub kept_more : (d : DraftValue) (x : Entry) → Kept d → Spelt x → first_of (draft_tests d x) ≡ None → Kept (with_entry d x)
+kept_more d (e.Item id value rate) k spelt none = kept_item d k id value rate spelt none
+kept_more d (e.Disk size freq) k spelt none = kept_disk d k size freq none
+kept_more d (e.Update by reads writes) k spelt none = kept_update d k by reads writes spelt.0 spelt.1 none
+kept_more d (e.Reader room age tries) k spelt none = kept_reader d k room age tries none
+kept_more d (e.Query reader items) k spelt none = kept_query d k reader items none
+kept_more d (e.Script events) k spelt none = kept_script d k events none
+kept_more d (e.Set s) k spelt none = kept_set d k s spelt

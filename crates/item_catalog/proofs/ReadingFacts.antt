@@ -1,0 +1,82 @@
+-- What is answered of a text whose first records were read: the fault of the next one, or that of the end, or the deck.
+use Rattle.std.proofs.Common.{◌≡◌, ◌+◌, ◌++◌, ◌∷◌, [], ℕ, List, Option, Some, None, Result, Ok, Err, ◌∙◌, sym, refl, ap, subst, arith, length}
+use Rattle.std.specs.Prelude.{IfErr, IfOk}
+use Rattle.csv.specs.Machine.{next_record}
+use Rattle.csv.specs.Reading.{Reached, default_config, strip_bom}
+use Rattle.csv.specs.declared.parser.State.{State}
+use Rattle.csv.specs.declared.parser.State.TheVariants as st
+use Rattle.air_model.specs.Decks.{Deck}
+use Rattle.item_catalog.specs.Decks.{deck_of}
+use Rattle.item_catalog.specs.Drafts.{DraftValue, deck_from, draft_of, judged}
+use Rattle.item_catalog.specs.Ends.{CanEnd, EndsBy}
+use Rattle.item_catalog.specs.Entries.{entry_of}
+use Rattle.item_catalog.specs.Faults.{end_tests, entries_in, first_of}
+use Rattle.item_catalog.specs.Grammar.{Faultless, HasFault, IsAnswer, IsFirstFault, RowsSpell, Spells}
+use Rattle.item_catalog.specs.Parts.{disks_in, items_in}
+use Rattle.item_catalog.specs.Records.{records_of}
+use Rattle.item_catalog.specs.declared.faults.DeckError.{DeckError}
+use Rattle.item_catalog.specs.declared.faults.DeckError.TheVariants as error
+use Rattle.item_catalog.proofs.KeptRows.{kept_all}
+use Rattle.item_catalog.proofs.PlaceFacts.{ended_bad, ended_good, refused}
+use Rattle.item_catalog.proofs.RowFacts.{all_first, all_rows}
+use Rattle.item_catalog.proofs.WellMadeFacts.{deck_same, delta_small, made, within}
+
+-- The first kind at the end of records.
+abbrev pub end_of : List (List (List ℕ)) → Option ℕ
+end_of rows = first_of (end_tests (length (items_in (entries_in rows))) (disks_in (entries_in rows)))
+
+pub can_end : (rows : List (List (List ℕ))) → Faultless rows (length rows) → CanEnd (draft_of (entries_in rows))
+can_end rows before none =
+    let k = kept_all rows before in let d = draft_of (entries_in rows) in
+    (made d k none, within d k none, delta_small d k none)
+
+module _ (text : List ℕ) (rows : List (List (List ℕ))) (before : Faultless rows (length rows)) (state : State) (left : List ℕ) where
+  pub read_fault : (row : List (List ℕ)) (kind : ℕ) → Reached default_config st.StartRecord (strip_bom text) (rows ++ row ∷ []) state left
+      → judged (draft_of (entries_in rows)) (entry_of row) ≡ Some kind → HasFault text (length rows + 1) kind
+  unfolding HasFault
+  read_fault row kind reached h =
+      let all = all_first default_config (strip_bom text) (rows ++ row ∷ []) state left reached in
+      let P : List (List (List ℕ)) → Type 0 = λ all. IsFirstFault all (length rows) kind in
+      (length rows, refl, subst P (sym all.1) (refused rows row all.0 kind before h))
+
+  module _ (reached : Reached default_config st.StartRecord (strip_bom text) rows state left) (end : next_record default_config state [] [] left ≡ None) where
+    every_row : records_of text ≡ rows
+    every_row = all_rows default_config (strip_bom text) rows state left reached end
+
+    pub read_end_fault : (kind : ℕ) → end_of rows ≡ Some kind → HasFault text (length rows + 1) kind
+    unfolding HasFault
+    read_end_fault kind h =
+        let P : List (List (List ℕ)) → Type 0 = λ all. IsFirstFault all (length rows) kind in
+        (length rows, refl, subst P (sym every_row) (ended_bad rows kind before h))
+
+    pub read_deck_is : end_of rows ≡ None → Spells text (deck_from (draft_of (entries_in rows)))
+    unfolding Spells
+    read_deck_is h =
+        let P : List (List (List ℕ)) → Type 0 = λ all. RowsSpell all (deck_from (draft_of (entries_in rows))) in
+        subst P (sym every_row) (record { faultless = ended_good rows before h; parts = deck_same (entries_in rows) (kept_all rows before) })
+
+-- What the end answers, where the draft has what the records declare.
+pub ok_more : {A E : Type 0} (r : Result A E) (P Q : A → Type 0) → ((x : A) → P x → Q x) → IfOk r P → IfOk r Q
+ok_more (Ok x) P Q f h = f x h
+ok_more (Err e) P Q f h = tt
+
+pub err_more : {A E : Type 0} (r : Result A E) (P Q : E → Type 0) → ((e : E) → P e → Q e) → IfErr r P → IfErr r Q
+err_more (Ok x) P Q f h = tt
+err_more (Err e) P Q f h = f e h
+
+module _ (text : List ℕ) (rows : List (List (List ℕ))) (before : Faultless rows (length rows)) (state : State) (left : List ℕ)
+    (reached : Reached default_config st.StartRecord (strip_bom text) rows state left) (end : next_record default_config state [] [] left ≡ None)
+    (draft : DraftValue) (same : draft ≡ draft_of (entries_in rows)) (row : ℕ) (number : row ≡ length rows + 1) where
+  kind_same : first_of (end_tests (length draft.items) draft.disks) ≡ end_of rows
+  kind_same = ap (λ (d : DraftValue). first_of (end_tests (length d.items) d.disks)) same
+
+  pub ends_deck : (deck : Deck) → (first_of (end_tests (length draft.items) draft.disks) ≡ None) × (deck ≡ deck_from draft) → Spells text deck
+  ends_deck deck h =
+      let P : Deck → Type 0 = λ deck. Spells text deck in
+      subst P (sym (h.1 ∙ ap deck_from same)) (read_deck_is text rows before state left reached end (sym kind_same ∙ h.0))
+
+  pub ends_fault : (e : DeckError) → EndsBy row (first_of (end_tests (length draft.items) draft.disks)) e → IsAnswer text e
+  ends_fault (error.Fault fault) h =
+      let P : ℕ → Type 0 = λ r. HasFault text r fault.kind in
+      subst P (sym (h.0 ∙ number)) (read_end_fault text rows before state left reached end fault.kind (sym kind_same ∙ h.1))
+  ends_fault error.NoMemory h = absurd h

@@ -1,0 +1,86 @@
+use Rattle.std.proofs.Common.{◌≡◌, ◌∙◌, List, ℕ, None, Some, Ok, Result, ap, drop, length, refl, sym, arith}
+use Rattle.csv.specs.Records.{fields_of}
+use Rattle.air_base.specs.Numbers.{number_of}
+use Rattle.air_base.specs.NumberLists.{list_of}
+use Rattle.air_history.specs.declared.updates.Write.{Write}
+use Rattle.air_history.specs.UpdateLists.{UpdateLists}
+use Rattle.air_history.specs.UpdateRules.{update_fault}
+use Rattle.item_catalog.specs.Drafts.{DraftValue, judged}
+use Rattle.item_catalog.specs.Entries as e
+use Rattle.item_catalog.specs.Entries.{Entry, update_by}
+use Rattle.item_catalog.specs.Faults.{first_of, update_tests}
+use Rattle.item_catalog.specs.Fields.{three_of, write_of}
+use Rattle.item_catalog.specs.Seen.{ItemsSeen, WritesSeen, items_seen, seen_update_kind, writes_seen}
+use Rattle.item_catalog.proofs.EntryFacts.{read_is_some, rules_kept, update_spelled, writes_signed}
+use Rattle.item_catalog.proofs.WriteFacts.{update_kept, update_seen}
+use Rattle.item_catalog.proofs.deck.draft.Draft.read_update.Goals as goal
+use Rattle.item_catalog.proofs.deck.draft.Draft.read_update.Goals.{After-update_kind}
+
+-- The lists that were read, and what the tests say of them.
+record Lists (c : After-update_kind) : Type 0 where
+  rs : List ℕ
+  ws : List Write
+  spelled : update_by (three_of (drop 1 (fields_of c.args.row.now))) ≡ Ok (e.Update c.in-Some-read_u64.by rs ws)
+  listed : list_of write_of c.in-Some.writes.now ≡ Some ws
+  reads : c.read.new.self ≡ items_seen (length c.args.self.now.items) rs
+  writes : c.read-2.new.self ≡ writes_seen (length c.args.self.now.items) (items_seen (length c.args.self.now.items) rs).items ws
+  told : c.update_kind.result ≡ first_of (update_tests (length c.args.self.now.items) c.args.self.now.update_count c.in-Some-read_u64.by rs ws)
+
+lists : (c : After-update_kind) → Lists c
+lists c =
+    let r = read_is_some c.in_ok-read.field-0 (list_of number_of c.in-Some.reads.now) (λ items. c.read.new.self ≡ items_seen c.len-declared.result items) c.in_ok-read.ensures c.if-not-branch.false in
+    let w = read_is_some c.in_ok-read-2.field-0 (list_of write_of c.in-Some.writes.now) (λ writes. c.read-2.new.self ≡ writes_seen c.len-declared.result c.read.new.self.items writes) c.in_ok-read-2.ensures c.if-not-branch-2.false in
+    let by = c.in-Some-read_u64.by in let n = length c.args.self.now.items in
+    let same : c.len-declared.result ≡ n = omega (arith, c.len-declared.ensures, ap (λ (d : DraftValue). length d.items) c.self.view_is) in
+    let reads : c.read.new.self ≡ items_seen n r.0 = r.2 ∙ ap (λ k. items_seen k r.0) same in
+    let writes : c.read-2.new.self ≡ writes_seen n (items_seen n r.0).items w.0 = w.2 ∙ ap (λ k. writes_seen k c.read.new.self.items w.0) same ∙ ap (λ (s : ItemsSeen). writes_seen n s.items w.0) reads in
+    let given : c.self.inside.update_count ≡ c.args.self.now.update_count = ap (λ (d : DraftValue). d.update_count) c.self.view_is in
+    record {
+      rs = r.0;
+      ws = w.0;
+      spelled = update_spelled (three_of (drop 1 (fields_of c.args.row.now))) c.in-Some.by.now c.in-Some.reads.now c.in-Some.writes.now c.in-Some-read_u64.by r.0 w.0 c.in-Some.ensures (sym c.in-Some-read_u64.ensures) r.1 w.1;
+      listed = w.1;
+      reads = reads;
+      writes = writes;
+      told = c.update_kind.ensures ∙ ap (λ (s : ItemsSeen). seen_update_kind s c.read-2.new.self by c.self.inside.update_count) reads
+          ∙ ap (λ (s : WritesSeen). seen_update_kind (items_seen n r.0) s by c.self.inside.update_count) writes ∙ ap (λ g. seen_update_kind (items_seen n r.0) (writes_seen n (items_seen n r.0).items w.0) by g) given
+          ∙ update_seen n r.0 w.0 c.in-Some-read_u64.by c.args.self.now.update_count;
+    }
+
+pub returns-in-Some-update_kind-clause-read : goal.returns-in-Some-update_kind-clause-read
+returns-in-Some-update_kind-clause-read c =
+    let l = lists (goal.at.returns-in-Some-update_kind-clause-read c).After-update_kind in
+    ap (judged c.args.self.now) l.spelled ∙ sym l.told ∙ c.in-Some-update_kind.is
+
+-- An update of two lists, and what a record spells by it.
+abbrev lists_of : List ℕ → List Write → UpdateLists
+lists_of reads writes = record { reads = reads; writes = writes }
+
+abbrev result_of : ℕ → UpdateLists → Result Entry ℕ
+result_of by u = Ok (e.Update by u.reads u.writes)
+
+-- No kind applies where none was told, and the lists that were kept are those of the record.
+none_told : (c : After-update_kind) (l : Lists c) → c.update_kind.result ≡ None → first_of (update_tests (length c.args.self.now.items) c.args.self.now.update_count c.in-Some-read_u64.by l.rs l.ws) ≡ None
+none_told c l none = sym l.told ∙ none
+
+reads_kept : (c : After-update_kind) (l : Lists c) → c.update_kind.result ≡ None → c.read.new.self.items ≡ l.rs
+reads_kept c l none = ap (λ (s : ItemsSeen). s.items) l.reads ∙ (update_kept (length c.args.self.now.items) l.rs l.ws c.in-Some-read_u64.by c.args.self.now.update_count (none_told c l none)).0
+
+writes_kept : (c : After-update_kind) (l : Lists c) → c.update_kind.result ≡ None → c.read-2.new.self.writes ≡ l.ws
+writes_kept c l none = ap (λ (s : WritesSeen). s.writes) l.writes ∙ (update_kept (length c.args.self.now.items) l.rs l.ws c.in-Some-read_u64.by c.args.self.now.update_count (none_told c l none)).1
+
+pub make_update-requires : goal.make_update-requires
+make_update-requires c =
+    let a = (goal.at.make_update-requires c).After-update_kind in let l = lists a in
+    ap (λ r. update_fault r c.writes.result.now) (c.items.ensures ∙ reads_kept a l c.in_default-update_kind.is) ∙ ap (λ w. update_fault l.rs w) (c.writes.ensures ∙ writes_kept a l c.in_default-update_kind.is)
+    ∙ rules_kept (length c.args.self.now.items) c.in-Some-read_u64.by c.args.self.now.update_count l.rs l.ws (writes_signed c.in-Some.writes.now l.ws l.listed) (none_told a l c.in_default-update_kind.is)
+
+pub returns-clause-read : goal.returns-clause-read
+returns-clause-read c =
+    let a = (goal.at.returns-clause-read c).After-update_kind in let l = lists a in
+    let reads : c.items.result.now ≡ l.rs = c.items.ensures ∙ reads_kept a l c.in_default-update_kind.is in
+    let writes : c.writes.result.now ≡ l.ws = c.writes.ensures ∙ writes_kept a l c.in_default-update_kind.is in
+    let made : c.in_ok-update.update ≡ record { reads = l.rs; writes = l.ws } = c.in_ok-update.ensures.made ∙ ap (λ r. lists_of r c.writes.result.now) reads ∙ ap (λ w. lists_of l.rs w) writes in (
+      ap (judged c.args.self.now) l.spelled ∙ none_told a l c.in_default-update_kind.is,
+      l.spelled ∙ sym (ap (λ (u : UpdateLists). result_of c.in-Some-read_u64.by u) made),
+    )

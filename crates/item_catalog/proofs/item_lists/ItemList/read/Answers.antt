@@ -1,0 +1,47 @@
+use Rattle.std.proofs.Common.{◌≡◌, ◌<◌, ◌≤◌, ◌∙◌, ◌++◌, ◌∷◌, [], ℕ, Some, None, arith, ap, length, refl, sym}
+use Rattle.std.proofs.lemmas.List.{nil_from_length}
+use Rattle.std.proofs.lemmas.Bool.Decides.{nat_tests}
+use Rattle.air_base.specs.Numbers.{number_of}
+use Rattle.air_base.specs.NumberLists.{list_of}
+use Rattle.item_catalog.specs.Fronts.{after_part}
+use Rattle.item_catalog.specs.Seen.{items_seen, see_item}
+use Rattle.item_catalog.proofs.ListFronts.{after_short, joined_none, list_bad, list_empty, list_last, list_more, list_spelled, spelled}
+use Rattle.item_catalog.proofs.SeenFacts.{items_more, read_none, read_some}
+use Rattle.item_catalog.proofs.item_lists.ItemList.read.Goals as goal
+
+pub returns-then-is_empty : goal.returns-then-is_empty
+unfolding items_seen
+returns-then-is_empty c =
+    let none : length c.args.text.now ≡ 0 = grind (arith, nat_tests) in
+    read_some (list_of number_of c.args.text.now) [] _ (list_empty number_of c.args.text.now none) c.clear.ensures
+
+pub loop-item-init : goal.loop-item-init
+unfolding items_seen
+loop-item-init c =
+    let some : 0 < length c.args.text.now = grind (arith, nat_tests) in
+    ([], c.clear.ensures, joined_none (spelled number_of c.args.text.now) ∙ sym (list_spelled number_of c.args.text.now some))
+
+pub returns-in_default : goal.returns-in_default
+returns-in_default c =
+    let inv = c.loop-item.invariant in
+    read_none (list_of number_of c.args.text.now) _ (list_bad number_of _ inv.0 c.loop-item.rest.now inv.2 c.in_default.ensures)
+
+pub returns-in_default-split_first : goal.returns-in_default-split_first
+returns-in_default-split_first c =
+    let inv = c.loop-item.invariant in
+    let end : c.in-Some.after.now ≡ [] = nil_from_length c.in-Some.after.now c.in_default-split_first.ensures.cases in
+    read_some (list_of number_of c.args.text.now) (inv.0 ++ c.in-Some.item ∷ []) _ (list_last number_of _ inv.0 c.loop-item.rest.now inv.2 c.in-Some.item c.in-Some.ensures.0 (sym c.in-Some.ensures.1 ∙ end))
+    (c.in_ok-see.ensures ∙ ap (λ s. see_item c.args.declared s c.in-Some.item) inv.1 ∙ sym (items_more c.args.declared inv.0 c.in-Some.item))
+
+pub loop-item-smaller : goal.loop-item-smaller
+loop-item-smaller c =
+    let short = after_short c.loop-item.rest.now in
+    omega (arith, ap length c.in-Some.ensures.1, c.in-Some-split_first.ensures.cases.1)
+
+pub loop-item-preserved : goal.loop-item-preserved
+loop-item-preserved c =
+    let inv = c.loop-item.invariant in (
+      inv.0 ++ c.in-Some.item ∷ [],
+      c.in_ok-see.ensures ∙ ap (λ s. see_item c.args.declared s c.in-Some.item) inv.1 ∙ sym (items_more c.args.declared inv.0 c.in-Some.item),
+      list_more number_of _ inv.0 c.loop-item.rest.now inv.2 c.in-Some.item _ c.in-Some-split_first.more.now c.in-Some.ensures.0 (sym c.in-Some.ensures.1 ∙ c.in-Some-split_first.ensures.cases.0),
+    )

@@ -1,0 +1,13 @@
+use Rattle.std.proofs.Common.{◌≡◌, ℕ, List, length}
+use Rattle.air_base.specs.Numbers.{number_of}
+use Rattle.air_base.specs.NumberLists.{list_of}
+use Rattle.item_catalog.specs.Seen.{items_seen}
+use Rattle.item_catalog.proofs.ListFronts.{joined, spelled}
+use Rattle.item_catalog.proofs.item_lists.ItemList.read.Given as goal
+
+-- Some items were read, and what the rest spells with them is what the text spells.
+abbrev pub invariant-loop-item : goal.invariant-loop-item
+invariant-loop-item l = (done : List ℕ) × (l.self ≡ items_seen l.declared done) × (joined done (spelled number_of l.rest) ≡ list_of number_of l.fn.text)
+
+abbrev pub decreases-loop-item : goal.decreases-loop-item
+decreases-loop-item l = length l.rest

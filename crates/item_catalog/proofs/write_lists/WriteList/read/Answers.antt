@@ -1,0 +1,47 @@
+use Rattle.std.proofs.Common.{◌≡◌, ◌<◌, ◌≤◌, ◌∙◌, ◌++◌, ◌∷◌, [], ℕ, Some, None, arith, ap, length, refl, sym}
+use Rattle.std.proofs.lemmas.List.{nil_from_length}
+use Rattle.std.proofs.lemmas.Bool.Decides.{nat_tests}
+use Rattle.item_catalog.specs.Fields.{write_of}
+use Rattle.air_base.specs.NumberLists.{list_of}
+use Rattle.item_catalog.specs.Fronts.{after_part}
+use Rattle.item_catalog.specs.Seen.{see_write, write_said, writes_seen}
+use Rattle.item_catalog.proofs.ListFronts.{after_short, joined_none, list_bad, list_empty, list_last, list_more, list_spelled, spelled}
+use Rattle.item_catalog.proofs.SeenFacts.{writes_more, read_none, read_some}
+use Rattle.item_catalog.proofs.write_lists.WriteList.read.Goals as goal
+
+pub returns-then-is_empty : goal.returns-then-is_empty
+unfolding writes_seen
+returns-then-is_empty c =
+    let none : length c.args.text.now ≡ 0 = grind (arith, nat_tests) in
+    read_some (list_of write_of c.args.text.now) [] _ (list_empty write_of c.args.text.now none) c.clear.ensures
+
+pub loop-write-init : goal.loop-write-init
+unfolding writes_seen
+loop-write-init c =
+    let some : 0 < length c.args.text.now = grind (arith, nat_tests) in
+    ([], c.clear.ensures, joined_none (spelled write_of c.args.text.now) ∙ sym (list_spelled write_of c.args.text.now some))
+
+pub returns-in_default : goal.returns-in_default
+returns-in_default c =
+    let inv = c.loop-write.invariant in
+    read_none (list_of write_of c.args.text.now) _ (list_bad write_of _ inv.0 c.loop-write.rest.now inv.2 c.in_default.ensures)
+
+pub returns-in_default-split_first : goal.returns-in_default-split_first
+returns-in_default-split_first c =
+    let inv = c.loop-write.invariant in
+    let end : c.in-Some.after.now ≡ [] = nil_from_length c.in-Some.after.now c.in_default-split_first.ensures.cases in
+    read_some (list_of write_of c.args.text.now) (inv.0 ++ (write_said c.in-Some.write) ∷ []) _ (list_last write_of _ inv.0 c.loop-write.rest.now inv.2 (write_said c.in-Some.write) c.in-Some.ensures.0 (sym c.in-Some.ensures.1 ∙ end))
+    (c.in_ok-see.ensures ∙ ap (λ s. see_write c.args.declared c.args.reads.now.items s (write_said c.in-Some.write)) inv.1 ∙ sym (writes_more c.args.declared c.args.reads.now.items inv.0 (write_said c.in-Some.write)))
+
+pub loop-write-smaller : goal.loop-write-smaller
+loop-write-smaller c =
+    let short = after_short c.loop-write.rest.now in
+    omega (arith, ap length c.in-Some.ensures.1, c.in-Some-split_first.ensures.cases.1)
+
+pub loop-write-preserved : goal.loop-write-preserved
+loop-write-preserved c =
+    let inv = c.loop-write.invariant in (
+      inv.0 ++ (write_said c.in-Some.write) ∷ [],
+      c.in_ok-see.ensures ∙ ap (λ s. see_write c.args.declared c.args.reads.now.items s (write_said c.in-Some.write)) inv.1 ∙ sym (writes_more c.args.declared c.args.reads.now.items inv.0 (write_said c.in-Some.write)),
+      list_more write_of _ inv.0 c.loop-write.rest.now inv.2 (write_said c.in-Some.write) _ c.in-Some-split_first.more.now c.in-Some.ensures.0 (sym c.in-Some.ensures.1 ∙ c.in-Some-split_first.ensures.cases.0),
+    )

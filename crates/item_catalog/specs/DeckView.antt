@@ -1,0 +1,25 @@
+-- What contracts see of the fields of a deck, and what these keep.
+use Rattle.std.specs.Prelude.{◌≡◌, ◌≤◌, map}
+use Rattle.air_model.specs.Decks.{Deck, IsDeck}
+use Rattle.item_catalog.specs.DeckLimits.{WithinLimits, script_starts}
+use Rattle.item_catalog.specs.Decks.{plain_item, with_freqs}
+use Rattle.item_catalog.specs.declared.deck.Deck.TheInside.{Inside}
+
+-- The plain deck of the fields: a frequency that isn't said is made of delta.
+abbrev pub deck_seen : Inside → Deck
+deck_seen d = record {
+  items = map plain_item d.items.items;
+  disks = with_freqs d.delta d.disks.items;
+  updates = d.updates.items;
+  readers = d.readers.items;
+  queries = d.queries.items;
+  script = d.script.items;
+  settings = d.settings;
+}
+
+-- A deck is well made and within the limits, delta is at most 9, and the starts are counted.
+pub record DeckKept (d : Inside) : Type 0 where
+  pub made : IsDeck (deck_seen d)
+  pub limits : WithinLimits (deck_seen d)
+  pub delta : d.delta ≤ 9
+  pub starts : d.starts ≡ script_starts (deck_seen d)

@@ -1,0 +1,112 @@
+-- A deck while it is read: what the entries so far declare, and what one more entry adds.
+use Rattle.std.specs.Prelude.{◌≡◌, ◌+◌, ◌++◌, ℕ, List, [], ◌∷◌, Bool, true, false, Option, Some, None, Result, Ok, Err, length, max, get_or, map, slice_set, take, if◌then◌else◌}
+use Rattle.air_history.specs.UpdateLists.{UpdateLists}
+use Rattle.air_model.specs.declared.deck.ReaderPlan.{ReaderPlan}
+use Rattle.item_catalog.specs.Entries.{Entry}
+use Rattle.item_catalog.specs.Entries as e
+use Rattle.item_catalog.specs.Limits.{most_updaters, most_readers}
+use Rattle.item_catalog.specs.Parts.{items_in, disks_in, updates_in, updaters_in, count_updates, readers_in, queries_in, count_queries, script_in, set_in}
+use Rattle.air_model.specs.Decks.{Deck}
+use Rattle.item_catalog.specs.Decks.{for_each, plain_item, with_freqs}
+use Rattle.item_catalog.specs.Settings.{number_in, settings_in}
+use Rattle.item_catalog.specs.declared.settings.Name.TheVariants.{Delta}
+use Rattle.item_catalog.specs.Faults.{first_of, item_tests, disk_tests, update_tests, reader_tests, query_tests, script_tests, set_tests}
+use Rattle.item_catalog.specs.declared.parts.ItemPart.{ItemPart}
+use Rattle.item_catalog.specs.declared.parts.DiskPart.{DiskPart}
+use Rattle.item_catalog.specs.declared.settings.Setting.{Setting}
+use Rattle.item_catalog.specs.declared.refusals.Refusal.{Refusal}
+use Rattle.item_catalog.specs.declared.refusals.Refusal.TheVariants.{NoMemory, Kind}
+
+-- The parts so far, with a list for each updater and each reader that there can be.
+pub record DraftValue : Type 0 where
+  pub items : List ItemPart
+  pub disks : List DiskPart
+  pub updates : List (List UpdateLists)
+  pub updaters : ℕ
+  pub update_count : ℕ
+  pub readers : List ReaderPlan
+  pub queries : List (List (List ℕ))
+  pub query_count : ℕ
+  pub script : List (Option ℕ)
+  pub set : List Setting
+
+abbrev pub draft_of : List Entry → DraftValue
+draft_of entries = record {
+  items = items_in entries;
+  disks = disks_in entries;
+  updates = for_each most_updaters (updates_in entries);
+  updaters = updaters_in entries;
+  update_count = count_updates entries;
+  readers = readers_in entries;
+  queries = for_each most_readers (queries_in entries);
+  query_count = count_queries entries;
+  script = script_in entries;
+  set = set_in entries;
+}
+
+-- One more element at the end of the list at a place.
+abbrev pub push_at : {A : Type 0} → List (List A) → ℕ → A → List (List A)
+push_at lists place x = slice_set lists place (get_or lists place [] ++ x ∷ [])
+
+-- One more entry.
+abbrev pub with_entry : DraftValue → Entry → DraftValue
+with_entry d (e.Item id value rate) = record d { items = d.items ++ record { value = value; rate = rate } ∷ [] }
+with_entry d (e.Disk size freq) = record d { disks = d.disks ++ record { size = size; freq = freq } ∷ [] }
+with_entry d (e.Update by reads writes) = record d {
+  updates = push_at d.updates by (record { reads = reads; writes = writes });
+  updaters = max d.updaters (by + 1);
+  update_count = d.update_count + 1;
+}
+with_entry d (e.Reader room age tries) = record d { readers = d.readers ++ record { room = room; age = age; tries = tries } ∷ [] }
+with_entry d (e.Query reader items) = record d { queries = push_at d.queries reader items; query_count = d.query_count + 1 }
+with_entry d (e.Script events) = record d { script = d.script ++ events }
+with_entry d (e.Set setting) = record d { set = d.set ++ setting ∷ [] }
+
+-- The kinds that an entry may have after the parts so far, by rising kind, each with its test.
+abbrev pub draft_tests : DraftValue → Entry → List (ℕ × Bool)
+draft_tests d (e.Item id value rate) = item_tests (length d.items) id rate
+draft_tests d (e.Disk size freq) = disk_tests (length d.disks) size freq
+draft_tests d (e.Update by reads writes) = update_tests (length d.items) d.update_count by reads writes
+draft_tests d (e.Reader room age tries) = reader_tests (length d.readers) room age tries
+draft_tests d (e.Query reader items) = query_tests (length d.items) (length d.readers) d.query_count reader items
+draft_tests d (e.Script events) = script_tests (λ by. length (get_or d.updates by [])) d.script events
+draft_tests d (e.Set setting) = set_tests d.set setting
+
+-- The deck of the parts.
+abbrev pub deck_from : DraftValue → Deck
+deck_from d = record {
+  items = map plain_item d.items;
+  disks = with_freqs (number_in Delta d.set) d.disks;
+  updates = take d.updaters d.updates;
+  readers = d.readers;
+  queries = take (length d.readers) d.queries;
+  script = d.script;
+  settings = settings_in d.set;
+}
+
+-- The least kind that applies to what a record spells, and the parts with it.
+abbrev pub judged : DraftValue → Result Entry ℕ → Option ℕ
+judged d (Err kind) = Some kind
+judged d (Ok entry) = first_of (draft_tests d entry)
+
+abbrev pub with_spelled : DraftValue → Result Entry ℕ → DraftValue
+with_spelled d (Err kind) = d
+with_spelled d (Ok entry) = with_entry d entry
+
+-- A call adds what a record spells, where no kind applies; else it tells the least. What it leaves then is not told.
+abbrev pub Adds : {A : Type 0} → Result A Refusal → Result Entry ℕ → DraftValue → DraftValue → Type 0
+Adds (Ok _) spelled old new = (judged old spelled ≡ None) × (new ≡ with_spelled old spelled)
+Adds (Err (Kind kind)) spelled old new = judged old spelled ≡ Some kind
+Adds (Err NoMemory) spelled old new = Unit {0}
+
+-- A call reads what an update spells, and adds nothing.
+abbrev pub UpdateRead : Result (ℕ × UpdateLists) Refusal → Result Entry ℕ → DraftValue → Type 0
+UpdateRead (Ok read) spelled d = (judged d spelled ≡ None) × (spelled ≡ Ok (e.Update read.0 read.1.reads read.1.writes))
+UpdateRead (Err (Kind kind)) spelled d = judged d spelled ≡ Some kind
+UpdateRead (Err NoMemory) spelled d = Unit {0}
+
+-- The same for a query.
+abbrev pub QueryRead : Result (ℕ × List ℕ) Refusal → Result Entry ℕ → DraftValue → Type 0
+QueryRead (Ok read) spelled d = (judged d spelled ≡ None) × (spelled ≡ Ok (e.Query read.0 read.1))
+QueryRead (Err (Kind kind)) spelled d = judged d spelled ≡ Some kind
+QueryRead (Err NoMemory) spelled d = Unit {0}

@@ -1,0 +1,49 @@
+-- A text up to its first space, and what a reader of the value at the front of a list says of it.
+use Rattle.std.specs.Prelude.{◌≡◌, ◌==◌, ℕ, List, [], ◌∷◌, Bool, true, false, not, ◌&&◌, Option, Some, None, if◌then◌else◌}
+use Rattle.std.specs.Char.{is_ascii_digit}
+
+-- What stands before the first element that doesn't pass the test, and what stands from it on.
+abbrev pub front : (ℕ → Bool) → List ℕ → List ℕ
+front test [] = []
+front test (x ∷ xs) = if test x then x ∷ front test xs else []
+
+abbrev pub behind : (ℕ → Bool) → List ℕ → List ℕ
+behind test [] = []
+behind test (x ∷ xs) = if test x then behind test xs else x ∷ xs
+
+abbrev pub is_no_space : ℕ → Bool
+is_no_space byte = not (byte == 32)
+
+-- The first part of a list, and what follows it: a space, or nothing.
+unfoldable pub first_part : List ℕ → List ℕ
+first_part text = front is_no_space text
+
+unfoldable pub after_part : List ℕ → List ℕ
+after_part text = behind is_no_space text
+
+-- A text is empty or begins with a space.
+abbrev pub ends_part : List ℕ → Bool
+ends_part [] = true
+ends_part (byte ∷ bytes) = byte == 32
+
+-- A text begins with this byte.
+abbrev pub begins : ℕ → List ℕ → Bool
+begins byte [] = false
+begins byte (c ∷ cs) = c == byte
+
+-- A text's first part is the `s` of a start.
+abbrev pub begins_start : List ℕ → Bool
+begins_start [] = false
+begins_start (byte ∷ bytes) = (byte == 115) && ends_part bytes
+
+-- The digits at the front of a text, and what follows them.
+unfoldable pub digits_of : List ℕ → List ℕ
+digits_of text = front is_ascii_digit text
+
+unfoldable pub after_digits : List ℕ → List ℕ
+after_digits text = behind is_ascii_digit text
+
+-- The value of the first part of a list, with what follows it; none where the part has no value.
+abbrev pub FrontIs : {A : Type 0} → (List ℕ → Option A) → List ℕ → Option (A × List ℕ) → Type 0
+FrontIs value text None = value (first_part text) ≡ None
+FrontIs value text (Some f) = (value (first_part text) ≡ Some f.0) × (f.1 ≡ after_part text)

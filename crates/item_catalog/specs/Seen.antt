@@ -1,0 +1,89 @@
+-- Lists of items and of writes while they are read: what is kept of them, and what the tests ask.
+--
+-- Items and writes are kept as long as they are declared and distinct, so that at most as many are kept as there are
+-- items, however long a list is.
+use Rattle.std.specs.Prelude.{◌≡◌, ◌==◌, ◌||◌, ◌++◌, ◌<◌, ℕ, List, [], ◌∷◌, Bool, true, false, not, Option, Some, None, map, fold, length, get_or, nat_le, nat_lt, if◌then◌else◌}
+use Rattle.std.specs.List.{list_any}
+use Rattle.air_history.specs.declared.updates.Write.{Write}
+use Rattle.air_history.specs.UpdateRules.{item_of}
+use Rattle.item_catalog.specs.declared.fronts.WritePart.{WritePart}
+use Rattle.item_catalog.specs.Limits.{most_asked, most_queries, most_reads, most_updaters, most_updates, most_writes, outside}
+use Rattle.item_catalog.specs.Faults.{first_of, is_unread, script_passes, write_reaches}
+
+-- The items that are declared and distinct, in order; whether one wasn't declared, or stood twice.
+pub record ItemsSeen : Type 0 where
+  pub items : List ℕ
+  pub undeclared : Bool
+  pub repeated : Bool
+
+abbrev pub no_items : ItemsSeen
+no_items = record { items = []; undeclared = false; repeated = false }
+
+-- The number is one of these.
+abbrev pub among : List ℕ → ℕ → Bool
+among numbers n = list_any (λ other. other == n) numbers
+
+-- One more item, where items below n are declared.
+abbrev pub see_item : ℕ → ItemsSeen → ℕ → ItemsSeen
+see_item n seen item =
+    if nat_le n item then record seen { undeclared = true }
+    else if among seen.items item then record seen { repeated = true }
+    else record seen { items = seen.items ++ item ∷ [] }
+
+-- All of a list of items.
+unfoldable pub items_seen : ℕ → List ℕ → ItemsSeen
+items_seen n items = fold (see_item n) no_items items
+
+-- A write as an update has it.
+abbrev pub write_said : WritePart → Write
+write_said w = record { item = w.item; base = w.base; minus = w.minus; amount = w.amount }
+
+-- The writes of declared and distinct items, with declared bases, in order; whether one names what isn't declared, is of an
+-- item that was written before, or has a base that isn't read.
+pub record WritesSeen : Type 0 where
+  pub writes : List Write
+  pub undeclared : Bool
+  pub repeated : Bool
+  pub unread : Bool
+
+abbrev pub no_writes : WritesSeen
+no_writes = record { writes = []; undeclared = false; repeated = false; unread = false }
+
+-- One more write, where these items are read.
+abbrev pub see_write : ℕ → List ℕ → WritesSeen → Write → WritesSeen
+see_write n reads seen w =
+    if write_reaches n w then record seen { undeclared = true }
+    else if among (map item_of seen.writes) w.item then record seen { repeated = true }
+    else record seen { writes = seen.writes ++ w ∷ []; unread = seen.unread || is_unread reads w }
+
+-- All of a list of writes.
+unfoldable pub writes_seen : ℕ → List ℕ → List Write → WritesSeen
+writes_seen n reads writes = fold (see_write n reads) no_writes writes
+
+-- A reader of a list answers whether the text spells one, and what holds then.
+abbrev pub ReadIs : {A : Type 0} → Bool → Option A → (A → Type 0) → Type 0
+ReadIs read None Holds = read ≡ false
+ReadIs read (Some list) Holds = (read ≡ true) × Holds list
+
+-- An array of marks marks these items.
+abbrev pub Marks : List Bool → List ℕ → Type 0
+Marks marks items = (k : ℕ) → k < 256 → get_or marks k false ≡ among items k
+
+-- A reader of events answers whether they pass a limit, and has added them where they don't; none where the text spells no list.
+abbrev pub EventsRead : Option Bool → Option (List (Option ℕ)) → List (Option ℕ) → List (Option ℕ) → Type 0
+EventsRead read None old new = read ≡ None
+EventsRead read (Some events) old new = (read ≡ Some (script_passes old events)) × (script_passes old events ≡ false → new ≡ old ++ events)
+
+-- The first kind that an update has by what was seen of its lists, and the same of a query.
+abbrev pub seen_update_kind : ItemsSeen → WritesSeen → ℕ → ℕ → Option ℕ
+seen_update_kind reads writes by given = first_of (
+    (4, reads.undeclared || writes.undeclared) ∷
+    (5, reads.repeated || writes.repeated) ∷
+    (7, nat_le most_updaters by || nat_lt most_reads (length reads.items) || outside 1 most_writes (length writes.writes) || nat_le most_updates given) ∷
+    (8, writes.unread) ∷ [])
+
+abbrev pub seen_query_kind : ItemsSeen → ℕ → ℕ → ℕ → Option ℕ
+seen_query_kind asked readers reader given = first_of (
+    (4, nat_le readers reader || asked.undeclared) ∷
+    (5, asked.repeated) ∷
+    (7, outside 1 most_asked (length asked.items) || nat_le most_queries given) ∷ [])

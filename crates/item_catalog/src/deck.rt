@@ -1,0 +1,195 @@
+//! A deck in the grammar, as its records say it.
+
+ghost use Rattle.std.specs.Prelude.{◌≡◌, ◌<◌, ◌≤◌, ◌+◌, ◌*◌, [], length, get_or, slice_get, IfSome, Some};
+ghost use Rattle.air_model.specs.Decks.{IsDeck, updates_by};
+ghost use Rattle.item_catalog.specs.DeckLimits.{WithinLimits, script_starts};
+
+pub(crate) mod draft;
+
+use crate::parts::{DiskPart, ItemPart, Queries, Updates};
+use air_history::Update;
+use air_model::deck::{ReaderPlan, Settings};
+use std::marker::Model;
+
+/// A deck in the grammar.
+#[derive(Debug, Drop)]
+pub struct Deck {
+    items: Vec<ItemPart>,
+    disks: Vec<DiskPart>,
+    delta: u32,
+    updates: Vec<Updates>,
+    readers: Vec<ReaderPlan>,
+    queries: Vec<Queries>,
+    script: Vec<Option<u32>>,
+    starts: u32,
+    settings: Settings,
+}
+
+impl Model for Deck {
+    ghost use Rattle.air_model.specs.Decks.{Deck};
+    ghost use Rattle.item_catalog.specs.DeckView.{deck_seen, DeckKept};
+
+    ghost Value = { Deck };
+
+    ghost view = { deck_seen };
+
+    ghost invariant = { DeckKept };
+}
+
+impl Deck {
+    /// A deck is well made, and keeps the limits of the grammar.
+    pub fn well_made(&self)
+        ensures made { IsDeck self.now }
+        ensures limits { WithinLimits self.now }
+    {
+        let _items = &self.items;
+    }
+
+    /// The number of items.
+    pub fn items(&self) -> u16
+        ensures told { result ≡ length self.now.items }
+        ensures some { 1 ≤ result }
+        ensures few { result ≤ 256 }
+    {
+        self.items.len() as u16
+    }
+
+    /// The value of an item.
+    pub fn value(&self, i: u16) -> u64
+        requires { i < length self.now.items }
+        ensures { IfSome (slice_get self.now.items i) (λ item. result ≡ item.value) }
+    {
+        self.items[i as usize].value
+    }
+
+    /// The rate of an item.
+    pub fn rate(&self, i: u16) -> u32
+        requires { i < length self.now.items }
+        ensures told { IfSome (slice_get self.now.items i) (λ item. result ≡ item.rate) }
+        ensures most { result ≤ 1000000 }
+    {
+        self.items[i as usize].rate
+    }
+
+    /// The number of disks.
+    pub fn disks(&self) -> u32
+        ensures told { result ≡ length self.now.disks }
+        ensures few { result ≤ 8 }
+    {
+        self.disks.len() as u32
+    }
+
+    /// The number of items of a disk.
+    pub fn size(&self, d: u32) -> u16
+        requires { d < length self.now.disks }
+        ensures told { IfSome (slice_get self.now.disks d) (λ disk. result ≡ disk.size) }
+        ensures some { 1 ≤ result }
+        ensures few { result ≤ 256 }
+    {
+        self.disks[d as usize].size
+    }
+
+    /// How often a cycle airs each item of a disk.
+    pub fn freq(&self, d: u32) -> u32
+        requires { d < length self.now.disks }
+        ensures told { IfSome (slice_get self.now.disks d) (λ disk. result ≡ disk.freq) }
+        ensures some { 1 ≤ result }
+        ensures few { result ≤ 64 }
+    {
+        match self.disks[d as usize].freq {
+            Some(freq) => freq,
+            None => graded_freq(self.disks.len() as u32 - 1 - d, self.delta),
+        }
+    }
+
+    /// The number of updaters.
+    pub fn updaters(&self) -> u32
+        ensures told { result ≡ length self.now.updates }
+        ensures few { result ≤ 16 }
+    {
+        self.updates.len() as u32
+    }
+
+    /// The updates of an updater, in the order in which it commits them.
+    pub fn updates(&self, by: u32) -> &[Update]
+        requires { by < length self.now.updates }
+        ensures { result.now ≡ updates_by self.now by }
+    {
+        self.updates[by as usize].as_slice()
+    }
+
+    /// The number of readers.
+    pub fn readers(&self) -> u32
+        ensures told { result ≡ length self.now.readers }
+        ensures few { result ≤ 64 }
+    {
+        self.readers.len() as u32
+    }
+
+    /// The plan of a reader.
+    pub fn reader(&self, r: u32) -> ReaderPlan
+        requires { r < length self.now.readers }
+        ensures { slice_get self.now.readers r ≡ Some result }
+    {
+        self.readers[r as usize]
+    }
+
+    /// The number of queries of a reader.
+    pub fn queries(&self, r: u32) -> u32
+        requires { r < length self.now.readers }
+        ensures told { result ≡ length (get_or self.now.queries r []) }
+        ensures few { result ≤ 10000 }
+    {
+        self.queries[r as usize].len() as u32
+    }
+
+    /// The items of a query, in the order in which the reader reads them.
+    pub fn query(&self, r: u32, q: u32) -> &[u16]
+        requires reader { r < length self.now.readers }
+        requires query { q < length (get_or self.now.queries r []) }
+        ensures told { result.now ≡ get_or (get_or self.now.queries r []) q [] }
+        ensures few { length result.now ≤ 16 }
+    {
+        self.queries[r as usize].as_slice()[q as usize].as_slice()
+    }
+
+    /// The number of the script's parts.
+    pub fn script_len(&self) -> u32
+        ensures told { result ≡ length self.now.script }
+        ensures few { result ≤ 200000 }
+    {
+        self.script.len() as u32
+    }
+
+    /// A part of the script: a start, or the number of the updater that commits its next update.
+    pub fn script(&self, k: u32) -> Option<u32>
+        requires { k < length self.now.script }
+        ensures { slice_get self.now.script k ≡ Some result }
+    {
+        self.script[k as usize]
+    }
+
+    /// The number of cycles that the script starts.
+    pub fn script_starts(&self) -> u32
+        ensures told { result ≡ script_starts self.now }
+        ensures few { result ≤ 10000 }
+    {
+        self.starts
+    }
+
+    /// The settings, each as it is set, or its default.
+    pub fn settings(&self) -> Settings
+        ensures { result ≡ self.now.settings }
+    {
+        self.settings
+    }
+}
+
+/// The frequency of a disk that says `-`, by the number of disks after it.
+fn graded_freq(after: u32, delta: u32) -> u32
+    requires few { after ≤ 7 }
+    requires small { delta ≤ 9 }
+    ensures { result ≡ after * delta + 1 }
+{
+    after * delta + 1
+}

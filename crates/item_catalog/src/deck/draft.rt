@@ -1,0 +1,294 @@
+//! A deck while it is read: the parts that its records declare, one record after the other.
+//!
+//! Each call takes a record of one tag, and adds what it spells where no kind of fault applies; else it answers the least
+//! kind. What a draft is after a fault is told by no clause: it is thrown away.
+
+ghost use Rattle.std.specs.Prelude.{◌≡◌, ◌<◌, ◌≤◌, [], IfOk, drop, false, length, replicate, sum_by};
+ghost use Rattle.csv.specs.Records.{fields_of};
+ghost use Rattle.air_model.specs.Decks.{IsDeck};
+ghost use Rattle.item_catalog.specs.DeckLimits.{WithinLimits};
+ghost use Rattle.item_catalog.specs.Drafts.{Adds, deck_from, draft_of};
+ghost use Rattle.item_catalog.specs.Settings.{number_in};
+ghost use Rattle.item_catalog.specs.Entries.{disk_by, entry_of, item_by, reader_by, set_by};
+ghost use Rattle.item_catalog.specs.Faults.{end_tests, first_of, option_any};
+ghost use Rattle.item_catalog.specs.Fields.{freq_of, three_of, two_of};
+ghost use Rattle.item_catalog.specs.Limits.{outside};
+
+mod lists;
+
+use crate::deck::Deck;
+use crate::fields::{Tag, read_tag, three, two};
+use crate::item_lists::ItemList;
+use crate::parts::{DiskPart, ItemPart, Queries, Updates};
+use crate::refusals::Refusal;
+use crate::scripts::Script;
+use crate::settings::{Name, Setting, delta_in, is_set, read_setting, settings_in};
+use crate::write_lists::WriteList;
+use air_base::read_u64;
+use air_model::deck::ReaderPlan;
+use csv::ByteRecord;
+use std::alloc::{AllocError, Global};
+use std::marker::Model;
+
+/// The parts so far, with a list for each updater and each reader that there can be, and the lists of the record at hand.
+#[derive(Debug, Drop)]
+pub struct Draft {
+    items: Vec<ItemPart>,
+    disks: Vec<DiskPart>,
+    updates: Vec<Updates>,
+    updaters: u32,
+    update_count: u32,
+    readers: Vec<ReaderPlan>,
+    queries: Vec<Queries>,
+    query_count: u32,
+    script: Script,
+    set: Vec<Setting>,
+    item_list: ItemList,
+    write_list: WriteList,
+}
+
+impl Model for Draft {
+    ghost use Rattle.item_catalog.specs.Drafts.{DraftValue};
+    ghost use Rattle.item_catalog.specs.DraftView.{DraftKept, draft_seen};
+
+    ghost Value = { DraftValue };
+
+    ghost view = { draft_seen };
+
+    ghost invariant = { DraftKept };
+}
+
+/// A list for each updater that there can be.
+fn no_updates(alloc: Global) -> Result<Vec<Updates>, AllocError>
+    ensures { IfOk result (λ lists. lists.items ≡ replicate 16 []) }
+{
+    let mut lists = Vec::new(alloc);
+    for _by in 0..16_usize {
+        lists.push(Updates::new(alloc))?;
+    }
+    Ok(lists)
+}
+
+/// A list for each reader that there can be.
+fn no_queries(alloc: Global) -> Result<Vec<Queries>, AllocError>
+    ensures { IfOk result (λ lists. lists.items ≡ replicate 64 []) }
+{
+    let mut lists = Vec::new(alloc);
+    for _reader in 0..64_usize {
+        lists.push(Queries::new(alloc))?;
+    }
+    Ok(lists)
+}
+
+/// The frequency that the text spells: none is `-`.
+#[tactic(auto, unfolding(crate::specs::Fields::freq_of))]
+fn read_freq(text: &[u8]) -> Option<Option<u64>>
+    ensures { result ≡ freq_of text.now }
+{
+    if text == b"-".as_slice() {
+        return Some(None);
+    }
+    match read_u64(text) {
+        Some(number) => Some(Some(number)),
+        None => None,
+    }
+}
+
+/// Whether a frequency is no frequency of a disk.
+fn is_no_freq(freq: Option<u64>) -> bool
+    ensures { result ≡ option_any (outside 1 64) freq }
+{
+    match freq {
+        Some(number) => number < 1 || 64 < number,
+        None => false,
+    }
+}
+
+/// A frequency of a disk.
+fn narrow_freq(freq: Option<u64>) -> Option<u32>
+    requires { option_any (outside 1 64) freq ≡ false }
+    ensures { result ≡ freq }
+{
+    match freq {
+        Some(number) => Some(number as u32),
+        None => None,
+    }
+}
+
+/// The sum of the sizes of disks.
+fn sizes_of(disks: &[DiskPart]) -> u32
+    requires { length disks.now ≤ 8 }
+    ensures { result ≡ sum_by (λ d. d.size) disks.now }
+{
+    disks.iter().map(|disk| u32::from(disk.size)).sum::<u32>()
+}
+
+impl Draft {
+    /// No parts.
+    pub fn new(alloc: Global) -> Result<Draft, AllocError>
+        ensures { IfOk result (λ draft. draft ≡ draft_of []) }
+    {
+        Ok(Draft {
+            items: Vec::new(alloc),
+            disks: Vec::new(alloc),
+            updates: no_updates(alloc)?,
+            updaters: 0,
+            update_count: 0,
+            readers: Vec::new(alloc),
+            queries: no_queries(alloc)?,
+            query_count: 0,
+            script: Script::new(alloc),
+            set: Vec::new(alloc),
+            item_list: ItemList::new(alloc),
+            write_list: WriteList::new(alloc),
+        })
+    }
+
+    /// Adds the item of a record.
+    pub fn add_item(&mut self, row: &ByteRecord) -> Result<(), Refusal>
+        ensures { Adds result (item_by (three_of (drop 1 (fields_of row.now)))) self.old self.new }
+    {
+        let Some((id, value, rate)) = three(row) else {
+            return Err(Refusal::Kind(1));
+        };
+        let Some(id) = read_u64(id) else {
+            return Err(Refusal::Kind(2));
+        };
+        let Some(value) = read_u64(value) else {
+            return Err(Refusal::Kind(2));
+        };
+        let Some(rate) = read_u64(rate) else {
+            return Err(Refusal::Kind(2));
+        };
+        if id != self.items.len() as u64 {
+            return Err(Refusal::Kind(3));
+        }
+        if 1_000_000 < rate || 256 <= self.items.len() {
+            return Err(Refusal::Kind(7));
+        }
+        let rate = rate as u32;
+        self.items.push(ItemPart { value, rate })?;
+        Ok(())
+    }
+
+    /// Adds the disk of a record.
+    pub fn add_disk(&mut self, row: &ByteRecord) -> Result<(), Refusal>
+        ensures { Adds result (disk_by (two_of (drop 1 (fields_of row.now)))) self.old self.new }
+    {
+        let Some((size, freq)) = two(row) else {
+            return Err(Refusal::Kind(1));
+        };
+        let Some(size) = read_u64(size) else {
+            return Err(Refusal::Kind(2));
+        };
+        let Some(freq) = read_freq(freq) else {
+            return Err(Refusal::Kind(2));
+        };
+        if size < 1 || 256 < size || is_no_freq(freq) || 8 <= self.disks.len() {
+            return Err(Refusal::Kind(7));
+        }
+        self.disks.push(DiskPart {
+            size: size as u16,
+            freq: narrow_freq(freq),
+        })?;
+        Ok(())
+    }
+
+    /// Adds the reader of a record.
+    pub fn add_reader(&mut self, row: &ByteRecord) -> Result<(), Refusal>
+        ensures { Adds result (reader_by (three_of (drop 1 (fields_of row.now)))) self.old self.new }
+    {
+        let Some((room, age, tries)) = three(row) else {
+            return Err(Refusal::Kind(1));
+        };
+        let Some(room) = read_u64(room) else {
+            return Err(Refusal::Kind(2));
+        };
+        let Some(age) = read_u64(age) else {
+            return Err(Refusal::Kind(2));
+        };
+        let Some(tries) = read_u64(tries) else {
+            return Err(Refusal::Kind(2));
+        };
+        if 256 < room || 10_000 < age || tries < 1 || 16 < tries || 64 <= self.readers.len() {
+            return Err(Refusal::Kind(7));
+        }
+        self.readers.push(ReaderPlan {
+            room: room as u32,
+            age: age as u32,
+            tries: tries as u32,
+        })?;
+        Ok(())
+    }
+
+    /// Adds the setting of a record.
+    pub fn add_setting(&mut self, row: &ByteRecord) -> Result<(), Refusal>
+        ensures { Adds result (set_by (two_of (drop 1 (fields_of row.now)))) self.old self.new }
+    {
+        let Some((name, value)) = two(row) else {
+            return Err(Refusal::Kind(1));
+        };
+        let Some(setting) = read_setting(name, value) else {
+            return Err(Refusal::Kind(10));
+        };
+        if is_set(setting, &self.set) {
+            return Err(Refusal::Kind(10));
+        }
+        self.set.push(setting)?;
+        Ok(())
+    }
+
+    /// Adds what a record spells.
+    pub fn add(&mut self, alloc: Global, row: &ByteRecord) -> Result<(), Refusal>
+        ensures { Adds result (entry_of (fields_of row.now)) self.old self.new }
+    {
+        match read_tag(row) {
+            Some(Tag::Item) => self.add_item(row),
+            Some(Tag::Disk) => self.add_disk(row),
+            Some(Tag::Update) => self.add_update(alloc, row),
+            Some(Tag::Reader) => self.add_reader(row),
+            Some(Tag::Query) => self.add_query(alloc, row),
+            Some(Tag::Script) => self.add_events(row),
+            Some(Tag::Set) => self.add_setting(row),
+            None => Err(Refusal::Kind(9)),
+        }
+    }
+
+    /// The least kind that applies at the end.
+    pub fn end_kind(&self) -> Option<u8>
+        ensures { result ≡ first_of (end_tests (length self.now.items) self.now.disks) }
+    {
+        if sizes_of(&self.disks) as usize != self.items.len() {
+            return Some(6);
+        }
+        if self.items.is_empty() || self.disks.is_empty() {
+            return Some(7);
+        }
+        None
+    }
+
+    /// The deck of the parts, which is well made and within the limits.
+    pub fn into_deck(self) -> Deck
+        requires made { IsDeck (deck_from self) }
+        requires limits { WithinLimits (deck_from self) }
+        requires delta { number_in Name.Delta self.set ≤ 9 }
+        ensures { result ≡ deck_from self }
+    {
+        let mut updates = self.updates;
+        updates.truncate(self.updaters as usize);
+        let mut queries = self.queries;
+        queries.truncate(self.readers.len());
+        let (script, starts) = self.script.into_events();
+        Deck {
+            items: self.items,
+            disks: self.disks,
+            delta: delta_in(&self.set),
+            updates,
+            readers: self.readers,
+            queries,
+            script,
+            starts,
+            settings: settings_in(&self.set),
+        }
+    }
+}

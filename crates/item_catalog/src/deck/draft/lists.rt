@@ -1,0 +1,162 @@
+//! Records with lists: updates, queries and events of the script.
+
+ghost use Rattle.std.specs.Prelude.{◌≡◌, IfErr, IfOk, None, OnOk, drop};
+ghost use Rattle.csv.specs.Records.{fields_of};
+ghost use Rattle.air_history.specs.UpdateRules.{update_fault};
+ghost use Rattle.item_catalog.specs.Drafts.{Adds, QueryRead, UpdateRead};
+ghost use Rattle.item_catalog.specs.Entries.{query_by, script_by, update_by};
+ghost use Rattle.item_catalog.specs.Fields.{one_of, three_of, two_of};
+ghost use Rattle.item_catalog.specs.Seen.{seen_query_kind, seen_update_kind};
+
+use crate::deck::draft::Draft;
+use crate::fields::{one, three, two};
+use crate::item_lists::ItemList;
+use crate::parts::Query;
+use crate::refusals::Refusal;
+use crate::write_lists::WriteList;
+use air_base::read_u64;
+use air_history::{Update, Write};
+use csv::ByteRecord;
+use std::alloc::Global;
+
+/// The least kind that applies to an update, where so many updates were given before it.
+fn update_kind(reads: &ItemList, writes: &WriteList, by: u64, given: u32) -> Option<u8>
+    ensures { result ≡ seen_update_kind reads.now writes.now by given }
+{
+    if reads.undeclared() || writes.undeclared() {
+        return Some(4);
+    }
+    if reads.repeated() || writes.repeated() {
+        return Some(5);
+    }
+    let count = writes.writes().len();
+    if 16 <= by || 16 < reads.items().len() || count < 1 || 16 < count || 100_000 <= given {
+        return Some(7);
+    }
+    if writes.unread() {
+        return Some(8);
+    }
+    None
+}
+
+/// The least kind that applies to a query, where so many readers and queries were declared before it.
+fn query_kind(asked: &ItemList, readers: usize, reader: u64, given: u32) -> Option<u8>
+    ensures { result ≡ seen_query_kind asked.now readers reader given }
+{
+    if readers as u64 <= reader || asked.undeclared() {
+        return Some(4);
+    }
+    if asked.repeated() {
+        return Some(5);
+    }
+    let count = asked.items().len();
+    if count < 1 || 16 < count || 10_000 <= given {
+        return Some(7);
+    }
+    None
+}
+
+/// The update of lists that keep its rules, so that only memory can be wanting.
+fn make_update(alloc: Global, reads: &[u16], writes: &[Write]) -> Result<Update, Refusal>
+    requires { update_fault reads.now writes.now ≡ None }
+    ensures made { IfOk result (λ update. update ≡ record { reads = reads.now; writes = writes.now }) }
+    ensures cause { IfErr result (λ refusal. refusal ≡ Refusal.NoMemory) }
+{
+    match Update::new(alloc, reads, writes) {
+        Ok(update) => Ok(update),
+        Err(_) => Err(Refusal::NoMemory),
+    }
+}
+
+impl Draft {
+    /// Reads the update of a record, and adds nothing.
+    fn read_update(&mut self, alloc: Global, row: &ByteRecord) -> Result<(u64, Update), Refusal>
+        ensures same { OnOk result (self.new ≡ self.old) }
+        ensures read { UpdateRead result (update_by (three_of (drop 1 (fields_of row.now)))) self.old }
+    {
+        let Some((by, reads, writes)) = three(row) else {
+            return Err(Refusal::Kind(1));
+        };
+        let Some(by) = read_u64(by) else {
+            return Err(Refusal::Kind(2));
+        };
+        let declared = self.items.len() as u16;
+        if !self.item_list.read(declared, reads)? {
+            return Err(Refusal::Kind(2));
+        }
+        if !self.write_list.read(declared, &self.item_list, writes)? {
+            return Err(Refusal::Kind(2));
+        }
+        if let Some(kind) = update_kind(&self.item_list, &self.write_list, by, self.update_count) {
+            return Err(Refusal::Kind(kind));
+        }
+        let update = make_update(alloc, self.item_list.items(), self.write_list.writes())?;
+        Ok((by, update))
+    }
+
+    /// Adds the update of a record.
+    pub fn add_update(&mut self, alloc: Global, row: &ByteRecord) -> Result<(), Refusal>
+        ensures { Adds result (update_by (three_of (drop 1 (fields_of row.now)))) self.old self.new }
+    {
+        let (by, update) = self.read_update(alloc, row)?;
+        self.updates[by as usize].push(update)?;
+        self.update_count += 1;
+        self.updaters = self.updaters.max(by as u32 + 1);
+        Ok(())
+    }
+
+    /// Reads the query of a record, and adds nothing.
+    fn read_query(&mut self, alloc: Global, row: &ByteRecord) -> Result<(u64, Query), Refusal>
+        ensures same { OnOk result (self.new ≡ self.old) }
+        ensures read { QueryRead result (query_by (two_of (drop 1 (fields_of row.now)))) self.old }
+    {
+        let Some((reader, asked)) = two(row) else {
+            return Err(Refusal::Kind(1));
+        };
+        let Some(reader) = read_u64(reader) else {
+            return Err(Refusal::Kind(2));
+        };
+        let declared = self.items.len() as u16;
+        if !self.item_list.read(declared, asked)? {
+            return Err(Refusal::Kind(2));
+        }
+        if let Some(kind) = query_kind(
+            &self.item_list,
+            self.readers.len(),
+            reader,
+            self.query_count,
+        ) {
+            return Err(Refusal::Kind(kind));
+        }
+        let items = Vec::from_slice(alloc, self.item_list.items())?;
+        Ok((reader, Query::from_vec(items)))
+    }
+
+    /// Adds the query of a record.
+    pub fn add_query(&mut self, alloc: Global, row: &ByteRecord) -> Result<(), Refusal>
+        ensures { Adds result (query_by (two_of (drop 1 (fields_of row.now)))) self.old self.new }
+    {
+        let (reader, query) = self.read_query(alloc, row)?;
+        self.queries[reader as usize].push(query)?;
+        self.query_count += 1;
+        Ok(())
+    }
+
+    /// Adds the events of a record.
+    pub fn add_events(&mut self, row: &ByteRecord) -> Result<(), Refusal>
+        ensures { Adds result (script_by (one_of (drop 1 (fields_of row.now)))) self.old self.new }
+    {
+        let Some(events) = one(row) else {
+            return Err(Refusal::Kind(1));
+        };
+        match self.script.read(events)? {
+            None => return Err(Refusal::Kind(2)),
+            Some(true) => return Err(Refusal::Kind(7)),
+            Some(false) => {}
+        }
+        if self.script.overdraws(&self.updates) {
+            return Err(Refusal::Kind(11));
+        }
+        Ok(())
+    }
+}

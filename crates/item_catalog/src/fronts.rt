@@ -1,0 +1,163 @@
+//! The value at the front of a list, and what follows it.
+//!
+//! A list is read from its front, one part after the other, with no memory: a reader gives the value of the first part
+//! and the text behind it, which is empty or begins with a space.
+
+ghost use Rattle.std.specs.Prelude.{◌≡◌, ◌∷◌, option_map, MatchOption, Some, None, false};
+ghost use Rattle.air_base.specs.Numbers.{number_of};
+ghost use Rattle.item_catalog.specs.Fields.{changed, event_of, value_of, write_of};
+ghost use Rattle.item_catalog.specs.Fronts.{FrontIs, digits_of, after_digits, begins, begins_start, ends_part};
+ghost use Rattle.item_catalog.specs.Seen.{write_said};
+
+use air_base::read_u64;
+
+/// A write as its text says it.
+#[derive(Clone, Copy, Debug, PartialEq, Eq)]
+pub struct WritePart {
+    pub item: u64,
+    pub base: Option<u64>,
+    pub minus: bool,
+    pub amount: u64,
+}
+
+/// The digits at the front of a text, and what follows them.
+#[tactic(auto, unfolding(crate::specs::Fronts::digits_of, crate::specs::Fronts::after_digits), using(crate::proofs::FrontFacts::scan_more, crate::proofs::FrontFacts::scan_front, crate::proofs::FrontFacts::scan_behind, crate::proofs::FrontFacts::end_front, crate::proofs::FrontFacts::end_behind))]
+fn split_digits(text: &[u8]) -> (&[u8], &[u8])
+    ensures digits { result.0.now ≡ digits_of text.now }
+    ensures rest { result.1.now ≡ after_digits text.now }
+{
+    for (i, byte) in text.iter().enumerate() {
+        if !byte.is_ascii_digit() {
+            return text.split_at(i);
+        }
+    }
+    text.split_at(text.len())
+}
+
+/// Whether a text is empty or begins with a space.
+fn ends_part(text: &[u8]) -> bool
+    ensures { result ≡ ends_part text.now }
+{
+    match text.first() {
+        None => true,
+        Some(byte) => *byte == b' ',
+    }
+}
+
+/// The number that the first part spells.
+#[tactic(auto, using(crate::proofs::NumberFronts::part_ends, crate::proofs::NumberFronts::after_ends, crate::proofs::NumberFronts::part_goes_on))]
+pub fn number_front(text: &[u8]) -> Option<(u64, &[u8])>
+    ensures { FrontIs number_of text.now (option_map (λ f. (f.0, f.1.now)) result) }
+{
+    let (digits, rest) = split_digits(text);
+    if !ends_part(rest) {
+        return None;
+    }
+    match read_u64(digits) {
+        Some(number) => Some((number, rest)),
+        None => None,
+    }
+}
+
+/// Whether the first part is the `s` of a start.
+fn begins_start(text: &[u8]) -> bool
+    ensures { result ≡ begins_start text.now }
+{
+    match text.split_first() {
+        None => false,
+        Some((byte, rest)) => *byte == b's' && ends_part(rest),
+    }
+}
+
+/// The event that the first part spells: none is a start.
+#[tactic(auto, using(crate::proofs::NumberFronts::event_start, crate::proofs::NumberFronts::event_number, crate::proofs::NumberFronts::start_after))]
+pub fn event_front(text: &[u8]) -> Option<(Option<u64>, &[u8])>
+    ensures { FrontIs event_of text.now (option_map (λ f. (f.0, f.1.now)) result) }
+{
+    if begins_start(text) {
+        return Some((None, &text[1..]));
+    }
+    match number_front(text) {
+        Some((by, rest)) => Some((Some(by), rest)),
+        None => None,
+    }
+}
+
+/// The number that the digits at the front spell, whatever follows them.
+fn leading_number(text: &[u8]) -> Option<(u64, &[u8])>
+    ensures { MatchOption result (number_of (digits_of text.now) ≡ None) (λ f. (number_of (digits_of text.now) ≡ Some f.0) × (f.1.now ≡ after_digits text.now)) }
+{
+    let (digits, rest) = split_digits(text);
+    match read_u64(digits) {
+        Some(number) => Some((number, rest)),
+        None => None,
+    }
+}
+
+/// The write of an item and a base, by the text behind the sign.
+fn changed_front(item: u64, base: u64, minus: bool, text: &[u8]) -> Option<(WritePart, &[u8])>
+    ensures { FrontIs (λ part. changed minus (Some item) (Some base) (number_of part)) text.now (option_map (λ f. (write_said f.0, f.1.now)) result) }
+{
+    match number_front(text) {
+        Some((amount, rest)) => Some((
+            WritePart {
+                item,
+                base: Some(base),
+                minus,
+                amount,
+            },
+            rest,
+        )),
+        None => None,
+    }
+}
+
+/// The text behind this byte, where it stands at the front.
+fn behind(text: &[u8], byte: u8) -> Option<&[u8]>
+    ensures { MatchOption result (begins byte text.now ≡ false) (λ rest. text.now ≡ byte ∷ rest.now) }
+{
+    match text.split_first() {
+        Some((first, rest)) if *first == byte => Some(rest),
+        _ => None,
+    }
+}
+
+/// The write of an item, by the text behind the `=`.
+#[tactic(auto, using(crate::proofs::PartFronts::value_plus_front, crate::proofs::PartFronts::value_minus_front, crate::proofs::PartFronts::value_number_front, crate::proofs::PartFronts::value_no_number, crate::proofs::PartFronts::value_other_front, crate::proofs::PartFronts::after_sign, crate::proofs::NumberFronts::after_ends))]
+fn value_front(item: u64, text: &[u8]) -> Option<(WritePart, &[u8])>
+    ensures { FrontIs (value_of (Some item)) text.now (option_map (λ f. (write_said f.0, f.1.now)) result) }
+{
+    let Some((amount, rest)) = leading_number(text) else {
+        return None;
+    };
+    if let Some(more) = behind(rest, b'+') {
+        return changed_front(item, amount, false, more);
+    }
+    if let Some(more) = behind(rest, b'-') {
+        return changed_front(item, amount, true, more);
+    }
+    if !ends_part(rest) {
+        return None;
+    }
+    let write = WritePart {
+        item,
+        base: None,
+        minus: false,
+        amount,
+    };
+    Some((write, rest))
+}
+
+/// The write that the first part spells.
+#[tactic(auto, using(crate::proofs::PartFronts::write_value_front, crate::proofs::PartFronts::write_no_number, crate::proofs::PartFronts::write_other_front, crate::proofs::PartFronts::after_sign))]
+pub fn write_front(text: &[u8]) -> Option<(WritePart, &[u8])>
+    ensures { FrontIs write_of text.now (option_map (λ f. (write_said f.0, f.1.now)) result) }
+{
+    let Some((item, rest)) = leading_number(text) else {
+        return None;
+    };
+    match behind(rest, b'=') {
+        Some(value) => value_front(item, value),
+        None => None,
+    }
+}

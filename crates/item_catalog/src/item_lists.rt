@@ -1,0 +1,126 @@
+//! A list of items while it is read.
+//!
+//! An item is kept as long as it is declared and wasn't there before, which an array of marks tells at once: so a list
+//! takes no more memory than there are items, however long it is. What a list had that isn't kept is remembered.
+
+ghost use Rattle.std.specs.Prelude.{◌≡◌, ◌<◌, ◌≤◌, IfOk, OnOk, get_or, length, IsTrue};
+ghost use Rattle.air_base.specs.Numbers.{number_of};
+ghost use Rattle.air_base.specs.NumberLists.{list_of};
+ghost use Rattle.item_catalog.specs.Seen.{ReadIs, among, items_seen, no_items, see_item};
+
+use crate::fronts::number_front;
+use std::alloc::{AllocFailed, Global};
+use std::marker::Model;
+
+/// The items that are declared and distinct, in order; whether one wasn't declared, or stood twice.
+#[derive(Debug, Drop)]
+pub struct ItemList {
+    items: Vec<u16>,
+    marks: [bool; 256],
+    undeclared: bool,
+    repeated: bool,
+}
+
+impl Model for ItemList {
+    ghost use Rattle.item_catalog.specs.Seen.{ItemsSeen, Marks};
+
+    ghost Value = { ItemsSeen };
+
+    ghost view = { λ l. record { items = l.items.items; undeclared = l.undeclared; repeated = l.repeated } };
+
+    ghost invariant = { λ l. Marks l.marks l.items.items };
+}
+
+impl ItemList {
+    /// No items.
+    pub fn new(alloc: Global) -> Self
+        ensures { result ≡ no_items }
+    {
+        ItemList {
+            items: Vec::new(alloc),
+            marks: [false; 256],
+            undeclared: false,
+            repeated: false,
+        }
+    }
+
+    /// The items that are declared and distinct.
+    pub fn items(&self) -> &[u16]
+        ensures { result.now ≡ self.now.items }
+    {
+        &self.items
+    }
+
+    /// Whether an item wasn't declared.
+    pub fn undeclared(&self) -> bool
+        ensures { result ≡ self.now.undeclared }
+    {
+        self.undeclared
+    }
+
+    /// Whether an item stood twice.
+    pub fn repeated(&self) -> bool
+        ensures { result ≡ self.now.repeated }
+    {
+        self.repeated
+    }
+
+    /// Whether the item is one of them.
+    pub fn has(&self, item: u16) -> bool
+        requires { item < 256 }
+        ensures { result ≡ among self.now.items item }
+    {
+        self.marks[item as usize]
+    }
+
+    /// Forgets the items.
+    fn clear(&mut self)
+        ensures { self.new ≡ no_items }
+    {
+        self.items.clear();
+        self.marks = [false; 256];
+        self.undeclared = false;
+        self.repeated = false;
+    }
+
+    /// Takes one more item, where those below `declared` are declared.
+    fn see(&mut self, declared: u16, item: u64) -> Result<(), AllocFailed<u16>>
+        requires { declared ≤ 256 }
+        ensures { OnOk result (self.new ≡ see_item declared self.old item) }
+    {
+        if u64::from(declared) <= item {
+            self.undeclared = true;
+            return Ok(());
+        }
+        let place = item as usize;
+        if self.marks[place] {
+            self.repeated = true;
+            return Ok(());
+        }
+        self.items.push(item as u16)?;
+        self.marks[place] = true;
+        Ok(())
+    }
+
+    /// Reads the items of a list, where those below `declared` are declared: whether the text spells a list.
+    pub fn read(&mut self, declared: u16, text: &[u8]) -> Result<bool, AllocFailed<u16>>
+        requires { declared ≤ 256 }
+        ensures { IfOk result (λ read. ReadIs read (list_of number_of text.now) (λ items. self.new ≡ items_seen declared items)) }
+    {
+        self.clear();
+        if text.is_empty() {
+            return Ok(true);
+        }
+        let mut rest = text;
+        loop {
+            let Some((item, after)) = number_front(rest) else {
+                return Ok(false);
+            };
+            self.see(declared, item)?;
+            let Some((_, more)) = after.split_first() else {
+                return Ok(true);
+            };
+            rest = more;
+        }
+    }
+}

@@ -1,0 +1,53 @@
+//! Decks read from texts: one pass over the records, each taken once and forgotten.
+
+ghost use Rattle.std.specs.Prelude.{◌≡◌, ◌≤◌, length, IfErr, IfOk, None};
+ghost use Rattle.item_catalog.specs.Drafts.{deck_from};
+ghost use Rattle.item_catalog.specs.Ends.{CanEnd, EndsBy};
+ghost use Rattle.item_catalog.specs.Faults.{end_tests, first_of};
+ghost use Rattle.item_catalog.specs.Grammar.{IsAnswer, Spells};
+
+use crate::deck::Deck;
+use crate::deck::draft::Draft;
+use crate::faults::{DeckError, DeckFault};
+use crate::refusals::Refusal;
+use csv::{ByteRecord, ReaderBuilder};
+use std::alloc::Global;
+
+/// The deck of the parts, where no kind applies at the end, which is the record of this number.
+fn finish(draft: Draft, row: u32) -> Result<Deck, DeckError>
+    requires { CanEnd draft }
+    ensures deck { IfOk result (λ deck. (first_of (end_tests (length draft.items) draft.disks) ≡ None) × (deck ≡ deck_from draft)) }
+    ensures fault { IfErr result (EndsBy row (first_of (end_tests (length draft.items) draft.disks))) }
+{
+    match draft.end_kind() {
+        Some(kind) => Err(DeckError::Fault(DeckFault { row, kind })),
+        None => Ok(draft.into_deck()),
+    }
+}
+
+/// The deck that a text spells, or the first faulty record of the text with the least kind that applies there.
+pub fn read_deck(alloc: Global, bytes: &[u8]) -> Result<Deck, DeckError>
+    requires limit { length bytes.now ≤ 67108864 }
+    ensures deck { IfOk result (Spells bytes.now) }
+    ensures fault { IfErr result (IsAnswer bytes.now) }
+{
+    let mut draft = Draft::new(alloc)?;
+    let mut records = ReaderBuilder::new()
+        .has_headers(false)
+        .flexible(true)
+        .from_reader(alloc, bytes);
+    let mut record = ByteRecord::new(alloc);
+    for row in 1..u32::MAX {
+        match records.read_byte_record(&mut record) {
+            Ok(true) => {}
+            Ok(false) => return finish(draft, row),
+            Err(_) => return Err(DeckError::NoMemory),
+        }
+        match draft.add(alloc, &record) {
+            Ok(()) => {}
+            Err(Refusal::Kind(kind)) => return Err(DeckError::Fault(DeckFault { row, kind })),
+            Err(Refusal::NoMemory) => return Err(DeckError::NoMemory),
+        }
+    }
+    unreachable!()
+}

@@ -1,0 +1,145 @@
+//! The script of a deck while it is read.
+//!
+//! Events are taken one by one, as long as no limit is passed. How many cycles start and how often each updater commits is
+//! counted along, so that no record of the script is looked at again.
+
+ghost use Rattle.std.specs.Prelude.{◌≡◌, ◌<◌, ◌≤◌, ◌++◌, ◌∷◌, ◌||◌, [], IfOk, OnOk, Some, None, get_or, length, nat_lt, false};
+ghost use Rattle.air_base.specs.NumberLists.{list_of};
+ghost use Rattle.air_model.specs.Decks.{count_parts};
+ghost use Rattle.item_catalog.specs.Fields.{event_of};
+ghost use Rattle.item_catalog.specs.Faults.{count_starts, script_passes, some_below};
+ghost use Rattle.item_catalog.specs.Seen.{EventsRead};
+
+use crate::fronts::event_front;
+use crate::parts::Updates;
+use std::alloc::{AllocFailed, Global};
+use std::marker::Model;
+
+/// The events so far, how many of them are starts, and how many each updater's.
+#[derive(Debug, Drop)]
+pub struct Script {
+    events: Vec<Option<u32>>,
+    starts: u32,
+    commits: [u32; 16],
+}
+
+impl Model for Script {
+    ghost use Rattle.std.specs.Prelude.{List, Option, ℕ};
+    ghost use Rattle.item_catalog.specs.ScriptView.{ScriptKept};
+
+    ghost Value = { List (Option ℕ) };
+
+    ghost view = { λ s. s.events.items };
+
+    ghost invariant = { ScriptKept };
+}
+
+impl Script {
+    /// No events.
+    pub fn new(alloc: Global) -> Self
+        ensures { result ≡ [] }
+    {
+        Script {
+            events: Vec::new(alloc),
+            starts: 0,
+            commits: [0; 16],
+        }
+    }
+
+    /// Hands the limits of its type to a caller's proof; it does nothing.
+    fn keeps_limits(&self)
+        ensures events { length self.now ≤ 200000 }
+        ensures starts { count_starts self.now ≤ 10000 }
+    {
+        let _events = &self.events;
+    }
+
+    /// Whether one more event passes a limit.
+    fn passes(&self, event: Option<u64>) -> bool
+        ensures { result ≡ script_passes self.now (event ∷ []) }
+    {
+        self.events.len() >= 200_000
+            || match event {
+                None => self.starts >= 10_000,
+                Some(by) => by >= 16,
+            }
+    }
+
+    /// Adds a start.
+    fn start(&mut self) -> Result<(), AllocFailed<Option<u32>>>
+        requires { script_passes self.old (None ∷ []) ≡ false }
+        ensures { OnOk result (self.new ≡ self.old ++ None ∷ []) }
+    {
+        self.events.push(None)?;
+        self.starts += 1;
+        Ok(())
+    }
+
+    /// Adds a commit of an updater.
+    fn commit(&mut self, by: u64) -> Result<(), AllocFailed<Option<u32>>>
+        requires { script_passes self.old (Some by ∷ []) ≡ false }
+        ensures { OnOk result (self.new ≡ self.old ++ Some by ∷ []) }
+    {
+        self.events.push(Some(by as u32))?;
+        self.commits[by as usize] += 1;
+        Ok(())
+    }
+
+    /// Takes one more event, unless a limit was passed before or is passed by it: whether one is.
+    fn take(&mut self, passed: bool, event: Option<u64>) -> Result<bool, AllocFailed<Option<u32>>>
+        ensures passes { IfOk result (λ passes. passes ≡ (passed || script_passes self.old (event ∷ []))) }
+        ensures taken { IfOk result (λ passes. passes ≡ false → self.new ≡ self.old ++ event ∷ []) }
+    {
+        if passed || self.passes(event) {
+            return Ok(true);
+        }
+        match event {
+            None => self.start()?,
+            Some(by) => self.commit(by)?,
+        }
+        Ok(false)
+    }
+
+    /// Whether an updater commits more updates than it has.
+    pub fn overdraws(&self, updates: &[Updates]) -> bool
+        requires { length updates.now ≡ 16 }
+        ensures { result ≡ some_below 16 (λ by. nat_lt (length (get_or updates.now by [])) (count_parts by self.now)) }
+    {
+        for by in 0..16_usize {
+            if updates[by].len() < self.commits[by] as usize {
+                return true;
+            }
+        }
+        false
+    }
+
+    /// Reads further events, and adds them unless they pass a limit: whether they do, and none where the text spells no list.
+    pub fn read(&mut self, text: &[u8]) -> Result<Option<bool>, AllocFailed<Option<u32>>>
+        ensures { IfOk result (λ read. EventsRead read (list_of event_of text.now) self.old self.new) }
+    {
+        self.keeps_limits();
+        if text.is_empty() {
+            return Ok(Some(false));
+        }
+        let mut passed = false;
+        let mut rest = text;
+        loop {
+            let Some((event, after)) = event_front(rest) else {
+                return Ok(None);
+            };
+            passed = self.take(passed, event)?;
+            let Some((_, more)) = after.split_first() else {
+                return Ok(Some(passed));
+            };
+            rest = more;
+        }
+    }
+
+    /// The events, and the number of starts among them.
+    pub fn into_events(self) -> (Vec<Option<u32>>, u32)
+        ensures events { result.0.items ≡ self }
+        ensures starts { result.1 ≡ count_starts self }
+    {
+        (self.events, self.starts)
+    }
+}

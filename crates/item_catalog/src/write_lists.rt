@@ -1,0 +1,184 @@
+//! A list of writes while it is read.
+//!
+//! As a list of items: a write is kept as long as all that it names is declared and its item wasn't written before.
+
+ghost use Rattle.std.specs.Prelude.{◌≡◌, ◌<◌, ◌≤◌, ◌||◌, IfOk, OnOk, IfSome, nat_le};
+ghost use Rattle.air_base.specs.NumberLists.{list_of};
+ghost use Rattle.item_catalog.specs.Fields.{write_of};
+ghost use Rattle.item_catalog.specs.Faults.{is_unread, option_any, write_reaches};
+ghost use Rattle.item_catalog.specs.Seen.{ReadIs, no_writes, see_write, write_said, writes_seen};
+
+use crate::fronts::{WritePart, write_front};
+use crate::item_lists::ItemList;
+use air_history::Write;
+use std::alloc::{AllocFailed, Global};
+use std::marker::Model;
+
+/// The writes of declared and distinct items, in order; whether one names what isn't declared, is of an item that was
+/// written before, or has a base that isn't read.
+#[derive(Debug, Drop)]
+pub struct WriteList {
+    writes: Vec<Write>,
+    marks: [bool; 256],
+    undeclared: bool,
+    repeated: bool,
+    unread: bool,
+}
+
+impl Model for WriteList {
+    ghost use Rattle.std.specs.Prelude.{map};
+    ghost use Rattle.air_history.specs.UpdateRules.{item_of};
+    ghost use Rattle.item_catalog.specs.Seen.{Marks, WritesSeen};
+
+    ghost Value = { WritesSeen };
+
+    ghost view = { λ l. record { writes = l.writes.items; undeclared = l.undeclared; repeated = l.repeated; unread = l.unread } };
+
+    ghost invariant = { λ l. Marks l.marks (map item_of l.writes.items) };
+}
+
+/// Whether a write names an item or a base that isn't below `declared`.
+fn reaches(declared: u16, write: WritePart) -> bool
+    ensures { result ≡ write_reaches declared (write_said write) }
+{
+    let declared = u64::from(declared);
+    declared <= write.item
+        || match write.base {
+            Some(base) => declared <= base,
+            None => false,
+        }
+}
+
+/// Whether a write has a base that isn't among the reads.
+fn is_unread(reads: &ItemList, write: WritePart) -> bool
+    requires { IfSome write.base (λ base. base < 256) }
+    ensures { result ≡ is_unread reads.now.items (write_said write) }
+{
+    match write.base {
+        Some(base) => !reads.has(base as u16),
+        None => false,
+    }
+}
+
+/// A write as an update has it.
+fn narrow(write: WritePart) -> Write
+    requires item { write.item < 256 }
+    requires base { IfSome write.base (λ base. base < 256) }
+    ensures { result ≡ write_said write }
+{
+    Write {
+        item: write.item as u16,
+        base: match write.base {
+            Some(base) => Some(base as u16),
+            None => None,
+        },
+        minus: write.minus,
+        amount: write.amount,
+    }
+}
+
+impl WriteList {
+    /// No writes.
+    pub fn new(alloc: Global) -> Self
+        ensures { result ≡ no_writes }
+    {
+        WriteList {
+            writes: Vec::new(alloc),
+            marks: [false; 256],
+            undeclared: false,
+            repeated: false,
+            unread: false,
+        }
+    }
+
+    /// The writes of declared and distinct items.
+    pub fn writes(&self) -> &[Write]
+        ensures { result.now ≡ self.now.writes }
+    {
+        &self.writes
+    }
+
+    /// Whether a write names what isn't declared.
+    pub fn undeclared(&self) -> bool
+        ensures { result ≡ self.now.undeclared }
+    {
+        self.undeclared
+    }
+
+    /// Whether an item is written twice.
+    pub fn repeated(&self) -> bool
+        ensures { result ≡ self.now.repeated }
+    {
+        self.repeated
+    }
+
+    /// Whether a base isn't read.
+    pub fn unread(&self) -> bool
+        ensures { result ≡ self.now.unread }
+    {
+        self.unread
+    }
+
+    /// Forgets the writes.
+    fn clear(&mut self)
+        ensures { self.new ≡ no_writes }
+    {
+        self.writes.clear();
+        self.marks = [false; 256];
+        self.undeclared = false;
+        self.repeated = false;
+        self.unread = false;
+    }
+
+    /// Takes one more write, where the items below `declared` are declared and these are read.
+    fn see(
+        &mut self,
+        declared: u16,
+        reads: &ItemList,
+        write: WritePart,
+    ) -> Result<(), AllocFailed<Write>>
+        requires { declared ≤ 256 }
+        ensures { OnOk result (self.new ≡ see_write declared reads.now.items self.old (write_said write)) }
+    {
+        if reaches(declared, write) {
+            self.undeclared = true;
+            return Ok(());
+        }
+        let place = write.item as usize;
+        if self.marks[place] {
+            self.repeated = true;
+            return Ok(());
+        }
+        self.writes.push(narrow(write))?;
+        self.marks[place] = true;
+        self.unread = self.unread || is_unread(reads, write);
+        Ok(())
+    }
+
+    /// Reads the writes of a list: whether the text spells a list.
+    pub fn read(
+        &mut self,
+        declared: u16,
+        reads: &ItemList,
+        text: &[u8],
+    ) -> Result<bool, AllocFailed<Write>>
+        requires { declared ≤ 256 }
+        ensures { IfOk result (λ read. ReadIs read (list_of write_of text.now) (λ writes. self.new ≡ writes_seen declared reads.now.items writes)) }
+    {
+        self.clear();
+        if text.is_empty() {
+            return Ok(true);
+        }
+        let mut rest = text;
+        loop {
+            let Some((write, after)) = write_front(rest) else {
+                return Ok(false);
+            };
+            self.see(declared, reads, write)?;
+            let Some((_, more)) = after.split_first() else {
+                return Ok(true);
+            };
+            rest = more;
+        }
+    }
+}
