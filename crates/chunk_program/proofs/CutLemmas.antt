@@ -1,0 +1,59 @@
+-- The cut of a deck has the deck's limits.
+use Rattle.std.proofs.Common.{◌≡◌, ◌≤◌, ◌<◌, ◌↔◌, ℕ, suc, List, [], ◌∷◌, length, drop, refl, sym, subst, ap, ◌∙◌, arith}
+use Rattle.std.specs.List.{All, Contains}
+use Rattle.std.proofs.lemmas.List.Elements.{All-cons, All-head, All-tail, All-weaker}
+use Rattle.std.proofs.lemmas.List.{length-map}
+use Rattle.air_model.specs.Disks.{Disk, DiskSpec, all_items, cut, order}
+use Rattle.air_model.specs.Decks.{Deck, IsDeck, Item, disks_in, rates_in}
+use Rattle.air_model.proofs.ItemOrder.{cut_airable, cut_items, length-order, order_only}
+use Rattle.item_catalog.specs.DeckLimits.{DiskWithin, WithinLimits}
+use Rattle.chunk_program.specs.Limits.{AreDeckDisks, IsCuttable}
+
+length-cut : (items : List ℕ) (specs : List DiskSpec) → length (cut items specs) ≡ length specs
+unfolding cut
+length-cut items [] = refl
+length-cut items (s ∷ specs) = ap suc (length-cut (drop s.size items) specs)
+
+cut_freqs : (items : List ℕ) (specs : List DiskSpec) → All (λ (s : DiskSpec). s.freq ≤ 64) specs → All (λ (d : Disk). d.freq ≤ 64) (cut items specs)
+unfolding cut
+cut_freqs items [] few = λ k d below. absurd (omega arith)
+cut_freqs items (s ∷ specs) few = All-cons (λ (d : Disk). d.freq ≤ 64) _ (cut (drop s.size items) specs) (All-head (λ (s : DiskSpec). s.freq ≤ 64) s specs few)
+    (cut_freqs (drop s.size items) specs (All-tail (λ (s : DiskSpec). s.freq ≤ 64) s specs few))
+
+module _ (rates : List ℕ) (specs : List DiskSpec) (fits : IsCuttable rates specs) where
+  pub cut_whole : all_items (cut (order rates) specs) ≡ order rates
+  cut_whole = cut_items (order rates) specs (let sizes = fits.sizes in let long = length-order rates in omega arith)
+
+  pub cut_length : length (all_items (cut (order rates) specs)) ≡ length rates
+  cut_length = ap length cut_whole ∙ length-order rates
+
+  numbers : (i : ℕ) → Contains (all_items (cut (order rates) specs)) i ↔ (i < length (all_items (cut (order rates) specs)))
+  numbers i =
+      let own = ((order_only rates (order rates)).1 refl).members i in (
+        (λ c. subst (λ n. i < n) (sym cut_length) (own.0 (subst (λ l. Contains l i) cut_whole c))),
+        (λ below. subst (λ l. Contains l i) (sym cut_whole) (own.1 (subst (λ n. i < n) cut_length below))),
+      )
+
+  pub cut_limits : AreDeckDisks (cut (order rates) specs)
+  cut_limits = record {
+    airable = cut_airable rates specs fits.aired;
+    numbers = numbers;
+    some = (let some = fits.some in let long = cut_length in omega arith);
+    few = (let few = fits.few in let long = cut_length in omega arith);
+    eight = (let few = fits.disks in let long = length-cut (order rates) specs in omega arith);
+    freqs = cut_freqs (order rates) specs fits.freqs;
+  }
+
+-- what a well-made deck within the limits gives
+pub deck_cuttable : (deck : Deck) → IsDeck deck → WithinLimits deck → IsCuttable (rates_in deck) deck.disks
+deck_cuttable deck made within = record {
+  some = (let some = made.some in omega (arith, length-map {A = Item} {B = ℕ}));
+  few = (let most = made.most in omega (arith, length-map {A = Item} {B = ℕ}));
+  disks = within.disks;
+  sizes = made.sizes ∙ sym (length-map deck.items (λ (i : Item). i.rate));
+  aired = All-weaker (λ (d : DiskSpec). (0 < d.size) × (0 < d.freq)) (λ (d : DiskSpec). 0 < d.freq) (λ d both. both.1) deck.disks made.aired;
+  freqs = All-weaker DiskWithin (λ (d : DiskSpec). d.freq ≤ 64) (λ d both. both.freq) deck.disks within.disk;
+}
+
+pub deck_limits : (deck : Deck) → IsDeck deck → WithinLimits deck → AreDeckDisks (disks_in deck)
+deck_limits deck made within = cut_limits (rates_in deck) deck.disks (deck_cuttable deck made within)

@@ -1,0 +1,9 @@
+pub mod CutSteps
+pub mod RankLemmas
+pub mod PlaceSteps
+pub mod CutLemmas
+pub mod Numbers
+pub mod Copies
+pub mod ChunkFacts
+pub mod HomeFacts
+pub mod ProgramFacts

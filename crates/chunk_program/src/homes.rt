@@ -1,0 +1,82 @@
+//! Where each item comes in a cycle, as a table by item.
+//!
+//! Four numbers an item, made from its disk and its place on the disk: all that a receiver asks of a program follows
+//! from them in one step.
+
+ghost use Rattle.std.specs.Prelude.{◌≡◌, ℕ, ◌*◌, ◌<◌, ◌≤◌, IfOk, Some, length, slice_get};
+ghost use Rattle.air_model.specs.Disks.{all_items};
+ghost use Rattle.air_model.specs.Programs.{minor_len, num_chunks, num_minors, program};
+ghost use Rattle.chunk_program.specs.declared.homes.Home.{Home};
+ghost use Rattle.chunk_program.specs.Homes.{FitsHome, IsHome, first_slot};
+ghost use Rattle.chunk_program.specs.Limits.{AreDeckDisks};
+
+use crate::cuts::Cut;
+use crate::disks::Disk;
+use crate::layout::front_len;
+use std::alloc::{AllocError, Global};
+
+/// How often a cycle airs an item, how far apart and in which slot first, and the number of its disk's chunks.
+#[derive(Clone, Copy)]
+pub struct Home {
+    pub times: u32,
+    pub gap: u32,
+    pub first: u32,
+    pub chunks: u32,
+}
+
+/// The home of the item at a place of a disk, whose chunks begin behind so many slots of a minor cycle.
+fn home_at(disk: &Disk, minors: u64, minor_slots: u64, front: u64, place: u32) -> Home
+    requires { FitsHome minors minor_slots front place disk.now }
+    ensures times { result.times ≡ disk.now.freq }
+    ensures gap { result.gap ≡ num_chunks minors disk.now * minor_slots }
+    ensures first { result.first ≡ first_slot minors minor_slots front place disk.now }
+    ensures chunks { result.chunks ≡ num_chunks minors disk.now }
+{
+    let chunks = disk.chunks(minors);
+    let len = disk.chunk_len(minors);
+    let place = u64::from(place);
+    Home {
+        times: disk.freq(),
+        gap: (chunks * minor_slots) as u32,
+        first: (place / len * minor_slots + (front + place % len)) as u32,
+        chunks: chunks as u32,
+    }
+}
+
+/// The home of an item, in the program of a cut with these numbers.
+fn home_of(cut: &Cut, minors: u64, minor_slots: u64, item: u16) -> Home
+    requires limits { AreDeckDisks cut.now }
+    requires minors { minors ≡ num_minors cut.now }
+    requires minor_slots { minor_slots ≡ minor_len minors cut.now }
+    requires short { length (program cut.now) ≤ 16384 }
+    requires item { item < length (all_items cut.now) }
+    ensures { IsHome cut.now item result }
+{
+    let number = cut.disk_of(item) as usize;
+    let place = cut.place_of(item);
+    let disks = cut.disks();
+    let front = front_len(disks, minors, number);
+    home_at(&disks[number], minors, minor_slots, front, place)
+}
+
+/// The homes of all items, by number.
+pub fn homes(
+    alloc: Global,
+    cut: &Cut,
+    minors: u64,
+    minor_slots: u64,
+) -> Result<Vec<Home>, AllocError>
+    requires limits { AreDeckDisks cut.now }
+    requires minors { minors ≡ num_minors cut.now }
+    requires minor_slots { minor_slots ≡ minor_len minors cut.now }
+    requires short { length (program cut.now) ≤ 16384 }
+    ensures len { IfOk result (λ homes. length homes.items ≡ length (all_items cut.now)) }
+    ensures homes { IfOk result (λ homes. (i : ℕ) (h : Home) → slice_get homes.items i ≡ Some h → IsHome cut.now i h) }
+{
+    let items = cut.order().len() as u16;
+    let mut homes = Vec::new(alloc);
+    for item in 0..items {
+        homes.push(home_of(cut, minors, minor_slots, item))?;
+    }
+    Ok(homes)
+}

@@ -1,0 +1,23 @@
+//! The cut of a deck into disks, and its broadcast program.
+//!
+//! `cut` orders a deck's items by their rates and gives each disk a range of them; `Program::plan` lays the disks
+//! out as the slots of a cycle. Receivers ask the program when to wake, and how often and how far apart an item comes.
+#![tactic(auto)]
+
+pub mod cuts;
+pub mod cutting;
+mod disks;
+mod homes;
+mod layout;
+mod ordering;
+mod places;
+pub mod programs;
+
+pub use cuts::Cut;
+pub use cutting::cut;
+pub use programs::{PlanFault, Program};
+
+#[cfg(test)]
+mod deck_tests;
+#[cfg(test)]
+mod tests;

@@ -1,0 +1,229 @@
+//! The broadcast program of a deck: which item each slot of a cycle carries.
+//!
+//! Contracts see a program as its disks, and each answer as the definitions' word for it. A slot's item is read from
+//! the laid out slots, and all that is asked of an item from its home: each in one step.
+
+ghost use Rattle.std.specs.Prelude.{◌≡◌, ◌<◌, ◌≤◌, ◌*◌, All, length, slice_get, IfOk, IfErr, IfSome};
+ghost use Rattle.air_model.specs.Disks.{all_items};
+ghost use Rattle.air_model.specs.Decks.{disks_in};
+ghost use Rattle.air_model.specs.Programs.{chunk_len, minor_len, num_chunks, num_minors, program};
+ghost use Rattle.air_model.specs.ProgramLaws.{IsAirable};
+ghost use Rattle.air_model.specs.Airings.{ComesEvery, IsNextWake, airings, disk_number, gap_of, next_wake, pix_number, slot_item};
+ghost use Rattle.chunk_program.specs.Homes.{IsHome};
+ghost use Rattle.chunk_program.specs.Limits.{AreDeckDisks};
+ghost use Rattle.chunk_program.specs.Plans.{IsPlanAnswer};
+
+use crate::cuts::Cut;
+use crate::disks::{Disk, copies};
+use crate::homes::{Home, homes};
+use crate::layout::{front_len, num_minors, slots_of};
+use item_catalog::Deck;
+use std::alloc::{AllocError, Global};
+use std::error::Error;
+use std::fmt;
+use std::marker::Model;
+
+/// The most slots that a program may have.
+const MOST_SLOTS: u64 = 16384;
+
+/// Why there is no program.
+#[derive(Clone, Copy, Debug, PartialEq, Eq)]
+pub enum PlanFault {
+    /// The program would have so many slots, more than 16,384.
+    TooLong { slots: u64 },
+    /// There was no memory.
+    NoMemory,
+}
+
+impl From<AllocError> for PlanFault {
+    ghost use Rattle.std.specs.Prelude.{◌≡◌};
+    ghost use Rattle.chunk_program.specs.declared.programs.PlanFault.TheVariants.{NoMemory};
+
+    ghost from_gives = { λ _ fault. fault ≡ NoMemory };
+
+    fn from(_error: AllocError) -> Self {
+        PlanFault::NoMemory
+    }
+}
+
+impl fmt::Display for PlanFault {
+    fn fmt<W: fmt::Write>(&self, f: &mut fmt::Formatter<W>) -> fmt::Result {
+        match self {
+            PlanFault::TooLong { slots } => write!(f, "a program of {slots} slots is too long"),
+            PlanFault::NoMemory => f.write_str("out of memory"),
+        }
+    }
+}
+
+impl Error for PlanFault {}
+
+/// The broadcast program of disks, seen as these disks.
+#[derive(Drop)]
+pub struct Program {
+    disks: Vec<Disk>,
+    minors: u32,
+    minor_len: u32,
+    slots: Vec<Option<u16>>,
+    homes: Vec<Home>,
+}
+
+impl Model for Program {
+    ghost use Rattle.std.specs.Prelude.{List};
+    ghost use Rattle.air_model.specs.Disks.{Disk};
+
+    ghost Value = { List Disk };
+
+    ghost use Rattle.chunk_program.specs.ProgramView.{IsLaidOut};
+
+    ghost view = { λ p. p.disks.items };
+
+    ghost invariant = { IsLaidOut };
+}
+
+impl Program {
+    /// The program of a deck's disks. Its slots are counted before one is laid out, so no deck makes it slow.
+    pub fn plan(alloc: Global, deck: &Deck, cut: &Cut) -> Result<Program, PlanFault>
+        requires { cut.now ≡ disks_in deck.now }
+        ensures planned { IfOk result (λ p. p ≡ disks_in deck.now) }
+        ensures short { IfOk result (λ p. length (program p) ≤ 16384) }
+        ensures too_long { IfErr result (IsPlanAnswer (disks_in deck.now)) }
+    {
+        deck.well_made();
+        Program::of_cut(alloc, cut)
+    }
+
+    /// The program of a cut's disks.
+    pub(crate) fn of_cut(alloc: Global, cut: &Cut) -> Result<Program, PlanFault>
+        requires { AreDeckDisks cut.now }
+        ensures planned { IfOk result (λ p. p ≡ cut.now) }
+        ensures short { IfOk result (λ p. length (program p) ≤ 16384) }
+        ensures too_long { IfErr result (IsPlanAnswer cut.now) }
+    {
+        let disks = cut.disks();
+        let minors = num_minors(disks);
+        let minor_len = front_len(disks, minors, disks.len());
+        let slots = minors * minor_len;
+        if slots > MOST_SLOTS {
+            return Err(PlanFault::TooLong { slots });
+        }
+        let slots = slots_of(alloc, disks, minors)?;
+        let homes = homes(alloc, cut, minors, minor_len)?;
+        let disks = copies(alloc, disks)?;
+        Ok(Program {
+            disks,
+            minors: minors as u32,
+            minor_len: minor_len as u32,
+            slots,
+            homes,
+        })
+    }
+
+    /// The disks of a program can be aired, they hold 1 to 256 items numbered from 0, and its slots carry no others.
+    pub fn well_made(&self)
+        ensures airable { IsAirable self.now }
+        ensures some { 1 ≤ length (all_items self.now) }
+        ensures few { length (all_items self.now) ≤ 256 }
+        ensures within { All (λ i. i < length (all_items self.now)) (all_items self.now) }
+        ensures slots { All (λ o. IfSome o (λ i. i < length (all_items self.now))) (program self.now) }
+    {
+        let _slots = &self.slots;
+    }
+
+    /// The home of an item.
+    fn home(&self, item: u16) -> Home
+        requires { item < length (all_items self.now) }
+        ensures limits { AreDeckDisks self.now }
+        ensures home { IsHome self.now item result }
+        ensures few { result.gap ≤ 16384 }
+        ensures first { result.first < result.gap }
+    {
+        self.homes[item as usize]
+    }
+
+    /// The number of slots of a cycle.
+    pub fn slots(&self) -> u32
+        ensures counted { result ≡ length (program self.now) }
+        ensures some { 1 ≤ result }
+        ensures few { result ≤ 16384 }
+    {
+        self.slots.len() as u32
+    }
+
+    /// The number of minor cycles.
+    pub fn minors(&self) -> u32
+        ensures { result ≡ num_minors self.now }
+    {
+        self.minors
+    }
+
+    /// The number of slots of a minor cycle.
+    pub fn minor_len(&self) -> u32
+        ensures { result ≡ minor_len (num_minors self.now) self.now }
+    {
+        self.minor_len
+    }
+
+    /// The number of chunks of a disk.
+    pub fn chunks(&self, d: u32) -> u32
+        requires { d < length self.now }
+        ensures { IfSome (slice_get self.now d) (λ disk. result ≡ num_chunks (num_minors self.now) disk) }
+    {
+        self.disks[d as usize].chunks(u64::from(self.minors)) as u32
+    }
+
+    /// The number of slots of a chunk of a disk.
+    pub fn chunk_len(&self, d: u32) -> u32
+        requires { d < length self.now }
+        ensures { IfSome (slice_get self.now d) (λ disk. result ≡ chunk_len (num_minors self.now) disk) }
+    {
+        self.disks[d as usize].chunk_len(u64::from(self.minors)) as u32
+    }
+
+    /// The item of a slot; none where it is idle.
+    pub fn slot_item(&self, slot: u32) -> Option<u16>
+        requires { slot < length (program self.now) }
+        ensures carried { result ≡ slot_item (program self.now) slot }
+        ensures within { IfSome result (λ i. i < length (all_items self.now)) }
+    {
+        self.slots[slot as usize]
+    }
+
+    /// How often a cycle airs an item: exactly as often as its disk's frequency says.
+    pub fn times(&self, item: u16) -> u32
+        requires { item < length (all_items self.now) }
+        ensures counted { result ≡ airings (program self.now) item }
+        ensures frequency { IfSome (slice_get self.now (disk_number self.now item)) (λ disk. result ≡ disk.freq) }
+    {
+        self.home(item).times
+    }
+
+    /// The number of slots from each airing of an item to the next, around the cycle.
+    pub fn gap(&self, item: u16) -> u32
+        requires { item < length (all_items self.now) }
+        ensures gap { result ≡ gap_of self.now item }
+        ensures even { ComesEvery (program self.now) item result }
+        ensures all { airings (program self.now) item * result ≡ length (program self.now) }
+    {
+        self.home(item).gap
+    }
+
+    /// The number of slots from a slot to the next airing of an item, around the cycle; 0 where the slot carries it.
+    pub fn next_wake(&self, slot: u32, item: u16) -> u32
+        requires slot { slot < length (program self.now) }
+        requires item { item < length (all_items self.now) }
+        ensures wait { result ≡ next_wake (program self.now) slot item }
+        ensures least { IsNextWake (program self.now) slot item result }
+    {
+        let home = self.home(item);
+        (home.first + (home.gap - slot % home.gap)) % home.gap
+    }
+
+    /// The item's PIX number at a rate: the rate times the number of chunks of the item's disk.
+    pub fn pix(&self, item: u16, rate: u32) -> u64
+        requires item { item < length (all_items self.now) }
+        requires rate { rate ≤ 1000000 }
+        ensures { result ≡ pix_number self.now item rate }
+    {
+        u64::from(rate) * u64::from(self.home(item).chunks)
+    }
+}
