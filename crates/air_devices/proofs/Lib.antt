@@ -2,3 +2,4 @@ pub mod NamedLemmas
 pub mod MemoryFacts
 pub mod CallFacts
 pub mod WrittenFacts
+pub mod RecordFacts

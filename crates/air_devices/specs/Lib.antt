@@ -4,3 +4,6 @@ pub mod Frames
 pub mod Known
 pub mod Memory
 pub mod Written
+pub mod Masts
+pub mod Recordings
+pub mod MemoryMasts

@@ -1,21 +1,30 @@
-//! Where files are read, outputs are written and text is printed.
+//! Where files are read, outputs are written, text is printed and buckets are sent.
 //!
-//! `shelves` has the trait of such a device and its one refusal. A call that fails says which count of faults
-//! rose, so that a caller can name the cause of its own answer. `memory_shelf` is a shelf in memory, which tells
-//! all that it holds and fails where it is told to. `file_shelf` is one over real files and standard output.
-//! `reading` reads a whole file through any shelf.
+//! `shelves` has the trait of a device with files and outputs, and the one refusal; `masts` that of a device that sends
+//! buckets. A call that fails says which count rose, so that a caller can name the cause of its own answer.
+//! `memory_shelf` and `memory_mast` are forms in memory, which tell all that they hold and fail where they are told to;
+//! `file_shelf` is a shelf over real files and standard output. `reading` reads a whole file through any shelf.
+//! `tape_room` is a tape that grows in memory that was taken at once.
 #![tactic(auto)]
 
 pub mod file_shelf;
 mod fixed_bytes;
+pub mod masts;
+pub mod memory_mast;
 pub mod memory_shelf;
 pub mod reading;
 pub mod shelves;
+pub mod tape_room;
 
 pub use file_shelf::FileShelf;
+pub use masts::Mast;
+pub use memory_mast::MemMast;
 pub use memory_shelf::MemShelf;
 pub use reading::{ReadFileError, read_file};
 pub use shelves::{Failed, Shelf};
+pub use tape_room::TapeRoom;
 
+#[cfg(test)]
+mod mast_tests;
 #[cfg(test)]
 mod tests;

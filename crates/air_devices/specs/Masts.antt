@@ -1,0 +1,36 @@
+-- What a mast tells of what it sent, and when its calls fail. What a form doesn't tell is None.
+use Rattle.std.specs.Prelude.{◌≡◌, ℕ, ◌≤◌, List, [], ◌++◌, length, Option, Some, None, unwrap_or, Result, OnErr, OnOk, ⊤}
+use Rattle.air_devices.specs.Counts.{Rose}
+
+-- the buckets that were sent, and where the end was sent, how many buckets had been sent at the first end
+pub record Sent : Type 0 where
+  pub buckets : List (List ℕ)
+  pub ended : Option ℕ
+
+-- nothing was sent
+abbrev pub nothing_sent : Sent
+nothing_sent = record { buckets = []; ended = None }
+
+-- these buckets were sent too
+abbrev pub with_buckets : List (List ℕ) → Sent → Sent
+with_buckets more s = record s { buckets = s.buckets ++ more }
+
+-- the end was sent too
+abbrev pub with_end : Sent → Sent
+with_end s = record s { ended = Some (unwrap_or s.ended (length s.buckets)) }
+
+-- what was sent, where told, has this property
+abbrev pub WhereTold : Option Sent → (Sent → Type 0) → Type 0
+WhereTold None P = ⊤
+WhereTold (Some s) P = P s
+
+-- what was told is told again, changed so
+abbrev pub Changes : (Sent → Sent) → Option Sent → Option Sent → Type 0
+Changes change None now = ⊤
+Changes change (Some s) now = now ≡ Some (change s)
+
+-- a call fails only where the count of failures rose, and else leaves it; it never falls
+pub record HasMastCause {T E : Type 0} (before now : ℕ) (result : Result T E) : Type 0 where
+  pub rose : OnErr result (Rose before now)
+  pub later : before ≤ now
+  pub calm : OnOk result (now ≡ before)

@@ -1,0 +1,132 @@
+//! A mast in memory: it tells all that it sent, and fails where it is told to.
+//!
+//! All memory is taken when it is made. Its calls are numbered together from 1, and a call whose number is listed
+//! fails. So does a send past the room, of which nothing is kept: a bucket takes its own bytes and four more.
+
+ghost use Rattle.std.specs.Prelude.{◌≡◌, ◌≤◌, ◌<◌, ◌^◌, ◌↔◌, [], ◌∷◌, Some, length, IfOk, IsErr, IsTrue, OnErr, OnOk};
+ghost use Rattle.std.specs.Option.{is_some};
+ghost use Rattle.air_model.specs.Tapes.{tape_of};
+ghost use Rattle.air_devices.specs.Counts.{Rose};
+ghost use Rattle.air_devices.specs.Masts.{Changes, HasMastCause, with_buckets, with_end};
+ghost use Rattle.air_devices.specs.MemoryMasts.{IsNewMast, IsNextCall, is_next_listed, is_send_refused, next_call, sent_of};
+
+use crate::masts::Mast;
+use crate::shelves::Failed;
+use crate::tape_room::TapeRoom;
+use air_base::NoMemory;
+use std::alloc::Global;
+
+/// The buckets that were sent, as a tape, and whether the end was.
+#[derive(Drop)]
+pub struct MemMast {
+    tape: TapeRoom,
+    ended: Option<usize>,
+    port: Option<u16>,
+    fail: Vec<u64>,
+    calls: u64,
+    failures: u64,
+}
+
+impl MemMast {
+    /// A mast that sent nothing, with room for a tape of `room` bytes. The calls whose numbers are listed in `fail` fail.
+    pub fn new(alloc: Global, room: usize, fail: Vec<u64>) -> Result<MemMast, NoMemory>
+        ensures { IfOk result (IsNewMast room fail.items) }
+    {
+        let tape = TapeRoom::new(alloc, room)?;
+        Ok(MemMast {
+            tape,
+            ended: None,
+            port: None,
+            fail,
+            calls: 0,
+            failures: 0,
+        })
+    }
+
+    /// The sent buckets as a tape.
+    pub fn sent(&self) -> &[u8]
+        ensures { result.now ≡ tape_of (sent_of self.now).buckets }
+    {
+        self.tape.as_slice()
+    }
+
+    /// Whether the end was sent.
+    pub fn ended(&self) -> bool
+        ensures { result ≡ is_some (sent_of self.now).ended }
+    {
+        self.ended.is_some()
+    }
+
+    /// Numbers a call, and tells whether its number is listed, so that it is to fail.
+    fn is_to_fail(&mut self) -> bool
+        ensures numbered { self.new ≡ record self.old { calls = next_call self.old } }
+        ensures listed { result ≡ is_next_listed self.old }
+    {
+        self.calls = self.calls.saturating_add(1);
+        let number = self.calls;
+        self.fail.iter().any(|listed| *listed == number)
+    }
+
+    /// Counts a failure.
+    fn fault(&mut self) -> Failed
+        ensures rose { Rose self.old.failures self.new.failures }
+        ensures later { self.old.failures ≤ self.new.failures }
+        ensures rest { self.new ≡ record self.old { failures = self.new.failures } }
+    {
+        self.failures = self.failures.saturating_add(1);
+        Failed
+    }
+}
+
+impl Mast for MemMast {
+    ghost sent = { λ m. Some (sent_of m) };
+
+    ghost failures = { λ m. m.failures };
+
+    ghost aimed_at = { λ m. m.port };
+
+    fn aim(&mut self, port: u16) -> Result<(), Failed>
+        ensures fails { IsErr result ↔ IsTrue (is_next_listed self.old) }
+        ensures call { IsNextCall self.old self.new }
+        ensures aimed { self.new.port ≡ Some port }
+        ensures kept { sent_of self.new ≡ sent_of self.old }
+        ensures cause { HasMastCause self.old.failures self.new.failures result }
+    {
+        self.port = Some(port);
+        if self.is_to_fail() {
+            return Err(self.fault());
+        }
+        Ok(())
+    }
+
+    fn send(&mut self, bytes: &[u8]) -> Result<(), Failed>
+        requires { length bytes.now < 2 ^ 32 }
+        ensures fails { IsErr result ↔ IsTrue (is_send_refused self.old bytes.now) }
+        ensures call { IsNextCall self.old self.new }
+        ensures added { OnOk result (Changes (with_buckets (bytes.now ∷ [])) (Some (sent_of self.old)) (Some (sent_of self.new))) }
+        ensures refused { OnErr result (sent_of self.new ≡ sent_of self.old) }
+        ensures port { self.new.port ≡ self.old.port }
+        ensures cause { HasMastCause self.old.failures self.new.failures result }
+    {
+        if self.is_to_fail() || !self.tape.add(bytes) {
+            return Err(self.fault());
+        }
+        Ok(())
+    }
+
+    fn finish(&mut self) -> Result<(), Failed>
+        ensures fails { IsErr result ↔ IsTrue (is_next_listed self.old) }
+        ensures call { IsNextCall self.old self.new }
+        ensures ended { OnOk result (Changes with_end (Some (sent_of self.old)) (Some (sent_of self.new))) }
+        ensures refused { OnErr result (sent_of self.new ≡ sent_of self.old) }
+        ensures port { self.new.port ≡ self.old.port }
+        ensures cause { HasMastCause self.old.failures self.new.failures result }
+    {
+        if self.is_to_fail() {
+            return Err(self.fault());
+        }
+        let sent = self.tape.count();
+        self.ended = Some(self.ended.unwrap_or(sent));
+        Ok(())
+    }
+}

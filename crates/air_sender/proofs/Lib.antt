@@ -1,0 +1,5 @@
+pub mod StartedBoards
+pub mod TapeLengths
+pub mod RangeFacts
+pub mod SendFacts
+pub mod GrowFacts

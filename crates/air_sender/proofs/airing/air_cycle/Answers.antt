@@ -1,0 +1,53 @@
+use Rattle.std.proofs.Common.{◌<◌, ◌∙◌, length, take, subst, arith}
+use Rattle.air_model.specs.Disks.{all_items}
+use Rattle.air_model.specs.Programs.{program as slots_of}
+use Rattle.air_model.specs.Buckets.{spelling}
+use Rattle.air_devices.specs.Masts.{Changes, with_buckets}
+use Rattle.air_sender.specs.BoardBuckets.{bucket_on, cycle_bytes}
+use Rattle.air_sender.proofs.SendFacts.{last_bytes_are, length_cycle, refused, sent_all, sent_more, slot_bytes, well}
+use Rattle.air_sender.proofs.airing.air_cycle.Goals as goal
+
+pub returns-then-is_err-clause-fault : goal.returns-then-is_err-clause-fault
+returns-then-is_err-clause-fault g c =
+    let bs = cycle_bytes c.args.policy (slots_of c.args.program.now) c.args.board.now in
+    let kept = refused c.air_slot.result c.is_err.result c.is_err.ensures.value c.if-is_err.true c.air_slot.ensures.refused in
+    let rose = refused c.air_slot.result c.is_err.result c.is_err.ensures.value c.if-is_err.true c.air_slot.ensures.cause.rose in
+    record {
+      within = omega (arith, length_cycle c.args.policy (slots_of c.args.program.now) c.args.board.now, c.slots-slot-end.ensures.counted);
+      rose = rw c.loop-slot.invariant.calm at rose;
+      sent = rw kept c.loop-slot.invariant.sent;
+    }
+
+pub loop-slot-preserved : goal.loop-slot-preserved
+loop-slot-preserved g c =
+    let by = c.args.policy in
+    let slots = slots_of c.args.program.now in
+    let board = c.args.board.now in
+    let s = c.loop-slot.slot in
+    let within : s < length slots = omega (arith, c.slots-slot-end.ensures.counted) in
+    record {
+      sent = sent_more (cycle_bytes by slots board) (spelling (bucket_on by slots board s)) s _ _ _ (omega (arith, length_cycle by slots board)) (slot_bytes by slots board s within)
+          c.loop-slot.invariant.sent (well c.air_slot.result c.is_err.result c.is_err.ensures.value c.if-is_err.false c.air_slot.ensures.sent);
+      calm = well c.air_slot.result c.is_err.result c.is_err.ensures.value c.if-is_err.false c.air_slot.ensures.cause.calm ∙ c.loop-slot.invariant.calm;
+      port = c.air_slot.ensures.port ∙ c.loop-slot.invariant.port;
+    }
+
+pub returns-clause-aired : goal.returns-clause-aired
+returns-clause-aired g c =
+    let by = c.args.policy in
+    let slots = slots_of c.args.program.now in
+    let board = c.args.board.now in
+    sent_all (cycle_bytes by slots board) c.loop-slot.slot _ _ (omega (arith, length_cycle by slots board, c.slots-slot-end.ensures.counted)) c.loop-slot.invariant.sent
+
+pub returns-clause-history : goal.returns-clause-history
+returns-clause-history g c values air G is =
+    subst (λ bs. Changes (with_buckets bs) (g.M.Mast.sent c.args.mast.now) (g.M.Mast.sent c.loop-slot.mast))
+    (last_bytes_are values air G c.args.policy (slots_of c.args.program.now) c.args.board.now (length (all_items c.args.program.now)) is c.requires.items c.well_made.ensures.slots)
+    (returns-clause-aired g c)
+
+pub returns-then-is_err-clause-history : goal.returns-then-is_err-clause-history
+returns-then-is_err-clause-history g c values air G is =
+    let sent = (returns-then-is_err-clause-fault g c).sent in
+    subst (λ bs. Changes (with_buckets (take c.loop-slot.slot bs)) (g.M.Mast.sent c.args.mast.now) (g.M.Mast.sent c.air_slot.new.mast))
+    (last_bytes_are values air G c.args.policy (slots_of c.args.program.now) c.args.board.now (length (all_items c.args.program.now)) is c.requires.items c.well_made.ensures.slots)
+    sent

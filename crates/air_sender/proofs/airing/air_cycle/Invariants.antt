@@ -1,0 +1,13 @@
+use Rattle.std.proofs.Common.{◌≡◌, take}
+use Rattle.air_model.specs.Programs.{program as slots_of}
+use Rattle.air_devices.specs.Masts.{Changes, with_buckets}
+use Rattle.air_sender.specs.BoardBuckets.{cycle_bytes}
+use Rattle.air_sender.proofs.airing.air_cycle.Given as goal
+
+-- the buckets of the slots before were sent, and nothing else changed
+abbrev pub invariant-loop-slot : goal.invariant-loop-slot
+invariant-loop-slot g l = record {
+  sent : Changes (with_buckets (take l.slot (cycle_bytes l.policy (slots_of l.program) l.board))) (g.M.Mast.sent l.fn.mast) (g.M.Mast.sent l.mast);
+  calm : g.M.Mast.failures l.mast ≡ g.M.Mast.failures l.fn.mast;
+  port : g.M.Mast.aimed_at l.mast ≡ g.M.Mast.aimed_at l.fn.mast;
+}

@@ -1,0 +1,69 @@
+-- What a board airs: the bucket of each slot, and the law that ties it to the history of the board.
+use Rattle.std.specs.Prelude.{◌≡◌, ℕ, ◌<◌, List, [], ◌∷◌, ◌++◌, All, cond, length, map, get_or, Option, Some, None}
+use Rattle.std.specs.List.{range_with_len}
+use Rattle.air_base.specs.declared.verdicts.Policy.{Policy}
+use Rattle.air_base.specs.declared.verdicts.Policy.TheVariants.{FMatrix, Datacycle, RMatrix}
+use Rattle.air_history.specs.declared.histories.Event.{Event}
+use Rattle.air_history.specs.declared.histories.Event.TheVariants.{Start}
+use Rattle.air_history.specs.Histories.{is_start, starts}
+use Rattle.air_history.specs.Boards.{Board, board_of}
+use Rattle.air_model.specs.Buckets.{Bucket, Body, Idle, spelling}
+use Rattle.air_model.specs.Aired.{Air, SlotsFit, aired_as, bucket_of, buckets_of}
+
+-- The entries that a policy airs with an item: its control column, or the write vector.
+abbrev pub entries_on : Policy → Board → ℕ → List ℕ
+entries_on FMatrix board item = get_or board.columns item []
+entries_on Datacycle board item = board.vector
+entries_on RMatrix board item = board.vector
+
+-- The body of a slot with this item, or idle.
+unfoldable pub body_on : Policy → Board → Option ℕ → Body
+body_on policy board None = Idle (length board.values)
+body_on policy board (Some item) = aired_as policy item (get_or board.values item 0) (entries_on policy board item)
+
+-- The bucket of slot s in the board's cycle.
+unfoldable pub bucket_on : Policy → List (Option ℕ) → Board → ℕ → Bucket
+bucket_on policy slots board s = record { edition = 0; cycle = board.cycle; slot = s; body = body_on policy board (get_or slots s None) }
+
+-- The buckets of the board's cycle, slot by slot.
+abbrev pub cycle_buckets : Policy → List (Option ℕ) → Board → List Bucket
+cycle_buckets policy slots board = map (bucket_on policy slots board) (range_with_len 0 (length slots))
+
+-- Their bytes.
+abbrev pub cycle_bytes : Policy → List (Option ℕ) → Board → List (List ℕ)
+cycle_bytes policy slots board = map spelling (cycle_buckets policy slots board)
+
+-- A board can air its cycle: all its entries are below it.
+pub record EntriesBelow (board : Board) : Type 0 where
+  pub columns : All (All (λ e. e < board.cycle)) board.columns
+  pub vector : All (λ e. e < board.cycle) board.vector
+
+-- The buckets of the last cycle that a history starts, slot by slot.
+abbrev pub last_cycle : List ℕ → Air → List Event → List Bucket
+last_cycle values air H = map (bucket_of values air H (starts H)) (range_with_len 0 (length air.slots))
+
+-- Their bytes, where the history ends with a start.
+abbrev pub last_bytes : List ℕ → Air → List Event → List (List ℕ)
+last_bytes values air G = map spelling (last_cycle values air (G ++ Start ∷ []))
+
+-- The board is that of a history which ends with a start, from these values, and airs with this policy and these slots.
+pub record IsLastBoard (values : List ℕ) (air : Air) (G : List Event) (by : Policy) (program : List (Option ℕ)) (b : Board) : Type 0 where
+  pub board : b ≡ board_of values (G ++ Start ∷ [])
+  pub items : air.items ≡ length values
+  pub policy : air.policy ≡ by
+  pub slots : air.slots ≡ program
+
+-- The board of a history that ends with a start airs the history's buckets of that cycle.
+abbrev pub OwnCycleLaw : Type 0
+OwnCycleLaw = (values : List ℕ) (air : Air) (G : List Event) → air.items ≡ length values → SlotsFit air →
+    cycle_buckets air.policy air.slots (board_of values (G ++ Start ∷ []))
+    ≡ map (bucket_of values air (G ++ Start ∷ []) (starts (G ++ Start ∷ []))) (range_with_len 0 (length air.slots))
+
+-- And its entries are below that cycle.
+abbrev pub BelowLaw : Type 0
+BelowLaw = (values : List ℕ) (G : List Event) → EntriesBelow (board_of values (G ++ Start ∷ []))
+
+-- One more event airs the buckets of the cycle that it starts, where it is a start, and else nothing.
+abbrev pub GrowLaw : Type 0
+GrowLaw = (values : List ℕ) (air : Air) (G : List Event) (e : Event) →
+    buckets_of values air (G ++ e ∷ []) ≡ buckets_of values air G ++ cond (is_start e) (last_cycle values air (G ++ e ∷ [])) []

@@ -1,0 +1,4 @@
+pub mod BoardBuckets
+pub mod Tapings
+pub mod AirFaults
+pub mod TapeSizes

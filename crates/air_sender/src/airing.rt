@@ -1,0 +1,110 @@
+//! Airing one cycle of a program from a board.
+//!
+//! Each slot's bucket is written into the buffer and sent through the mast; no call takes memory. What was sent are the
+//! board's buckets, and so those of the history of which the board is.
+
+ghost use Rattle.std.specs.Prelude.{◌≡◌, ℕ, ◌<◌, ◌≤◌, ◌+◌, ◌*◌, List, [], ◌∷◌, length, map, IfErr, OnErr, OnOk};
+ghost use Rattle.air_history.specs.declared.histories.Event.{Event};
+ghost use Rattle.air_history.specs.declared.histories.Event.TheVariants.{Start};
+ghost use Rattle.air_model.specs.Disks.{all_items};
+ghost use Rattle.air_model.specs.Programs.{program as slots_of};
+ghost use Rattle.air_model.specs.Buckets.{spelling};
+ghost use Rattle.air_model.specs.Aired.{Air};
+ghost use Rattle.air_devices.specs.Masts.{Changes, HasMastCause, with_buckets};
+ghost use Rattle.air_sender.specs.BoardBuckets.{EntriesBelow, IsLastBoard, bucket_on, cycle_bytes, last_bytes};
+ghost use Rattle.air_sender.specs.AirFaults.{IsAirAnswer, SendsUpToFault};
+ghost use Rattle.air_sender.specs.TapeSizes.{cycle_size};
+
+use crate::buckets::slot_bucket;
+use air_base::Policy;
+use air_devices::{Failed, Mast};
+use bucket_codec::encode;
+use chunk_program::Program;
+use control_matrix::Board;
+
+/// Why a cycle wasn't aired whole.
+#[derive(Clone, Copy, Debug, PartialEq, Eq)]
+pub enum AirFault {
+    /// The mast failed at this slot; the slots before it were sent.
+    Mast { slot: u32 },
+}
+
+/// Sends the bucket of each slot in order for the board's cycle.
+pub fn air_cycle<M: Mast>(
+    program: &Program,
+    board: &Board,
+    policy: Policy,
+    mast: &mut M,
+    buf: &mut [u8],
+) -> Result<(), AirFault>
+    requires started { 1 ≤ board.now.cycle }
+    requires below { EntriesBelow board.now }
+    requires items { length (all_items program.now) ≡ length board.now.values }
+    requires room { 24 + 4 * length board.now.values ≤ length buf.old }
+    ensures aired { OnOk result (Changes (with_buckets (cycle_bytes policy (slots_of program.now) board.now)) (M.sent mast.old) (M.sent mast.new)) }
+    ensures history { (values : List ℕ) (air : Air) (G : List Event) → IsLastBoard values air G policy (slots_of program.now) board.now →
+        SendsUpToFault (last_bytes values air G) result (M.sent mast.old) (M.sent mast.new) }
+    ensures calm { OnOk result (M.failures mast.new ≡ M.failures mast.old) }
+    ensures fault { IfErr result (IsAirAnswer (cycle_bytes policy (slots_of program.now) board.now) (M.sent mast.old) (M.sent mast.new) (M.failures mast.old) (M.failures mast.new)) }
+    ensures port { M.aimed_at mast.new ≡ M.aimed_at mast.old }
+    ensures buffer { length buf.new ≡ length buf.old }
+{
+    program.well_made();
+    for slot in 0..program.slots() {
+        if air_slot(program, board, policy, slot, mast, buf).is_err() {
+            return Err(AirFault::Mast { slot });
+        }
+    }
+    Ok(())
+}
+
+/// Sends the bucket of one slot.
+fn air_slot<M: Mast>(
+    program: &Program,
+    board: &Board,
+    policy: Policy,
+    slot: u32,
+    mast: &mut M,
+    buf: &mut [u8],
+) -> Result<(), Failed>
+    requires slot { slot < length (slots_of program.now) }
+    requires short { slot < 16384 }
+    requires few { length board.now.values ≤ 256 }
+    requires started { 1 ≤ board.now.cycle }
+    requires below { EntriesBelow board.now }
+    requires items { length (all_items program.now) ≡ length board.now.values }
+    requires room { 24 + 4 * length board.now.values ≤ length buf.old }
+    ensures sent { OnOk result (Changes (with_buckets (spelling (bucket_on policy (slots_of program.now) board.now slot) ∷ [])) (M.sent mast.old) (M.sent mast.new)) }
+    ensures refused { OnErr result (M.sent mast.new ≡ M.sent mast.old) }
+    ensures port { M.aimed_at mast.new ≡ M.aimed_at mast.old }
+    ensures cause { HasMastCause (M.failures mast.old) (M.failures mast.new) result }
+{
+    let bucket = slot_bucket(board, policy, slot, program.slot_item(slot));
+    let len = encode(&bucket, buf);
+    mast.send(&buf[..len])
+}
+
+/// The exact length of the tape of so many cycles of the program, where the deck has n items.
+pub fn tape_bytes(program: &Program, n: u16, cycles: u32) -> u64
+    requires { n ≡ length (all_items program.now) }
+    ensures { result ≡ cycles * cycle_size n (slots_of program.now) }
+{
+    program.well_made();
+    u64::from(cycles) * cycle_len(program, n)
+}
+
+/// The length of the records of one cycle.
+fn cycle_len(program: &Program, n: u16) -> u64
+    requires { n ≤ 256 }
+    ensures len { result ≡ cycle_size n (slots_of program.now) }
+    ensures few { result ≤ 1052 * 16384 }
+{
+    let mut len = 0;
+    for slot in 0..program.slots() {
+        len += match program.slot_item(slot) {
+            None => 28,
+            Some(_) => 28 + 4 * u64::from(n),
+        };
+    }
+    len
+}

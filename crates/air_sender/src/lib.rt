@@ -1,0 +1,18 @@
+//! The sender: one cycle of a broadcast program aired from a board, and a mast that gathers a tape.
+//!
+//! `airing` sends the bucket of each slot through any mast; what it sent are the history's buckets of that cycle, for every
+//! history of which the board is. `tape_mast` keeps what is sent as a tape. `laws` ties board, history and lengths together.
+#![tactic(auto)]
+
+pub mod airing;
+mod buckets;
+pub mod laws;
+pub mod tape_mast;
+
+pub use airing::{AirFault, air_cycle, tape_bytes};
+pub use tape_mast::TapeMast;
+
+#[cfg(test)]
+mod program_tests;
+#[cfg(test)]
+mod tests;
