@@ -1,0 +1,96 @@
+-- What an answer of `feed` tells: which count rose, and that a refused or a foreign member changes nothing else. By every
+-- judge, and with copies as without.
+use Rattle.std.proofs.Common.{◌≡◌, ℕ, ◌+◌, max, Bool, true, false, cond, nat_lt, List, [], ◌∷◌, ◌++◌, Option, Some, None, refl, sym, ◌∙◌, ap, subst}
+use Rattle.std.specs.Option.{is_some}
+use Rattle.air_base.specs.declared.verdicts.Clash.{Clash}
+use Rattle.air_base.specs.declared.verdicts.Counts.{Counts}
+use Rattle.air_base.specs.declared.verdicts.VerdictKind.TheVariants.{Abort, Accept}
+use Rattle.air_model.specs.Aired.{Air, fits}
+use Rattle.air_model.specs.Buckets.{Bucket}
+use Rattle.air_model.specs.Judges.{Judge}
+use Rattle.air_model.specs.Reads.{Read}
+use Rattle.air_model.specs.Sessions.{Reader, State, abort, accept_if_whole, comes_late, count_dozed, count_foreign, count_late, count_opened, count_refused, decide, drop_copy, hear, hear_read, hold, is_wanted, next_attempt, next_query, offer, open_bucket, query_of, read_in, wanted, with_line}
+use Rattle.air_model.proofs.MomentLemmas.{cond_keeps}
+use Rattle.receiver_core.specs.Hearings.{ChangesItsCountAlone, counted, fed_of, fed_read}
+use Rattle.receiver_core.specs.LastReads.{in_state}
+use Rattle.receiver_core.specs.Receivings.{Receiving}
+use Rattle.receiver_core.specs.declared.receivers.Fed.{Fed}
+use Rattle.receiver_core.specs.declared.receivers.Fed.TheVariants as fed
+use Rattle.receiver_core.proofs.HearLemmas.{at_cycle, quiet}
+
+module _ (judge : Judge) (r : Receiving) where
+  -- ---- the count that rises
+
+  decide_counts : (x : Read) (o : Option Clash) (s : State) → (decide judge r.air r.reader x o s).counts ≡ s.counts
+  unfolding decide hold accept_if_whole abort next_attempt next_query with_line drop_copy
+  decide_counts x None s = cond_keeps (λ t. t.counts ≡ s.counts) (is_some (wanted r.reader (record s { held = s.held ++ x ∷ [] }))) _ _ (λ _. refl) (λ _. refl)
+  decide_counts x (Some c) s = cond_keeps (λ t. t.counts ≡ s.counts) (nat_lt s.attempt r.reader.plan.tries) _ _ (λ _. refl) (λ _. refl)
+
+  open_counts : (x : Read) (s : State) → (open_bucket judge r.air r.reader x s).counts ≡ counted fed.Opened s.counts
+  unfolding open_bucket offer count_opened
+  open_counts x s = decide_counts x (judge.clash s.held x) (count_opened s)
+
+  read_counts : (o : Option Read) (m : ℕ) → (hear_read judge r.air r.reader o (at_cycle m r.state)).counts ≡ counted (fed_read r o) r.state.counts
+  unfolding hear_read fed_read count_dozed count_late wanted query_of
+  read_counts None m = refl
+  read_counts (Some x) m = by (is_wanted (wanted r.reader r.state) x.item) (comes_late r.air r.state x)
+    where
+      by : (w l : Bool) →
+          (cond w (cond l (count_late (at_cycle m r.state)) (open_bucket judge r.air r.reader x (at_cycle m r.state))) (count_dozed (at_cycle m r.state))).counts
+          ≡ counted (cond w (cond l fed.Late fed.Opened) fed.Dozed) r.state.counts
+      by true true = refl
+      by true false = open_counts x (at_cycle m r.state)
+      by false l = refl
+
+  pub hear_counts : (o : Option Bucket) → (hear judge r.air r.reader o r.state).counts ≡ counted (fed_of r o) r.state.counts
+  unfolding hear fed_of count_refused count_foreign
+  hear_counts None = refl
+  hear_counts (Some b) = by (fits r.air b) (read_counts (read_in b.cycle b.body))
+    where
+      by : (f : Bool) → ((m : ℕ) → (hear_read judge r.air r.reader (read_in b.cycle b.body) (at_cycle m r.state)).counts ≡ counted (fed_read r (read_in b.cycle b.body)) r.state.counts) →
+          (cond f (hear_read judge r.air r.reader (read_in b.cycle b.body) (at_cycle (max r.state.now b.cycle) r.state)) (count_foreign r.state)).counts
+          ≡ counted (cond f (fed_read r (read_in b.cycle b.body)) fed.Foreign) r.state.counts
+      by true rest = rest (max r.state.now b.cycle)
+      by false rest = refl
+
+  -- ---- and nothing else
+
+  read_alone : (o : Option Read) (now : Receiving) → ChangesItsCountAlone (fed_read r o) r now
+  unfolding fed_read
+  read_alone None now = tt
+  read_alone (Some x) now = by (is_wanted (wanted r.reader r.state) x.item) (comes_late r.air r.state x)
+    where
+      by : (w l : Bool) → ChangesItsCountAlone (cond w (cond l fed.Late fed.Opened) fed.Dozed) r now
+      by true true = tt
+      by true false = tt
+      by false l = tt
+
+  pub alone : (o : Option Bucket) → r.state.lines ≡ [] → ChangesItsCountAlone (fed_of r o) r (in_state r (hear judge r.air r.reader o r.state))
+  unfolding hear fed_of count_refused count_foreign
+  alone None free = sym (quiet r (count_refused r.state) free)
+  alone (Some b) free = by (fits r.air b)
+    where
+      by : (f : Bool) → ChangesItsCountAlone (cond f (fed_read r (read_in b.cycle b.body)) fed.Foreign) r
+          (in_state r (cond f (hear_read judge r.air r.reader (read_in b.cycle b.body) (at_cycle (max r.state.now b.cycle) r.state)) (count_foreign r.state)))
+      by true = read_alone (read_in b.cycle b.body) _
+      by false = sym (quiet r (count_foreign r.state) free)
+
+-- ---- a bucket isn't refused
+
+read_not_refused : (r : Receiving) (o : Option Read) → fed_read r o ≡ fed.Refused → ⊥
+unfolding fed_read
+read_not_refused r None e = cc
+read_not_refused r (Some x) e = by (is_wanted (wanted r.reader r.state) x.item) (comes_late r.air r.state x) e
+  where
+    by : (w l : Bool) → cond w (cond l fed.Late fed.Opened) fed.Dozed ≡ fed.Refused → ⊥
+    by true true e = cc
+    by true false e = cc
+    by false l e = cc
+
+pub bucket_not_refused : (r : Receiving) (b : Bucket) → fed_of r (Some b) ≡ fed.Refused → ⊥
+unfolding fed_of
+bucket_not_refused r b e = by (fits r.air b) e
+  where
+    by : (f : Bool) → cond f (fed_read r (read_in b.cycle b.body)) fed.Foreign ≡ fed.Refused → ⊥
+    by true e = read_not_refused r (read_in b.cycle b.body) e
+    by false e = cc

@@ -1,0 +1,144 @@
+-- What a heard bucket is to a receiver: what is answered, and what the rule does.
+use Rattle.std.proofs.Common.{◌≡◌, ◌≢◌, ℕ, ◌+◌, arith, max, Bool, true, false, ◌&&◌, ◌==◌, List, [], length, map, get_or, is_none, not, Option, Some, None, refl, sym, ◌∙◌, ap, subst}
+use Rattle.std.proofs.lemmas.Bool.{and_parts, cond-false, cond-true, eqb-true}
+use Rattle.air_base.specs.declared.verdicts.Policy.TheVariants.{FMatrix}
+use Rattle.air_history.specs.Clashes.{is_late}
+use Rattle.air_model.specs.Aired.{Air, airs_columns, body_fits, fits}
+use Rattle.air_model.specs.Airings.{carries}
+use Rattle.air_model.specs.Buckets.{Body, Bucket, Idle, Column, Vector, count_of, entries_of, item_of, kind_of, value_of}
+use Rattle.air_model.specs.Judges.{Judge, by_entries, place_of}
+use Rattle.air_model.specs.Reads.{Read}
+use Rattle.air_model.specs.Sessions.{Reader, State, comes_late, count_dozed, count_foreign, hear, hear_read, is_wanted, open_bucket, query_of, read_in, wanted}
+use Rattle.air_model.proofs.MomentLemmas.{wanted_from}
+use Rattle.receiver_core.specs.Attempts.{is_read_wanted, read_of}
+use Rattle.receiver_core.specs.Hearings.{fed_of, fed_read}
+use Rattle.receiver_core.specs.LastReads.{in_state, last_reads}
+use Rattle.receiver_core.specs.Receivings.{Receiving}
+use Rattle.receiver_core.specs.declared.receivers.Fed.TheVariants as fed
+
+abbrev J : Judge
+J = by_entries FMatrix
+
+-- ---- bodies
+
+pub idle_unwanted : (o : Option ℕ) (c : ℕ) (body : Body) → kind_of body ≡ 0 → is_read_wanted o (read_in c body) ≡ false
+unfolding kind_of
+idle_unwanted o c (Idle count) k = refl
+idle_unwanted o c (Column item value entries) k = cc
+idle_unwanted o c (Vector item value entries) k = cc
+
+pub busy_wanted : (o : Option ℕ) (c : ℕ) (body : Body) → kind_of body ≢ 0 → is_read_wanted o (read_in c body) ≡ is_wanted o (item_of body)
+unfolding kind_of item_of
+busy_wanted o c (Idle count) k = absurd (k refl)
+busy_wanted o c (Column item value entries) k = refl
+busy_wanted o c (Vector item value entries) k = refl
+
+-- the kinds 1 and 2 aren't that of an idle slot
+pub no_kind_0 : (n : ℕ) → n + 1 ≡ 0 → ⊥
+no_kind_0 n e = absurd (omega arith)
+
+-- the read of a wanted bucket
+pub record IsWanted (o : Option ℕ) (b : Bucket) : Type 0 where
+  pub busy : kind_of b.body ≢ 0
+  pub read : read_in b.cycle b.body ≡ Some (read_of b)
+  pub item : o ≡ Some (item_of b.body)
+
+pub wanted_read : (o : Option ℕ) (b : Bucket) → is_read_wanted o (read_in b.cycle b.body) ≡ true → IsWanted o b
+unfolding kind_of item_of value_of entries_of
+wanted_read o b w = by b.body w
+  where
+    by : (body : Body) → is_read_wanted o (read_in b.cycle body) ≡ true → IsWanted o (record b { body = body })
+    by (Idle count) w = absurd (let f : false ≡ true = w in cc)
+    by (Column item value entries) w = record { busy = λ k. cc; read = refl; item = wanted_from o item w }
+    by (Vector item value entries) w = record { busy = λ k. cc; read = refl; item = wanted_from o item w }
+
+fitting_count : (air : Air) (slot : Option ℕ) (body : Body) → body_fits air slot body ≡ true → count_of body ≡ air.items
+unfolding body_fits count_of
+fitting_count air slot (Idle count) f = eqb-true count air.items (and_parts (is_none slot) (count == air.items) f).1
+fitting_count air slot (Column item value entries) f = eqb-true (length entries) air.items (and_parts (carries item slot && airs_columns air.policy) (length entries == air.items) f).1
+fitting_count air slot (Vector item value entries) f = eqb-true (length entries) air.items (and_parts (carries item slot && not (airs_columns air.policy)) (length entries == air.items) f).1
+
+-- a bucket that fits has the deck's number of items
+pub fits_counted : (air : Air) (b : Bucket) → fits air b ≡ true → count_of b.body ≡ air.items
+unfolding fits
+fits_counted air b f = fitting_count air (get_or air.slots b.slot None) b.body (and_parts _ (body_fits air (get_or air.slots b.slot None) b.body) f).1
+
+-- ---- what is answered
+
+pub fed_foreign : (r : Receiving) (b : Bucket) → fits r.air b ≡ false → fed.Foreign ≡ fed_of r (Some b)
+unfolding fed_of
+fed_foreign r b f = sym (cond-false (fits r.air b) _ _ f)
+
+pub fed_dozed : (r : Receiving) (b : Bucket) → fits r.air b ≡ true → is_read_wanted (wanted r.reader r.state) (read_in b.cycle b.body) ≡ false → fed.Dozed ≡ fed_of r (Some b)
+unfolding fed_of fed_read
+fed_dozed r b f w = sym (cond-true (fits r.air b) _ _ f ∙ by (read_in b.cycle b.body) w)
+  where
+    by : (o : Option Read) → is_read_wanted (wanted r.reader r.state) o ≡ false → fed_read r o ≡ fed.Dozed
+    by None w = refl
+    by (Some x) w = cond-false (is_wanted (wanted r.reader r.state) x.item) _ _ w
+
+in_time : (air : Air) (s : State) (x : Read) → air.policy ≡ FMatrix → comes_late air s x ≡ false
+unfolding is_late
+in_time air s x p = ap (λ q. is_late q (map place_of s.held) (place_of x)) p
+
+pub fed_opened : (r : Receiving) (b : Bucket) → r.air.policy ≡ FMatrix → fits r.air b ≡ true → is_read_wanted (wanted r.reader r.state) (read_in b.cycle b.body) ≡ true → fed.Opened ≡ fed_of r (Some b)
+unfolding fed_of fed_read
+fed_opened r b p f w = sym (cond-true (fits r.air b) _ _ f ∙ by (read_in b.cycle b.body) w)
+  where
+    by : (o : Option Read) → is_read_wanted (wanted r.reader r.state) o ≡ true → fed_read r o ≡ fed.Opened
+    by None w = absurd (let g : false ≡ true = w in cc)
+    by (Some x) w = cond-true (is_wanted (wanted r.reader r.state) x.item) _ _ w ∙ cond-false (comes_late r.air r.state x) _ _ (in_time r.air r.state x p)
+
+-- ---- what the rule does
+
+pub hear_foreign : (air : Air) (reader : Reader) (b : Bucket) (s : State) → fits air b ≡ false → count_foreign s ≡ hear J air reader (Some b) s
+unfolding hear
+hear_foreign air reader b s f = sym (cond-false (fits air b) _ _ f)
+
+-- the state at the bucket's cycle, where it is a newer one
+abbrev pub at_cycle : ℕ → State → State
+at_cycle m s = record s { now = m }
+
+pub hear_dozed : (air : Air) (reader : Reader) (b : Bucket) (m : ℕ) (s : State) → m ≡ max s.now b.cycle → fits air b ≡ true →
+    is_read_wanted (wanted reader s) (read_in b.cycle b.body) ≡ false → count_dozed (at_cycle m s) ≡ hear J air reader (Some b) s
+unfolding hear hear_read wanted query_of
+hear_dozed air reader b m s e f w = sym (cond-true (fits air b) _ _ f ∙ ap (λ k. hear_read J air reader (read_in b.cycle b.body) (at_cycle k s)) (sym e) ∙ by (read_in b.cycle b.body) w)
+  where
+    by : (o : Option Read) → is_read_wanted (wanted reader s) o ≡ false → hear_read J air reader o (at_cycle m s) ≡ count_dozed (at_cycle m s)
+    by None w = refl
+    by (Some x) w = cond-false (is_wanted (wanted reader s) x.item) _ _ w
+
+pub hear_opened : (air : Air) (reader : Reader) (b : Bucket) (m : ℕ) (s : State) → m ≡ max s.now b.cycle → air.policy ≡ FMatrix → fits air b ≡ true →
+    is_read_wanted (wanted reader s) (read_in b.cycle b.body) ≡ true → open_bucket J air reader (read_of b) (at_cycle m s) ≡ hear J air reader (Some b) s
+unfolding hear hear_read wanted query_of
+hear_opened air reader b m s e p f w =
+    let is = wanted_read (wanted reader s) b w in
+    sym (cond-true (fits air b) _ _ f ∙ ap (λ k. hear_read J air reader (read_in b.cycle b.body) (at_cycle k s)) (sym e) ∙ ap (λ o. hear_read J air reader o (at_cycle m s)) is.read
+    ∙ cond-true (is_wanted (wanted reader s) (read_of b).item) _ _ (ap (is_read_wanted (wanted reader s)) (sym is.read) ∙ w)
+    ∙ cond-false (comes_late air (at_cycle m s) (read_of b)) _ _ (in_time air (at_cycle m s) (read_of b) p))
+
+-- ---- the receiver after it
+
+-- no line waits before or after
+pub quiet : (v : Receiving) (s : State) → s.lines ≡ [] → (let t : Receiving = record v { state = s } in t) ≡ in_state v s
+unfolding last_reads
+quiet v s e = ap (λ L. let t : Receiving = record v { state = s; last = last_reads L v.last } in t) (sym e)
+
+module _ (v : Receiving) (b : Bucket) (p : v.air.policy ≡ FMatrix) where
+  -- by the policy's entries as by F-Matrix
+  by_policy : in_state v (hear J v.air v.reader (Some b) v.state) ≡ in_state v (hear (by_entries v.air.policy) v.air v.reader (Some b) v.state)
+  by_policy = ap (λ q. in_state v (hear (by_entries q) v.air v.reader (Some b) v.state)) (sym p)
+
+  pub foreign_heard : v.state.lines ≡ [] → fits v.air b ≡ false →
+      (let t : Receiving = record v { state = count_foreign v.state } in t) ≡ in_state v (hear (by_entries v.air.policy) v.air v.reader (Some b) v.state)
+  unfolding count_foreign
+  foreign_heard free f = quiet v (count_foreign v.state) free ∙ ap (in_state v) (hear_foreign v.air v.reader b v.state f) ∙ by_policy
+
+  pub dozed_heard : (m : ℕ) → v.state.lines ≡ [] → m ≡ max v.state.now b.cycle → fits v.air b ≡ true → is_read_wanted (wanted v.reader v.state) (read_in b.cycle b.body) ≡ false →
+      (let t : Receiving = record v { state = count_dozed (at_cycle m v.state) } in t) ≡ in_state v (hear (by_entries v.air.policy) v.air v.reader (Some b) v.state)
+  unfolding count_dozed
+  dozed_heard m free e f w = quiet v (count_dozed (at_cycle m v.state)) free ∙ ap (in_state v) (hear_dozed v.air v.reader b m v.state e f w) ∙ by_policy
+
+  pub opened_heard : (m : ℕ) → m ≡ max v.state.now b.cycle → fits v.air b ≡ true → is_read_wanted (wanted v.reader v.state) (read_in b.cycle b.body) ≡ true →
+      in_state v (open_bucket J v.air v.reader (read_of b) (at_cycle m v.state)) ≡ in_state v (hear (by_entries v.air.policy) v.air v.reader (Some b) v.state)
+  opened_heard m e f w = ap (in_state v) (hear_opened v.air v.reader b m v.state e p f w) ∙ by_policy

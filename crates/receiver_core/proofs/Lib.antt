@@ -1,0 +1,9 @@
+pub mod AttemptLemmas
+pub mod FitLemmas
+pub mod PixLemmas
+pub mod WordLemmas
+pub mod StateLemmas
+pub mod OpenLemmas
+pub mod HearLemmas
+pub mod StepLemmas
+pub mod FeedLemmas

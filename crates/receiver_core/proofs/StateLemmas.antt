@@ -1,0 +1,92 @@
+-- A receiver from state to state.
+use Rattle.std.proofs.Common.{◌≡◌, ℕ, ◌+◌, ◌<◌, ◌≤◌, Bool, true, false, not, nat_lt, IsTrue, List, [], ◌∷◌, ◌++◌, length, map, get_or, Option, Some, None, refl, sym, ◌∙◌, ap, subst, inl, inr, arith}
+use Rattle.std.specs.List.{slice_get}
+use Rattle.std.specs.Option.{is_some}
+use Rattle.std.proofs.lemmas.Bool.{cases_lt, cond-false, cond-true}
+use Rattle.std.proofs.lemmas.List.{get_or_past}
+use Rattle.air_base.specs.declared.verdicts.Policy.TheVariants.{FMatrix}
+use Rattle.air_base.specs.declared.verdicts.ReadOf.{ReadOf}
+use Rattle.air_base.specs.declared.verdicts.Verdict.{Verdict}
+use Rattle.air_base.specs.declared.verdicts.VerdictKind.{VerdictKind}
+use Rattle.air_base.specs.declared.verdicts.VerdictKind.TheVariants.{Abort, Accept, Unfinished}
+use Rattle.air_model.specs.Aired.{Air}
+use Rattle.air_model.specs.Judges.{Judge, by_entries}
+use Rattle.air_model.specs.Reads.{Read}
+use Rattle.air_model.specs.Sessions.{Line, Reader, State, accept_if_whole, line_of, next_attempt, next_query, query_of, wanted, with_line}
+use Rattle.air_model.proofs.MomentLemmas.{cond_keeps}
+use Rattle.receiver_core.specs.Attempts.{shown_of}
+use Rattle.receiver_core.specs.LastReads.{in_state, last_reads}
+use Rattle.receiver_core.specs.Handing.{lines_of}
+use Rattle.receiver_core.specs.Receivings.{IsSettled, Receiving}
+use Rattle.receiver_core.specs.ReceiverView.{receiver_in}
+use Rattle.receiver_core.specs.declared.receivers.Receiver.TheInside.{Inside}
+use Rattle.receiver_core.proofs.WordLemmas.{copy_none}
+
+abbrev J : Judge
+J = by_entries FMatrix
+
+-- with no line waiting the receiver is in its own state
+pub in_own_state : (r : Receiving) → r.state.lines ≡ [] → r ≡ in_state r r.state
+unfolding last_reads
+in_own_state r e = ap (λ L. let t : Receiving = record r { last = last_reads L r.last } in t) (sym e)
+
+-- a word that adds no line, after one that may
+pub goes_on : (old given now : Receiving) (word : Reader → State → State) (s t : State) → given ≡ in_state old s → now ≡ record given { state = word given.reader given.state } →
+    (word old.reader s).lines ≡ s.lines → word old.reader s ≡ t → now ≡ in_state old t
+goes_on old given now word s t g n same is =
+    n ∙ ap (λ (r : Receiving). let u : Receiving = record r { state = word r.reader r.state } in u) g
+    ∙ ap (λ L. let u : Receiving = record old { state = word old.reader s; last = last_reads L old.last } in u) (sym same)
+    ∙ ap (in_state old) is
+
+pub next_query_lines : (s : State) → (next_query s).lines ≡ s.lines
+unfolding next_query
+next_query_lines s = refl
+
+pub next_attempt_lines : (reader : Reader) (s : State) → (next_attempt reader s).lines ≡ s.lines
+unfolding next_attempt next_query
+next_attempt_lines reader s = cond_keeps (λ t. t.lines ≡ s.lines) (nat_lt s.attempt reader.plan.tries) _ _ (λ _. refl) (λ _. refl)
+
+pub whole_is : (air : Air) (reader : Reader) (s : State) → is_some (wanted reader s) ≡ false → next_query (with_line J Accept s) ≡ accept_if_whole J air reader s
+unfolding accept_if_whole
+whole_is air reader s e = sym (cond-false (is_some (wanted reader s)) _ _ e)
+
+pub not_whole_is : (air : Air) (reader : Reader) (s : State) → is_some (wanted reader s) ≡ true → s ≡ accept_if_whole J air reader s
+unfolding accept_if_whole
+not_whole_is air reader s e = sym (cond-true (is_some (wanted reader s)) _ _ e)
+
+-- where an item is wanted, a query is left
+pub left : (reader : Reader) (s : State) (i : ℕ) → wanted reader s ≡ Some i → s.query < length reader.queries
+unfolding wanted query_of
+left reader s i w = elim (cases_lt s.query (length reader.queries)) as (λ _. s.query < length reader.queries) [
+  | inl l ↦ l
+  | inr ge ↦ absurd (let f : ◌≡◌ {A = Option ℕ} None (Some i) = sym (ap (λ q. slice_get q (length s.held)) (get_or_past reader.queries s.query [] ge)) ∙ w in cc)
+]
+
+-- ---- at the fields
+
+-- the verdict with the held reads
+pub give_is : (r : Inside) (last : List ReadOf) (kind : VerdictKind) → (receiver_in r).state.lines ≡ [] → last ≡ map shown_of r.held.reads →
+    receiver_in (record r { waiting = Some (record { query = r.query; attempt = r.attempt; kind = kind }); last = last }) ≡ in_state (receiver_in r) (with_line J kind (receiver_in r).state)
+unfolding with_line line_of by_entries last_reads
+give_is r last kind free e =
+    let v = receiver_in r in
+    let l = line_of J r.query r.attempt kind r.held.reads in
+    ap (λ reads. receiver_in (record r { waiting = Some (record { query = r.query; attempt = r.attempt; kind = kind }); last = reads })) e
+    ∙ ap (λ L. in_state v (record v.state { lines = L ++ l ∷ [] })) (sym free)
+
+-- the query at hand is still at hand after its verdict
+pub still_left : (old given : Receiving) (kind : VerdictKind) → given ≡ in_state old (with_line J kind old.state) → old.state.query < length old.reader.queries →
+    given.state.query < length given.reader.queries
+unfolding with_line
+still_left old given kind e l = subst (λ (r : Receiving). r.state.query < length r.reader.queries) (sym e) l
+
+none_waits : (o : Option Verdict) (last : List ReadOf) (b : Bool) → is_some o ≡ not b → (IsTrue b → lines_of o last ≡ []) × (lines_of o last ≡ [] → IsTrue b)
+none_waits None last true e = (λ t. refl, λ f. refl)
+none_waits None last false e = absurd (let f : false ≡ true = e in cc)
+none_waits (Some v) last true e = absurd (let f : true ≡ false = e in cc)
+none_waits (Some v) last false e = (λ t. absurd (let f : false ≡ true = t in cc), λ f. absurd (let g : lines_of (Some v) last ≡ [] = f in cc))
+
+pub settled_is : (r : Inside) (b : Bool) → is_some r.waiting ≡ not b → (IsTrue b → IsSettled (receiver_in r)) × (IsSettled (receiver_in r) → IsTrue b)
+settled_is r b e =
+    let both = none_waits r.waiting r.last b e in
+    (λ t. record { given = both.0 t; free = copy_none (wanted r.reader (receiver_in r).state) (receiver_in r).state refl }, λ s. both.1 s.given)

@@ -1,0 +1,51 @@
+use Rattle.std.proofs.Common.{rules, ◌≡◌, Option, None, Some, ◌∙◌, ap, sym, subst, []}
+use Rattle.air_base.specs.declared.verdicts.Counts.{Counts}
+use Rattle.air_model.specs.Buckets.{Bucket, bucket_in}
+use Rattle.air_model.specs.Judges.{by_entries}
+use Rattle.air_model.specs.Sessions.{count_refused, hear}
+use Rattle.std.specs.Result.{result_ok}
+use Rattle.receiver_core.specs.Hearings.{ChangesItsCountAlone, counted, fed_of}
+use Rattle.receiver_core.specs.Handing.{lines_of}
+use Rattle.receiver_core.specs.LastReads.{in_state, last_reads}
+use Rattle.receiver_core.specs.Receivings.{Receiving}
+use Rattle.receiver_core.proofs.FeedLemmas.{alone, bucket_not_refused, hear_counts}
+use Rattle.receiver_core.proofs.receivers.Receiver.feed.Goals as goal
+
+pub returns-in-Err-clause-state : goal.returns-in-Err-clause-state
+unfolding hear count_refused
+returns-in-Err-clause-state c =
+    let old = c.args.self.now in
+    ap (λ (t : Receiving). count_refused t.state) c.self.view_is
+    ∙ ap (λ o. hear (by_entries old.air.policy) old.air old.reader o old.state) (ap result_ok c.in-Err.ensures.reading)
+
+pub returns-in-Err-clause-last : goal.returns-in-Err-clause-last
+unfolding last_reads
+returns-in-Err-clause-last c =
+    ap (λ (t : Receiving). t.last) c.self.view_is
+    ∙ ap (λ L. last_reads L c.args.self.now.last) (sym (ap (λ (t : Receiving). t.state.lines) c.self.view_is ∙ c.requires.settled.given))
+
+pub returns-in-Err-clause-fed : goal.returns-in-Err-clause-fed
+unfolding fed_of
+returns-in-Err-clause-fed c = ap (fed_of c.args.self.now) (ap result_ok c.in-Err.ensures.reading)
+
+pub returns-in-Ok-clause-state : goal.returns-in-Ok-clause-state
+returns-in-Ok-clause-state c =
+    let old = c.args.self.now in
+    ap (λ (t : Receiving). t.state) c.hear.ensures.heard
+    ∙ ap (λ o. hear (by_entries old.air.policy) old.air old.reader o old.state) (ap result_ok c.in-Ok.ensures.reading)
+
+pub returns-in-Ok-clause-refused : goal.returns-in-Ok-clause-refused
+returns-in-Ok-clause-refused c =
+    (λ e. absurd (bucket_not_refused c.args.self.now c.in-Ok.bucket (sym c.hear.ensures.fed ∙ e)), λ no. absurd (no c.in-Ok.bucket c.in-Ok.ensures.grammar))
+
+pub returns-in-Ok-clause-counted : goal.returns-in-Ok-clause-counted
+returns-in-Ok-clause-counted c =
+    let old = c.args.self.now in
+    ap (λ (t : Receiving). t.state.counts) c.hear.ensures.heard ∙ hear_counts (by_entries old.air.policy) old (Some c.in-Ok.bucket)
+    ∙ ap (λ f. counted f old.state.counts) (sym c.hear.ensures.fed)
+
+pub returns-in-Ok-clause-alone : goal.returns-in-Ok-clause-alone
+returns-in-Ok-clause-alone c =
+    let old = c.args.self.now in
+    subst (λ f. ChangesItsCountAlone f old c.hear.new.self) (sym c.hear.ensures.fed)
+    (subst (ChangesItsCountAlone (fed_of old (Some c.in-Ok.bucket)) old) (sym c.hear.ensures.heard) (alone (by_entries old.air.policy) old (Some c.in-Ok.bucket) c.requires.settled.given))

@@ -1,0 +1,23 @@
+-- The fields of an attempt: reads with their columns, and the same reads with their values.
+use Rattle.std.specs.Prelude.{◌≡◌, List, [], ◌∷◌, length, map}
+use Rattle.air_base.specs.declared.verdicts.ReadOf.{ReadOf}
+use Rattle.air_history.specs.Clashes.{Heard}
+use Rattle.air_model.specs.Reads.{Read}
+use Rattle.receiver_core.specs.Attempts.{HeldValues, shown_of}
+use Rattle.receiver_core.specs.declared.attempts.Attempt.TheInside.{Inside}
+
+-- The reads with their entries from the one list and their values from the other.
+unfoldable pub with_values : List Heard → List ReadOf → List Read
+with_values [] V = []
+with_values (h ∷ R) [] = []
+with_values (h ∷ R) (v ∷ V) = record { item = h.item; cycle = h.cycle; value = v.value; entries = h.entries } ∷ with_values R V
+
+-- The held reads of the fields.
+abbrev pub held_values : Inside → HeldValues
+held_values a = record { items = a.held.n; reads = with_values a.held.reads a.shown }
+
+-- Both lists are of the same reads, and there is room for one bucket's entries.
+pub record KeepsBoth (a : Inside) : Type 0 where
+  pub even : length a.shown ≡ length a.held.reads
+  pub same : map shown_of (with_values a.held.reads a.shown) ≡ a.shown
+  pub room : length a.entries.items ≡ a.held.n

@@ -1,0 +1,30 @@
+-- What contracts see of an attempt: the number of items, and the held reads in order. And what a bucket gives to it.
+use Rattle.std.specs.Prelude.{ℕ, Bool, false, List, map, Option, Some, None}
+use Rattle.air_base.specs.declared.verdicts.ReadOf.{ReadOf}
+use Rattle.air_model.specs.Buckets.{Bucket, item_of, value_of, entries_of}
+use Rattle.air_model.specs.Judges.{heard_of}
+use Rattle.air_model.specs.Reads.{Read}
+use Rattle.air_model.specs.Sessions.{is_wanted}
+use Rattle.column_check.specs.HeldReads.{HeldReads}
+
+-- The held reads over so many items, each with its value and the entries that came with it.
+pub record HeldValues : Type 0 where
+  pub items : ℕ
+  pub reads : List Read
+
+-- The held reads without their values, as the check by columns knows them.
+abbrev pub columns_of : HeldValues → HeldReads
+columns_of a = record { n = a.items; reads = map heard_of a.reads }
+
+-- The read that a bucket with an item gives.
+abbrev pub read_of : Bucket → Read
+read_of b = record { item = item_of b.body; cycle = b.cycle; value = value_of b.body; entries = entries_of b.body }
+
+-- The read as a verdict line shows it.
+abbrev pub shown_of : Read → ReadOf
+shown_of r = record { item = r.item; cycle = r.cycle; value = r.value }
+
+-- The read that a bucket gives is of the wanted item.
+abbrev pub is_read_wanted : Option ℕ → Option Read → Bool
+is_read_wanted item None = false
+is_read_wanted item (Some x) = is_wanted item x.item

@@ -1,0 +1,10 @@
+pub mod Attempts
+pub mod AttemptView
+pub mod AirView
+pub mod SlotKinds
+pub mod ReaderView
+pub mod Receivings
+pub mod Handing
+pub mod LastReads
+pub mod Hearings
+pub mod ReceiverView

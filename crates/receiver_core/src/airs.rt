@@ -1,0 +1,122 @@
+//! What all receivers of a deck know: the number of items, the item of each slot, and the PIX numbers.
+
+ghost use Rattle.std.specs.Prelude.{◌≡◌, ◌<◌, ◌≤◌, List, length, map, IfOk};
+ghost use Rattle.std.specs.List.{enumerate_from};
+ghost use Rattle.air_base.specs.declared.verdicts.Policy.TheVariants.{FMatrix};
+ghost use Rattle.air_model.specs.Buckets.{item_of, kind_of};
+ghost use Rattle.air_model.specs.Aired.{air_of, fits};
+ghost use Rattle.air_model.specs.Airings.{carries, pix_number};
+ghost use Rattle.air_model.specs.Decks.{disks_in, rates_in};
+ghost use Rattle.air_model.specs.Programs.{program};
+ghost use Rattle.receiver_core.specs.SlotKinds.{kind_fits};
+
+use air_base::NoMemory;
+use bucket_codec::{BucketView, ViewKind};
+use chunk_program::Program;
+use item_catalog::Deck;
+use std::alloc::Global;
+use std::marker::Model;
+
+#[cfg(test)]
+pub mod tests;
+
+/// The number of items, the item of each slot, and each item's PIX number; the policy is F-Matrix.
+#[derive(Drop)]
+pub struct Air {
+    items: u16,
+    slots: Vec<Option<u16>>,
+    pix: Vec<u64>,
+}
+
+impl Model for Air {
+    ghost use Rattle.air_model.specs.Aired.{Air};
+
+    ghost Value = { Air };
+
+    ghost use Rattle.receiver_core.specs.AirView.{air_in};
+
+    ghost view = { air_in };
+}
+
+impl Air {
+    /// What the receivers of a deck know.
+    pub fn new(alloc: Global, deck: &Deck, plan: &Program) -> Result<Air, NoMemory>
+        requires program { plan.now ≡ disks_in deck.now }
+        requires policy { deck.now.settings.policy ≡ FMatrix }
+        ensures { IfOk result (λ a. a ≡ air_of deck.now) }
+    {
+        Ok(Air {
+            items: deck.items(),
+            slots: slots(alloc, plan)?,
+            pix: pix_numbers(alloc, deck, plan)?,
+        })
+    }
+
+    /// The number of items.
+    pub fn items(&self) -> u16
+        ensures { result ≡ self.now.items }
+    {
+        self.items
+    }
+
+    /// Whether the bucket fits the deck.
+    pub fn fits(&self, bucket: &BucketView<'_>) -> bool
+        ensures { result ≡ fits self.now bucket.now }
+    {
+        let slot = bucket.slot() as usize;
+        if bucket.edition() != 0 || slot >= self.slots.len() {
+            return false;
+        }
+        stands_right(self.slots[slot], bucket) && bucket.count() == self.items
+    }
+}
+
+/// Whether the slot carries the item.
+fn carries(slot: Option<u16>, item: u16) -> bool
+    ensures { result ≡ carries item slot }
+{
+    match slot {
+        None => false,
+        Some(carried) => carried == item,
+    }
+}
+
+/// Whether the bucket's kind and item are those for a slot with this item.
+#[tactic(auto, unfolding(crate::specs::SlotKinds::kind_fits))]
+fn stands_right(slot: Option<u16>, bucket: &BucketView<'_>) -> bool
+    ensures { result ≡ kind_fits slot (kind_of bucket.now.body) (item_of bucket.now.body) }
+{
+    match bucket.kind() {
+        ViewKind::Idle => slot.is_none(),
+        ViewKind::Column => carries(slot, bucket.item()),
+        ViewKind::Vector => false,
+    }
+}
+
+/// The item of each slot of the program.
+fn slots(alloc: Global, plan: &Program) -> Result<Vec<Option<u16>>, NoMemory>
+    ensures { IfOk result (λ slots. slots.items ≡ program plan.now) }
+{
+    let mut slots = Vec::new(alloc);
+    for slot in 0..plan.slots() {
+        let Ok(()) = slots.push(plan.slot_item(slot)) else {
+            return Err(NoMemory);
+        };
+    }
+    Ok(slots)
+}
+
+/// The PIX number of each item.
+fn pix_numbers(alloc: Global, deck: &Deck, plan: &Program) -> Result<Vec<u64>, NoMemory>
+    requires { plan.now ≡ disks_in deck.now }
+    ensures { IfOk result (λ pix. pix.items ≡ map (λ p. pix_number (disks_in deck.now) p.0 p.1) (enumerate_from 0 (rates_in deck.now))) }
+{
+    deck.well_made();
+    let mut numbers = Vec::new(alloc);
+    for item in 0..deck.items() {
+        let Ok(()) = numbers.push(plan.pix(item, deck.rate(item))) else {
+            return Err(NoMemory);
+        };
+    }
+    Ok(numbers)
+}

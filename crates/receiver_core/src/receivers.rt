@@ -1,0 +1,207 @@
+//! A receiver: fed with the bytes that it hears, it judges its own queries.
+
+ghost use Rattle.std.specs.Prelude.{◌≡◌, ◌↔◌, ◌<◌, ◌≤◌, ◌+◌, ◌^◌, [], length, slice_get, IfOk, IfSome, IsNone, IsTrue};
+ghost use Rattle.air_base.specs.declared.verdicts.Policy.TheVariants.{FMatrix};
+ghost use Rattle.air_model.specs.Buckets.{bucket_in};
+ghost use Rattle.air_model.specs.Decks.{disks_in};
+ghost use Rattle.air_model.specs.Judges.{by_entries};
+ghost use Rattle.air_model.specs.Sessions.{end_query, hear, wanted};
+ghost use Rattle.bucket_codec.specs.Views.{IsNoBucket};
+ghost use Rattle.receiver_core.specs.Handing.{StepTells, lines_given, lines_of};
+ghost use Rattle.receiver_core.specs.Hearings.{ChangesItsCountAlone, counted, fed_of};
+ghost use Rattle.receiver_core.specs.LastReads.{last_reads};
+ghost use Rattle.receiver_core.specs.Receivings.{IsSettled, heard_count, receiving_of, stepped};
+
+mod rules;
+#[cfg(test)]
+mod tests;
+
+use crate::airs::Air;
+use crate::attempts::Attempt;
+use crate::readers::Reader;
+use crate::reads::ReadList;
+use air_base::{Counts, NoMemory, ReadOf, Verdict, VerdictKind};
+use bucket_codec::decode;
+use chunk_program::Program;
+use item_catalog::Deck;
+use std::alloc::Global;
+use std::marker::Model;
+
+/// What became of a heard bucket: the first of these rules that applies.
+#[derive(Clone, Copy, Debug, PartialEq, Eq)]
+pub enum Fed {
+    /// The bytes are no bucket.
+    Refused,
+    /// The bucket doesn't fit the deck.
+    Foreign,
+    /// The bucket isn't wanted.
+    Dozed,
+    /// The bucket is wanted and comes too late.
+    Late,
+    /// The bucket was opened.
+    Opened,
+}
+
+/// What a step of a receiver came to.
+#[derive(Clone, Copy, Debug, PartialEq, Eq)]
+pub enum Step {
+    /// A verdict; `last_reads` has its reads.
+    Verdict(Verdict),
+    /// The receiver waits for the next bucket.
+    Waiting,
+    /// No query is left.
+    Done,
+}
+
+/// A receiver of a deck.
+#[derive(Drop)]
+pub struct Receiver {
+    air: Air,
+    reader: Reader,
+    query: u32,
+    attempt: u32,
+    held: Attempt,
+    latest: u32,
+    counts: Counts,
+    waiting: Option<Verdict>,
+    last: ReadList,
+}
+
+impl Model for Receiver {
+    ghost use Rattle.receiver_core.specs.Receivings.{Receiving};
+
+    ghost Value = { Receiving };
+
+    ghost use Rattle.receiver_core.specs.ReceiverView.{IsReceiver, receiver_in};
+
+    ghost view = { receiver_in };
+
+    ghost invariant = { IsReceiver };
+}
+
+impl Receiver {
+    /// The deck's receiver of a number, at its start. It keeps no copies and judges by F-Matrix.
+    pub fn new(
+        alloc: Global,
+        deck: &Deck,
+        number: u32,
+        program: &Program,
+    ) -> Result<Receiver, NoMemory>
+        requires number { number < length deck.now.readers }
+        requires program { program.now ≡ disks_in deck.now }
+        requires room { IfSome (slice_get deck.now.readers number) (λ plan. plan.room ≡ 0) }
+        requires policy { deck.now.settings.policy ≡ FMatrix }
+        ensures { IfOk result (λ r. r ≡ receiving_of deck.now number) }
+    {
+        let air = Air::new(alloc, deck, program)?;
+        let reader = Reader::new(alloc, deck, number)?;
+        let held = Attempt::new(alloc, air.items())?;
+        let counts = Counts {
+            opened: 0,
+            dozed: 0,
+            late: 0,
+            refused: 0,
+            foreign: 0,
+            copied: 0,
+        };
+        Ok(Receiver {
+            air,
+            reader,
+            query: 0,
+            attempt: 1,
+            held,
+            latest: 0,
+            counts,
+            waiting: None,
+            last: ReadList::new(),
+        })
+    }
+
+    /// No verdict waits, and no copy of the wanted item is kept.
+    pub fn settled(&self) -> bool
+        ensures { IsTrue result ↔ IsSettled self.now }
+    {
+        self.waiting.is_none()
+    }
+
+    /// Hears one bucket's bytes.
+    pub fn feed(&mut self, bytes: &[u8]) -> Fed
+        requires settled { IsSettled self.old }
+        requires counts { heard_count self.old.state.counts + 1 < 2 ^ 64 }
+        ensures state { self.new.state ≡ hear (by_entries self.old.air.policy) self.old.air self.old.reader (bucket_in bytes.now) self.old.state }
+        ensures air { self.new.air ≡ self.old.air }
+        ensures reader { self.new.reader ≡ self.old.reader }
+        ensures last { self.new.last ≡ last_reads self.new.state.lines self.old.last }
+
+        // The answer is the first rule that applies, and that count rises.
+        ensures fed { result ≡ fed_of self.old (bucket_in bytes.now) }
+        ensures refused { (result ≡ Fed.Refused) ↔ IsNoBucket bytes.now }
+        ensures counted { self.new.state.counts ≡ counted result self.old.state.counts }
+        ensures alone { ChangesItsCountAlone result self.old self.new }
+    {
+        match decode(bytes) {
+            Err(_) => {
+                self.counts.refused += 1;
+                Fed::Refused
+            }
+            Ok(bucket) => self.hear(&bucket),
+        }
+    }
+
+    /// Hands out the verdict that waits, or goes on up to the next one.
+    pub fn step(&mut self) -> Step
+        ensures state { record self.new.state { lines = lines_given result self.new.last } ≡ stepped self.old }
+        ensures given { self.new.state.lines ≡ [] }
+        ensures tells { StepTells result self.old self.new }
+        ensures air { self.new.air ≡ self.old.air }
+        ensures reader { self.new.reader ≡ self.old.reader }
+        ensures last { self.new.last ≡ last_reads (lines_given result self.new.last) self.old.last }
+        ensures heard { heard_count self.new.state.counts ≡ heard_count self.old.state.counts }
+    {
+        match self.waiting.take() {
+            Some(verdict) => Step::Verdict(verdict),
+            None if self.reader.has(self.query) => Step::Waiting,
+            None => Step::Done,
+        }
+    }
+
+    /// The query at hand stays unfinished, and the next one begins; all copies are dropped.
+    pub fn end(&mut self) -> Option<Verdict>
+        requires settled { IsSettled self.old }
+        ensures state { record self.new.state { lines = lines_of result self.new.last } ≡ end_query (by_entries self.old.air.policy) self.old.air self.old.reader self.old.state }
+        ensures given { self.new.state.lines ≡ [] }
+        ensures none { IsNone result ↔ (length self.old.reader.queries ≤ self.old.state.query) }
+        ensures settled { IsSettled self.new }
+        ensures air { self.new.air ≡ self.old.air }
+        ensures reader { self.new.reader ≡ self.old.reader }
+        ensures last { self.new.last ≡ last_reads (lines_of result self.new.last) self.old.last }
+    {
+        if !self.reader.has(self.query) {
+            return None;
+        }
+        self.give(VerdictKind::Unfinished);
+        self.next_query();
+        self.waiting.take()
+    }
+
+    /// The reads of the last verdict, in the order of reading; none before the first verdict.
+    pub fn last_reads(&self) -> &[ReadOf]
+        ensures { result.now ≡ self.now.last }
+    {
+        self.last.as_slice()
+    }
+
+    /// The wanted item; none where no query is left.
+    pub fn wanted(&self) -> Option<u16>
+        ensures { result ≡ wanted self.now.reader self.now.state }
+    {
+        self.reader.item(self.query, self.held.len())
+    }
+
+    /// The counts of what was heard.
+    pub fn counts(&self) -> Counts
+        ensures { result ≡ self.now.state.counts }
+    {
+        self.counts
+    }
+}
