@@ -1,102 +1,90 @@
--- From what a call read, and what it then printed, to what its status says.
-use Rattle.std.proofs.Common.{◌≡◌, ℕ, ◌≤◌, List, length, Option, Some, None, sym, ◌∙◌, subst, inl, inr, arith}
+-- From what a command gave or refused to what its status says.
+use Rattle.std.proofs.Common.{◌≡◌, ℕ, ◌≤◌, List, length, Option, Some, None, take, sym, ◌∙◌, subst, inl, inr}
 use Rattle.std.specs.Io.KnownBytes.{Appends, IsAtEnd}
-use Rattle.air_devices.specs.Counts.{Faults, Rose, KeepsCounts}
-use Rattle.air_devices.specs.Known.{AppendsPart, KnownIs, WhereKnown}
-use Rattle.air_cli.specs.Words.{Asked, AsksScript}
-use Rattle.air_cli.specs.FirstForm.{FirstDeckValue, Spells}
-use Rattle.air_cli.specs.FirstReports.{first_text}
+use Rattle.item_catalog.specs.Grammar.{Spells}
+use Rattle.air_devices.specs.Counts.{KeepsCounts, Rose}
+use Rattle.air_devices.specs.Known.{AppendsPart, Becomes}
+use Rattle.air_model.specs.Decks.{Deck}
+use Rattle.air_model.specs.Outputs.{script_tape}
+use Rattle.air_model.specs.Tapes.{tape_read}
 use Rattle.air_cli.specs.declared.status.Status.{Status}
 use Rattle.air_cli.specs.declared.status.Status.TheVariants as status
-use Rattle.air_cli.specs.Printing.{PrintsUnlessFailed}
-use Rattle.air_cli.specs.Answers.{deck_limit, Shelved, PrintsLine, Refuses, ScriptAnswers, ScriptLeaves, WordsAnswers, WordsLeave, QuietAnswers, QuietLeaves}
+use Rattle.air_cli.specs.Words.{Asked, AsksPlan, AsksScript, AsksTune, IsInput, output_of}
+use Rattle.air_cli.specs.Outcomes.{Given, IsGiven, IsGivenInPart, OutputHolds, OutputHoldsPart, Shelved}
+use Rattle.air_cli.specs.Readings.{Reads}
+use Rattle.air_cli.specs.Causes.{IsDoable, IsShort, OfDeck, deck_limit, tape_limit}
+use Rattle.air_cli.specs.Truths.{IsTrueScript, IsTrueTape}
+use Rattle.air_cli.specs.Deliveries.{DeliverKeeps, Delivers}
+use Rattle.air_cli.specs.Answers.{Gives, OfTape, QuietAnswers, plan_given, script_given, tune_given}
+use Rattle.air_cli.proofs.CauseFacts.{where_so}
+use Rattle.air_cli.proofs.ReadFacts.{kept_twice}
 
--- a count that rose since a later moment rose since an earlier one
-pub rose_since : (before mid now : ℕ) → before ≤ mid → Rose mid now → Rose before now
-rose_since before mid now le rose = omega arith
+-- ---- what is given
 
-pub rose_still : (before mid now : ℕ) → mid ≤ now → Rose before mid → Rose before now
-rose_still before mid now le rose = omega arith
+-- a fact about a named deck gives another one
+of_deck_so : (name : List ℕ) (before : Shelved) (P Q : Deck → Type 0) → ((d : Deck) → P d → Q d) → OfDeck name before P → OfDeck name before Q
+of_deck_so name before P Q so = where_so (before.told.file name) (λ bytes. (length bytes ≤ deck_limit) × ((d : Deck) × Spells bytes d × P d))
+    (λ bytes. (length bytes ≤ deck_limit) × ((d : Deck) × Spells bytes d × Q d)) (λ bytes h. (h.0, (h.1.0, h.1.1, so h.1.0 h.1.2)))
 
--- what was printed since a moment at which nothing was printed yet
-prints_since : (text : List ℕ) (before mid now : Shelved) → mid.told.printed ≡ before.told.printed → before.faults.printing ≤ mid.faults.printing →
-    PrintsUnlessFailed text mid.told now.told mid.faults now.faults → PrintsUnlessFailed text before.told now.told before.faults now.faults
-prints_since text before mid now same le p = record {
-  part = subst (λ o. AppendsPart o now.told.printed text) same p.part;
-  whole = λ calm. subst (λ o. Appends o now.told.printed text) same (p.whole (λ rose. calm (rose_since before.faults.printing mid.faults.printing now.faults.printing le rose)));
+of_tape_so : (name : List ℕ) (before : Shelved) (P Q : List (List ℕ) → Type 0) → ((records : List (List ℕ)) → P records → Q records) → OfTape name before P → OfTape name before Q
+of_tape_so name before P Q so = where_so (before.told.file name) (λ bytes. (length bytes ≤ tape_limit) × ((tape_read bytes).cut ≡ None) × P (tape_read bytes).records)
+    (λ bytes. (length bytes ≤ tape_limit) × ((tape_read bytes).cut ≡ None) × Q (tape_read bytes).records) (λ bytes h. (h.0, h.1, so (tape_read bytes).records h.2))
+
+-- a fact about what a command gives gives another one
+gives_so : (asked : Option Asked) (before : Shelved) (P Q : Given → Type 0) → ((g : Given) → P g → Q g) → Gives asked before P → Gives asked before Q
+unfolding Gives
+gives_so None before P Q so h = h
+gives_so (Some (AsksPlan deck)) before P Q so h = of_deck_so deck before (λ d. IsShort d × P (plan_given d)) (λ d. IsShort d × Q (plan_given d)) (λ d p. (p.0, so (plan_given d) p.1)) h
+gives_so (Some (AsksScript deck tape)) before P Q so h = of_deck_so deck before (λ d. IsDoable d × (length (script_tape d) ≤ tape_limit) × IsTrueScript d × P (script_given d))
+    (λ d. IsDoable d × (length (script_tape d) ≤ tape_limit) × IsTrueScript d × Q (script_given d)) (λ d p. (p.0, p.1, p.2, so (script_given d) p.3)) h
+gives_so (Some (AsksTune deck tape)) before P Q so h =
+    let P' : Deck → List (List ℕ) → Type 0 = λ d records. IsTrueTape d records × P (tune_given d records) in
+    let Q' : Deck → List (List ℕ) → Type 0 = λ d records. IsTrueTape d records × Q (tune_given d records) in
+    of_deck_so deck before (λ d. IsDoable d × OfTape tape before (P' d)) (λ d. IsDoable d × OfTape tape before (Q' d))
+    (λ d p. (p.0, of_tape_so tape before (P' d) (Q' d) (λ records q. (q.0, so (tune_given d records) q.1)) p.1)) h
+
+-- what is so of the work that a command made is so of what it gives
+gives_work : (asked : Option Asked) (before : Shelved) (work : Given) (Q : Given → Type 0) → Gives asked before (λ g. work ≡ g) → Q work → Gives asked before Q
+gives_work asked before work Q given q = gives_so asked before (λ g. work ≡ g) Q (λ g same. subst Q same q) given
+
+-- ---- what was delivered since an earlier moment
+
+holds_since : (output : Option (List ℕ)) (bytes : List ℕ) (before mid now : Shelved) → ((name : List ℕ) → mid.told.output name ≡ before.told.output name)
+    → OutputHolds output bytes mid now → OutputHolds output bytes before now
+holds_since None bytes before mid now same h = tt
+holds_since (Some name) bytes before mid now same h = subst (λ o. Becomes o (now.told.output name) bytes) (same name) h
+
+holds_part_since : (name bytes : List ℕ) (before mid now : Shelved) → mid.told.output name ≡ before.told.output name → OutputHoldsPart name bytes mid now → OutputHoldsPart name bytes before now
+holds_part_since name bytes before mid now same (inl kept) = inl (kept ∙ same)
+holds_part_since name bytes before mid now same (inr (n, part)) = inr (n, subst (λ o. Becomes o (now.told.output name) (take n bytes)) same part)
+
+-- ---- statuses
+
+-- a command that was made and delivered
+pub answers_made : (asked : Option Asked) (work : Given) (before mid now : Shelved) (s : Status) → Gives asked before (λ g. work ≡ g)
+    → ((name : List ℕ) → IsInput asked name → IsAtEnd (mid.told.left name)) → KeepsCounts before.faults mid.faults → Reads asked before mid
+    → Delivers (output_of asked) work mid now s → DeliverKeeps (output_of asked) mid.told now.told → QuietAnswers asked before now s
+unfolding QuietAnswers Delivers
+answers_made asked work before mid now status.Ok given read calm reads delivers keeps = record {
+  given = gives_work asked before work (λ g. IsGiven (output_of asked) g before now) given (record {
+    written = holds_since (output_of asked) work.tape before mid now reads.outputs delivers.0.written;
+    printed = subst (λ o. Appends o now.told.printed work.text) reads.printed delivers.0.printed;
+  });
+  read = λ name input. subst IsAtEnd (sym (keeps.left name)) (read name input);
+  calm = kept_twice before.faults mid.faults now.faults calm delivers.1;
 }
-
-no_memory : (name : List ℕ) (before now : Shelved) → now.told.printed ≡ before.told.printed → ScriptAnswers name before now status.NoMemory
-unfolding ScriptAnswers
-no_memory name before now same = same
-
--- a refusal after reading
-pub refused_script : (name : List ℕ) (before mid now : Shelved) (s answer : Status) → mid.told.printed ≡ before.told.printed → before.faults.printing ≤ mid.faults.printing →
-    Refuses s mid now answer → (PrintsLine s before now → ScriptAnswers name before now s) → ScriptAnswers name before now answer
-refused_script name before mid now s answer same le refuses says = elim refuses [
-  | inl told ↦ subst (ScriptAnswers name before now) (sym told.0) (says (prints_since _ before mid now same le told.1))
-  | inr none ↦ subst (ScriptAnswers name before now) (sym none.0) (no_memory name before now (none.1 ∙ same))
-]
-
-pub refused_words : (before now : Shelved) (answer : Status) → Refuses status.Words before now answer → WordsAnswers before now answer
-unfolding WordsAnswers
-refused_words before now answer refuses = elim refuses [
-  | inl told ↦ subst (WordsAnswers before now) (sym told.0) told.1
-  | inr none ↦ subst (WordsAnswers before now) (sym none.0) none.1
-]
-
--- a fact about the bytes that were read is one about the told file
-pub where_read : (file : Option (List ℕ)) (bytes : List ℕ) (P : List ℕ → Type 0) → KnownIs file bytes → P bytes → WhereKnown file P
-where_read None bytes P known p = tt
-where_read (Some xs) bytes P known p = subst P known p
-
--- what was printed of the report of a deck that was read
-pub reported : (file : Option (List ℕ)) (bytes read text : List ℕ) (P : List ℕ → Type 0) → KnownIs file bytes → length bytes ≤ deck_limit → read ≡ bytes →
-    (d : FirstDeckValue) × Spells read d × (text ≡ first_text d) → P text →
-    WhereKnown file (λ bytes. (length bytes ≤ deck_limit) × ((d : FirstDeckValue) × Spells bytes d × P (first_text d)))
-reported file bytes read text P known few same spelled p =
-    where_read file bytes (λ bytes. (length bytes ≤ deck_limit) × ((d : FirstDeckValue) × Spells bytes d × P (first_text d))) known
-    (few, (spelled.0, subst (λ b. Spells b spelled.0) same spelled.1, subst P spelled.2 p))
-
--- that a deck that was read is of another form
-pub other_form : (file : Option (List ℕ)) (bytes read : List ℕ) → KnownIs file bytes → length bytes ≤ deck_limit → read ≡ bytes →
-    ((d : FirstDeckValue) → Spells read d → ⊥) → WhereKnown file (λ bytes. (length bytes ≤ deck_limit) × ((d : FirstDeckValue) → Spells bytes d → ⊥))
-other_form file bytes read known few same none =
-    where_read file bytes (λ bytes. (length bytes ≤ deck_limit) × ((d : FirstDeckValue) → Spells bytes d → ⊥)) known
-    (few, λ d spells. none d (subst (λ b. Spells b d) (sym same) spells))
-
--- counts that two calls kept
-pub kept_twice : (before mid now : Faults) → KeepsCounts before mid → KeepsCounts mid now → KeepsCounts before now
-kept_twice before mid now a b = record {
-  reading = λ n. b.reading n ∙ a.reading n;
-  writing = λ n. b.writing n ∙ a.writing n;
-  printing = b.printing ∙ a.printing;
-}
-
--- printed bytes since an earlier moment
-pub appended_since : (before mid now : Option (List ℕ)) (text written : List ℕ) → mid ≡ before → written ≡ text → Appends mid now written → Appends before now text
-appended_since before mid now text written same is h = subst (λ o. Appends o now text) same (subst (Appends mid now) is h)
-
-pub part_since : (before mid now : Option (List ℕ)) (text written : List ℕ) → mid ≡ before → written ≡ text → AppendsPart mid now written → AppendsPart before now text
-part_since before mid now text written same is h = subst (λ o. AppendsPart o now text) same (subst (AppendsPart mid now) is h)
-
-pub at_end_still : (before now : Option (List ℕ)) → now ≡ before → IsAtEnd before → IsAtEnd now
-at_end_still before now same h = subst IsAtEnd (sym same) h
-
--- ---- what was asked
-
-pub answers_none : (asked : Option Asked) (before now : Shelved) (s : Status) → asked ≡ None → WordsAnswers before now s → QuietAnswers asked before now s
-unfolding QuietAnswers
-answers_none asked before now s none h = subst (λ a. QuietAnswers a before now s) (sym none) h
-
-pub leaves_none : (asked : Option Asked) (before now : Shelved) → asked ≡ None → WordsLeave before now → QuietLeaves asked before now
-unfolding QuietLeaves
-leaves_none asked before now none h = subst (λ a. QuietLeaves a before now) (sym none) h
-
-pub answers_script : (asked : Option Asked) (name : List ℕ) (before now : Shelved) (s : Status) → asked ≡ Some (AsksScript name) → ScriptAnswers name before now s → QuietAnswers asked before now s
-unfolding QuietAnswers
-answers_script asked name before now s some h = subst (λ a. QuietAnswers a before now s) (sym some) h
-
-pub leaves_script : (asked : Option Asked) (name : List ℕ) (before now : Shelved) → asked ≡ Some (AsksScript name) → ScriptLeaves name before now → QuietLeaves asked before now
-unfolding QuietLeaves
-leaves_script asked name before now some h = subst (λ a. QuietLeaves a before now) (sym some) h
+answers_made asked work before mid now status.WriteFault given read calm reads (inl (fails, printed)) keeps = inl (record {
+  name = fails.name;
+  named = fails.named;
+  rose = subst (λ n. Rose n (now.faults.writing fails.name)) (calm.writing fails.name) fails.rose;
+  written = gives_work asked before work (λ g. OutputHoldsPart fails.name g.tape before now) given (holds_part_since fails.name work.tape before mid now (reads.outputs fails.name) fails.written);
+  printed = printed ∙ reads.printed;
+})
+answers_made asked work before mid now status.WriteFault given read calm reads (inr (rose, part)) keeps = inr (record {
+  rose = subst (λ n. Rose n now.faults.printing) calm.printing rose;
+  given = gives_work asked before work (λ g. IsGivenInPart (output_of asked) g before now) given (record {
+    written = holds_since (output_of asked) work.tape before mid now reads.outputs part.written;
+    printed = subst (λ o. AppendsPart o now.told.printed work.text) reads.printed part.printed;
+  });
+})
+answers_made asked work before mid now s given read calm reads delivers keeps = absurd delivers

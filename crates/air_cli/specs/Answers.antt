@@ -1,89 +1,76 @@
--- What the command `script` answers, status by status: when each comes, what it printed, and what it leaves.
--- Facts about the deck's bytes and about printed bytes are said where the shelf tells them.
-use Rattle.std.specs.Prelude.{◌≡◌, ◌⊎◌, ℕ, ◌≤◌, ◌<◌, List, length, Option, Some, None}
-use Rattle.std.specs.Io.KnownBytes.{Appends, IsAtEnd}
-use Rattle.air_devices.specs.Contents.{Contents}
-use Rattle.air_devices.specs.Counts.{Faults, Rose, NoCountFalls, KeepsCounts}
-use Rattle.air_devices.specs.Frames.{KeepsButPrinted}
-use Rattle.air_devices.specs.Known.{AppendsPart, WhereKnown}
-use Rattle.air_cli.specs.Words.{Asked, AsksScript}
-use Rattle.air_cli.specs.FirstForm.{FirstDeckValue, Spells}
-use Rattle.air_cli.specs.FirstReports.{first_text}
+-- What `air_quiet` answers: for every status when it comes, what was printed and written, and what is left.
+--
+-- `Cause` has the refusals by command and status, `Gives` what each command prints and writes, and what is true of it. Both are
+-- functions of the deck that the named file spells, and of the bytes of the named tape.
+use Rattle.std.specs.Prelude.{◌≡◌, ◌⊎◌, ℕ, ◌≤◌, List, [], length, Option, Some, None, ⊤}
+use Rattle.std.specs.Io.KnownBytes.{IsAtEnd}
+use Rattle.air_devices.specs.Counts.{KeepsCounts, Rose}
+use Rattle.air_devices.specs.Known.{WhereKnown}
+use Rattle.air_model.specs.Decks.{Deck}
+use Rattle.air_model.specs.Outputs.{plan_output, script_output, script_tape, tune_output}
+use Rattle.air_model.specs.Tapes.{tape_read}
 use Rattle.air_cli.specs.declared.status.Status.{Status}
 use Rattle.air_cli.specs.declared.status.Status.TheVariants as status
-use Rattle.air_cli.specs.Statuses.{line_of}
-use Rattle.air_cli.specs.Printing.{PrintsUnlessFailed}
+use Rattle.air_cli.specs.Words.{Asked, AsksPlan, AsksScript, AsksTune, IsInput, output_of}
+use Rattle.air_cli.specs.Outcomes.{Given, IsGiven, IsGivenInPart, IsRefusal, IsUntouched, OutputHoldsPart, Shelved}
+use Rattle.air_cli.specs.Causes.{IsDoable, IsShort, OfDeck, PlanCause, ScriptCause, TuneCause, tape_limit}
+use Rattle.air_cli.specs.Truths.{IsTrueScript, IsTrueTape}
 
--- A deck has at most so many bytes.
-abbrev pub deck_limit : ℕ
-deck_limit = 67108864
+-- The named file's bytes, where they are told, are a whole tape, and this is so of its records.
+abbrev pub OfTape : List ℕ → Shelved → (List (List ℕ) → Type 0) → Type 0
+OfTape name before P = WhereKnown (before.told.file name) (λ bytes. (length bytes ≤ tape_limit) × ((tape_read bytes).cut ≡ None) × P (tape_read bytes).records)
 
--- A shelf, as a call finds or leaves it: what it tells, and how often its calls failed.
-pub record Shelved : Type 0 where
-  pub told : Contents
-  pub faults : Faults
+-- What `plan`, `script` and `tune` give.
+abbrev pub plan_given : Deck → Given
+plan_given d = record { text = plan_output d; tape = [] }
 
--- The command leaves all files and outputs, and what is left of all files but the named one; no count of faults falls.
-pub record ScriptLeaves (name : List ℕ) (before now : Shelved) : Type 0 where
-  pub files : (n : List ℕ) → now.told.file n ≡ before.told.file n
-  pub other_left : (n : List ℕ) → (n ≡ name → ⊥) → now.told.left n ≡ before.told.left n
-  pub outputs : (n : List ℕ) → now.told.output n ≡ before.told.output n
-  pub counts : NoCountFalls before.faults now.faults
+abbrev pub script_given : Deck → Given
+script_given d = record { text = script_output d; tape = script_tape d }
 
--- A refusal printed its fault line, but for what a failing print left out.
-abbrev pub PrintsLine : Status → Shelved → Shelved → Type 0
-PrintsLine s before now = PrintsUnlessFailed (line_of s) before.told now.told before.faults now.faults
+abbrev pub tune_given : Deck → List (List ℕ) → Given
+tune_given d records = record { text = tune_output d records; tape = [] }
 
--- A refusal answers its status and printed its line; or there was no memory for the line, and nothing was printed.
-abbrev pub Refuses : Status → Shelved → Shelved → Status → Type 0
-Refuses s before now answer =
-    ((answer ≡ s) × PrintsLine s before now) ⊎ ((answer ≡ status.NoMemory) × (now.told.printed ≡ before.told.printed))
+-- What a command gives, where nothing refuses it: this is so of its text and its tape. The sessions in the text are true.
+unfoldable pub Gives : Option Asked → Shelved → (Given → Type 0) → Type 0
+Gives None before P = ⊥
+Gives (Some (AsksPlan deck)) before P = OfDeck deck before (λ d. IsShort d × P (plan_given d))
+Gives (Some (AsksScript deck tape)) before P = OfDeck deck before (λ d. IsDoable d × (length (script_tape d) ≤ tape_limit) × IsTrueScript d × P (script_given d))
+Gives (Some (AsksTune deck tape)) before P = OfDeck deck before (λ d. IsDoable d × OfTape tape before (λ records. IsTrueTape d records × P (tune_given d records)))
 
--- The deck's bytes, of at most the limit, spell a deck of the first form, and its text is printed by this word.
-abbrev pub Reports : List ℕ → Shelved → (List ℕ → Type 0) → Type 0
-Reports name before P = WhereKnown (before.told.file name) (λ bytes. (length bytes ≤ deck_limit) × ((d : FirstDeckValue) × Spells bytes d × P (first_text d)))
+-- Why words of no form are refused.
+unfoldable pub WordsCause : Status → Type 0
+WordsCause status.Words = ⊤
+WordsCause other = ⊥
 
--- The deck was done: its whole report is printed, nothing is left of its file, and no call failed.
-pub record ScriptDone (name : List ℕ) (before now : Shelved) : Type 0 where
-  pub printed : Reports name before (Appends before.told.printed now.told.printed)
-  pub read : IsAtEnd (now.told.left name)
+-- Why what is asked for is refused.
+unfoldable pub Cause : Option Asked → Shelved → Shelved → Status → Type 0
+Cause None before now s = WordsCause s
+Cause (Some (AsksPlan deck)) before now s = PlanCause deck before now s
+Cause (Some (AsksScript deck tape)) before now s = ScriptCause deck before now s
+Cause (Some (AsksTune deck tape)) before now s = TuneCause deck tape before now s
+
+-- All was done: what the command gives was written and printed, its inputs were read to their ends, and no call failed.
+pub record IsDone (asked : Option Asked) (before now : Shelved) : Type 0 where
+  pub given : Gives asked before (λ g. IsGiven (output_of asked) g before now)
+  pub read : (name : List ℕ) → IsInput asked name → IsAtEnd (now.told.left name)
   pub calm : KeepsCounts before.faults now.faults
 
--- The deck is not of the first form, so it is refused as a whole.
-pub record ScriptRefused (name : List ℕ) (before now : Shelved) : Type 0 where
-  pub other : WhereKnown (before.told.file name) (λ bytes. (length bytes ≤ deck_limit) × ((d : FirstDeckValue) → Spells bytes d → ⊥))
-  pub read : IsAtEnd (now.told.left name)
+-- Writing the named output failed: it is as it was, or holds the first bytes of the tape, and nothing was printed.
+pub record OutputFailed (asked : Option Asked) (before now : Shelved) : Type 0 where
+  pub name : List ℕ
+  pub named : output_of asked ≡ Some name
+  pub rose : Rose (before.faults.writing name) (now.faults.writing name)
+  pub written : Gives asked before (λ g. OutputHoldsPart name g.tape before now)
+  pub printed : now.told.printed ≡ before.told.printed
 
--- What each status says of the command `script` on the named deck.
-unfoldable pub ScriptAnswers : List ℕ → Shelved → Shelved → Status → Type 0
-ScriptAnswers name before now status.Ok = ScriptDone name before now
-ScriptAnswers name before now (status.Deck row kind) =
-    (row ≡ 0) × (kind ≡ 12) × ScriptRefused name before now × PrintsLine (status.Deck row kind) before now
-ScriptAnswers name before now status.ReadFault = Rose (before.faults.reading name) (now.faults.reading name) × PrintsLine status.ReadFault before now
-ScriptAnswers name before now (status.TooLarge limit) =
-    (limit ≡ deck_limit) × WhereKnown (before.told.file name) (λ bytes. deck_limit < length bytes) × PrintsLine (status.TooLarge limit) before now
-ScriptAnswers name before now status.WriteFault =
-    Rose before.faults.printing now.faults.printing × Reports name before (AppendsPart before.told.printed now.told.printed)
-ScriptAnswers name before now status.NoMemory = now.told.printed ≡ before.told.printed
-ScriptAnswers name before now other = ⊥
+-- Printing the text failed, after the tape was written.
+pub record PrintFailed (asked : Option Asked) (before now : Shelved) : Type 0 where
+  pub rose : Rose before.faults.printing now.faults.printing
+  pub given : Gives asked before (λ g. IsGivenInPart (output_of asked) g before now)
 
--- What each status says where the words are of no form.
-unfoldable pub WordsAnswers : Shelved → Shelved → Status → Type 0
-WordsAnswers before now status.Words = PrintsLine status.Words before now
-WordsAnswers before now status.NoMemory = now.told.printed ≡ before.told.printed
-WordsAnswers before now other = ⊥
-
--- Words of no form leave all that the shelf tells but the printed bytes.
-pub record WordsLeave (before now : Shelved) : Type 0 where
-  pub told : KeepsButPrinted before.told now.told
-  pub counts : NoCountFalls before.faults now.faults
-
--- What each status says of what is asked.
+-- What each status says. A refusal has its cause, and printed its line alone.
 unfoldable pub QuietAnswers : Option Asked → Shelved → Shelved → Status → Type 0
-QuietAnswers None = WordsAnswers
-QuietAnswers (Some (AsksScript name)) = ScriptAnswers name
-
--- What is left as it was by what is asked.
-unfoldable pub QuietLeaves : Option Asked → Shelved → Shelved → Type 0
-QuietLeaves None = WordsLeave
-QuietLeaves (Some (AsksScript name)) = ScriptLeaves name
+QuietAnswers asked before now status.Ok = IsDone asked before now
+QuietAnswers asked before now status.WriteFault = OutputFailed asked before now ⊎ PrintFailed asked before now
+QuietAnswers asked before now status.NoMemory = IsUntouched before now
+QuietAnswers asked before now s = Cause asked before now s × IsRefusal s before now

@@ -1,14 +1,47 @@
--- The forms of the words of a command: which of them the words are, if they are one.
-use Rattle.std.specs.Prelude.{ℕ, ◌&&◌, ◌==◌, not, if◌then◌else◌, List, [], ◌∷◌, length, Option, Some, None, codes, nat_eq}
+-- The forms of the words of a command: which of them the words are, if they are one. A name is the list of its bytes; a
+-- file's name is any word that isn't empty.
+use Rattle.std.specs.Prelude.{◌≡◌, ◌⊎◌, ℕ, ◌||◌, ◌==◌, if◌then◌else◌, List, [], ◌∷◌, length, Option, Some, None, codes, nat_eq}
 use Rattle.std.specs.Cmp.Lexicographic.{pointwise}
 
--- What is asked for, each file by the bytes of its name: to do the script of a deck.
+-- What is asked for: to plan a deck; to do a deck's script, and to write its tape where one is named; to let a deck's
+-- readers hear a tape.
 pub data Asked : Type 0 where
-  AsksScript : List ℕ → Asked
+  AsksPlan : List ℕ → Asked
+  AsksScript : List ℕ → Option (List ℕ) → Asked
+  AsksTune : List ℕ → List ℕ → Asked
+
+-- What a command's name and one file ask for.
+abbrev pub asked_of_one : List ℕ → List ℕ → Option Asked
+asked_of_one name deck =
+    if pointwise nat_eq name (codes "plan") then Some (AsksPlan deck)
+    else if pointwise nat_eq name (codes "script") then Some (AsksScript deck None)
+    else None
+
+-- What a command's name and two files ask for.
+abbrev pub asked_of_two : List ℕ → List ℕ → List ℕ → Option Asked
+asked_of_two name deck tape =
+    if pointwise nat_eq name (codes "script") then Some (AsksScript deck (Some tape))
+    else if pointwise nat_eq name (codes "tune") then Some (AsksTune deck tape)
+    else None
 
 -- What the words ask for; None where they are of no form.
 abbrev pub asked_of : List (List ℕ) → Option Asked
 asked_of [] = None
-asked_of (word ∷ []) = None
-asked_of (word ∷ deck ∷ []) = if pointwise nat_eq word (codes "script") && not (length deck == 0) then Some (AsksScript deck) else None
-asked_of (word ∷ deck ∷ more ∷ words) = None
+asked_of (name ∷ []) = None
+asked_of (name ∷ deck ∷ []) = if length deck == 0 then None else asked_of_one name deck
+asked_of (name ∷ deck ∷ tape ∷ []) = if length deck == 0 || length tape == 0 then None else asked_of_two name deck tape
+asked_of (name ∷ deck ∷ tape ∷ more ∷ words) = None
+
+-- The words name this input file.
+abbrev pub IsInput : Option Asked → List ℕ → Type 0
+IsInput None name = ⊥
+IsInput (Some (AsksPlan deck)) name = name ≡ deck
+IsInput (Some (AsksScript deck tape)) name = name ≡ deck
+IsInput (Some (AsksTune deck tape)) name = (name ≡ deck) ⊎ (name ≡ tape)
+
+-- The output that the words name, if they name one.
+abbrev pub output_of : Option Asked → Option (List ℕ)
+output_of None = None
+output_of (Some (AsksPlan deck)) = None
+output_of (Some (AsksScript deck tape)) = tape
+output_of (Some (AsksTune deck tape)) = None

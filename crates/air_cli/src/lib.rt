@@ -1,21 +1,24 @@
 //! The commands of airdisk: from words to a status, over any shelf.
 //!
-//! `air_quiet` is the top call. `first_deck` reads decks of the first form, over the records that the crate `csv`
-//! gives; `receiver` is the reader that hears them, `report` the text of what came of it. They are private parts
-//! until the crates for decks, receivers and reports come.
+//! `air_quiet` is the top call.
 #![tactic(auto)]
 
-mod first_deck;
-mod first_rows;
-mod first_script;
-pub mod laws;
+mod decks;
+mod delivery;
+mod files;
+mod hearing;
+mod plan_rows;
+mod plans;
 mod quiet;
-mod receiver;
-mod records;
+mod replay;
 mod report;
-mod script;
+mod runs;
+mod scripts;
 pub mod status;
-mod words;
+mod truths;
+mod tuning;
+pub mod words;
+mod works;
 
 pub use quiet::air_quiet;
 pub use status::Status;

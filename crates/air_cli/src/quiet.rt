@@ -1,26 +1,29 @@
 //! The top call for the commands that need no waiting.
 //!
-//! All text is made before anything is printed. The contract is one definition by cases: what each status says of
-//! the words, of the named files, of the counts of faults and of what was printed.
+//! Whatever a command prints and writes is made before anything is printed or written. The contract is one
+//! definition by cases of the status: its cause, what was printed and written, and what is left.
 
-ghost use Rattle.std.specs.Prelude.{◌≡◌, map, string_bytes, OnOk, OnErr};
-ghost use Rattle.air_devices.specs.Counts.{NoCountFalls};
-ghost use Rattle.air_devices.specs.Frames.{KeepsButPrinted};
-ghost use Rattle.air_cli.specs.Words.{asked_of};
-ghost use Rattle.air_cli.specs.Answers.{PrintsLine, Refuses, QuietAnswers, QuietLeaves, ScriptAnswers, ScriptLeaves};
+ghost use Rattle.std.specs.Prelude.{◌≡◌, ℕ, List, Some, map, string_bytes, IfErr, IfOk, OnOk};
+ghost use Rattle.std.specs.Io.KnownBytes.{IsAtEnd};
+ghost use Rattle.air_devices.specs.Counts.{KeepsCounts};
+ghost use Rattle.air_cli.specs.Words.{IsInput, asked_of};
+ghost use Rattle.air_cli.specs.Commands.{asked_by};
+ghost use Rattle.air_cli.specs.Outcomes.{Leaves};
+ghost use Rattle.air_cli.specs.Readings.{Reads};
+ghost use Rattle.air_cli.specs.Answers.{Cause, Gives, QuietAnswers};
 
-use crate::script::report_of;
-use crate::status::{Status, line};
-use crate::words::script_deck;
-use air_base::NoMemory;
-use air_devices::{ReadFileError, Shelf, read_file};
+use crate::delivery::{delivered, refused};
+use crate::plans::plan_of;
+use crate::scripts::script_of;
+use crate::status::Status;
+use crate::tuning::tuning_of;
+use crate::words::{Command, command_of};
+use crate::works::Work;
+use air_devices::Shelf;
 use std::alloc::Global;
 use std::thread::Threads;
 
-/// A deck has at most so many bytes.
-const DECK_LIMIT: usize = 67_108_864;
-
-/// Does the command that the words ask for: `script DECK`.
+/// Does what the words ask for: `plan DECK`, `script DECK`, `script DECK TAPE` or `tune DECK TAPE`.
 pub fn air_quiet<T: Threads + Sync, S: Shelf>(
     _threads: &T,
     alloc: Global,
@@ -29,70 +32,45 @@ pub fn air_quiet<T: Threads + Sync, S: Shelf>(
 ) -> Status
     ensures answers { QuietAnswers (asked_of (map (λ w. string_bytes w) words.now))
         (record { told = S.told shelf.old; faults = S.faults shelf.old }) (record { told = S.told shelf.new; faults = S.faults shelf.new }) result }
-    ensures leaves { QuietLeaves (asked_of (map (λ w. string_bytes w) words.now))
+    ensures leaves { Leaves (asked_of (map (λ w. string_bytes w) words.now))
         (record { told = S.told shelf.old; faults = S.faults shelf.old }) (record { told = S.told shelf.new; faults = S.faults shelf.new }) }
 {
-    match script_deck(words) {
-        Some(deck) => script(alloc, shelf, deck),
+    match command_of(words) {
+        Some(command) => done(alloc, shelf, &command),
         None => refused(alloc, shelf, Status::Words),
     }
 }
 
-/// Prints the status's line, and answers the status, or want of memory for the line.
-fn refused<S: Shelf>(alloc: Global, shelf: &mut S, status: Status) -> Status
-    ensures gives { Refuses status
+/// Does a command.
+fn done<S: Shelf>(alloc: Global, shelf: &mut S, command: &Command) -> Status
+    ensures answers { QuietAnswers (Some (asked_by command.now))
         (record { told = S.told shelf.old; faults = S.faults shelf.old }) (record { told = S.told shelf.new; faults = S.faults shelf.new }) result }
-    ensures rest { KeepsButPrinted (S.told shelf.old) (S.told shelf.new) }
-    ensures counts { NoCountFalls (S.faults shelf.old) (S.faults shelf.new) }
+    ensures leaves { Leaves (Some (asked_by command.now))
+        (record { told = S.told shelf.old; faults = S.faults shelf.old }) (record { told = S.told shelf.new; faults = S.faults shelf.new }) }
 {
-    match print_line(alloc, shelf, &status) {
-        Ok(()) => status,
-        Err(_) => Status::NoMemory,
+    match work_of(alloc, shelf, command) {
+        Ok(work) => delivered(shelf, command.output(), &work),
+        Err(status) => match status {
+            Status::NoMemory => Status::NoMemory,
+            _ => refused(alloc, shelf, status),
+        },
     }
 }
 
-/// Prints the line of a status; a print that fails leaves out the rest of it.
-fn print_line<S: Shelf>(alloc: Global, shelf: &mut S, status: &Status) -> Result<(), NoMemory>
-    ensures line { OnOk result
-        (PrintsLine status.now
+/// What a command gives; nothing is printed or written yet.
+#[tactic(auto, unfolding(crate::specs::Answers::Cause, crate::specs::Answers::Gives))]
+fn work_of<S: Shelf>(alloc: Global, shelf: &mut S, command: &Command) -> Result<Work, Status>
+    ensures given { IfOk result (λ work. Gives (Some (asked_by command.now)) (record { told = S.told shelf.old; faults = S.faults shelf.old }) (λ g. work ≡ g)) }
+    ensures read { OnOk result ((name : List ℕ) → IsInput (Some (asked_by command.now)) name → IsAtEnd ((S.told shelf.new).left name)) }
+    ensures calm { OnOk result (KeepsCounts (S.faults shelf.old) (S.faults shelf.new)) }
+    ensures refused { IfErr result (Cause (Some (asked_by command.now))
         (record { told = S.told shelf.old; faults = S.faults shelf.old }) (record { told = S.told shelf.new; faults = S.faults shelf.new })) }
-    ensures none { OnErr result ((S.told shelf.new).printed ≡ (S.told shelf.old).printed) }
-    ensures rest { KeepsButPrinted (S.told shelf.old) (S.told shelf.new) }
-    ensures counts { NoCountFalls (S.faults shelf.old) (S.faults shelf.new) }
-{
-    let text = line(alloc, status)?;
-    let _ = shelf.print(&text);
-    Ok(())
-}
-
-/// Does the script of a deck.
-fn script<S: Shelf>(alloc: Global, shelf: &mut S, deck: &str) -> Status
-    ensures answers { ScriptAnswers deck.now
-        (record { told = S.told shelf.old; faults = S.faults shelf.old }) (record { told = S.told shelf.new; faults = S.faults shelf.new }) result }
-    ensures leaves { ScriptLeaves deck.now
+    ensures rest { Reads (Some (asked_by command.now))
         (record { told = S.told shelf.old; faults = S.faults shelf.old }) (record { told = S.told shelf.new; faults = S.faults shelf.new }) }
 {
-    let text = match read_file(alloc, shelf, deck, DECK_LIMIT) {
-        Ok(text) => text,
-        Err(ReadFileError::Failed) => return refused(alloc, shelf, Status::ReadFault),
-        Err(ReadFileError::TooLarge) => {
-            return refused(
-                alloc,
-                shelf,
-                Status::TooLarge {
-                    limit: DECK_LIMIT as u64,
-                },
-            );
-        }
-        Err(ReadFileError::NoMemory) => return Status::NoMemory,
-    };
-    let report = match report_of(alloc, &text) {
-        Ok(Some(report)) => report,
-        Ok(None) => return refused(alloc, shelf, Status::Deck { row: 0, kind: 12 }),
-        Err(_) => return Status::NoMemory,
-    };
-    match shelf.print(&report) {
-        Ok(()) => Status::Ok,
-        Err(_) => Status::WriteFault,
+    match command {
+        Command::Plan { deck } => plan_of(alloc, shelf, deck),
+        Command::Script { deck, .. } => script_of(alloc, shelf, deck),
+        Command::Tune { deck, tape } => tuning_of(alloc, shelf, deck, tape),
     }
 }

@@ -12,16 +12,14 @@ ghost use Rattle.air_model.specs.Reports.{attempt_row, counts_row, event_row, pl
 ghost use Rattle.air_model.specs.Rows.{row_writer, rows_text};
 ghost use Rattle.air_cli.specs.ReportTexts.{IsReady, written};
 
-use air_base::{Counts, NoMemory, ReadOf, Reads, Verdict, VerdictKind, write_u64};
-use csv::{Writer, WriterBuilder};
-use std::alloc::Global;
+mod lines;
+mod sections;
 
-/// A verdict, and the reads of its attempt in the order of reading.
-#[derive(Debug, Drop)]
-pub(crate) struct VerdictLine {
-    pub verdict: Verdict,
-    pub reads: Reads,
-}
+use air_base::{Counts, NoMemory, ReadOf, VerdictKind, write_u64};
+use csv::{Writer, WriterBuilder};
+pub(crate) use lines::{Session, VerdictLine};
+pub(crate) use sections::report_of;
+use std::alloc::Global;
 
 /// A writer of rows behind a text.
 pub(crate) fn row_writer(text: Vec<u8>) -> Writer<Vec<u8>>

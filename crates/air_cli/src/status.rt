@@ -42,6 +42,17 @@ pub enum Status {
     PlanTooLong { slots: u64 },
 }
 
+impl From<NoMemory> for Status {
+    ghost use Rattle.std.specs.Prelude.{◌≡◌};
+    ghost use Rattle.air_cli.specs.declared.status.Status.TheVariants.{NoMemory};
+
+    ghost from_gives = { λ _ s. s ≡ NoMemory };
+
+    fn from(_error: NoMemory) -> Self {
+        Status::NoMemory
+    }
+}
+
 impl Status {
     /// The number of the status, with which the program ends.
     pub fn code(&self) -> u8

@@ -1,14 +1,78 @@
 //! The words of a command.
 
-ghost use Rattle.std.specs.Prelude.{◌≡◌, option_map, map, string_bytes};
-ghost use Rattle.air_cli.specs.Words.{AsksScript, asked_of};
+ghost use Rattle.std.specs.Prelude.{◌≡◌, Some, option_map, map, string_bytes};
+ghost use Rattle.air_cli.specs.Words.{asked_of, asked_of_one, asked_of_two, output_of};
+ghost use Rattle.air_cli.specs.Commands.{asked_by};
 
-/// The deck of the words `script DECK`, and `None` exactly where the words are of no form.
-pub fn script_deck<'a>(words: &'a [String]) -> Option<&'a str>
-    ensures { option_map (λ deck. AsksScript deck.now) result ≡ asked_of (map (λ w. string_bytes w) words.now) }
+/// What the words ask for.
+#[derive(Clone, Copy, Debug)]
+pub enum Command<'a> {
+    /// To plan a deck.
+    Plan {
+        deck: &'a str,
+    },
+    /// To do a deck's script, and to write its tape where one is named.
+    Script {
+        deck: &'a str,
+        tape: Option<&'a str>,
+    },
+    /// To let a deck's readers hear a tape.
+    Tune {
+        deck: &'a str,
+        tape: &'a str,
+    },
+}
+
+impl<'a> Command<'a> {
+    /// The output that is named, if one is.
+    pub fn output(&self) -> Option<&'a str>
+        ensures { option_map (λ name. name.now) result ≡ output_of (Some (asked_by self.now)) }
+    {
+        match self {
+            Command::Script { tape, .. } => *tape,
+            Command::Plan { .. } | Command::Tune { .. } => None,
+        }
+    }
+}
+
+/// What the words ask for, and `None` exactly where they are of no form.
+pub fn command_of<'a>(words: &'a [String]) -> Option<Command<'a>>
+    ensures { option_map asked_by result ≡ asked_of (map (λ w. string_bytes w) words.now) }
 {
     match words {
-        [name, deck] if name.as_str() == "script" && !deck.is_empty() => Some(deck.as_str()),
+        [name, deck] if !deck.is_empty() => command_of_one(name, deck),
+        [name, deck, tape] if !deck.is_empty() && !tape.is_empty() => {
+            command_of_two(name, deck, tape)
+        }
         _ => None,
+    }
+}
+
+/// What a command's name and one file ask for.
+fn command_of_one<'a>(name: &str, deck: &'a str) -> Option<Command<'a>>
+    ensures { option_map asked_by result ≡ asked_of_one name.now deck.now }
+{
+    if name == "plan" {
+        Some(Command::Plan { deck })
+    } else if name == "script" {
+        Some(Command::Script { deck, tape: None })
+    } else {
+        None
+    }
+}
+
+/// What a command's name and two files ask for.
+fn command_of_two<'a>(name: &str, deck: &'a str, tape: &'a str) -> Option<Command<'a>>
+    ensures { option_map asked_by result ≡ asked_of_two name.now deck.now tape.now }
+{
+    if name == "script" {
+        Some(Command::Script {
+            deck,
+            tape: Some(tape),
+        })
+    } else if name == "tune" {
+        Some(Command::Tune { deck, tape })
+    } else {
+        None
     }
 }

@@ -15,9 +15,12 @@ use std::rt::Files;
 /// What the program can do, a line a command.
 const HELP: &str = "airdisk: data on air, proved
 
-  airdisk script DECK    do the script of a deck, and print the report of its reader
-  airdisk --help         print this text
-  airdisk --version      print the version
+  airdisk plan DECK           print the broadcast program of a deck
+  airdisk script DECK         do the script of a deck, and print the report of its readers
+  airdisk script DECK TAPE    the same, and write what was aired to a tape
+  airdisk tune DECK TAPE      let the readers of a deck hear a tape, and print their report
+  airdisk --help              print this text
+  airdisk --version           print the version
 
 The manual is docs/GUIDE.md in the repository.
 ";

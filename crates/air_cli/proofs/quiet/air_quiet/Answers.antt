@@ -1,17 +1,14 @@
-use Rattle.std.proofs.Common.{sym, ap, ◌∙◌, Bor, List, ℕ}
-use Rattle.std.specs.Option.{option_map}
-use Rattle.air_cli.specs.Words.{AsksScript}
-use Rattle.air_cli.proofs.AnswerFacts.{refused_words, answers_none, leaves_none, answers_script, leaves_script}
+use Rattle.std.proofs.Common.{None, subst}
+use Rattle.air_cli.specs.declared.status.Status.TheVariants as status
+use Rattle.air_cli.specs.Outcomes.{Shelved}
+use Rattle.air_cli.specs.Answers.{QuietAnswers}
+use Rattle.air_cli.proofs.RefusalFacts.{answers_refused, reads_nothing, words_refused}
 use Rattle.air_cli.proofs.quiet.air_quiet.Goals as goal
 
 pub returns-in-None-clause-answers : goal.returns-in-None-clause-answers
-returns-in-None-clause-answers g c = answers_none _ _ _ _ (sym c.script_deck.ensures ∙ ap (option_map (λ (deck : Bor (List ℕ)). AsksScript deck.now)) c.in-None.is) (refused_words _ _ _ c.refused.ensures.gives)
-
-pub returns-in-None-clause-leaves : goal.returns-in-None-clause-leaves
-returns-in-None-clause-leaves g c = leaves_none _ _ _ (sym c.script_deck.ensures ∙ ap (option_map (λ (deck : Bor (List ℕ)). AsksScript deck.now)) c.in-None.is) (record { told = c.refused.ensures.rest; counts = c.refused.ensures.counts })
-
-pub returns-in-Some-clause-answers : goal.returns-in-Some-clause-answers
-returns-in-Some-clause-answers g c = answers_script _ c.in-Some.deck.now _ _ _ (sym c.script_deck.ensures ∙ ap (option_map (λ (deck : Bor (List ℕ)). AsksScript deck.now)) c.in-Some.is) c.script.ensures.answers
-
-pub returns-in-Some-clause-leaves : goal.returns-in-Some-clause-leaves
-returns-in-Some-clause-leaves g c = leaves_script _ c.in-Some.deck.now _ _ (sym c.script_deck.ensures ∙ ap (option_map (λ (deck : Bor (List ℕ)). AsksScript deck.now)) c.in-Some.is) c.script.ensures.leaves
+returns-in-None-clause-answers g c =
+    let S = g.S.Shelf in
+    let before : Shelved = record { told = S.told c.args.shelf.now; faults = S.faults c.args.shelf.now } in
+    let now : Shelved = record { told = S.told c.refused.new.shelf; faults = S.faults c.refused.new.shelf } in
+    subst (λ asked. QuietAnswers asked before now c.refused.result) c.in-None.ensures
+    (answers_refused None before before now status.Words c.refused.result (λ e. cc) (reads_nothing before) (words_refused before) c.refused.ensures.gives c.refused.ensures.rest c.refused.ensures.counts)

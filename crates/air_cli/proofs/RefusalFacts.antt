@@ -1,0 +1,143 @@
+-- From a cause and a printed line to what a refusal's status says.
+use Rattle.std.proofs.Common.{◌≡◌, ◌≢◌, ℕ, ◌≤◌, List, Option, Some, None, refl, sym, ◌∙◌, subst, inl, inr, arith}
+use Rattle.std.specs.Io.KnownBytes.{Appends, IsAtEnd}
+use Rattle.air_devices.specs.Counts.{NoCountFalls, Rose}
+use Rattle.air_devices.specs.Frames.{KeepsButPrinted}
+use Rattle.air_devices.specs.Known.{AppendsPart}
+use Rattle.air_cli.specs.declared.status.Status.{Status}
+use Rattle.air_cli.specs.declared.status.Status.TheVariants as status
+use Rattle.air_cli.specs.Words.{Asked, AsksPlan, AsksScript, AsksTune}
+use Rattle.air_cli.specs.Printing.{PrintsUnlessFailed}
+use Rattle.air_cli.specs.Outcomes.{IsRefusal, Leaves, Shelved}
+use Rattle.air_cli.specs.Readings.{Reads}
+use Rattle.air_cli.specs.Causes.{DeckCause, UndoableCause, IsFaulty, IsOfOtherForm, PlanCause, ScriptCause, TuneCause, UnreadCause, deck_limit, tape_limit}
+use Rattle.air_cli.specs.Deliveries.{Refuses}
+use Rattle.air_cli.specs.Answers.{Cause, QuietAnswers, WordsCause}
+use Rattle.air_cli.proofs.ReadFacts.{falls_twice}
+use Rattle.air_cli.proofs.DeliveryFacts.{rose_since}
+
+-- ---- a cause that was found stays one while a line is printed
+
+rose_still : (before mid now : ℕ) → mid ≤ now → Rose before mid → Rose before now
+rose_still before mid now le rose = omega arith
+
+unread_still : (name : List ℕ) (most : ℕ) (before mid now : Shelved) (s : Status) → NoCountFalls mid.faults now.faults → UnreadCause name most before mid s → UnreadCause name most before now s
+unfolding UnreadCause
+unread_still name most before mid now status.ReadFault counts h = rose_still (before.faults.reading name) (mid.faults.reading name) (now.faults.reading name) (counts.reading name) h
+unread_still name most before mid now s counts h = h
+
+faulty_still : (name : List ℕ) (row kind : ℕ) (before mid now : Shelved) → KeepsButPrinted mid.told now.told → IsFaulty name row kind before mid → IsFaulty name row kind before now
+faulty_still name row kind before mid now rest h = record { read = subst IsAtEnd (sym (rest.left name)) h.read; fault = h.fault }
+
+form_still : (name : List ℕ) (row kind : ℕ) (before mid now : Shelved) → KeepsButPrinted mid.told now.told → IsOfOtherForm name row kind before mid → IsOfOtherForm name row kind before now
+form_still name row kind before mid now rest h = record { read = subst IsAtEnd (sym (rest.left name)) h.read; form = h.form; as_row = h.as_row; as_kind = h.as_kind }
+
+deck_still : (name : List ℕ) (before mid now : Shelved) (s : Status) → KeepsButPrinted mid.told now.told → NoCountFalls mid.faults now.faults → DeckCause name before mid s → DeckCause name before now s
+unfolding DeckCause
+deck_still name before mid now (status.Deck row kind) rest counts h = faulty_still name row kind before mid now rest h
+deck_still name before mid now s rest counts h = unread_still name deck_limit before mid now s counts h
+
+plan_still : (name : List ℕ) (before mid now : Shelved) (s : Status) → KeepsButPrinted mid.told now.told → NoCountFalls mid.faults now.faults → PlanCause name before mid s → PlanCause name before now s
+unfolding PlanCause
+plan_still name before mid now (status.PlanTooLong slots) rest counts h = h
+plan_still name before mid now s rest counts h = deck_still name before mid now s rest counts h
+
+done_still : (name : List ℕ) (before mid now : Shelved) (s : Status) → KeepsButPrinted mid.told now.told → NoCountFalls mid.faults now.faults → UndoableCause name before mid s → UndoableCause name before now s
+unfolding UndoableCause
+done_still name before mid now (status.Deck row kind) rest counts (inl h) = inl (faulty_still name row kind before mid now rest h)
+done_still name before mid now (status.Deck row kind) rest counts (inr h) = inr (form_still name row kind before mid now rest h)
+done_still name before mid now (status.PlanTooLong slots) rest counts h = h
+done_still name before mid now s rest counts h = deck_still name before mid now s rest counts h
+
+script_still : (name : List ℕ) (before mid now : Shelved) (s : Status) → KeepsButPrinted mid.told now.told → NoCountFalls mid.faults now.faults → ScriptCause name before mid s → ScriptCause name before now s
+unfolding ScriptCause
+script_still name before mid now (status.TooLong bytes) rest counts h = h
+script_still name before mid now s rest counts h = done_still name before mid now s rest counts h
+
+tune_still : (deck tape : List ℕ) (before mid now : Shelved) (s : Status) → KeepsButPrinted mid.told now.told → NoCountFalls mid.faults now.faults → TuneCause deck tape before mid s → TuneCause deck tape before now s
+unfolding TuneCause
+tune_still deck tape before mid now (status.TapeCut at) rest counts h = h
+tune_still deck tape before mid now s rest counts (inl h) = inl (done_still deck before mid now s rest counts h)
+tune_still deck tape before mid now s rest counts (inr h) = inr (h.0, unread_still tape tape_limit before mid now s counts h.1)
+
+cause_still : (asked : Option Asked) (before mid now : Shelved) (s : Status) → KeepsButPrinted mid.told now.told → NoCountFalls mid.faults now.faults → Cause asked before mid s → Cause asked before now s
+unfolding Cause
+cause_still None before mid now s rest counts h = h
+cause_still (Some (AsksPlan deck)) before mid now s rest counts h = plan_still deck before mid now s rest counts h
+cause_still (Some (AsksScript deck tape)) before mid now s rest counts h = script_still deck before mid now s rest counts h
+cause_still (Some (AsksTune deck tape)) before mid now s rest counts h = tune_still deck tape before mid now s rest counts h
+
+-- ---- what a refusal says
+
+-- a command that was done, or that failed to write, wasn't refused
+no_refusal_done : (asked : Option Asked) (before now : Shelved) → Cause asked before now status.Ok → ⊥
+unfolding Cause WordsCause PlanCause ScriptCause TuneCause UndoableCause DeckCause UnreadCause
+no_refusal_done None before now h = h
+no_refusal_done (Some (AsksPlan deck)) before now h = h
+no_refusal_done (Some (AsksScript deck tape)) before now h = h
+no_refusal_done (Some (AsksTune deck tape)) before now (inl h) = h
+no_refusal_done (Some (AsksTune deck tape)) before now (inr h) = h.1
+
+no_refusal_failed : (asked : Option Asked) (before now : Shelved) → Cause asked before now status.WriteFault → ⊥
+unfolding Cause WordsCause PlanCause ScriptCause TuneCause UndoableCause DeckCause UnreadCause
+no_refusal_failed None before now h = h
+no_refusal_failed (Some (AsksPlan deck)) before now h = h
+no_refusal_failed (Some (AsksScript deck tape)) before now h = h
+no_refusal_failed (Some (AsksTune deck tape)) before now (inl h) = h
+no_refusal_failed (Some (AsksTune deck tape)) before now (inr h) = h.1
+
+-- a refusal with its cause
+refusal_says : (asked : Option Asked) (before now : Shelved) (s : Status) → s ≢ status.NoMemory → Cause asked before now s → IsRefusal s before now → QuietAnswers asked before now s
+unfolding QuietAnswers
+refusal_says asked before now status.Ok some h line = absurd (no_refusal_done asked before now h)
+refusal_says asked before now status.WriteFault some h line = absurd (no_refusal_failed asked before now h)
+refusal_says asked before now status.NoMemory some h line = absurd (some refl)
+refusal_says asked before now s some h line = (h, line)
+
+-- nothing but what was read is touched
+pub untouched : (asked : Option Asked) (before now : Shelved) → now.told.printed ≡ before.told.printed → ((name : List ℕ) → now.told.output name ≡ before.told.output name)
+    → QuietAnswers asked before now status.NoMemory
+unfolding QuietAnswers
+untouched asked before now printed outputs = record { printed = printed; outputs = outputs }
+
+-- what was printed since a moment at which nothing was printed yet
+prints_since : (text : List ℕ) (before mid now : Shelved) → mid.told.printed ≡ before.told.printed → before.faults.printing ≤ mid.faults.printing →
+    PrintsUnlessFailed text mid.told now.told mid.faults now.faults → PrintsUnlessFailed text before.told now.told before.faults now.faults
+prints_since text before mid now same le p = record {
+  part = subst (λ o. AppendsPart o now.told.printed text) same p.part;
+  whole = λ calm. subst (λ o. Appends o now.told.printed text) same (p.whole (λ rose. calm (rose_since before.faults.printing mid.faults.printing now.faults.printing le rose)));
+}
+
+-- a refusal after reading
+pub answers_refused : (asked : Option Asked) (before mid now : Shelved) (s answer : Status) → s ≢ status.NoMemory → Reads asked before mid → Cause asked before mid s
+    → Refuses s mid now answer → KeepsButPrinted mid.told now.told → NoCountFalls mid.faults now.faults → QuietAnswers asked before now answer
+answers_refused asked before mid now s answer some reads cause refuses rest counts = elim refuses [
+  | inl told ↦ subst (QuietAnswers asked before now) (sym told.0) (refusal_says asked before now s some (cause_still asked before mid now s rest counts cause) (record {
+    line = prints_since _ before mid now reads.printed reads.counts.printing told.1;
+    outputs = λ name. rest.outputs name ∙ reads.outputs name;
+  }))
+  | inr none ↦ subst (QuietAnswers asked before now) (sym none.0) (untouched asked before now (none.1 ∙ reads.printed) (λ name. rest.outputs name ∙ reads.outputs name))
+]
+
+-- words of no form read nothing
+pub reads_nothing : (before : Shelved) → Reads None before before
+reads_nothing before = record {
+  files = λ name. refl;
+  left = λ name other. refl;
+  outputs = λ name. refl;
+  printed = refl;
+  counts = record { reading = λ n. omega arith; writing = λ n. omega arith; printing = omega arith };
+}
+
+pub words_refused : (before : Shelved) → Cause None before before status.Words
+unfolding Cause WordsCause
+words_refused before = tt
+
+-- what a refusal leaves
+pub leaves_refused : (asked : Option Asked) (before mid now : Shelved) → Reads asked before mid → KeepsButPrinted mid.told now.told → NoCountFalls mid.faults now.faults → Leaves asked before now
+leaves_refused asked before mid now reads rest counts = record {
+  files = λ name. rest.files name ∙ reads.files name;
+  left = λ name other. rest.left name ∙ reads.left name other;
+  outputs = λ name other. rest.outputs name ∙ reads.outputs name;
+  counts = falls_twice before.faults mid.faults now.faults reads.counts counts;
+}

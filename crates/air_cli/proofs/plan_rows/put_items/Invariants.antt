@@ -1,0 +1,11 @@
+use Rattle.std.proofs.Common.{◌≡◌, ◌++◌, map, take}
+use Rattle.std.specs.List.{enumerate_from}
+use Rattle.air_model.specs.Decks.{rates_in}
+use Rattle.air_model.specs.PlanTexts.{item_row}
+use Rattle.air_model.specs.Rows.{rows_text}
+use Rattle.air_cli.specs.ReportTexts.{IsReady, written}
+use Rattle.air_cli.proofs.plan_rows.put_items.Given as goal
+
+abbrev pub invariant-loop-i : goal.invariant-loop-i
+invariant-loop-i l =
+    IsReady l.wtr × (written l.wtr ≡ written l.fn.wtr ++ rows_text (map (item_row l.program) (take l.i (enumerate_from 0 (rates_in l.deck)))))

@@ -1,0 +1,45 @@
+//! Named files, read whole or refused with the status that says why.
+
+ghost use Rattle.std.specs.Prelude.{◌≤◌, length, IfErr, IfOk, OnOk};
+ghost use Rattle.std.specs.Io.KnownBytes.{IsAtEnd};
+ghost use Rattle.air_devices.specs.Counts.{KeepsCounts, NoCountFalls};
+ghost use Rattle.air_devices.specs.Frames.{KeepsButLeft};
+ghost use Rattle.air_devices.specs.Known.{KnownIs};
+ghost use Rattle.air_cli.specs.Causes.{UnreadCause};
+
+use crate::status::Status;
+use air_devices::{ReadFileError, Shelf, read_file};
+use std::alloc::Global;
+
+/// A deck has at most so many bytes.
+pub(crate) const DECK_LIMIT: usize = 67_108_864;
+
+/// A tape has at most so many bytes.
+pub(crate) const TAPE_LIMIT: usize = 1_073_741_824;
+
+/// The whole of a named file that has at most `limit` bytes.
+#[tactic(auto, unfolding(crate::specs::Causes::UnreadCause))]
+pub(crate) fn bytes_of<S: Shelf>(
+    alloc: Global,
+    shelf: &mut S,
+    name: &str,
+    limit: usize,
+) -> Result<Vec<u8>, Status>
+    ensures bytes { IfOk result (λ v. KnownIs ((S.told shelf.old).file name.now) v.items) }
+    ensures fits { IfOk result (λ v. length v.items ≤ limit) }
+    ensures end { OnOk result (IsAtEnd ((S.told shelf.new).left name.now)) }
+    ensures calm { OnOk result (KeepsCounts (S.faults shelf.old) (S.faults shelf.new)) }
+    ensures refused { IfErr result (UnreadCause name.now limit
+        (record { told = S.told shelf.old; faults = S.faults shelf.old }) (record { told = S.told shelf.new; faults = S.faults shelf.new })) }
+    ensures rest { KeepsButLeft name.now (S.told shelf.old) (S.told shelf.new) }
+    ensures later { NoCountFalls (S.faults shelf.old) (S.faults shelf.new) }
+{
+    match read_file(alloc, shelf, name, limit) {
+        Ok(bytes) => Ok(bytes),
+        Err(ReadFileError::Failed) => Err(Status::ReadFault),
+        Err(ReadFileError::TooLarge) => Err(Status::TooLarge {
+            limit: limit as u64,
+        }),
+        Err(ReadFileError::NoMemory) => Err(Status::NoMemory),
+    }
+}

@@ -1,0 +1,32 @@
+//! The command `plan`: what the plan of a named deck gives.
+
+ghost use Rattle.std.specs.Prelude.{◌≡◌, IfErr, IfOk, OnOk};
+ghost use Rattle.std.specs.Io.KnownBytes.{IsAtEnd};
+ghost use Rattle.air_devices.specs.Counts.{KeepsCounts, NoCountFalls};
+ghost use Rattle.air_devices.specs.Frames.{KeepsButLeft};
+ghost use Rattle.air_cli.specs.Causes.{IsShort, OfDeck, PlanCause};
+ghost use Rattle.air_cli.specs.Answers.{plan_given};
+
+use crate::decks::{deck_of, planned};
+use crate::plan_rows::plan_text;
+use crate::status::Status;
+use crate::works::Work;
+use air_devices::Shelf;
+use std::alloc::Global;
+
+/// The text of the named deck's plan.
+pub(crate) fn plan_of<S: Shelf>(alloc: Global, shelf: &mut S, name: &str) -> Result<Work, Status>
+    ensures given { IfOk result (λ work. OfDeck name.now (record { told = S.told shelf.old; faults = S.faults shelf.old })
+        (λ d. IsShort d × (work ≡ plan_given d))) }
+    ensures end { OnOk result (IsAtEnd ((S.told shelf.new).left name.now)) }
+    ensures calm { OnOk result (KeepsCounts (S.faults shelf.old) (S.faults shelf.new)) }
+    ensures refused { IfErr result (PlanCause name.now
+        (record { told = S.told shelf.old; faults = S.faults shelf.old }) (record { told = S.told shelf.new; faults = S.faults shelf.new })) }
+    ensures rest { KeepsButLeft name.now (S.told shelf.old) (S.told shelf.new) }
+    ensures later { NoCountFalls (S.faults shelf.old) (S.faults shelf.new) }
+{
+    let deck = deck_of(alloc, shelf, name)?;
+    let (cut, program) = planned(alloc, &deck)?;
+    let text = plan_text(alloc, &deck, &cut, &program)?;
+    Ok(Work { text, tape: None })
+}
