@@ -1,0 +1,82 @@
+#!/usr/bin/env bash
+# How long `read_deck` takes, and how much memory, beside a bare pass over the records of the same text.
+# Usage: bench/catalog.sh [RUNS]. Prints a table; each time is the median of the runs, each memory the peak of the process
+# that GNU time tells (a dash where it is not installed), with that of reading the file alone before it. The program
+# stands in bench/catalog.txt; it is proved and built in a scratch copy of the crates, so that the repository keeps no such crate.
+set -u
+cd "$(dirname "$0")/.." || exit 1
+runs=${1:-5}
+scratch=$(mktemp -d) || exit 1
+trap 'rm -rf "$scratch"' EXIT
+mkdir "$scratch/crates"
+for crate in air_base air_history air_model item_catalog; do
+    cp -r "crates/$crate" "$scratch/crates/" || exit 1
+    rm -rf "$scratch/crates/$crate/must-fail"
+    grep "^$crate:" crates.txt >>"$scratch/crates.txt" || exit 1
+done
+cd "$scratch" || exit 1
+(rt new crates/catalog_bench start_io && rm -rf crates/catalog_bench/* BUILD.bazel) >/dev/null 2>&1
+mkdir crates/catalog_bench/src
+echo "catalog_bench: air_base air_history air_model item_catalog csv" >>crates.txt
+cp "$OLDPWD/bench/catalog.txt" crates/catalog_bench/src/main.rt
+touch crates/catalog_bench/stdin
+(cd crates/catalog_bench && rt run) >"$scratch/log" 2>&1
+program=$scratch/crates/catalog_bench/out/catalog_bench
+if [ ! -x "$program" ]; then
+    cat "$scratch/log"
+    exit 1
+fi
+
+# deck UPDATES AMOUNT: 256 items, so many updates of sixteen reads and sixteen writes each, and 10,000 queries of sixteen items
+deck() {
+    awk -v u="$1" -v amount="$2" 'BEGIN {
+        for (i = 0; i < 256; i++) printf "item,%d,%d,1\n", i, i
+        printf "disk,256,1\nreader,0,0,1\n"
+        for (k = 0; k < u; k++) {
+            printf "update,%d,", k % 16
+            for (j = 0; j < 16; j++) printf "%s%d", (j ? " " : ""), (k + 7 * j) % 256
+            printf ","
+            for (j = 0; j < 16; j++) printf "%s%d=%d%s%s", (j ? " " : ""), (k + 5 * j + 1) % 256, (k + 7 * j) % 256, (j % 2 ? "-" : "+"), amount
+            printf "\n"
+        }
+        for (k = 0; k < 10000; k++) {
+            printf "query,0,"
+            for (j = 0; j < 16; j++) printf "%s%d", (j ? " " : ""), (k + 3 * j) % 256
+            printf "\n"
+        }
+    }'
+}
+
+# fill FILE BYTES: as many line ends at the end of the file, which are no records, as it lacks of these bytes
+fill() {
+    head -c $(($2 - $(wc -c <"$1"))) /dev/zero | tr '\0' '\n' >>"$1"
+}
+
+# median WHAT FILE: the microseconds of the median of the runs
+median() {
+    for _ in $(seq "$runs"); do "$program" "$1" "$2"; done | sort -n | sed -n "$(((runs + 1) / 2))p"
+}
+
+# peak WHAT FILE: the KiB that the process took at most
+peak() {
+    if [ -x /usr/bin/time ]; then /usr/bin/time -f %M "$program" "$1" "$2" 2>&1 >/dev/null | tail -n 1; else echo -; fi
+}
+
+# row NAME FILE: a line of the table
+row() {
+    local bare deck
+    bare=$(median records "$2")
+    deck=$(median deck "$2")
+    printf '%-32s %10s %9d.%03d %9d.%03d %5d.%02d %10s %10s %10s\n' "$1" "$(wc -c <"$2")" \
+        $((bare / 1000)) $((bare % 1000)) $((deck / 1000)) $((deck % 1000)) $((deck / bare)) $((deck * 100 / bare % 100)) \
+        "$(peak bytes "$2")" "$(peak records "$2")" "$(peak deck "$2")"
+}
+
+printf '%-32s %10s %13s %13s %8s %10s %10s %10s\n' deck bytes 'pass, ms' 'read_deck, ms' times 'file, KiB' 'pass, KiB' 'deck, KiB'
+for updates in 25000 50000 100000; do
+    deck "$updates" 12 >"$scratch/deck.csv"
+    row "$updates updates, 10000 queries" "$scratch/deck.csv"
+done
+deck 100000 18446744073709551615 >"$scratch/deck.csv"
+fill "$scratch/deck.csv" 67108864
+row 'the same at the limit of bytes' "$scratch/deck.csv"
