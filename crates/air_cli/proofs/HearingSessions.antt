@@ -1,15 +1,15 @@
 -- What is told of a session that was heard from its start and then ended; and the sessions of a deck's readers one by one.
-use Rattle.std.proofs.Common.{◌≡◌, ℕ, zero, suc, ◌+◌, ◌≤◌, List, [], ◌∷◌, ◌++◌, Option, length, map, refl, sym, ◌∙◌, ap, arith}
+use Rattle.std.proofs.Common.{◌≡◌, ℕ, ◌+◌, List, [], ◌∷◌, ◌++◌, Option, length, map, sym, ◌∙◌, ap, arith}
 use Rattle.std.specs.List.{range_with_len}
 use Rattle.std.proofs.lemmas.List.{append-nil}
 use Rattle.std.proofs.lemmas.Simd.{map-map}
 use Rattle.std.proofs.lemmas.List.FromFn.{map-range_with_len_more}
 use Rattle.air_model.specs.Buckets.{Bucket, bucket_in}
 use Rattle.air_model.specs.Decks.{Deck}
-use Rattle.air_model.specs.Judges.{Judge, by_entries}
+use Rattle.air_model.specs.Judges.{Judge}
 use Rattle.air_model.specs.Outputs.{sessions_over}
 use Rattle.air_model.specs.ReceiverLaws.{session_of}
-use Rattle.air_model.specs.Sessions.{Line, State, end, hear_all, session, start}
+use Rattle.air_model.specs.Sessions.{Line, end, hear_all, session, start}
 use Rattle.air_model.specs.SessionLaws.{after}
 use Rattle.receiver_core.specs.Receivings.{Receiving}
 use Rattle.air_cli.specs.Told.{Told, told_of}
@@ -33,12 +33,12 @@ session_told first heard last members L0 L1 L2 fresh empty told air reader ended
 abbrev pub told_by : Judge → Deck → List (List ℕ) → ℕ → Told
 told_by judge deck records r = told_of (session_of judge deck r (map bucket_in records))
 
--- the session of one more reader
-pub one_more_reader : (judge : Judge) (deck : Deck) (records : List (List ℕ)) (r : ℕ) (before after : List Told) (told : Told) → before ≡ map (told_by judge deck records) (range_with_len 0 r)
-    → told ≡ told_by judge deck records r → after ≡ before ++ told ∷ [] → after ≡ map (told_by judge deck records) (range_with_len 0 (r + 1))
-one_more_reader judge deck records r before after told so_far is grew =
-    grew ∙ ap (λ l. l ++ told ∷ []) so_far ∙ ap (λ t. map (told_by judge deck records) (range_with_len 0 r) ++ t ∷ []) is
-    ∙ sym (map-range_with_len_more (told_by judge deck records) 0 r r (omega arith))
+-- what is made for one more reader joins what was made for those before it
+pub one_more_reader : {X : Type 0} (made : ℕ → X) (r : ℕ) (before after : List X) (x : X) → before ≡ map made (range_with_len 0 r) → x ≡ made r → after ≡ before ++ x ∷ []
+    → after ≡ map made (range_with_len 0 (r + 1))
+one_more_reader made r before after x so_far is grew =
+    grew ∙ ap (λ l. l ++ x ∷ []) so_far ∙ ap (λ t. map made (range_with_len 0 r) ++ t ∷ []) is
+    ∙ sym (map-range_with_len_more made 0 r r (omega arith))
 
 -- the sessions of all readers
 pub all_readers : (judge : Judge) (deck : Deck) (records : List (List ℕ)) (n : ℕ) → n ≡ length deck.readers

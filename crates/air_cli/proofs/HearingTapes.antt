@@ -1,6 +1,6 @@
 -- A receiver that settles before each record and then hears it: what is left of the tape, heard from there, comes to what
 -- the whole tape comes to. The loop over a tape's records cites this; its counts never pass the number of records.
-use Rattle.std.proofs.Common.{◌≡◌, ℕ, zero, suc, ◌+◌, ◌<◌, ◌≤◌, ◌^◌, Bool, true, false, Option, Some, None, List, [], ◌∷◌, length, map, refl, sym, ◌∙◌, ap, arith}
+use Rattle.std.proofs.Common.{◌≡◌, ℕ, zero, suc, ◌+◌, ◌<◌, ◌≤◌, ◌^◌, Bool, true, false, Option, Some, None, List, [], ◌∷◌, length, map, sym, ◌∙◌, ap, arith}
 use Rattle.std.specs.Prelude.{◌==◌, if◌then◌else◌}
 use Rattle.air_model.specs.Buckets.{bucket_in}
 use Rattle.air_model.specs.Judges.{by_entries}
@@ -27,7 +27,7 @@ pub record Took (r : Receiving) (M : List Line) (mid : Receiving) (N : List Line
   pub reader : mid.reader ≡ r.reader
   pub state : after N mid.state ≡ settle (judge_of r) r.air r.reader (after M r.state)
 
-took_counts : {r : Receiving} {M : List Line} {mid : Receiving} {N : List Line} → Took r M mid N → heard_by mid.state ≡ heard_by r.state
+pub took_counts : {r : Receiving} {M : List Line} {mid : Receiving} {N : List Line} → Took r M mid N → heard_by mid.state ≡ heard_by r.state
 took_counts {r} {M} {mid} {N} took = ap heard_by took.state ∙ settle_counts (judge_of r) r.air r.reader (after M r.state)
 
 -- there is room for the count of one more record

@@ -12,6 +12,7 @@ pub mod HearingCounts
 pub mod HearingEnds
 pub mod HearingTapes
 pub mod HearingSessions
+pub mod AudienceLemmas
 pub mod ReplayLemmas
 pub mod ReplayAirs
 pub mod ReplayLoops

@@ -1,11 +1,9 @@
 -- The script's own tape: it is whole, its records are the history's buckets, and what is told over them is the report that
 -- the history judges. `run_script` cites these.
-use Rattle.std.proofs.Common.{◌≡◌, ℕ, zero, suc, ◌*◌, ◌+◌, ◌<◌, ◌≤◌, ◌^◌, None, List, [], ◌∷◌, ◌++◌, length, map, get_or, All, refl, sym, ◌∙◌, ap, arith}
+use Rattle.std.proofs.Common.{◌≡◌, ℕ, ◌*◌, ◌<◌, ◌≤◌, ◌^◌, None, List, [], ◌∷◌, length, map, All, sym, ◌∙◌, ap, arith}
 use Rattle.std.specs.List.{range_with_len}
 use Rattle.std.proofs.lemmas.List.Elements.{All-cons, All-nil}
-use Rattle.std.proofs.lemmas.List.FromFn.{length-map-range_with_len}
 use Rattle.air_history.specs.declared.histories.Event.{Event}
-use Rattle.air_history.specs.Histories.{starts}
 use Rattle.air_history.proofs.ScanLemmas.{starts_within}
 use Rattle.air_model.specs.Aired.{air_of}
 use Rattle.air_model.specs.AiredLaws.{CanAir}
@@ -14,18 +12,16 @@ use Rattle.air_model.specs.Decks.{Deck, IsDeck, script_history}
 use Rattle.air_model.specs.Draws.{words_of}
 use Rattle.air_model.specs.Ethers.{Odds, heard_by}
 use Rattle.air_model.specs.Judges.{by_entries}
-use Rattle.air_model.specs.Outputs.{ether_of, odds_in, script_output, script_tape, sessions_over, true_sessions}
+use Rattle.air_model.specs.Outputs.{ether_of, odds_in, sessions_over, true_sessions}
 use Rattle.air_model.specs.ReceiverLaws.{session_of}
-use Rattle.air_model.specs.Reports.{report_text}
-use Rattle.air_model.specs.Sessions.{State}
-use Rattle.air_model.specs.Tapes.{TapeRead, record_bytes, tape_of, tape_read}
+use Rattle.air_model.specs.Tapes.{tape_of, tape_read}
 use Rattle.air_model.proofs.EtherFacts.{clear_ether}
 use Rattle.air_model.proofs.ReceiverLemmas.{true_sessions_are}
 use Rattle.air_model.proofs.ScriptLemmas.{script}
 use Rattle.air_model.proofs.TapeFacts.{length_record, whole_read}
 use Rattle.air_cli.specs.Forms.{CanRun}
 use Rattle.air_cli.specs.Replays.{aired_bytes}
-use Rattle.air_cli.specs.Told.{Told, told_of}
+use Rattle.air_cli.specs.Told.{told_of}
 use Rattle.air_cli.proofs.ReplayAirs.{map_same}
 use Rattle.air_cli.proofs.ReplayLoops.{script_length}
 

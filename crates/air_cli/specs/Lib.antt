@@ -5,6 +5,7 @@ pub mod Statuses
 pub mod Printing
 pub mod Answers
 pub mod Told
+pub mod Audiences
 pub mod Replays
 pub mod Forms
 pub mod TuneFaults

@@ -42,7 +42,7 @@ fn push_line(
 }
 
 /// Takes the verdicts that the receiver has before its next bucket.
-fn take_verdicts(
+pub(crate) fn take_verdicts(
     alloc: Global,
     receiver: &mut Receiver,
     lines: &mut Vec<VerdictLine>,
@@ -60,7 +60,7 @@ fn take_verdicts(
 }
 
 /// Ends the queries that are left, each unfinished.
-fn end_queries(
+pub(crate) fn end_queries(
     alloc: Global,
     receiver: &mut Receiver,
     lines: &mut Vec<VerdictLine>,
@@ -77,7 +77,7 @@ fn end_queries(
 }
 
 /// The next record of a tape that isn't cut; none at its end.
-fn next_record<'a>(reader: &mut TapeReader<'a>) -> Option<&'a [u8]>
+pub(crate) fn next_record<'a>(reader: &mut TapeReader<'a>) -> Option<&'a [u8]>
     requires { reader.old.cut ≡ None }
     ensures { MatchOption result ((reader.old ≡ nothing_left) × (reader.new ≡ reader.old)) (λ bytes. reader.old ≡ with_record bytes.now reader.new) }
 {

@@ -3,6 +3,7 @@
 //! `air_quiet` is the top call.
 #![tactic(auto)]
 
+mod audience;
 mod decks;
 mod delivery;
 mod files;

@@ -10,6 +10,7 @@ ghost use Rattle.air_model.specs.Tapes.{tape_of, tape_read};
 ghost use Rattle.air_cli.specs.Forms.{CanRun};
 ghost use Rattle.air_cli.specs.TuneFaults.{IsTuneAnswer};
 
+use crate::audience::audience_sessions;
 use crate::hearing::{check_tape, sessions};
 use crate::replay::do_script;
 use crate::report::report_of;
@@ -95,7 +96,7 @@ fn tune_report(
     requires size { length tape.now ≤ 1073741824 }
     ensures { IfOk result (λ text. text.items ≡ tune_output deck.now (tape_read tape.now).records) }
 {
-    let heard = sessions(alloc, deck, program, tape)?;
+    let heard = audience_sessions(alloc, deck, program, tape)?;
     let report = report_of(alloc, &[], &heard)?;
     Ok(report)
 }

@@ -1,20 +1,17 @@
 -- What an answer of `feed` tells: which count rose, and that a refused or a foreign member changes nothing else. By every
 -- judge, and with copies as without.
-use Rattle.std.proofs.Common.{◌≡◌, ℕ, ◌+◌, max, Bool, true, false, cond, nat_lt, List, [], ◌∷◌, ◌++◌, Option, Some, None, refl, sym, ◌∙◌, ap, subst}
+use Rattle.std.proofs.Common.{◌≡◌, ℕ, max, Bool, true, false, cond, nat_lt, [], ◌∷◌, ◌++◌, Option, Some, None, refl, sym}
 use Rattle.std.specs.Option.{is_some}
 use Rattle.air_base.specs.declared.verdicts.Clash.{Clash}
-use Rattle.air_base.specs.declared.verdicts.Counts.{Counts}
-use Rattle.air_base.specs.declared.verdicts.VerdictKind.TheVariants.{Abort, Accept}
-use Rattle.air_model.specs.Aired.{Air, fits}
+use Rattle.air_model.specs.Aired.{fits}
 use Rattle.air_model.specs.Buckets.{Bucket}
 use Rattle.air_model.specs.Judges.{Judge}
 use Rattle.air_model.specs.Reads.{Read}
-use Rattle.air_model.specs.Sessions.{Reader, State, abort, accept_if_whole, comes_late, count_dozed, count_foreign, count_late, count_opened, count_refused, decide, drop_copy, hear, hear_read, hold, is_wanted, next_attempt, next_query, offer, open_bucket, query_of, read_in, wanted, with_line}
+use Rattle.air_model.specs.Sessions.{State, abort, accept_if_whole, comes_late, count_dozed, count_foreign, count_late, count_opened, count_refused, decide, drop_copy, hear, hear_read, hold, is_wanted, next_attempt, next_query, offer, open_bucket, query_of, read_in, wanted, with_line}
 use Rattle.air_model.proofs.MomentLemmas.{cond_keeps}
 use Rattle.receiver_core.specs.Hearings.{ChangesItsCountAlone, counted, fed_of, fed_read}
 use Rattle.receiver_core.specs.LastReads.{in_state}
 use Rattle.receiver_core.specs.Receivings.{Receiving}
-use Rattle.receiver_core.specs.declared.receivers.Fed.{Fed}
 use Rattle.receiver_core.specs.declared.receivers.Fed.TheVariants as fed
 use Rattle.receiver_core.proofs.HearLemmas.{at_cycle, quiet}
 

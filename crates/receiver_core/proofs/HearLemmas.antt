@@ -1,5 +1,5 @@
 -- What a heard bucket is to a receiver: what is answered, and what the rule does.
-use Rattle.std.proofs.Common.{◌≡◌, ◌≢◌, ℕ, ◌+◌, arith, max, Bool, true, false, ◌&&◌, ◌==◌, List, [], length, map, get_or, is_none, not, Option, Some, None, refl, sym, ◌∙◌, ap, subst}
+use Rattle.std.proofs.Common.{◌≡◌, ◌≢◌, ℕ, ◌+◌, arith, max, true, false, ◌&&◌, ◌==◌, [], length, map, get_or, is_none, not, Option, Some, None, refl, sym, ◌∙◌, ap}
 use Rattle.std.proofs.lemmas.Bool.{and_parts, cond-false, cond-true, eqb-true}
 use Rattle.air_base.specs.declared.verdicts.Policy.TheVariants.{FMatrix}
 use Rattle.air_history.specs.Clashes.{is_late}

@@ -1,5 +1,5 @@
 -- An opened bucket: its read is new to the held ones, and what it does is what the rule says.
-use Rattle.std.proofs.Common.{◌≡◌, ◌≢◌, ℕ, zero, suc, ◌+◌, ◌<◌, ◌≤◌, false, ◌==◌, ◌||◌, List, [], ◌∷◌, ◌++◌, length, map, take, get_or, All, Option, Some, None, refl, sym, ◌∙◌, ap, subst, inl, inr, arith}
+use Rattle.std.proofs.Common.{◌≡◌, ◌≢◌, ℕ, zero, suc, ◌+◌, ◌<◌, ◌≤◌, false, ◌==◌, List, [], ◌∷◌, ◌++◌, length, map, take, get_or, All, Option, Some, None, refl, sym, ◌∙◌, ap, subst, inl, inr, arith}
 use Rattle.std.specs.List.{list_any, slice_get}
 use Rattle.std.proofs.lemmas.Bool.{eqb-false}
 use Rattle.std.proofs.lemmas.List.{length_push, map-append, take_more}
@@ -8,14 +8,14 @@ use Rattle.std.proofs.lemmas.Option.{get_or_from_slice_get, slice_get_within}
 use Rattle.air_base.specs.declared.verdicts.Clash.{Clash}
 use Rattle.air_base.specs.declared.verdicts.Policy.TheVariants.{FMatrix}
 use Rattle.air_history.specs.UpdateRules.{has_repeat}
-use Rattle.air_model.specs.Buckets.{Bucket, IsInRange, count_of, entries_of, item_of, kind_of}
+use Rattle.air_model.specs.Buckets.{Bucket, IsInRange, count_of, item_of, kind_of}
 use Rattle.air_model.specs.Judges.{by_entries, heard_of}
 use Rattle.air_model.specs.Reads.{Read}
-use Rattle.air_model.specs.Sessions.{Reader, State, abort, accept_if_whole, count_opened, open_bucket, query_of, wanted}
+use Rattle.air_model.specs.Sessions.{abort, accept_if_whole, count_opened, open_bucket, query_of, wanted}
 use Rattle.air_model.proofs.MomentLemmas.{or_false}
 use Rattle.column_check.specs.HeldReads.{IsNew}
 use Rattle.receiver_core.specs.Attempts.{HeldValues, columns_of, read_of}
-use Rattle.receiver_core.specs.LastReads.{in_state, last_reads}
+use Rattle.receiver_core.specs.LastReads.{in_state}
 use Rattle.receiver_core.specs.ReceiverView.{IsReceiver, receiver_in}
 use Rattle.receiver_core.specs.declared.receivers.Receiver.TheInside.{Inside}
 use Rattle.receiver_core.proofs.AttemptLemmas.{entries_counted}

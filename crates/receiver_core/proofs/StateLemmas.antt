@@ -1,5 +1,5 @@
 -- A receiver from state to state.
-use Rattle.std.proofs.Common.{◌≡◌, ℕ, ◌+◌, ◌<◌, ◌≤◌, Bool, true, false, not, nat_lt, IsTrue, List, [], ◌∷◌, ◌++◌, length, map, get_or, Option, Some, None, refl, sym, ◌∙◌, ap, subst, inl, inr, arith}
+use Rattle.std.proofs.Common.{◌≡◌, ℕ, ◌<◌, Bool, true, false, not, nat_lt, IsTrue, List, [], ◌∷◌, ◌++◌, length, map, Option, Some, None, refl, sym, ◌∙◌, ap, subst, inl, inr}
 use Rattle.std.specs.List.{slice_get}
 use Rattle.std.specs.Option.{is_some}
 use Rattle.std.proofs.lemmas.Bool.{cases_lt, cond-false, cond-true}
@@ -8,11 +8,10 @@ use Rattle.air_base.specs.declared.verdicts.Policy.TheVariants.{FMatrix}
 use Rattle.air_base.specs.declared.verdicts.ReadOf.{ReadOf}
 use Rattle.air_base.specs.declared.verdicts.Verdict.{Verdict}
 use Rattle.air_base.specs.declared.verdicts.VerdictKind.{VerdictKind}
-use Rattle.air_base.specs.declared.verdicts.VerdictKind.TheVariants.{Abort, Accept, Unfinished}
+use Rattle.air_base.specs.declared.verdicts.VerdictKind.TheVariants.{Accept}
 use Rattle.air_model.specs.Aired.{Air}
 use Rattle.air_model.specs.Judges.{Judge, by_entries}
-use Rattle.air_model.specs.Reads.{Read}
-use Rattle.air_model.specs.Sessions.{Line, Reader, State, accept_if_whole, line_of, next_attempt, next_query, query_of, wanted, with_line}
+use Rattle.air_model.specs.Sessions.{Reader, State, accept_if_whole, line_of, next_attempt, next_query, query_of, wanted, with_line}
 use Rattle.air_model.proofs.MomentLemmas.{cond_keeps}
 use Rattle.receiver_core.specs.Attempts.{shown_of}
 use Rattle.receiver_core.specs.LastReads.{in_state, last_reads}

@@ -1,18 +1,17 @@
 -- What a step and an end hand out, at the fields.
-use Rattle.std.proofs.Common.{◌≡◌, ℕ, ◌+◌, ◌-◌, ◌*◌, ◌<◌, ◌≤◌, Bool, false, IsTrue, inl, inr, nat_lt, List, [], ◌∷◌, ◌++◌, length, Option, Some, None, IsNone, refl, sym, ◌∙◌, ap, subst, arith}
+use Rattle.std.proofs.Common.{◌≡◌, ℕ, ◌<◌, ◌≤◌, Bool, false, IsTrue, inl, inr, nat_lt, List, [], ◌∷◌, ◌++◌, length, Option, Some, None, refl, sym, ◌∙◌, ap, arith}
 use Rattle.std.proofs.lemmas.Bool.{both_ways, cases_lt}
 use Rattle.air_base.specs.declared.verdicts.Policy.TheVariants.{FMatrix}
 use Rattle.air_base.specs.declared.verdicts.ReadOf.{ReadOf}
 use Rattle.air_base.specs.declared.verdicts.Verdict.{Verdict}
 use Rattle.air_base.specs.declared.verdicts.VerdictKind.TheVariants.{Unfinished}
 use Rattle.air_model.specs.Judges.{by_entries}
-use Rattle.air_model.specs.Sessions
 use Rattle.air_model.specs.Sessions.{Line, State, end_query, next_query, wanted, with_line}
 use Rattle.air_model.proofs.MomentLemmas.{cond_keeps}
 use Rattle.receiver_core.specs.Handing.{lines_given, lines_of}
 use Rattle.receiver_core.specs.LastReads.{in_state, last_reads}
 use Rattle.receiver_core.specs.Receivings.{IsSettled, Receiving, steps_left, stepped}
-use Rattle.receiver_core.specs.ReceiverView.{IsReceiver, receiver_in}
+use Rattle.receiver_core.specs.ReceiverView.{receiver_in}
 use Rattle.receiver_core.specs.declared.receivers.Receiver.TheInside.{Inside}
 use Rattle.receiver_core.specs.declared.receivers.Step.{Step}
 use Rattle.receiver_core.specs.declared.receivers.Step.TheVariants as step

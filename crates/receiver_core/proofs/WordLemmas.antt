@@ -1,19 +1,17 @@
 -- The words of a session where no copy is kept and there is room for none.
-use Rattle.std.proofs.Common.{◌≡◌, ℕ, zero, suc, ◌+◌, ◌<◌, ◌≤◌, max, Bool, true, false, cond, nat_lt, ◌==◌, List, [], ◌∷◌, ◌++◌, length, Option, Some, None, refl, sym, ◌∙◌, ap, arith}
+use Rattle.std.proofs.Common.{◌≡◌, ℕ, zero, suc, ◌<◌, ◌≤◌, Bool, false, nat_lt, ◌==◌, List, [], ◌∷◌, ◌++◌, length, Option, Some, None, refl, sym, ◌∙◌, ap, arith}
 use Rattle.std.specs.Prelude.{sum_by}
 use Rattle.std.specs.List.{filter, count_by, find}
 use Rattle.std.specs.Option.{is_some}
-use Rattle.std.specs.Fn.{iterate}
 use Rattle.std.proofs.lemmas.Bool.{cond-true, cond-false, le-ltb, lt-ltb}
 use Rattle.air_base.specs.declared.verdicts.Clash.{Clash}
 use Rattle.air_base.specs.declared.verdicts.Policy.TheVariants.{FMatrix}
-use Rattle.air_base.specs.declared.verdicts.VerdictKind.TheVariants.{Abort, Accept, Unfinished}
-use Rattle.air_model.specs.Aired.{Air, fits}
-use Rattle.air_model.specs.Buckets.{Bucket}
+use Rattle.air_base.specs.declared.verdicts.VerdictKind.TheVariants.{Abort, Unfinished}
+use Rattle.air_model.specs.Aired.{Air}
 use Rattle.air_model.specs.Copies.{goes_before, keep, with_copy, without}
 use Rattle.air_model.specs.Judges.{Judge, by_entries}
 use Rattle.air_model.specs.Reads.{Read}
-use Rattle.air_model.specs.Sessions.{Line, Reader, State, abort, accept_if_whole, copy_of, count_opened, decide, drop_copy, end_query, hold, next_attempt, next_query, offer, open_bucket, step, turn, turn_to_line, turn_with, wanted, with_line}
+use Rattle.air_model.specs.Sessions.{Reader, State, abort, accept_if_whole, copy_of, count_opened, decide, drop_copy, end_query, hold, next_attempt, next_query, offer, open_bucket, step, turn, turn_to_line, turn_with, wanted, with_line}
 use Rattle.air_model.proofs.MomentLemmas.{cond_keeps}
 
 abbrev J : Judge

@@ -1,5 +1,5 @@
 -- What becomes of a heard member, rule by rule.
-use Rattle.std.specs.Prelude.{◌≡◌, ◌+◌, Bool, cond, Option, Some, None, ⊤}
+use Rattle.std.specs.Prelude.{◌≡◌, ◌+◌, cond, Option, Some, None, ⊤}
 use Rattle.air_base.specs.declared.verdicts.Counts.{Counts}
 use Rattle.air_model.specs.Aired.{fits}
 use Rattle.air_model.specs.Buckets.{Bucket}

@@ -1,5 +1,5 @@
 -- The fields of a reader: its plan, and its queries as lists of items.
-use Rattle.std.specs.Prelude.{◌≡◌, ℕ, ◌<◌, ◌≤◌, ◌^◌, false, List, length, map, All}
+use Rattle.std.specs.Prelude.{◌≡◌, ◌<◌, ◌≤◌, ◌^◌, false, length, map, All}
 use Rattle.air_history.specs.UpdateRules.{has_repeat}
 use Rattle.air_model.specs.Sessions.{Reader}
 use Rattle.receiver_core.specs.declared.readers.Reader.TheInside.{Inside}

@@ -1,8 +1,9 @@
 //! A receiver: fed with the bytes that it hears, it judges its own queries.
 
-ghost use Rattle.std.specs.Prelude.{◌≡◌, ◌↔◌, ◌<◌, ◌≤◌, ◌+◌, ◌^◌, [], length, slice_get, IfOk, IfSome, IsNone, IsTrue};
+ghost use Rattle.std.specs.Prelude.{◌≡◌, ◌↔◌, ◌<◌, ◌≤◌, ◌+◌, ◌^◌, [], length, slice_get, IfOk, IfSome, IsErr, IsNone, IsTrue};
+ghost use Rattle.std.specs.Result.{result_ok};
 ghost use Rattle.air_base.specs.declared.verdicts.Policy.TheVariants.{FMatrix};
-ghost use Rattle.air_model.specs.Buckets.{bucket_in};
+ghost use Rattle.air_model.specs.Buckets.{IsInRange, bucket_in};
 ghost use Rattle.air_model.specs.Decks.{disks_in};
 ghost use Rattle.air_model.specs.Judges.{by_entries};
 ghost use Rattle.air_model.specs.Sessions.{end_query, hear, wanted};
@@ -21,7 +22,7 @@ use crate::attempts::Attempt;
 use crate::readers::Reader;
 use crate::reads::ReadList;
 use air_base::{Counts, NoMemory, ReadOf, Verdict, VerdictKind};
-use bucket_codec::decode;
+use bucket_codec::{BucketFault, BucketView, decode};
 use chunk_program::Program;
 use item_catalog::Deck;
 use std::alloc::Global;
@@ -139,12 +140,32 @@ impl Receiver {
         ensures counted { self.new.state.counts ≡ counted result self.old.state.counts }
         ensures alone { ChangesItsCountAlone result self.old self.new }
     {
-        match decode(bytes) {
+        self.hear(&decode(bytes))
+    }
+
+    /// Hears what `decode` answered. Where many receivers hear the same bytes they are decoded once, and a bucket that isn't
+    /// wanted costs each of them a look at its head.
+    pub fn hear(&mut self, heard: &Result<BucketView<'_>, BucketFault>) -> Fed
+        requires settled { IsSettled self.old }
+        requires counts { heard_count self.old.state.counts + 1 < 2 ^ 64 }
+        requires range { IfOk heard.now IsInRange }
+        ensures state { self.new.state ≡ hear (by_entries self.old.air.policy) self.old.air self.old.reader (result_ok heard.now) self.old.state }
+        ensures air { self.new.air ≡ self.old.air }
+        ensures reader { self.new.reader ≡ self.old.reader }
+        ensures last { self.new.last ≡ last_reads self.new.state.lines self.old.last }
+
+        // The answer is the first rule that applies, and that count rises.
+        ensures fed { result ≡ fed_of self.old (result_ok heard.now) }
+        ensures refused { (result ≡ Fed.Refused) ↔ IsErr heard.now }
+        ensures counted { self.new.state.counts ≡ counted result self.old.state.counts }
+        ensures alone { ChangesItsCountAlone result self.old self.new }
+    {
+        match heard {
             Err(_) => {
                 self.counts.refused += 1;
                 Fed::Refused
             }
-            Ok(bucket) => self.hear(&bucket),
+            Ok(bucket) => self.hear_bucket(bucket),
         }
     }
 

@@ -19,7 +19,7 @@ use bucket_codec::{BucketView, ViewKind};
 
 impl Receiver {
     /// What one heard bucket does.
-    pub(super) fn hear(&mut self, bucket: &BucketView<'_>) -> Fed
+    pub(super) fn hear_bucket(&mut self, bucket: &BucketView<'_>) -> Fed
         requires given { self.old.state.lines ≡ [] }
         requires counts { heard_count self.old.state.counts + 1 < 2 ^ 64 }
         requires range { IsInRange bucket.now }

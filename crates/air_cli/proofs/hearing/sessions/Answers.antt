@@ -13,7 +13,7 @@ loop-r-preserved c =
     let deck = c.args.deck.now in
     let records = (tape_read c.args.tape.now).records in
     let own = c.in_ok-session.ensures ∙ ap (λ r. told_of (session (by_entries r.air.policy) r.air r.reader (map bucket_in records))) c.in_ok-receiver.ensures in
-    one_more_reader (by_entries deck.settings.policy) deck records c.loop-r.r c.loop-r.sessions.items c.push.new.self.items c.in_ok-session.session c.loop-r.invariant own c.in-Ok.ensures.items
+    one_more_reader (told_by (by_entries deck.settings.policy) deck records) c.loop-r.r c.loop-r.sessions.items c.push.new.self.items c.in_ok-session.session c.loop-r.invariant own c.in-Ok.ensures.items
 
 pub returns-clause-told : goal.returns-clause-told
 returns-clause-told c =

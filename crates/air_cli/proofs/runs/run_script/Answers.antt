@@ -1,4 +1,4 @@
-use Rattle.std.proofs.Common.{◌≡◌, ◌≤◌, ◌<◌, ◌^◌, ◌∙◌, length, sym, ap, arith}
+use Rattle.std.proofs.Common.{◌≤◌, ◌∙◌, length, sym, ap, arith}
 use Rattle.air_model.specs.Aired.{air_of}
 use Rattle.air_model.specs.Decks.{script_history}
 use Rattle.air_model.specs.Outputs.{true_sessions}

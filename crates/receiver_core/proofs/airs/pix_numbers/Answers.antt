@@ -1,4 +1,4 @@
-use Rattle.std.proofs.Common.{List, ◌≡◌, ◌<◌, ◌≤◌, ◌++◌, ◌∷◌, [], ◌∙◌, ap, arith, length, sym, take}
+use Rattle.std.proofs.Common.{List, ◌≡◌, ◌≤◌, ◌++◌, ◌∷◌, [], ◌∙◌, ap, arith, length, sym}
 use Rattle.std.proofs.lemmas.List.{take_all}
 use Rattle.air_model.specs.Disks.{Disk, all_items}
 use Rattle.receiver_core.proofs.PixLemmas.{all_pix, items_counted, pix_counted, pix_more}

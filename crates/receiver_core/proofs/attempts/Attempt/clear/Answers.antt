@@ -1,4 +1,4 @@
-use Rattle.std.proofs.Common.{◌≡◌, [], ◌∙◌, ap, sym}
+use Rattle.std.proofs.Common.{[], ◌∙◌, ap, sym}
 use Rattle.column_check.specs.HeldReads.{HeldReads}
 use Rattle.receiver_core.specs.Attempts.{HeldValues}
 use Rattle.receiver_core.proofs.AttemptLemmas.{empty_is, empty_keeps}

@@ -1,7 +1,6 @@
-use Rattle.std.proofs.Common.{◌≡◌, ℕ, List, ◌∙◌, ap, sym, refl, length}
+use Rattle.std.proofs.Common.{◌∙◌, ap, sym, refl, length}
 use Rattle.air_base.specs.declared.verdicts.ReadOf.{ReadOf}
 use Rattle.air_history.specs.Clashes.{Heard}
-use Rattle.column_check.specs.HeldReads.{HeldReads}
 use Rattle.std.specs.Vec.{with_items}
 use Rattle.receiver_core.specs.Attempts.{HeldValues}
 use Rattle.receiver_core.proofs.AttemptLemmas.{clash_at, entries_counted, more_is, more_keeps, new_at}

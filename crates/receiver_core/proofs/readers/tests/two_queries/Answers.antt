@@ -1,4 +1,4 @@
-use Rattle.std.proofs.Common.{rules, ◌≡◌, false, List, [], ◌∷◌, ◌∙◌, ap, map, sym, subst, refl, All, ℕ, Vec, Global}
+use Rattle.std.proofs.Common.{rules, ◌≡◌, false, [], ◌∷◌, ◌∙◌, ap, map, sym, subst, refl, All, ℕ, Vec, Global}
 use Rattle.std.proofs.lemmas.List.Elements.{All-cons, All-nil}
 use Rattle.air_history.specs.UpdateRules.{has_repeat}
 use Rattle.receiver_core.proofs.readers.tests.two_queries.Goals as goal

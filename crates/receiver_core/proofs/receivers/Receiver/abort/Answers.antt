@@ -1,6 +1,5 @@
-use Rattle.std.proofs.Common.{◌≡◌, ◌∙◌, ap, sym}
+use Rattle.std.proofs.Common.{◌≡◌, ◌∙◌, ap}
 use Rattle.air_base.specs.declared.verdicts.Policy.TheVariants.{FMatrix}
-use Rattle.air_base.specs.declared.verdicts.VerdictKind.{VerdictKind}
 use Rattle.air_base.specs.declared.verdicts.VerdictKind.TheVariants.{Abort}
 use Rattle.air_model.specs.Judges.{by_entries}
 use Rattle.air_model.specs.Sessions.{next_attempt, with_line}

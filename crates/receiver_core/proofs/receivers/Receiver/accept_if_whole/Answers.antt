@@ -1,11 +1,10 @@
-use Rattle.std.proofs.Common.{arith, ◌≡◌, ◌<◌, ◌∙◌, ap, length, not, sym}
+use Rattle.std.proofs.Common.{◌∙◌, ap, not, sym}
 use Rattle.std.specs.Option.{is_some}
 use Rattle.air_base.specs.declared.verdicts.Policy.TheVariants.{FMatrix}
 use Rattle.air_base.specs.declared.verdicts.VerdictKind.TheVariants.{Accept}
 use Rattle.air_model.specs.Judges.{by_entries}
 use Rattle.air_model.specs.Sessions.{next_query, with_line}
 use Rattle.receiver_core.specs.LastReads.{in_state}
-use Rattle.receiver_core.specs.Receivings.{Receiving}
 use Rattle.receiver_core.proofs.StateLemmas.{goes_on, in_own_state, next_query_lines, not_whole_is, still_left, whole_is}
 use Rattle.receiver_core.proofs.receivers.Receiver.accept_if_whole.Goals as goal
 

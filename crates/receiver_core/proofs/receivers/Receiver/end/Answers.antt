@@ -1,7 +1,5 @@
-use Rattle.std.proofs.Common.{◌≡◌, ◌<◌, ◌≤◌, None, arith, ◌∙◌, ap, sym, subst, length, [], refl}
-use Rattle.air_base.specs.declared.verdicts.Policy.TheVariants.{FMatrix}
+use Rattle.std.proofs.Common.{◌<◌, ◌≤◌, None, arith, ◌∙◌, ap, sym, subst, length, refl}
 use Rattle.air_base.specs.declared.verdicts.VerdictKind.TheVariants.{Unfinished}
-use Rattle.air_model.specs.Judges.{by_entries}
 use Rattle.air_model.specs.Sessions.{State}
 use Rattle.air_model.proofs.MomentLemmas.{none_from}
 use Rattle.receiver_core.specs.Handing.{lines_of}

@@ -1,6 +1,6 @@
-use Rattle.std.proofs.Common.{◌∙◌, ap, sym, subst, Some}
+use Rattle.std.proofs.Common.{◌∙◌, ap, sym}
 use Rattle.air_base.specs.declared.verdicts.Policy.TheVariants.{FMatrix}
-use Rattle.air_model.specs.Buckets.{count_of, item_of}
+use Rattle.air_model.specs.Buckets.{item_of}
 use Rattle.air_model.specs.Judges.{by_entries}
 use Rattle.air_model.specs.Sessions.{open_bucket, wanted}
 use Rattle.receiver_core.specs.Attempts.{HeldValues, read_of}

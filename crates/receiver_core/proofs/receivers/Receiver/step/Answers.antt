@@ -1,5 +1,4 @@
-use Rattle.std.proofs.Common.{◌≡◌, ◌<◌, ◌∙◌, ap, sym, subst, length}
-use Rattle.air_base.specs.declared.verdicts.Verdict.{Verdict}
+use Rattle.std.proofs.Common.{◌<◌, ◌∙◌, ap, sym, subst, length}
 use Rattle.receiver_core.specs.Handing.{StepTells, lines_given, lines_of}
 use Rattle.receiver_core.specs.LastReads.{last_reads}
 use Rattle.receiver_core.specs.Receivings.{Receiving, stepped, steps_left}

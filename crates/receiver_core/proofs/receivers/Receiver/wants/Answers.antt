@@ -1,4 +1,4 @@
-use Rattle.std.proofs.Common.{◌≡◌, ◌≢◌, ◌==◌, ◌∙◌, ap, sym, inl, inr, arith}
+use Rattle.std.proofs.Common.{◌≢◌, ◌==◌, ◌∙◌, ap, sym, inl, inr}
 use Rattle.air_model.specs.Buckets.{item_of, kind_of}
 use Rattle.air_model.specs.Sessions.{is_wanted, wanted}
 use Rattle.bucket_codec.specs.Views.{kind_number}
