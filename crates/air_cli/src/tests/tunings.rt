@@ -60,6 +60,19 @@ fn a_tape_of_the_script_is_heard_whole(rt: HostRuntime) -> Result<(), Fail> {
 }
 
 #[test]
+fn every_reader_hears_the_whole_tape(rt: HostRuntime) -> Result<(), Fail> {
+    let alloc = rt.alloc();
+    let mut deck = String::from_str(alloc, FIRST)?;
+    deck.push_str("reader,0,0,2\nquery,1,1 0\nquery,1,1\n")?;
+    let mut tape = Vec::from_slice(alloc, &FIRST_TAPE)?;
+    tape.extend_from_slice(&FIRST_TAPE)?;
+    let report = "accept,0,0,1,0@1=10 1@1=20\naccept,1,0,1,1@1=20 0@1=10\naccept,1,1,1,1@1=20\n\
+        counts,0,2,2,0,0,0,0\ncounts,1,3,1,0,0,0,0\n";
+    let words = ["tune", "deck", "tape"];
+    ends(&rt, alloc, &words, &deck, &tape, Status::Ok, report)
+}
+
+#[test]
 fn reads_out_of_cycle_order_may_go_together(rt: HostRuntime) -> Result<(), Fail> {
     let mut tape = Vec::from_slice(rt.alloc(), &FOURTH)?;
     tape.extend_from_slice(&SECOND)?;
