@@ -19,6 +19,8 @@ cd "$scratch" || exit 1
 mkdir crates/airing_bench/src
 echo "airing_bench: air_base air_history air_model control_matrix item_catalog chunk_program air_sender" >>crates.txt
 cp "$OLDPWD/bench/airing.txt" crates/airing_bench/src/main.rt
+mkdir -p crates/airing_bench/proofs/first_cycle
+cp "$OLDPWD/bench/airing_proof.txt" crates/airing_bench/proofs/first_cycle/Answers.antt
 touch crates/airing_bench/stdin
 (cd crates/airing_bench && rt run) >"$scratch/log" 2>&1
 program=crates/airing_bench/out/airing_bench

@@ -17,5 +17,5 @@ pub use number_lists::{
     ListFault, list_is_its_parts_law, list_or_bad_part_law, list_text_spells_law,
     one_list_spelling_law, read_list,
 };
-pub use texts::{one_spelling_law, read_u64, text_spells_law, write_u64};
+pub use texts::{one_spelling_law, read_u64, text_spells_law, with_digit, write_u64};
 pub use verdicts::{Clash, Counts, Policy, ReadOf, Verdict, VerdictKind};

@@ -30,7 +30,7 @@ fn digit_of(byte: u8) -> Option<u8>
 }
 
 /// The number with one more digit at its end, and None where that is above the greatest.
-fn with_digit(number: u64, digit: u8) -> Option<u64>
+pub fn with_digit(number: u64, digit: u8) -> Option<u64>
     requires { digit < 10 }
     ensures { SomeIff result (number * 10 + digit < 2 ^ 64) (number * 10 + digit) }
 {

@@ -93,6 +93,17 @@ impl Update {
         Ok(Update { reads, writes })
     }
 
+    /// An update of lists that keep the rules: these are asked of the caller, and not looked through again.
+    pub fn of_lists(alloc: Global, reads: &[u16], writes: &[Write]) -> Result<Update, NoMemory>
+        requires { update_fault reads.now writes.now ≡ None }
+        ensures { IfOk result (λ u. u ≡ record { reads = reads.now; writes = writes.now }) }
+    {
+        Ok(Update {
+            reads: reads.to_vec(alloc)?,
+            writes: writes.to_vec(alloc)?,
+        })
+    }
+
     /// An equal update.
     pub fn copy(&self, alloc: Global) -> Result<Update, NoMemory>
         ensures { IfOk result (λ u. u ≡ self.now) }

@@ -2,6 +2,7 @@ pub mod DiskFacts
 pub mod FaultPlaces
 pub mod FrontFacts
 pub mod NumberFronts
+pub mod LeadingNumbers
 pub mod WriteFronts
 pub mod PartFronts
 pub mod ListFronts

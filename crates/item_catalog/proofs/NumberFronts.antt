@@ -117,6 +117,14 @@ part_goes_on text on = by (after_digits text) refl on
         ap number_of (part_by_digits text ∙ ap (λ l. digits_of text ++ first_part l) e ∙ ap (λ l. digits_of text ++ l) (goes_on c cs (ap not on)))
         ∙ no_number (digits_of text ++ c ∷ first_part cs) (digits_then (digits_of text) c (first_part cs) (behind_digits text c cs e))
 
+-- Where the digits at the front are no number, the first part is none.
+pub no_digits : (text : List ℕ) → number_of (digits_of text) ≡ None → number_of (first_part text) ≡ None
+no_digits text none = by (ends_part (after_digits text)) refl
+  where
+    by : (b : Bool) → ends_part (after_digits text) ≡ b → number_of (first_part text) ≡ None
+    by true ends = ap number_of (part_ends text ends) ∙ none
+    by false on = part_goes_on text on
+
 -- A part that begins with what is neither a digit nor a space.
 pub other_part : (c : ℕ) (rest : List ℕ) → is_ascii_digit c ≡ false → is_no_space c ≡ true → number_of (first_part (c ∷ rest)) ≡ None
 other_part c rest other no_space = ap number_of (goes_on c rest no_space) ∙ no_number (c ∷ first_part rest) (digits_then [] c (first_part rest) other)

@@ -3,13 +3,14 @@
 //! A list is read from its front, one part after the other, with no memory: a reader gives the value of the first part
 //! and the text behind it, which is empty or begins with a space.
 
-ghost use Rattle.std.specs.Prelude.{◌≡◌, ◌∷◌, option_map, MatchOption, Some, None, false};
+ghost use Rattle.std.specs.Prelude.{◌≡◌, ◌≤◌, ◌∷◌, drop, length, option_map, take, MatchOption, Some, None, false};
 ghost use Rattle.air_base.specs.Numbers.{number_of};
+ghost use Rattle.air_base.proofs.NumberFacts.{DigitsRead};
 ghost use Rattle.item_catalog.specs.Fields.{changed, event_of, value_of, write_of};
 ghost use Rattle.item_catalog.specs.Fronts.{FrontIs, digits_of, after_digits, begins, begins_start, ends_part};
 ghost use Rattle.item_catalog.specs.Seen.{write_said};
 
-use air_base::read_u64;
+use air_base::with_digit;
 
 /// A write as its text says it.
 #[derive(Clone, Copy, Debug, PartialEq, Eq)]
@@ -18,20 +19,6 @@ pub struct WritePart {
     pub base: Option<u64>,
     pub minus: bool,
     pub amount: u64,
-}
-
-/// The digits at the front of a text, and what follows them.
-#[tactic(auto, unfolding(crate::specs::Fronts::digits_of, crate::specs::Fronts::after_digits), using(crate::proofs::FrontFacts::scan_more, crate::proofs::FrontFacts::scan_front, crate::proofs::FrontFacts::scan_behind, crate::proofs::FrontFacts::end_front, crate::proofs::FrontFacts::end_behind))]
-fn split_digits(text: &[u8]) -> (&[u8], &[u8])
-    ensures digits { result.0.now ≡ digits_of text.now }
-    ensures rest { result.1.now ≡ after_digits text.now }
-{
-    for (i, byte) in text.iter().enumerate() {
-        if !byte.is_ascii_digit() {
-            return text.split_at(i);
-        }
-    }
-    text.split_at(text.len())
 }
 
 /// Whether a text is empty or begins with a space.
@@ -44,19 +31,52 @@ fn ends_part(text: &[u8]) -> bool
     }
 }
 
+/// The number of the digits at the front, where these are so many and have this value; what follows them.
+fn numbered(text: &[u8], len: usize, number: u64) -> Option<(u64, &[u8])>
+    requires within { len ≤ length text.now }
+    requires read { DigitsRead text.now len number }
+    requires digits { take len text.now ≡ digits_of text.now }
+    requires rest { drop len text.now ≡ after_digits text.now }
+    ensures { MatchOption result (number_of (digits_of text.now) ≡ None) (λ f. (number_of (digits_of text.now) ≡ Some f.0) × (f.1.now ≡ after_digits text.now)) }
+{
+    if len == 0 {
+        return None;
+    }
+    if len > 1 && text[0] == b'0' {
+        return None;
+    }
+    Some((number, &text[len..]))
+}
+
+/// The number that the digits at the front spell, whatever follows them.
+fn leading_number(text: &[u8]) -> Option<(u64, &[u8])>
+    ensures { MatchOption result (number_of (digits_of text.now) ≡ None) (λ f. (number_of (digits_of text.now) ≡ Some f.0) × (f.1.now ≡ after_digits text.now)) }
+{
+    let mut number = 0;
+    for (i, byte) in text.iter().enumerate() {
+        if !byte.is_ascii_digit() {
+            return numbered(text, i, number);
+        }
+        let Some(more) = with_digit(number, *byte - b'0') else {
+            return None;
+        };
+        number = more;
+    }
+    numbered(text, text.len(), number)
+}
+
 /// The number that the first part spells.
-#[tactic(auto, using(crate::proofs::NumberFronts::part_ends, crate::proofs::NumberFronts::after_ends, crate::proofs::NumberFronts::part_goes_on))]
+#[tactic(auto, using(crate::proofs::NumberFronts::part_ends, crate::proofs::NumberFronts::after_ends, crate::proofs::NumberFronts::part_goes_on, crate::proofs::NumberFronts::no_digits))]
 pub fn number_front(text: &[u8]) -> Option<(u64, &[u8])>
     ensures { FrontIs number_of text.now (option_map (λ f. (f.0, f.1.now)) result) }
 {
-    let (digits, rest) = split_digits(text);
+    let Some((number, rest)) = leading_number(text) else {
+        return None;
+    };
     if !ends_part(rest) {
         return None;
     }
-    match read_u64(digits) {
-        Some(number) => Some((number, rest)),
-        None => None,
-    }
+    Some((number, rest))
 }
 
 /// Whether the first part is the `s` of a start.
@@ -79,17 +99,6 @@ pub fn event_front(text: &[u8]) -> Option<(Option<u64>, &[u8])>
     }
     match number_front(text) {
         Some((by, rest)) => Some((Some(by), rest)),
-        None => None,
-    }
-}
-
-/// The number that the digits at the front spell, whatever follows them.
-fn leading_number(text: &[u8]) -> Option<(u64, &[u8])>
-    ensures { MatchOption result (number_of (digits_of text.now) ≡ None) (λ f. (number_of (digits_of text.now) ≡ Some f.0) × (f.1.now ≡ after_digits text.now)) }
-{
-    let (digits, rest) = split_digits(text);
-    match read_u64(digits) {
-        Some(number) => Some((number, rest)),
         None => None,
     }
 }

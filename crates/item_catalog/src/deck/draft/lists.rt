@@ -62,7 +62,7 @@ fn make_update(alloc: Global, reads: &[u16], writes: &[Write]) -> Result<Update,
     ensures made { IfOk result (λ update. update ≡ record { reads = reads.now; writes = writes.now }) }
     ensures cause { IfErr result (λ refusal. refusal ≡ Refusal.NoMemory) }
 {
-    match Update::new(alloc, reads, writes) {
+    match Update::of_lists(alloc, reads, writes) {
         Ok(update) => Ok(update),
         Err(_) => Err(Refusal::NoMemory),
     }

@@ -1,0 +1,44 @@
+-- The number that the digits at the front of a text spell, read digit by digit.
+-- `numbered` and `leading_number` of `fronts` cite these.
+use Rattle.std.proofs.Common.{◌≡◌, ◌<◌, ◌≤◌, ◌^◌, ◌+◌, ◌*◌, ◌-◌, ◌++◌, ℕ, List, Some, None, true, length, get_or, take, drop, refl, sym, ap, subst, ◌∙◌, arith}
+use Rattle.std.specs.Char.{is_ascii_digit}
+use Rattle.std.specs.List.{list_all}
+use Rattle.std.specs.Str.Parse.{digits_value}
+use Rattle.std.proofs.lemmas.List.{get_or-take, length-take-le, take-append-drop, take-append-le, take_all}
+use Rattle.air_base.specs.Numbers.{number_of}
+use Rattle.air_base.proofs.NumberFacts.{DigitsRead, bad_front, spelled, too_great, value_more}
+use Rattle.item_catalog.specs.Fronts.{digits_of, front}
+use Rattle.item_catalog.proofs.FrontFacts.{front_past, scan_more}
+
+-- All digits at the front were read.
+module _ (text : List ℕ) (len n : ℕ) (read : DigitsRead text len n) (within : len ≤ length text) (digits : take len text ≡ digits_of text) where
+  long : length (take len text) ≡ len
+  long = length-take-le len text within
+
+  pub front_number : 0 < len → (get_or text 0 0 ≡ 48 → len ≡ 1) → number_of (digits_of text) ≡ Some n
+  front_number some alone =
+      ap number_of (sym digits)
+      ∙ sym (spelled (take len text) n (omega (arith, long)) (λ zero. long ∙ alone (sym (get_or-take len text 0 0 some) ∙ zero)) read.digits read.value read.below)
+
+  pub no_front : len ≡ 0 → number_of (digits_of text) ≡ None
+  no_front none = ap number_of (sym digits) ∙ sym (bad_front (take len text) (λ well. absurd (let some = well.0 in omega (arith, long))))
+
+  pub zero_front : get_or text 0 0 ≡ 48 → 1 < len → number_of (digits_of text) ≡ None
+  zero_front zero more =
+      let first : get_or (take len text) 0 0 ≡ 48 = get_or-take len text 0 0 (omega arith) ∙ zero in
+      ap number_of (sym digits) ∙ sym (bad_front (take len text) (λ well. absurd (let one = well.1 first in omega (arith, long))))
+
+-- With one more digit the value is above the greatest.
+pub too_long : (text : List ℕ) (i n : ℕ) → i < length text → is_ascii_digit (get_or text i 0) ≡ true → DigitsRead text i n → 2 ^ 64 ≤ n * 10 + (get_or text i 0 - 48)
+    → number_of (digits_of text) ≡ None
+unfolding digits_of
+too_long text i n within digit read above =
+    let all = scan_more is_ascii_digit text i read.digits 0 within digit in
+    let taken = take (i + 1) text in
+    let rest = front is_ascii_digit (drop (i + 1) text) in
+    let past : front is_ascii_digit text ≡ taken ++ rest = ap (front is_ascii_digit) (sym (take-append-drop (i + 1) text)) ∙ front_past is_ascii_digit taken (drop (i + 1) text) all in
+    let many : length taken ≡ i + 1 = length-take-le (i + 1) text (omega arith) in
+    let same : taken ≡ take (i + 1) (front is_ascii_digit text) =
+    sym (ap (take (i + 1)) past ∙ take-append-le (i + 1) taken rest (omega (arith, many)) ∙ take_all (i + 1) taken (omega (arith, many))) in
+    let value = value_more text i n within digit read in
+    sym (too_great (front is_ascii_digit text) (i + 1) (subst (λ l. 2 ^ 64 ≤ digits_value 10 l) same (omega (arith, value, above))))
