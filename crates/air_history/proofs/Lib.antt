@@ -19,3 +19,4 @@ pub mod VectorLemmas
 pub mod TableLemmas
 pub mod HistoryExamples
 pub mod ClashExamples
+pub mod RelationExamples

@@ -31,6 +31,7 @@ is_late FMatrix R x = false
 is_late Datacycle R x = false
 is_late RMatrix R x = nat_lt x.cycle (last_cycle R)
 
+-- the clash of the new read x with the held reads R, by origins alone; each policy names held reads in its own way
 unfoldable pub clash_by_history : Policy → List Event → List ReadAt → ReadAt → Option Clash
 -- F-Matrix names each held read that isn't consistent with the new one
 clash_by_history FMatrix H R x = named_clash (λ r. not (consistent H (r ∷ x ∷ []))) R
@@ -80,13 +81,15 @@ entry_in (r ∷ R) c i = cond (r.cycle == c) (entry_of r i) (entry_in R c i)
 abbrev pub heard_clash : (Heard → Bool) → List Heard → Option Clash
 heard_clash test R = least (map read_at (filter test R))
 
--- the newest and the first cycle of held reads
+-- the newest cycle of held reads, 0 where there is none
 abbrev pub newest_heard : List Heard → ℕ
 newest_heard R = newest_cycle (map read_at R)
 
+-- the cycle of the first held read, 0 where there is none
 abbrev pub first_heard : List Heard → ℕ
 first_heard R = first_cycle (map read_at R)
 
+-- the clash of the new read x with the held reads R, by the entries that were heard with them, policy by policy
 unfoldable pub clash_by_entries : Policy → List Heard → Heard → Option Clash
 -- F-Matrix names each held read where either column has the other's item at its cycle or later
 clash_by_entries FMatrix R x = heard_clash (λ r. nat_le r.cycle (entry_of x r.item) || nat_le x.cycle (entry_of r x.item)) R

@@ -1,0 +1,242 @@
+-- Small histories: where each relation and each word of a law holds, and where most of them don't.
+use Rattle.std.proofs.Common.{◌≡◌, ℕ, zero, suc, ◌<◌, ◌≤◌, Bool, true, false, ◌==◌, ◌||◌, Some, None, IfSome, List, [], ◌∷◌, get_or, Contains, refl, subst, inl, inr, arith}
+use Rattle.std.proofs.lemmas.Bool.{false≢true, eqb-true, or_cases}
+use Rattle.std.proofs.lemmas.List.Elements.{All-nil, All-cons, All-from_recursion}
+use Rattle.std.proofs.lemmas.List.Kept.{AllPairs-cons}
+use Rattle.air_base.specs.declared.verdicts.Policy.TheVariants.{FMatrix, Datacycle, RMatrix}
+use Rattle.air_history.specs.declared.histories.Event.TheVariants.{Start}
+use Rattle.air_history.specs.UpdateRules.{has_repeat, update_fault, KeepsRules, UpdateFits}
+use Rattle.air_history.specs.UpdateLists.{UpdateLists}
+use Rattle.air_history.specs.Places.{last_place, greatest, greatest_of}
+use Rattle.air_history.specs.Histories.{is_start, reads, writes, cycle_at, front, writer_before, writer, EventFits}
+use Rattle.air_history.specs.Descents.{descends_within, descends}
+use Rattle.air_history.specs.DescentLaws.{ReadsFrom, IsClosed}
+use Rattle.air_history.specs.Columns.{column_entry, vector_entry, entry_at}
+use Rattle.air_history.specs.Tables.{BasesRead, WriteFits}
+use Rattle.air_history.specs.Reads.{ReadAt, IsRead, origin, stale}
+use Rattle.air_history.specs.Consistency.{descends_from, runs_alone, last_alone, consistent, IsConsistent}
+use Rattle.air_history.specs.ConsistencyLaws.{SharesCycle}
+use Rattle.air_history.specs.Clashes.{least, is_late, clash_by_history, IsCurrent, Takes}
+use Rattle.air_history.specs.ClashLaws.{IsHeard, IsAllowed, AcceptsAfter, Accepts, current_cycle_after, SharesItsCycle, IsSound}
+use Rattle.air_history.proofs.HistoryExamples.{add_to, commit, chained}
+use Rattle.air_history.proofs.ClashExamples.{at, apart, one_written}
+
+-- item 0 of cycle 1, then item 1 of cycle 2
+abbrev first_then_next : List ReadAt
+first_then_next = at 0 1 ∷ at 1 2 ∷ []
+
+-- an update that reads item 0 and puts it and 1 into item 2
+abbrev two_from_zero : UpdateLists
+two_from_zero = record { reads = 0 ∷ []; writes = add_to 2 0 1 ∷ [] }
+
+-- places 1 and 2
+abbrev one_or_two : ℕ → Bool
+one_or_two p = (p == 1) || (p == 2)
+
+-- place 2 alone
+abbrev two_alone : ℕ → Bool
+two_alone p = p == 2
+
+-- ---- updates
+
+pub record Updates : Type 0 where
+  -- the update breaks no rule
+  kept : KeepsRules two_from_zero
+  -- without the read its base isn't read
+  broken : KeepsRules (record { reads = []; writes = add_to 2 0 1 ∷ [] }) → ⊥
+  -- items 0 and 2 are below 3
+  update_fits : UpdateFits 3 two_from_zero
+  -- so are those of a commit of the update
+  event_fits : EventFits 3 (commit 1 (0 ∷ []) (add_to 2 0 1))
+  -- a start has no item
+  start_fits : EventFits 0 Start
+  -- item 2 isn't below 2
+  not_fits : EventFits 2 (commit 1 (0 ∷ []) (add_to 2 0 1)) → ⊥
+  -- the write's item 2 and its base 0 are below 3
+  write_fits : WriteFits 3 (add_to 2 0 1)
+  -- base 3 isn't below 3
+  base_too_large : WriteFits 3 (add_to 2 3 1) → ⊥
+  -- the base is item 0, which is among the reads
+  base_read : BasesRead (commit 1 (0 ∷ []) (add_to 2 0 1))
+  -- and here it isn't
+  base_not_read : BasesRead (commit 1 (1 ∷ []) (add_to 2 0 1)) → ⊥
+
+two_fits : UpdateFits 3 two_from_zero
+two_fits = record {
+  reads = All-cons (λ r. r < 3) 0 [] (omega arith) (All-nil (λ r. r < 3));
+  writes = All-cons (λ w. w.item < 3) (add_to 2 0 1) [] (omega arith) (All-nil (λ w. w.item < 3));
+}
+
+pub updates : Updates
+unfolding update_fault has_repeat EventFits BasesRead
+updates = record {
+  kept = refl;
+  broken = λ e. cc;
+  update_fits = two_fits;
+  event_fits = two_fits;
+  start_fits = tt;
+  not_fits = λ f. let low : 2 < 2 = f.writes 0 (add_to 2 0 1) (omega arith) in omega arith;
+  write_fits = (omega arith, omega arith);
+  base_too_large = λ f. let low : 3 < 3 = f.1 in omega arith;
+  base_read = All-from_recursion (λ w. IfSome w.base (Contains (0 ∷ []))) (add_to 2 0 1 ∷ []) ((0, omega arith, refl), tt);
+  base_not_read = λ b.
+      let others : List ℕ = 1 ∷ [] in
+      let among = b 0 (add_to 2 0 1) (omega arith) in
+      let first : among.0 ≡ 0 = omega (arith, among.1) in
+      let same : suc zero ≡ zero = subst (λ k. get_or others k 0 ≡ 0) first among.2 in
+      omega arith;
+}
+
+-- ---- descents
+
+-- the commit at place 3 reads item 2, which the commit at place 2 wrote
+pub reads_from : ReadsFrom chained 3 2
+unfolding reads writer_before last_place writes
+reads_from = record { nth = 0; within = omega arith; wrote = refl }
+
+-- the commit at place 1 reads nothing
+pub reads_nothing : ReadsFrom chained 1 0 → ⊥
+unfolding reads
+reads_nothing f = omega (arith, f.within)
+
+-- the set of places 1 and 2 is closed: place 2 reads from place 1, which reads nothing
+pub closed : IsClosed chained one_or_two
+unfolding reads writer_before last_place writes
+closed zero w s f = absurd (false≢true s)
+closed (suc zero) w s f = absurd (omega (arith, f.within))
+closed (suc (suc zero)) w s f =
+    let first : f.nth ≡ 0 = omega (arith, f.within) in
+    let wrote : Some 1 ≡ Some w = subst (λ k. writer_before chained 2 (get_or (0 ∷ []) k 0) ≡ Some w) first f.wrote in
+    let one : 1 ≡ w = cc in
+    subst (λ w. one_or_two w ≡ true) one refl
+closed (suc (suc (suc p))) w s f = elim (or_cases (suc (suc (suc p)) == 1) (suc (suc (suc p)) == 2) s) as (λ _. one_or_two w ≡ true) [
+  | inl one ↦ (let same : suc (suc (suc p)) ≡ 1 = eqb-true _ _ one in absurd (omega arith))
+  | inr two ↦ (let same : suc (suc (suc p)) ≡ 2 = eqb-true _ _ two in absurd (omega arith))
+]
+
+-- the set of place 2 alone isn't closed
+pub not_closed : IsClosed chained two_alone → ⊥
+unfolding reads writer_before last_place writes
+not_closed h = false≢true (h 2 1 refl (record { nth = 0; within = omega arith; wrote = refl }))
+
+-- ---- reads
+
+pub record Reads : Type 0 where
+  -- cycle 1 can be read in
+  read : IsRead (at 0 1)
+  -- cycle 0 can't
+  not_read : IsRead (at 0 0) → ⊥
+  -- both items have in cycle 1 the origin that they were read with
+  shares_one : SharesCycle one_written first_then_next 1
+  -- in cycle 2 item 0 has another
+  not_two : SharesCycle one_written first_then_next 2 → ⊥
+  -- no single cycle has both, and yet they are consistent
+  consistent_apart : IsConsistent apart first_then_next
+  -- item 1 of cycle 2 descends from a write of item 0 that the first read has not seen
+  not_consistent : IsConsistent chained first_then_next → ⊥
+  -- the column of item 1 in cycle 2 has item 0 at cycle 1
+  entry : entry_at chained 2 1 0 ≡ 1
+  -- the greatest of cycles 1 and 2
+  greatest_cycle : greatest_of (λ r. r.cycle) first_then_next ≡ 2
+
+pub reads_shown : Reads
+unfolding column_entry greatest greatest_of cycle_at is_start last_alone runs_alone descends_from origin writer writer_before last_place writes descends descends_within reads front
+reads_shown = record {
+  read = omega arith;
+  not_read = λ h. omega arith;
+  shares_one = All-from_recursion (λ r. writer (front one_written 1) r.item ≡ origin one_written r) first_then_next (refl, (refl, tt));
+  not_two = λ h. let e : Some 1 ≡ None = h 0 (at 0 1) (omega arith) in cc;
+  consistent_apart = All-from_recursion (λ r. last_alone apart first_then_next r.item ≡ origin apart r) first_then_next (refl, (refl, tt));
+  not_consistent = λ h. let e : Some 1 ≡ None = h 0 (at 0 1) (omega arith) in cc;
+  entry = refl;
+  greatest_cycle = refl;
+}
+
+-- ---- clashes
+
+pub record Held : Type 0 where
+  -- item 1 is never written, and item 0 was read after its write: neither is stale at the newest cycle
+  current : IsCurrent one_written (at 1 1 ∷ at 0 2 ∷ [])
+  -- item 0 was read before its write, so it is stale at the newest cycle
+  not_current : IsCurrent one_written first_then_next → ⊥
+  -- the held read isn't stale at the new cycle
+  takes_fresh : Takes apart (at 0 2 ∷ []) (at 1 2)
+  -- the held read is stale there, but item 1 has the origin that it had at the first held cycle
+  takes_unchanged : Takes one_written (at 0 1 ∷ []) (at 1 2)
+  -- the held read is stale there, and item 1 has another origin than at the first held cycle
+  not_taken : Takes apart (at 0 1 ∷ []) (at 1 2) → ⊥
+  -- the new read's cycle is below the last one's
+  too_late : Takes one_written (at 0 2 ∷ []) (at 1 1) → ⊥
+
+pub held : Held
+unfolding is_late stale origin writer writer_before last_place writes front
+held = record {
+  current = All-from_recursion (λ r. stale one_written r 2 ≡ false) (at 1 1 ∷ at 0 2 ∷ []) (refl, (refl, tt));
+  not_current = λ h. let e : true ≡ false = h 0 (at 0 1) (omega arith) in cc;
+  takes_fresh = record { in_time = refl; fresh = inl (All-from_recursion (λ r. stale apart r 2 ≡ false) (at 0 2 ∷ []) (refl, tt)) };
+  takes_unchanged = record { in_time = refl; fresh = inr refl };
+  not_taken = λ t. elim t.fresh [
+    | inl all ↦ (let e : true ≡ false = all 0 (at 0 1) (omega arith) in cc)
+    | inr same ↦ (let e : Some 2 ≡ None = same in cc)
+  ];
+  too_late = λ t. let e : true ≡ false = t.in_time in cc;
+}
+
+-- ---- what is heard, and what a policy accepts
+
+pub record Accepted : Type 0 where
+  -- under F-Matrix the column of item 1 comes with it
+  heard_column : IsHeard FMatrix 2 apart (record { item = 1; cycle = 2; entries = 0 ∷ 1 ∷ [] })
+  -- under R-Matrix the write vector does
+  heard_vector : IsHeard RMatrix 2 apart (record { item = 1; cycle = 2; entries = 1 ∷ 1 ∷ [] })
+  -- under F-Matrix cycles may fall
+  any_order : IsAllowed FMatrix (at 0 2 ∷ at 1 1 ∷ [])
+  -- under R-Matrix they may rise
+  in_order : IsAllowed RMatrix first_then_next
+  -- and they may not fall
+  not_in_order : IsAllowed RMatrix (at 0 2 ∷ at 1 1 ∷ []) → ⊥
+  -- item 1 of cycle 2 passes after item 0 of cycle 1
+  accepts_after : AcceptsAfter RMatrix one_written (at 0 1 ∷ []) (at 1 2 ∷ [])
+  -- and that one passes first
+  accepts_r : Accepts RMatrix one_written first_then_next
+  -- F-Matrix accepts reads that share no cycle
+  accepts_f : Accepts FMatrix apart first_then_next
+  -- under Datacycle the second of them clashes with the first
+  not_accepted : Accepts Datacycle apart first_then_next → ⊥
+  -- the reads share the current cycle, which is 1
+  shares_current : SharesItsCycle RMatrix one_written first_then_next
+  -- these share the newest cycle, which is 2
+  shares_newest : SharesItsCycle Datacycle one_written (at 1 1 ∷ at 0 2 ∷ [])
+  -- and those don't
+  not_shared : SharesItsCycle Datacycle one_written first_then_next → ⊥
+  -- under R-Matrix the accepted reads are consistent and share the current cycle
+  sound_r : IsSound RMatrix one_written first_then_next
+  -- under F-Matrix they are consistent
+  sound_f : IsSound FMatrix apart first_then_next
+
+pub accepted : Accepted
+unfolding AcceptsAfter current_cycle_after clash_by_history is_late least stale consistent last_alone runs_alone descends_from origin column_entry vector_entry greatest writer writer_before last_place writes descends descends_within reads front cycle_at is_start
+accepted =
+    let shared : SharesCycle one_written first_then_next 1 = All-from_recursion (λ r. writer (front one_written 1) r.item ≡ origin one_written r) first_then_next (refl, (refl, tt)) in
+    record {
+      heard_column = record { cycle = omega arith; within = omega arith; entries = refl };
+      heard_vector = record { cycle = omega arith; within = omega arith; entries = refl };
+      any_order = tt;
+      in_order = AllPairs-cons (λ r s. r.cycle ≤ s.cycle) (at 0 1) (at 1 2 ∷ []) (All-from_recursion (λ s. 1 ≤ s.cycle) (at 1 2 ∷ []) (omega arith, tt)) (λ i j d lt within. absurd (omega arith));
+      not_in_order = λ h. let le = h 0 1 (at 0 0) (omega arith) (omega arith) in omega arith;
+      accepts_after = (refl, refl, tt);
+      accepts_r = (refl, refl, (refl, refl, tt));
+      accepts_f = (refl, refl, (refl, refl, tt));
+      not_accepted = λ h. let e = h.2.1 in cc;
+      shares_current = shared;
+      shares_newest = All-from_recursion (λ r. writer (front one_written 2) r.item ≡ origin one_written r) (at 1 1 ∷ at 0 2 ∷ []) (refl, (refl, tt));
+      not_shared = λ h. let e : Some 1 ≡ None = h 0 (at 0 1) (omega arith) in cc;
+      sound_r = record {
+        consistent = All-from_recursion (λ r. last_alone one_written first_then_next r.item ≡ origin one_written r) first_then_next (refl, (refl, tt));
+        shared = shared;
+      };
+      sound_f = record {
+        consistent = All-from_recursion (λ r. last_alone apart first_then_next r.item ≡ origin apart r) first_then_next (refl, (refl, tt));
+        shared = tt;
+      };
+    }
