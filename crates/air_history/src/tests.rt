@@ -67,6 +67,16 @@ fn lists_that_break_a_rule_are_refused(rt: HostRuntime) -> Result<(), Fail> {
 }
 
 #[test]
+fn lists_that_keep_the_rules_make_an_update(rt: HostRuntime) -> Result<(), Fail> {
+    let update = Update::new(rt.alloc(), [0, 4].as_slice(), [add(7, 4, 9)].as_slice())?;
+    update.keeps_rules();
+    let same = Update::of_lists(rt.alloc(), update.reads(), update.writes())?;
+    assert_eq!(rt; same.reads(), [0, 4].as_slice());
+    assert_eq!(rt; same.writes(), [add(7, 4, 9)].as_slice());
+    Ok(())
+}
+
+#[test]
 fn a_chain_of_two_updates_is_scanned(rt: HostRuntime) -> Result<(), Fail> {
     let history = chained(&rt, rt.alloc())?;
     assert_eq!(rt; history.len(), 5);

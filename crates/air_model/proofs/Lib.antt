@@ -33,3 +33,4 @@ pub mod SettleLemmas
 pub mod SoundLemmas
 pub mod SessionExamples
 pub mod OutputExamples
+pub mod RelationExamples

@@ -83,7 +83,7 @@ chained tries script = deck (item 10 2 ∷ item 20 3 ∷ item 30 1 ∷ [])
     (update [] (set_to 0 11 ∷ []) ∷ update (0 ∷ []) (add_to 2 0 1 ∷ []) ∷ update (2 ∷ []) (add_to 1 2 1 ∷ []) ∷ []) (0, 0, tries) ((0 ∷ 1 ∷ []) ∷ []) script
 
 -- Item 0 becomes 11, item 1 that and 5; the reader keeps copies.
-abbrev copied : List (Option ℕ) → Deck
+abbrev pub copied : List (Option ℕ) → Deck
 copied script = deck (item 10 1 ∷ item 20 2 ∷ []) (update [] (set_to 0 11 ∷ []) ∷ update (0 ∷ []) (add_to 1 0 5 ∷ []) ∷ []) (2, 9, 1) ((0 ∷ []) ∷ (1 ∷ 0 ∷ []) ∷ []) script
 
 -- Three items of one rate, and room for one copy.
@@ -110,15 +110,15 @@ by_both d heard result =
     (over (by_history d.settings.policy (values_in d) (script_history d)) d heard ≡ result) × (over (by_entries d.settings.policy) d heard ≡ result)
 
 -- A read of an item in a cycle, and its value.
-abbrev read : ℕ → ℕ → ℕ → ReadOf
+abbrev pub read : ℕ → ℕ → ℕ → ReadOf
 read i c v = record { item = i; cycle = c; value = v }
 
 -- The line of an attempt of a query.
-abbrev line : ℕ → ℕ → VerdictKind → List ReadOf → Line
+abbrev pub line : ℕ → ℕ → VerdictKind → List ReadOf → Line
 line q a kind reads = record { verdict = record { query = q; attempt = a; kind = kind }; reads = reads }
 
 -- The counts with these opened, dozed and copied.
-abbrev counted : ℕ → ℕ → ℕ → Counts
+abbrev pub counted : ℕ → ℕ → ℕ → Counts
 counted opened dozed copied = record { opened = opened; dozed = dozed; late = 0; refused = 0; foreign = 0; copied = copied }
 
 -- What the sessions come to.

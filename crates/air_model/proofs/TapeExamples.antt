@@ -3,7 +3,7 @@ use Rattle.std.specs.Prelude.{◌≡◌, ℕ, List, [], ◌∷◌, length, take,
 use Rattle.air_model.proofs.BucketExamples.{first_bytes, second_bytes}
 use Rattle.air_model.specs.Tapes.{ends_inside, read_from, record_bytes, tape_of, tape_read}
 
-abbrev both : List (List ℕ)
+abbrev pub both : List (List ℕ)
 both = first_bytes ∷ second_bytes ∷ []
 
 whole : (length (tape_of both) ≡ 72) × (tape_read (tape_of both) ≡ record { records = both; cut = None })

@@ -14,8 +14,7 @@ returns-then-text-eq48 c =
 pub returns : goal.returns
 returns c =
     let some = c.if-len-eq0.false in
-    let text = c.args.text.now in
-    (
+    let text = c.args.text.now in (
       front_number text c.args.len c.args.number c.requires.read c.requires.within c.requires.digits (omega arith) (λ zero. elim c.else-len-gt1.branch [
         | else-len-gt1-via-then-len-gt1+else-text-eq48 w ↦ absurd (w.if-text-eq48.false zero)
         | else-len-gt1-via-else-len-gt1 w ↦ let few = w.if-len-gt1.false in omega arith

@@ -1,0 +1,243 @@
+-- Small decks, programs, buckets, tapes and heard lists: where each relation of the model holds, and where some don't.
+use Rattle.std.proofs.Common.{◌≡◌, ◌≢◌, ℕ, zero, suc, ◌+◌, ◌<◌, ◌≤◌, ◌^◌, Bool, true, false, Some, None, Option, List, [], ◌∷◌, length, map, take, drop, All, refl, sym, ap, subst, inr, arith, ◌%◌, ◌==◌, IsTrue, IfSome, Contains}
+use Rattle.std.proofs.lemmas.List.Elements.{All-nil, All-cons, All-from_recursion}
+use Rattle.std.proofs.lemmas.Bool.{false≢true}
+use Rattle.std.proofs.lemmas.List.Kept.{AllPairs-cons}
+use Rattle.air_base.specs.declared.verdicts.Policy.TheVariants.{FMatrix}
+use Rattle.air_history.specs.declared.histories.Event.{Event}
+use Rattle.air_history.specs.declared.histories.Event.TheVariants.{Commit}
+use Rattle.air_history.specs.Columns.{column_entry}
+use Rattle.air_history.specs.Histories.{front, starts, is_start}
+use Rattle.air_history.specs.Places.{greatest}
+use Rattle.air_history.specs.Tables.{table}
+use Rattle.air_history.specs.UpdateLists.{UpdateLists}
+use Rattle.air_history.specs.UpdateRules.{has_repeat, update_fault}
+use Rattle.air_base.specs.declared.verdicts.VerdictKind.TheVariants.{Accept}
+use Rattle.air_history.specs.Clashes.{clash_by_entries, is_late, least}
+use Rattle.air_model.specs.DeckLaws.{commits_from, made_by}
+use Rattle.air_model.specs.Decks.{Deck, IsDeck, IsLegal, IsNext, IsQuery, IsUpdate, IsWhole, ScriptFits, count_made, count_parts, event_of, is_by, script_history, updates_by, values_in}
+use Rattle.air_model.specs.Disks.{Disk, all_items, cut, order, order_with, is_hotter}
+use Rattle.air_model.specs.Programs.{chunk, chunk_len, least_common_multiple, minor_cycle, num_chunks, num_minors, program}
+use Rattle.air_model.specs.ProgramLaws.{IsOrder}
+use Rattle.air_model.specs.Airings.{ComesEvery, IsNextWake, slot_item}
+use Rattle.air_model.specs.Buckets.{Bucket, Column, IsBucket, IsInRange, count_of, entries_of, item_of, kind_of, spelling, value_of}
+use Rattle.air_model.specs.Tapes.{IsCut, IsTape, ends_inside, record_bytes, tape_of}
+use Rattle.air_model.specs.Aired.{IsAired, IsAiredBucket, air_of, body_fits, body_of, bucket_of, buckets_of, fits}
+use Rattle.air_model.specs.AiredLaws.{CanAir}
+use Rattle.air_model.specs.Copies.{HaveOwnItems}
+use Rattle.air_model.specs.Reads.{Read}
+use Rattle.air_model.specs.SessionLaws.{QueriesFilled, bare}
+use Rattle.air_model.specs.Judges.{by_entries}
+use Rattle.air_model.specs.ReceiverLaws.{IsTrueSession}
+use Rattle.air_model.specs.Sessions.{State, accept_if_whole, copy_of, count_copied, drop_copy, hold, is_unusable, line_of, next_query, query_of, reader_of, start, step, turn, turn_to_line, turn_with, wanted, with_line}
+use Rattle.air_model.proofs.BucketExamples.{first_bytes}
+use Rattle.air_model.proofs.DeckLemmas.{air}
+use Rattle.air_model.proofs.ScriptLemmas.{script}
+use Rattle.air_model.proofs.ReceiverLemmas.{receiver}
+use Rattle.air_model.proofs.SessionExamples.{copied, counted, line, pair, read, s, swapped, u}
+use Rattle.air_model.proofs.TapeExamples.{both}
+
+-- ---- decks and their histories
+
+-- The deck of two items is well made.
+pub pair_is_deck : IsDeck pair
+unfolding has_repeat
+pair_is_deck = record {
+  some = omega arith;
+  most = omega arith;
+  values = All-from_recursion (λ i. i.value < 2 ^ 64) pair.items (omega arith, (omega arith, tt));
+  sizes = refl;
+  aired = All-from_recursion (λ d. (0 < d.size) × (0 < d.freq)) pair.disks ((omega arith, omega arith), tt);
+  updates = All-from_recursion (All (IsUpdate 2)) pair.updates (All-nil (IsUpdate 2), tt);
+  readers = refl;
+  tries = All-from_recursion (λ r. 1 ≤ r.tries) pair.readers (omega arith, tt);
+  queries = All-from_recursion (All (IsQuery 2)) pair.queries (
+    All-from_recursion (IsQuery 2) ((0 ∷ 1 ∷ []) ∷ [])
+        (record { filled = omega arith; distinct = refl; within = All-from_recursion (λ i. i < 2) (0 ∷ 1 ∷ []) (omega arith, (omega arith, tt)) }, tt),
+    tt,
+  );
+  script = λ by. omega arith;
+}
+
+-- Two items that change between two cycles, which are all that its settings ask for.
+abbrev turned : Deck
+turned = record (swapped (s ∷ u ∷ u ∷ s ∷ [])) { settings = record ((swapped []).settings) { cycles = 2 } }
+
+-- Updater 0 is no other one.
+no_other : (by : ℕ) → (0 == suc by) ≡ false
+no_other by = grind arith
+
+-- Its script commits just what its updater has.
+turned_fits : ScriptFits turned
+turned_fits zero = omega arith
+turned_fits (suc by) = rw no_other (omega arith)
+
+-- So its script's history is legal, and whole.
+pub turned_is_whole : IsWhole turned (script_history turned)
+unfolding script_history event_of is_by starts is_start
+turned_is_whole = record {
+  legal = script turned turned_fits;
+  all = by_updater;
+  cycles = refl;
+}
+  where
+    by_updater : (by : ℕ) → count_made by (script_history turned) ≡ length (updates_by turned by)
+    by_updater zero = refl
+    by_updater (suc by) = rw no_other refl
+
+-- The updater's commits are of its updates in order.
+pub made_in_order : made_by 0 (script_history turned) ≡ commits_from 0 0 (updates_by turned 0)
+unfolding script_history event_of is_by made_by commits_from
+made_in_order = refl
+
+-- The second commit is the next after the start and the first one; it isn't the next at once.
+abbrev second_update : UpdateLists
+second_update = record { reads = []; writes = record { item = 1; base = None; minus = false; amount = 21 } ∷ [] }
+
+pub is_update : IsUpdate 2 second_update
+unfolding update_fault has_repeat
+is_update = record {
+  rules = refl;
+  fits = record { reads = All-nil (λ r. r < 2); writes = All-from_recursion (λ w. w.item < 2) second_update.writes (omega arith, tt) };
+  amounts = All-from_recursion (λ w. w.amount < 2 ^ 64) second_update.writes (omega arith, tt);
+}
+
+next : IsNext turned (take 2 (script_history turned)) 0 1 second_update
+unfolding script_history event_of is_by
+next = record { number = refl; given = refl }
+
+not_at_once : IsNext turned [] 0 1 second_update → ⊥
+unfolding is_by
+not_at_once h = absurd (let one : 1 ≡ 0 = h.number in omega arith)
+
+-- ---- programs
+
+-- Two items of rates 1 and 5: the second goes first.
+pub hotter_first : IsOrder (1 ∷ 5 ∷ []) (1 ∷ 0 ∷ [])
+hotter_first = record {
+  hottest_first = AllPairs-cons (λ i j. IsTrue (is_hotter (1 ∷ 5 ∷ []) i j)) 1 (0 ∷ []) (All-from_recursion (λ j. IsTrue (is_hotter (1 ∷ 5 ∷ []) 1 j)) (0 ∷ []) (refl, tt))
+      (λ i j d less within. absurd (omega arith));
+  members = λ i. (found i, there i);
+}
+  where
+    found : (i : ℕ) → Contains (1 ∷ 0 ∷ []) i → i < 2
+    found i (zero, within, is) = omega (arith, is)
+    found i (suc zero, within, is) = omega (arith, is)
+    found i (suc (suc k), within, is) = absurd (omega (arith, within))
+
+    there : (i : ℕ) → i < 2 → Contains (1 ∷ 0 ∷ []) i
+    there zero below = (1, omega arith, refl)
+    there (suc zero) below = (0, omega arith, refl)
+    there (suc (suc i)) below = absurd (omega arith)
+
+-- Slots that carry items 0 and 1 in turn, and then none.
+abbrev three_slots : List (Option ℕ)
+three_slots = Some 0 ∷ Some 1 ∷ None ∷ []
+
+-- From slot 2 item 1 is next aired two slots on, around the cycle's end.
+pub around_the_end : IsNextWake three_slots 2 1 2
+around_the_end = record { aired = refl; first = earlier }
+  where
+    earlier : (j : ℕ) → j < 2 → slot_item three_slots ((2 + j) % 3) ≢ Some 1
+    earlier zero below e = cc
+    earlier (suc zero) below e = cc
+    earlier (suc (suc j)) below e = omega arith
+
+-- Item 0 comes every three slots, once in a cycle.
+pub once_a_cycle : ComesEvery three_slots 0 3
+once_a_cycle = record { some = omega arith; again = comes; between = not_before }
+  where
+    comes : (s : ℕ) → slot_item three_slots s ≡ Some 0 → slot_item three_slots ((s + 3) % 3) ≡ Some 0
+    comes zero e = refl
+    comes (suc zero) e = cc
+    comes (suc (suc zero)) e = cc
+    comes (suc (suc (suc s))) e = cc
+
+    not_before : (s k : ℕ) → slot_item three_slots s ≡ Some 0 → 0 < k → k < 3 → slot_item three_slots ((s + k) % 3) ≢ Some 0
+    not_before zero zero e some below f = omega arith
+    not_before zero (suc zero) e some below f = cc
+    not_before zero (suc (suc zero)) e some below f = cc
+    not_before zero (suc (suc (suc k))) e some below f = omega arith
+    not_before (suc zero) k e some below f = cc
+    not_before (suc (suc zero)) k e some below f = cc
+    not_before (suc (suc (suc s))) k e some below f = cc
+
+-- ---- buckets and tapes
+
+-- The bucket of item 0 in the first cycle, and its bytes.
+abbrev first : Bucket
+first = record { edition = 0; cycle = 1; slot = 0; body = Column 0 10 (0 ∷ 0 ∷ []) }
+
+pub first_in_range : IsInRange first
+unfolding count_of kind_of item_of value_of entries_of
+first_in_range = record {
+  edition = omega arith;
+  some = omega arith;
+  count = omega arith;
+  started = omega arith;
+  cycle = omega arith;
+  slot = omega arith;
+  placed = inr (omega arith);
+  value = omega arith;
+  entries = All-from_recursion (λ e. e < 1) (0 ∷ 0 ∷ []) (omega arith, (omega arith, tt));
+}
+
+pub first_is_bucket : IsBucket first_bytes first
+unfolding spelling kind_of count_of item_of value_of entries_of
+first_is_bucket = (first_in_range, refl)
+
+-- With an entry that is the cycle it isn't in range.
+entry_too_great : IsInRange (record first { body = Column 0 10 (1 ∷ 0 ∷ []) }) → ⊥
+unfolding entries_of
+entry_too_great h = let low : 1 < 1 = h.entries 0 0 (omega arith) in omega arith
+
+-- The tape of two buckets is whole, and its first 60 bytes are cut at the second record.
+pub whole_tape : IsTape (tape_of both) both
+whole_tape = (All-from_recursion (λ r. length r < 2 ^ 32) both (omega arith, (omega arith, tt)), refl)
+
+pub cut_tape : IsCut (take 60 (tape_of both)) (first_bytes ∷ []) 36
+unfolding tape_of record_bytes ends_inside
+cut_tape = record { before = (All-from_recursion (λ r. length r < 2 ^ 32) (first_bytes ∷ []) (omega arith, tt), refl); cut = refl }
+
+-- ---- what is aired
+
+-- The script of the two-item deck can be aired; its slots have items of the catalog, and its queries are filled.
+pub pair_can_air : CanAir pair (script_history pair)
+unfolding script_history event_of order order_with cut program least_common_multiple num_minors num_chunks chunk_len chunk minor_cycle starts is_start
+pair_can_air = record { made = pair_is_deck; legal = script pair pair_is_deck.script; cycles = omega arith; slots = omega arith }
+
+pub pair_filled : QueriesFilled (reader_of pair 0)
+pair_filled = (air pair pair_is_deck).1 0
+
+-- Of a list with that bucket, bytes that are no bucket, and a bucket of another edition, the script's history aired all that fits.
+pub aired_list : IsAired (values_in pair) (air_of pair) (script_history pair) (Some first ∷ None ∷ Some (record first { edition = 1; cycle = 9 }) ∷ [])
+unfolding script_history event_of order order_with cut program least_common_multiple num_minors num_chunks chunk_len chunk minor_cycle starts is_start bucket_of body_of body_fits fits table column_entry front greatest
+aired_list = All-from_recursion (λ o. IfSome o (λ b. IsTrue (fits (air_of pair) b) → IsAiredBucket (values_in pair) (air_of pair) (script_history pair) b))
+    (Some first ∷ None ∷ Some (record first { edition = 1; cycle = 9 }) ∷ [])
+    (λ _. record { from_one = omega arith; started = omega arith; same = refl }, (tt, (λ f. absurd (false≢true f), tt)))
+
+-- So its reader's session over that list is true: sound, its own, and exact.
+pub true_session : IsTrueSession pair (script_history pair) 0 (Some first ∷ None ∷ Some (record first { edition = 1; cycle = 9 }) ∷ [])
+true_session = receiver pair (script_history pair) 0 (Some first ∷ None ∷ Some (record first { edition = 1; cycle = 9 }) ∷ []) pair_is_deck (omega arith) aired_list
+
+-- What the history looks at of the bucket.
+bare_first : bare first ≡ record first { body = Column 0 0 (0 ∷ 0 ∷ []) }
+bare_first = refl
+
+-- ---- copies
+
+-- Copies of the items 0 and 1.
+abbrev copy : ℕ → Read
+copy i = record { item = i; cycle = 1; value = 0; entries = [] }
+
+pub own_items : HaveOwnItems (copy 0 ∷ copy 1 ∷ [])
+own_items = AllPairs-cons (λ a b. a.item ≢ b.item) (copy 0) (copy 1 ∷ []) (All-from_recursion (λ b. 0 ≢ b.item) (copy 1 ∷ []) (λ e. omega (arith, e), tt)) (λ i j d less within. absurd (omega arith))
+
+-- A reader with a copy of item 0 wants just that: one step takes it, and gives the line.
+abbrev with_copy_of_zero : State
+with_copy_of_zero = record start { copies = record { item = 0; cycle = 1; value = 10; entries = 0 ∷ 0 ∷ [] } ∷ []; now = 1 }
+
+pub one_step : step (by_entries FMatrix) (air_of (copied [])) (reader_of (copied []) 0) with_copy_of_zero
+    ≡ record with_copy_of_zero { query = 1; counts = counted 0 0 1; lines = line 0 1 Accept (read 0 1 10 ∷ []) ∷ [] }
+unfolding step turn_to_line turn turn_with copy_of wanted query_of is_unusable drop_copy hold accept_if_whole next_query with_line line_of count_copied by_entries clash_by_entries is_late least
+one_step = refl
