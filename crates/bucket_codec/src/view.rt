@@ -73,17 +73,16 @@ fn entry_at(bytes: &[u8], i: u16) -> u32
     four_at(bytes, 24 + 4 * i as usize)
 }
 
-/// Whether each of the first `n` entries is below the cycle.
+/// Whether each of the first `n` entries is below the cycle. It looks at all of them, several at a time.
 fn entries_below(bytes: &[u8], n: u16, cycle: u32) -> bool
     requires { 24 + 4 * n ≤ length bytes.now }
     ensures { result ≡ list_all (λ e. nat_lt e cycle) (entries_at n bytes.now) }
 {
+    let mut below = true;
     for i in 0..n {
-        if entry_at(bytes, i) >= cycle {
-            return false;
-        }
+        below &= entry_at(bytes, i) < cycle;
     }
-    true
+    below
 }
 
 /// Whether item and value are those of the kind.
