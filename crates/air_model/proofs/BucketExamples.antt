@@ -1,7 +1,7 @@
 -- The two buckets of a deck of two items in its first cycle, and an idle one, byte by byte, and bytes with each fault.
-use Rattle.std.specs.Prelude.{◌≡◌, ℕ, List, [], ◌∷◌, ◌++◌, take, set, Ok, Err, refl}
+use Rattle.std.specs.Prelude.{◌≡◌, ℕ, List, [], ◌∷◌, ◌++◌, take, set, Some, None, Ok, Err, refl}
 use Rattle.air_model.specs.declared.bucket.BucketFault.TheVariants.{Short, Magic, Version, Kind, Length, Shape}
-use Rattle.air_model.specs.Buckets.{Bucket, Column, Idle, body_at, bucket_at, count_of, entries_at, entries_of, entry_count, is_placed, is_shaped, item_of, kind_of, reading, spelling, value_of}
+use Rattle.air_model.specs.Buckets.{Bucket, Column, Idle, body_at, bucket_at, count_of, entries_at, entries_of, entry_count, fault_of, is_placed, is_shaped, item_of, kind_of, reading, spelling, value_of}
 
 abbrev first : Bucket
 first = record { edition = 0; cycle = 1; slot = 0; body = Column 0 10 (0 ∷ 0 ∷ []) }
@@ -41,3 +41,8 @@ first_fault_counts :
     (reading (set first_bytes 7 0) ≡ Err Length) × (reading (take 24 (set first_bytes 7 0)) ≡ Err Shape) × (reading (set idle_bytes 23 1) ≡ Err Shape)
 unfolding reading is_shaped is_placed entry_count entries_at bucket_at body_at
 first_fault_counts = (refl, refl, refl)
+
+-- the fault alone, of bytes with one and of bytes with none
+fault_alone : (fault_of (take 23 first_bytes) ≡ Some (Short 23)) × (fault_of first_bytes ≡ None)
+unfolding reading is_shaped is_placed entry_count entries_at bucket_at body_at
+fault_alone = (refl, refl)

@@ -34,3 +34,4 @@ pub mod SoundLemmas
 pub mod SessionExamples
 pub mod OutputExamples
 pub mod RelationExamples
+pub mod LineExamples

@@ -17,15 +17,16 @@ use Rattle.air_model.specs.Draws.{words_by}
 use Rattle.air_model.specs.Ethers.{due_at, due_number, heard, heard_by, heard_places, times_heard}
 use Rattle.air_model.specs.Copies.{keep, without, with_copy}
 use Rattle.air_model.specs.Disks.{order, order_with, cut}
-use Rattle.air_model.specs.Programs.{program, least_common_multiple, num_minors, num_chunks, chunk_len, chunk, minor_cycle}
-use Rattle.air_model.specs.Airings.{disk_number, chunks_of, pix_number}
+use Rattle.air_model.specs.Programs.{program, least_common_multiple, num_minors, num_chunks, chunk_len, chunk, minor_cycle, minor_len}
+use Rattle.air_model.specs.Airings.{disk_number, chunks_of, gap_of, next_wake, pix_number}
+use Rattle.air_model.specs.PlanTexts.{plan_rows, plan_text}
 use Rattle.air_model.specs.Decks.{Deck, event_of, script_history, values_in}
 use Rattle.air_model.specs.Aired.{body_of, bucket_of, buckets_of, body_fits, fits}
 use Rattle.air_model.specs.Judges.{by_history, by_entries}
 use Rattle.air_model.specs.Sessions.{session, query_of, wanted, line_of, with_line, count_copied, count_opened, count_dozed, count_late, count_refused, count_foreign, next_query, next_attempt, accept_if_whole, hold, abort, is_unusable, drop_copy, copy_of, turn_with, turn, settle, decide, offer, open_bucket, hear_read, hear, hear_all, end_query, end}
 use Rattle.air_model.specs.Rows.{rows_text}
 use Rattle.air_model.specs.Reports.{AirFault, DeckFault, PlanTooLong, ReadFault, ReportFault, TapeCut, TooLarge, TooLong, TooMuch, Words, fault_line, report_text, total_at}
-use Rattle.air_model.specs.Outputs.{run_output, script_output, script_tape, true_sessions, tune_output}
+use Rattle.air_model.specs.Outputs.{cast_output, plan_output, run_output, run_tape, script_output, script_tape, true_sessions, tune_output}
 use Rattle.air_model.proofs.SessionExamples.{judged_by, pair, s, swapped, u}
 
 -- The deck with this seed and these odds.
@@ -60,11 +61,16 @@ pub record Printed : Type 0 where
   run : let H = script_history pair in
       run_output pair H (record { cycle = 0; total = total_at (values_in pair) H 0 } ∷ []) (record { cycle = 1; total = total_at (values_in pair) H 1 } ∷ [])
       ≡ codes "start\naccept,0,0,1,0@1=10 1@1=20\ncounts,0,2,0,0,0,0,0\nglance,0,0,30\nlook,0,1,30\n"
+  -- The tape of that run is that of the script.
+  run_tape : run_tape pair (script_history pair) ≡ 0 ∷ 0 ∷ 0 ∷ 32 ∷ first ++ 0 ∷ 0 ∷ 0 ∷ 32 ∷ second
+  -- A cast has no verdicts and no counts.
+  cast : cast_output (script_history pair) (record { cycle = 0; total = 30 } ∷ []) [] ≡ codes "start\nglance,0,0,30\n"
+  plan : plan_output pair ≡ codes "program,2,1,2\ndisk,0,1,1,2\nminor,0,0 1\nitem,0,0,1,2,0,1\nitem,1,0,1,2,1,1\n"
   total_wraps : total_at (18446744073709551615 ∷ 3 ∷ []) [] 0 ≡ 2
 
 -- And it is.
 pub printed : Printed
-unfolding number_text escaped fields_text is_blank last_place greatest cycle_at front starts writer writer_before writes reads is_start descends descends_within column_entry vector_entry based write_of value_after table origin stale descends_from runs_alone last_alone consistent least is_late clash_by_history clash_by_entries body_at bucket_at count_of entries_at entries_of entry_count is_placed is_shaped item_of kind_of reading spelling value_of record_bytes tape_of words_by due_at due_number heard heard_by heard_places times_heard keep without with_copy order order_with cut program least_common_multiple num_minors num_chunks chunk_len chunk minor_cycle disk_number chunks_of pix_number event_of script_history body_of bucket_of buckets_of body_fits fits by_history by_entries session query_of wanted line_of with_line count_copied count_opened count_dozed count_late count_refused count_foreign next_query next_attempt accept_if_whole hold abort is_unusable drop_copy copy_of turn_with turn settle decide offer open_bucket hear_read hear hear_all end_query end rows_text report_text true_sessions total_at
+unfolding number_text escaped fields_text is_blank last_place greatest cycle_at front starts writer writer_before writes reads is_start descends descends_within column_entry vector_entry based write_of value_after table origin stale descends_from runs_alone last_alone consistent least is_late clash_by_history clash_by_entries body_at bucket_at count_of entries_at entries_of entry_count is_placed is_shaped item_of kind_of reading spelling value_of record_bytes tape_of words_by due_at due_number heard heard_by heard_places times_heard keep without with_copy order order_with cut program least_common_multiple num_minors num_chunks chunk_len chunk minor_cycle minor_len disk_number chunks_of gap_of next_wake pix_number plan_rows plan_text event_of script_history body_of bucket_of buckets_of body_fits fits by_history by_entries session query_of wanted line_of with_line count_copied count_opened count_dozed count_late count_refused count_foreign next_query next_attempt accept_if_whole hold abort is_unusable drop_copy copy_of turn_with turn settle decide offer open_bucket hear_read hear hear_all end_query end rows_text report_text true_sessions total_at
 printed = record {
   script = refl;
   tape = refl;
@@ -75,6 +81,9 @@ printed = record {
   tune = refl;
   tune_nothing = refl;
   run = refl;
+  run_tape = refl;
+  cast = refl;
+  plan = refl;
   total_wraps = refl;
 }
 

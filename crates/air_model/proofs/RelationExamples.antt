@@ -1,11 +1,9 @@
 -- Small decks, programs, buckets, tapes and heard lists: where each relation of the model holds, and where some don't.
-use Rattle.std.proofs.Common.{◌≡◌, ◌≢◌, ℕ, zero, suc, ◌+◌, ◌<◌, ◌≤◌, ◌^◌, Bool, true, false, Some, None, Option, List, [], ◌∷◌, length, map, take, drop, All, refl, sym, ap, subst, inr, arith, ◌%◌, ◌==◌, IsTrue, IfSome, Contains}
-use Rattle.std.proofs.lemmas.List.Elements.{All-nil, All-cons, All-from_recursion}
+use Rattle.std.proofs.Common.{◌≡◌, ◌≢◌, ℕ, zero, suc, ◌+◌, ◌<◌, ◌≤◌, ◌^◌, false, Some, None, Option, List, [], ◌∷◌, length, take, All, refl, inr, arith, ◌%◌, ◌==◌, IsTrue, IfSome, Contains}
+use Rattle.std.proofs.lemmas.List.Elements.{All-nil, All-from_recursion}
 use Rattle.std.proofs.lemmas.Bool.{false≢true}
 use Rattle.std.proofs.lemmas.List.Kept.{AllPairs-cons}
 use Rattle.air_base.specs.declared.verdicts.Policy.TheVariants.{FMatrix}
-use Rattle.air_history.specs.declared.histories.Event.{Event}
-use Rattle.air_history.specs.declared.histories.Event.TheVariants.{Commit}
 use Rattle.air_history.specs.Columns.{column_entry}
 use Rattle.air_history.specs.Histories.{front, starts, is_start}
 use Rattle.air_history.specs.Places.{greatest}
@@ -15,14 +13,14 @@ use Rattle.air_history.specs.UpdateRules.{has_repeat, update_fault}
 use Rattle.air_base.specs.declared.verdicts.VerdictKind.TheVariants.{Accept}
 use Rattle.air_history.specs.Clashes.{clash_by_entries, is_late, least}
 use Rattle.air_model.specs.DeckLaws.{commits_from, made_by}
-use Rattle.air_model.specs.Decks.{Deck, IsDeck, IsLegal, IsNext, IsQuery, IsUpdate, IsWhole, ScriptFits, count_made, count_parts, event_of, is_by, script_history, updates_by, values_in}
+use Rattle.air_model.specs.Decks.{Deck, IsDeck, IsNext, IsQuery, IsUpdate, IsWhole, ScriptFits, count_made, event_of, is_by, script_history, updates_by, values_in}
 use Rattle.air_model.specs.Disks.{Disk, all_items, cut, order, order_with, is_hotter}
 use Rattle.air_model.specs.Programs.{chunk, chunk_len, least_common_multiple, minor_cycle, num_chunks, num_minors, program}
-use Rattle.air_model.specs.ProgramLaws.{IsOrder}
+use Rattle.air_model.specs.ProgramLaws.{IsAirable, IsOrder}
 use Rattle.air_model.specs.Airings.{ComesEvery, IsNextWake, slot_item}
-use Rattle.air_model.specs.Buckets.{Bucket, Column, IsBucket, IsInRange, count_of, entries_of, item_of, kind_of, spelling, value_of}
+use Rattle.air_model.specs.Buckets.{AreBytes, Bucket, Column, IsBucket, IsInRange, count_of, entries_of, item_of, kind_of, spelling, value_of}
 use Rattle.air_model.specs.Tapes.{IsCut, IsTape, ends_inside, record_bytes, tape_of}
-use Rattle.air_model.specs.Aired.{IsAired, IsAiredBucket, air_of, body_fits, body_of, bucket_of, buckets_of, fits}
+use Rattle.air_model.specs.Aired.{IsAired, IsAiredBucket, SlotsFit, air_of, body_fits, body_of, bucket_of, fits}
 use Rattle.air_model.specs.AiredLaws.{CanAir}
 use Rattle.air_model.specs.Copies.{HaveOwnItems}
 use Rattle.air_model.specs.Reads.{Read}
@@ -130,6 +128,18 @@ hotter_first = record {
     there (suc zero) below = (0, omega arith, refl)
     there (suc (suc i)) below = absurd (omega arith)
 
+-- Two disks, of one item and of two: they can be aired.
+abbrev two_disks : List Disk
+two_disks = record { items = 4 ∷ []; freq = 2 } ∷ record { items = 1 ∷ 3 ∷ []; freq = 1 } ∷ []
+
+pub can_be_aired : IsAirable two_disks
+unfolding all_items
+can_be_aired = record {
+  aired = All-from_recursion (λ d. 0 < d.freq) two_disks (omega arith, (omega arith, tt));
+  apart = AllPairs-cons (λ i j. i ≢ j) 4 (1 ∷ 3 ∷ []) (All-from_recursion (λ j. 4 ≢ j) (1 ∷ 3 ∷ []) ((λ e. omega (arith, e)), ((λ e. omega (arith, e)), tt)))
+      (AllPairs-cons (λ i j. i ≢ j) 1 (3 ∷ []) (All-from_recursion (λ j. 1 ≢ j) (3 ∷ []) ((λ e. omega (arith, e)), tt)) (λ i j d less within. absurd (omega arith)));
+}
+
 -- Slots that carry items 0 and 1 in turn, and then none.
 abbrev three_slots : List (Option ℕ)
 three_slots = Some 0 ∷ Some 1 ∷ None ∷ []
@@ -191,6 +201,13 @@ entry_too_great : IsInRange (record first { body = Column 0 10 (1 ∷ 0 ∷ []) 
 unfolding entries_of
 entry_too_great h = let low : 1 < 1 = h.entries 0 0 (omega arith) in omega arith
 
+-- Both ends of a byte's range; 256 is none.
+pub are_bytes : AreBytes (0 ∷ 255 ∷ [])
+are_bytes = All-from_recursion (λ x. x < 256) (0 ∷ 255 ∷ []) (omega arith, (omega arith, tt))
+
+no_byte : AreBytes (256 ∷ []) → ⊥
+no_byte h = let low : 256 < 256 = h 0 0 (omega arith) in omega arith
+
 -- The tape of two buckets is whole, and its first 60 bytes are cut at the second record.
 pub whole_tape : IsTape (tape_of both) both
 whole_tape = (All-from_recursion (λ r. length r < 2 ^ 32) both (omega arith, (omega arith, tt)), refl)
@@ -219,6 +236,14 @@ aired_list = All-from_recursion (λ o. IfSome o (λ b. IsTrue (fits (air_of pair
 -- So its reader's session over that list is true: sound, its own, and exact.
 pub true_session : IsTrueSession pair (script_history pair) 0 (Some first ∷ None ∷ Some (record first { edition = 1; cycle = 9 }) ∷ [])
 true_session = receiver pair (script_history pair) 0 (Some first ∷ None ∷ Some (record first { edition = 1; cycle = 9 }) ∷ []) pair_is_deck (omega arith) aired_list
+
+-- Of three slots each that has an item has one of the two.
+pub slots_fit : SlotsFit (record { policy = FMatrix; items = 2; slots = three_slots; pix = [] })
+slots_fit = All-from_recursion (λ o. IfSome o (λ i. i < 2)) three_slots (omega arith, (omega arith, (tt, tt)))
+
+-- Of one item alone they don't.
+slots_of_more : SlotsFit (record { policy = FMatrix; items = 1; slots = three_slots; pix = [] }) → ⊥
+slots_of_more h = let low : 1 < 1 = h 1 None (omega arith) in omega arith
 
 -- What the history looks at of the bucket.
 bare_first : bare first ≡ record first { body = Column 0 0 (0 ∷ 0 ∷ []) }

@@ -93,7 +93,7 @@ crowded = deck (item 10 1 ∷ item 20 1 ∷ item 30 1 ∷ []) [] (1, 9, 1) ((2 �
 -- ---- what is heard, and what comes of it
 
 -- The script's buckets as they stand.
-abbrev all_of : Deck → List (Option Bucket)
+abbrev pub all_of : Deck → List (Option Bucket)
 all_of d = map Some (buckets_of (values_in d) (air_of d) (script_history d))
 
 -- A bucket of this cycle, slot and body.

@@ -1,0 +1,97 @@
+-- The line that the reader of a small deck gives over all that is aired: what each relation of lines says of it.
+use Rattle.std.proofs.Common.{◌≡◌, ◌≤◌, Some, None, [], ◌∷◌, All, refl, subst, arith, IsTrue, IfSome, Contains}
+use Rattle.std.proofs.lemmas.List.Elements.{All-from_recursion}
+use Rattle.std.proofs.lemmas.Bool.{false≢true}
+use Rattle.air_base.specs.declared.verdicts.Policy.TheVariants.{FMatrix}
+use Rattle.air_base.specs.declared.verdicts.VerdictKind.TheVariants.{Accept, Abort, Unfinished}
+use Rattle.air_history.specs.Clashes.{clash_by_entries, is_late, least}
+use Rattle.air_history.specs.Columns.{column_entry}
+use Rattle.air_history.specs.Histories.{front, is_start, starts}
+use Rattle.air_history.specs.Places.{greatest}
+use Rattle.air_history.specs.Tables.{table}
+use Rattle.air_model.specs.Buckets.{Column}
+use Rattle.air_model.specs.Copies.{keep, with_copy, without}
+use Rattle.air_model.specs.Decks.{event_of, script_history, values_in}
+use Rattle.air_model.specs.Disks.{cut, order, order_with}
+use Rattle.air_model.specs.Programs.{chunk, chunk_len, least_common_multiple, minor_cycle, num_chunks, num_minors, program}
+use Rattle.air_model.specs.Airings.{chunks_of, disk_number, pix_number}
+use Rattle.air_model.specs.Aired.{IsAired, air_of, body_fits, body_of, bucket_of, buckets_of, fits}
+use Rattle.air_model.specs.Judges.{Judge, by_entries, by_history}
+use Rattle.air_model.specs.ReceiverLaws.{IsTrueSession, session_of}
+use Rattle.air_model.specs.SessionLaws.{CyclesFromOne, Follows, IsExactLine, IsOfReader, IsSoundLine, NamesHeld, after}
+use Rattle.air_model.specs.Sessions.{Line, abort, accept_if_whole, copy_of, count_copied, count_dozed, count_foreign, count_late, count_opened, count_refused, decide, drop_copy, end, end_query, hear, hear_all, hear_read, hold, is_unusable, line_of, next_attempt, next_query, offer, open_bucket, query_of, reader_of, session, settle, start, turn, turn_with, wanted, with_line}
+use Rattle.air_model.proofs.AiredLemmas.{aired}
+use Rattle.air_model.proofs.NameLemmas.{names}
+use Rattle.air_model.proofs.ReceiverLemmas.{receiver}
+use Rattle.air_model.proofs.RelationExamples.{pair_is_deck}
+use Rattle.air_model.proofs.SessionExamples.{all_of, line, pair, read}
+
+-- The script's history aired all of its own buckets.
+pub own_buckets_aired : IsAired (values_in pair) (air_of pair) (script_history pair) (all_of pair)
+unfolding event_of script_history starts is_start cut order order_with chunk chunk_len least_common_multiple minor_cycle num_chunks num_minors program bucket_of buckets_of
+own_buckets_aired = aired (values_in pair) (air_of pair) (script_history pair) (all_of pair)
+    (All-from_recursion (λ o. IfSome o (Contains (buckets_of (values_in pair) (air_of pair) (script_history pair)))) (all_of pair) ((0, omega arith, refl), ((1, omega arith, refl), tt)))
+
+-- So the session over them is true.
+pub true_session : IsTrueSession pair (script_history pair) 0 (all_of pair)
+true_session = receiver pair (script_history pair) 0 (all_of pair) pair_is_deck (omega arith) own_buckets_aired
+
+-- Its one line accepts the query.
+abbrev accepted : Line
+accepted = line 0 1 Accept (read 0 1 10 ∷ read 1 1 20 ∷ [])
+
+one_line : (session_of (by_entries FMatrix) pair 0 (all_of pair)).lines ≡ accepted ∷ []
+unfolding column_entry front greatest starts is_start table event_of script_history cut order order_with chunk chunk_len least_common_multiple minor_cycle num_chunks num_minors program chunks_of disk_number pix_number body_fits body_of bucket_of buckets_of fits by_entries clash_by_entries is_late least keep with_copy without abort accept_if_whole copy_of count_copied count_dozed count_foreign count_late count_opened count_refused decide drop_copy end end_query hear hear_all hear_read hold is_unusable line_of next_attempt next_query offer open_bucket query_of session settle turn turn_with wanted with_line
+one_line = refl
+
+-- What the session's lines keep, that line keeps: it is sound, the reader's own, and exact.
+kept : (P : Line → Type 0) → All P ((session_of (by_entries FMatrix) pair 0 (all_of pair)).lines) → P accepted
+kept P h = subst (All P) one_line h 0 accepted (omega arith)
+
+pub sound_line : IsSoundLine (values_in pair) FMatrix (script_history pair) accepted
+sound_line = kept (IsSoundLine (values_in pair) FMatrix (script_history pair)) true_session.sound
+
+pub own_line : IsOfReader (reader_of pair 0) accepted
+own_line = kept (IsOfReader (reader_of pair 0)) true_session.own
+
+pub exact_line : IsExactLine (script_history pair) (reader_of pair 0) accepted
+exact_line = kept (IsExactLine (script_history pair) (reader_of pair 0)) (true_session.exact refl)
+
+-- A line that stands before those of a state.
+lines_after : (after (accepted ∷ []) (record start { lines = line 1 1 Unfinished [] ∷ [] })).lines ≡ accepted ∷ line 1 1 Unfinished [] ∷ []
+lines_after = refl
+
+-- Attempts 0 and 2 aren't the reader's, which has one try.
+not_begun : IsOfReader (reader_of pair 0) (line 0 0 Accept (read 0 1 10 ∷ read 1 1 20 ∷ [])) → ⊥
+not_begun h = let low : 1 ≤ 0 = h.begun in omega arith
+
+not_tried : IsOfReader (reader_of pair 0) (line 0 2 Accept (read 0 1 10 ∷ read 1 1 20 ∷ [])) → ⊥
+not_tried h = let most : 2 ≤ 1 = h.tried in omega arith
+
+-- How the read items follow the query 0, 1: all, the first with item 1 refused, and none yet.
+pub follow : Follows (0 ∷ 1 ∷ []) Accept (0 ∷ 1 ∷ []) × Follows (0 ∷ 1 ∷ []) (Abort 1 2 0) (0 ∷ []) × Follows (0 ∷ 1 ∷ []) Unfinished []
+unfolding Follows
+follow = (refl, (refl, refl, (0, omega arith, refl)), (refl, omega arith))
+
+-- Items in another order don't.
+no_other_order : Follows (0 ∷ 1 ∷ []) Accept (1 ∷ 0 ∷ []) → ⊥
+unfolding Follows
+no_other_order e = cc
+
+-- Cycles count from 1 where the bucket fits; of one that doesn't, of another edition, nothing is asked.
+pub cycles_from_one : CyclesFromOne (air_of pair) (Some (record { edition = 0; cycle = 1; slot = 0; body = Column 0 10 (0 ∷ 0 ∷ []) })
+    ∷ None ∷ Some (record { edition = 1; cycle = 0; slot = 0; body = Column 0 10 (0 ∷ 0 ∷ []) }) ∷ [])
+unfolding fits
+cycles_from_one = All-from_recursion (λ o. IfSome o (λ b. IsTrue (fits (air_of pair) b) → 1 ≤ b.cycle))
+    (Some (record { edition = 0; cycle = 1; slot = 0; body = Column 0 10 (0 ∷ 0 ∷ []) }) ∷ None ∷ Some (record { edition = 1; cycle = 0; slot = 0; body = Column 0 10 (0 ∷ 0 ∷ []) }) ∷ [])
+    (λ _. omega arith, (tt, (λ f. absurd (false≢true f), tt)))
+
+-- Both judges name a held item; one that names item 7 whatever is held doesn't.
+pub name_held : NamesHeld (by_history FMatrix (values_in pair) (script_history pair)) × NamesHeld (by_entries FMatrix)
+name_held = names FMatrix (values_in pair) (script_history pair)
+
+abbrev names_seven : Judge
+names_seven = record { value = λ r. 0; clash = λ R x. Some (record { item = 7; cycle = 0 }) }
+
+not_held : NamesHeld names_seven → ⊥
+not_held h = let found = h [] (record { item = 0; cycle = 1; value = 0; entries = [] }) (record { item = 7; cycle = 0 }) refl in omega (arith, found.1)
