@@ -3,11 +3,12 @@
 //! The type keeps the rules: reads distinct and at most 16, writes distinct and 1 to 16, each base read, a minus
 //! only with a base. Contracts see an update as its two lists.
 
-ghost use Rattle.std.specs.Prelude.{◌≡◌, ◌↔◌, ℕ, length, map, Bool, MatchResult, IfOk, IsTrue, All, ◌⊎◌, ◌==◌, Some, None};
+ghost use Rattle.std.specs.Prelude.{◌≡◌, ◌↔◌, ◌≤◌, ℕ, length, map, Bool, MatchResult, IfOk, IsTrue, All, ◌⊎◌, ◌==◌, Some, None};
 ghost use Rattle.std.specs.List.{list_any, list_all};
 ghost use Rattle.air_history.specs.UpdateRules.{has_repeat, item_of, base_is_read, update_fault, KeepsRules, UpdateFits};
 
 use air_base::NoMemory;
+use arrayvec::ArrayVec;
 use std::alloc::Global;
 use std::error::Error;
 use std::fmt;
@@ -51,7 +52,7 @@ impl Error for UpdateFault {}
 /// An update: the items that it reads, and its writes.
 #[derive(Debug, Drop)]
 pub struct Update {
-    reads: Vec<u16>,
+    reads: ArrayVec<u16, 16>,
     writes: Vec<Write>,
 }
 
@@ -84,13 +85,13 @@ impl Update {
         if !all_based(reads, writes) {
             return Err(UpdateFault::BaseNotRead);
         }
-        let Ok(reads) = reads.to_vec(alloc) else {
-            return Err(UpdateFault::NoMemory);
-        };
         let Ok(writes) = writes.to_vec(alloc) else {
             return Err(UpdateFault::NoMemory);
         };
-        Ok(Update { reads, writes })
+        Ok(Update {
+            reads: inline(reads),
+            writes,
+        })
     }
 
     /// An update of lists that keep the rules: these are asked of the caller, and not looked through again.
@@ -99,7 +100,7 @@ impl Update {
         ensures { IfOk result (λ u. u ≡ record { reads = reads.now; writes = writes.now }) }
     {
         Ok(Update {
-            reads: reads.to_vec(alloc)?,
+            reads: inline(reads),
             writes: writes.to_vec(alloc)?,
         })
     }
@@ -109,7 +110,7 @@ impl Update {
         ensures { IfOk result (λ u. u ≡ self.now) }
     {
         Ok(Update {
-            reads: self.reads.to_vec(alloc)?,
+            reads: inline(&self.reads),
             writes: self.writes.to_vec(alloc)?,
         })
     }
@@ -118,7 +119,7 @@ impl Update {
     pub fn reads(&self) -> &[u16]
         ensures { result.now ≡ self.now.reads }
     {
-        &self.reads
+        self.reads.as_slice()
     }
 
     /// Its writes, in order.
@@ -141,6 +142,16 @@ impl Update {
     {
         let _reads = &self.reads;
     }
+}
+
+/// The items in the value itself, as an update keeps them.
+fn inline(items: &[u16]) -> ArrayVec<u16, 16>
+    requires { length items.now ≤ 16 }
+    ensures { result.items ≡ items.now }
+{
+    let mut kept = ArrayVec::new();
+    let _fits = kept.try_extend_from_slice(items);
+    kept
 }
 
 /// Whether the number is one of the list.
