@@ -38,7 +38,7 @@ impl fmt::Display for ReadFileError {
 impl Error for ReadFileError {}
 
 /// How many bytes one read asks for at most.
-const BLOCK: usize = 4096;
+const BLOCK: usize = 16_384;
 
 /// The whole of a file that has at most `limit` bytes.
 pub fn read_file<S: Shelf>(
