@@ -1,6 +1,6 @@
 -- Disks with their frequencies: how many there are, and what each says.
-use Rattle.std.proofs.Common.{◌≡◌, ◌<◌, ◌≤◌, ◌+◌, ◌-◌, ◌*◌, ◌∷◌, [], ℕ, zero, suc, List, Some, length, map, get_or, slice_get, refl, ap, subst, sym, ◌∙◌, arith}
-use Rattle.std.specs.Prelude.{All, IfSome, unwrap_or}
+use Rattle.std.proofs.Common.{◌≡◌, ◌<◌, ◌+◌, ◌-◌, ◌*◌, ◌∷◌, [], ℕ, zero, suc, List, Some, length, map, get_or, slice_get, refl, ap, subst, sym, ◌∙◌, arith}
+use Rattle.std.specs.Prelude.{All, unwrap_or}
 use Rattle.std.proofs.lemmas.List.{get_or-map, length-map}
 use Rattle.std.proofs.lemmas.Option.{get_or_from_slice_get}
 use Rattle.air_model.specs.Disks.{DiskSpec}

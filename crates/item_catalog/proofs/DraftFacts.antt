@@ -1,7 +1,7 @@
 -- The parts of entries and one more are the parts of the entries with that one added.
 use Rattle.std.proofs.Common.{◌≡◌, ◌≢◌, ◌<◌, ◌+◌, ◌++◌, ◌∷◌, [], ℕ, zero, suc, List, Option, Some, None, Bool, true, false, cond, ◌∙◌, sym, refl, ap, arith, map, get_or, length, nat_lt, max, inl, inr, ◌⊎◌}
 use Rattle.std.specs.Prelude.{◌==◌, count_by}
-use Rattle.std.specs.List.{filter_map, flat_map, range_with_len}
+use Rattle.std.specs.List.{filter_map, range_with_len}
 use Rattle.std.proofs.lemmas.List.{append-nil, same_lists, length-set, get_or-set_same, get_or-set_other, map-append}
 use Rattle.std.proofs.lemmas.List.Elements.{filter_map-append}
 use Rattle.std.proofs.lemmas.List.Concat.{flat_map-append}
@@ -17,7 +17,7 @@ use Rattle.item_catalog.specs.Entries.{Entry}
 use Rattle.item_catalog.specs.Entries as e
 use Rattle.item_catalog.specs.Faults.{script_passes, tests_of}
 use Rattle.item_catalog.specs.Limits.{most_readers, most_updaters}
-use Rattle.item_catalog.specs.Parts.{count_queries, count_updates, disks_in, greatest, is_query, is_update, items_in, its_disk, its_events, its_item, its_query, its_reader, its_setting, its_update, its_updaters, queries_in, readers_in, script_in, set_in, updaters_in, updates_in}
+use Rattle.item_catalog.specs.Parts.{greatest, is_query, is_update, its_disk, its_events, its_item, its_query, its_reader, its_setting, its_update, its_updaters, queries_in, script_in, updaters_in, updates_in}
 use Rattle.item_catalog.specs.declared.parts.ItemPart.{ItemPart}
 use Rattle.item_catalog.specs.declared.parts.DiskPart.{DiskPart}
 use Rattle.item_catalog.specs.declared.settings.Setting.{Setting}

@@ -1,13 +1,13 @@
 -- What the numbers of an entry are that a record spells.
-use Rattle.std.proofs.Common.{◌≡◌, ◌<◌, ◌≤◌, ◌^◌, ◌++◌, ◌∷◌, [], ℕ, List, Option, Some, None, Result, Ok, Err, Bool, true, false, not, refl, sym, ap, ◌∙◌, map, nat_lt, nat_le, length, option_map, arith, cond}
-use Rattle.std.specs.Prelude.{◌||◌, ◌&&◌, ◌==◌}
+use Rattle.std.proofs.Common.{◌≡◌, ◌<◌, ◌≤◌, ◌^◌, ◌++◌, ◌∷◌, [], ℕ, List, Option, Some, None, Ok, Bool, true, false, not, refl, ap, map, nat_lt, nat_le, length, option_map, arith}
+use Rattle.std.specs.Prelude.{◌||◌, ◌==◌}
 use Rattle.std.specs.List.{list_all, list_any}
 use Rattle.std.proofs.lemmas.Bool.{and_parts}
 use Rattle.std.proofs.lemmas.Bool.Decides.{nat_tests}
 use Rattle.air_base.specs.Numbers.{number_of}
 use Rattle.air_base.specs.NumberLists.{all_some, list_of, parts_of}
 use Rattle.air_history.specs.declared.updates.Write.{Write}
-use Rattle.air_history.specs.UpdateRules.{base_holds, base_is_read, has_repeat, item_of, update_fault, within_limits}
+use Rattle.air_history.specs.UpdateRules.{base_holds, base_is_read, has_repeat, item_of, update_fault}
 use Rattle.item_catalog.specs.Entries.{Entry, entry_of, query_by, script_by, update_by}
 use Rattle.item_catalog.specs.Entries as e
 use Rattle.item_catalog.specs.Fields.{changed, constant, cut_at, event_of, two_of, value_of, write_by, write_from, write_of}

@@ -1,6 +1,6 @@
 -- Every list of records is without fault, or has a first fault, and never two.
 use Rattle.std.proofs.Common.{◌≡◌, ◌<◌, ◌≤◌, ◌+◌, ℕ, zero, suc, List, [], ◌∷◌, ◌⊎◌, inl, inr, length, refl, sym, ap, ◌∙◌, arith}
-use Rattle.std.specs.Prelude.{All, Contains}
+use Rattle.std.specs.Prelude.{All}
 use Rattle.std.proofs.lemmas.Bool.{cases_lt, cases_order}
 use Rattle.item_catalog.specs.Faults.{kinds_at}
 use Rattle.item_catalog.specs.Grammar.{Faultless, IsFirstFault, IsLeast}

@@ -1,36 +1,28 @@
 -- What the parts keep that entries declare to which no kind applies, one entry after the other.
 --
 -- `Kept` is the sum of it, and `Spelt` what an entry is that a record spells. `KeptSteps` has the steps.
-use Rattle.std.proofs.Common.{◌≡◌, ◌≢◌, ◌<◌, ◌≤◌, ◌+◌, ◌^◌, ◌++◌, ◌∷◌, [], ℕ, zero, suc, List, Option, Some, None, Bool, true, false, not, cond, ◌∙◌, sym, refl, ap, subst, arith, map, get_or, length, nat_lt, nat_le, max, inl, inr, ◌⊎◌, length-append, set}
-use Rattle.std.specs.Prelude.{◌==◌, ◌||◌, All, sum_by}
-use Rattle.std.specs.List.{list_all, list_any, filter_map}
-use Rattle.std.proofs.lemmas.Bool.{and_parts, cases_eq, cases_lt}
-use Rattle.std.proofs.lemmas.Bool.Decides.{nat_tests}
-use Rattle.std.proofs.lemmas.List.{append-nil, get_or-set_other, get_or-set_same, get_or_past, length-set, set_past}
-use Rattle.std.proofs.lemmas.List.Elements.{All-append, filter_map-append}
-use Rattle.std.proofs.lemmas.List.FromFn.{length-map-range_with_len, get_or-map-range_with_len}
+use Rattle.std.proofs.Common.{◌≡◌, ◌<◌, ◌≤◌, ◌+◌, ◌^◌, ◌++◌, ◌∷◌, [], ℕ, zero, suc, List, Option, Bool, true, false, ap, arith, get_or, length, nat_le, inl, inr, length-append}
+use Rattle.std.specs.Prelude.{All, sum_by}
+use Rattle.std.specs.List.{list_all, list_any}
+use Rattle.std.proofs.lemmas.Bool.{and_parts, cases_lt}
+use Rattle.std.proofs.lemmas.List.{set_past}
+use Rattle.std.proofs.lemmas.List.Elements.{All-append}
 use Rattle.std.proofs.lemmas.List.Sums.{sum_by-set}
-use Rattle.air_history.specs.declared.updates.Write.{Write}
 use Rattle.air_history.specs.UpdateLists.{UpdateLists}
-use Rattle.air_history.specs.UpdateRules.{UpdateFits, has_repeat}
 use Rattle.air_model.specs.Decks.{IsQuery, IsUpdate, count_parts}
 use Rattle.air_model.specs.declared.deck.ReaderPlan.{ReaderPlan}
 use Rattle.item_catalog.specs.DeckLimits.{ReaderWithin}
-use Rattle.item_catalog.specs.Decks.{for_each}
-use Rattle.item_catalog.specs.Drafts.{DraftValue, draft_tests, push_at, with_entry}
+use Rattle.item_catalog.specs.Drafts.{DraftValue, push_at}
 use Rattle.item_catalog.specs.Entries.{Entry}
 use Rattle.item_catalog.specs.Entries as e
-use Rattle.item_catalog.specs.Faults.{count_starts, first_of, option_any, reaches, script_passes, some_below, write_reaches}
+use Rattle.item_catalog.specs.Faults.{count_starts, option_any}
 use Rattle.item_catalog.specs.Limits.{outside}
-use Rattle.item_catalog.specs.Parts.{count_queries, count_updates, disks_in, items_in, its_update, its_updaters, queries_in, readers_in, script_in, set_in, updaters_in, updates_in}
 use Rattle.item_catalog.specs.Settings.{range_of}
 use Rattle.item_catalog.specs.declared.parts.ItemPart.{ItemPart}
 use Rattle.item_catalog.specs.declared.parts.DiskPart.{DiskPart}
 use Rattle.item_catalog.specs.declared.settings.Setting.{Setting}
 use Rattle.item_catalog.specs.declared.settings.Setting.TheVariants as setting
-use Rattle.item_catalog.proofs.DraftFacts.{count_kept, count_more, none_more, one_more, pushed, script_kept, same_from, updaters_kept, updaters_more, eq_other, eq_self}
-use Rattle.item_catalog.proofs.EntryFacts.{UpdateTested, is_signed, none_of_one, none_of_three, none_of_two, or_none, rules_kept, update_tested}
-use Rattle.item_catalog.proofs.ScriptFacts.{none_below, parts_all, starts_all}
+use Rattle.item_catalog.proofs.EntryFacts.{is_signed, or_none}
 
 -- ---- lists
 

@@ -1,6 +1,5 @@
 -- Records without fault declare parts that keep every limit, up to each place; so what a text spells is well made.
-use Rattle.std.proofs.Common.{◌≡◌, ◌<◌, ◌≤◌, ◌+◌, ◌++◌, ◌∷◌, [], ℕ, zero, suc, List, Option, Some, None, Result, Ok, Err, ◌∙◌, sym, refl, ap, subst, arith, get_or, length, take, inl, inr}
-use Rattle.std.specs.Prelude.{All, slice_get, sum_by}
+use Rattle.std.proofs.Common.{◌≡◌, ◌<◌, ◌≤◌, ◌+◌, ◌++◌, ◌∷◌, [], ℕ, zero, suc, List, None, Result, Ok, Err, ◌∙◌, sym, refl, ap, subst, arith, get_or, length, take, inl, inr}
 use Rattle.std.proofs.lemmas.Bool.{cases_lt}
 use Rattle.std.proofs.lemmas.List.{get_or_past, take_all, take_more}
 use Rattle.std.proofs.lemmas.List.FromFn.{length-map-range_with_len, get_or-map-range_with_len}
@@ -8,12 +7,12 @@ use Rattle.std.proofs.lemmas.Option.{slice_get-get_or}
 use Rattle.air_history.specs.UpdateLists.{UpdateLists}
 use Rattle.air_model.specs.Decks.{Deck, IsDeck}
 use Rattle.item_catalog.specs.DeckLimits.{WithinLimits}
-use Rattle.item_catalog.specs.Decks.{deck_of, for_each}
-use Rattle.item_catalog.specs.Drafts.{deck_from, draft_of, draft_tests, with_entry}
+use Rattle.item_catalog.specs.Decks.{for_each}
+use Rattle.item_catalog.specs.Drafts.{draft_of, draft_tests}
 use Rattle.item_catalog.specs.Entries.{Entry, entry_of}
-use Rattle.item_catalog.specs.Faults.{end_tests, entries_in, first_of, kinds_after, kinds_at, kinds_of, place_kinds, tests_of}
+use Rattle.item_catalog.specs.Faults.{end_tests, entries_in, first_of, kinds_after, kinds_at, tests_of}
 use Rattle.item_catalog.specs.Grammar.{Faultless, RowsSpell}
-use Rattle.item_catalog.specs.Parts.{disks_in, items_in, queries_in, updates_in}
+use Rattle.item_catalog.specs.Parts.{disks_in, items_in}
 use Rattle.item_catalog.proofs.DraftFacts.{draft_more, tests_same}
 use Rattle.item_catalog.proofs.KeptFacts.{Kept}
 use Rattle.item_catalog.proofs.KeptSteps.{kept_more}

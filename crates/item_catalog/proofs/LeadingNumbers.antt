@@ -1,19 +1,33 @@
 -- The number that the digits at the front of a text spell, read digit by digit.
--- `numbered` and `leading_number` of `fronts` cite these.
-use Rattle.std.proofs.Common.{◌≡◌, ◌<◌, ◌≤◌, ◌^◌, ◌+◌, ◌*◌, ◌-◌, ◌++◌, ℕ, List, Some, None, true, length, get_or, take, drop, refl, sym, ap, subst, ◌∙◌, arith}
+-- `numbered` and `long_number` of `fronts` cite these.
+use Rattle.std.proofs.Common.{◌≡◌, ◌<◌, ◌≤◌, ◌^◌, ◌+◌, ◌*◌, ◌-◌, ◌++◌, ℕ, List, Some, None, true, false, length, get_or, take, drop, inl, inr, sym, ap, subst, ◌∙◌, arith}
 use Rattle.std.specs.Char.{is_ascii_digit}
-use Rattle.std.specs.List.{list_all}
 use Rattle.std.specs.Str.Parse.{digits_value}
+use Rattle.std.proofs.lemmas.Bool.{cases_lt}
 use Rattle.std.proofs.lemmas.List.{get_or-take, length-take-le, take-append-drop, take-append-le, take_all}
 use Rattle.air_base.specs.Numbers.{number_of}
 use Rattle.air_base.proofs.NumberFacts.{DigitsRead, bad_front, spelled, too_great, value_more}
-use Rattle.item_catalog.specs.Fronts.{digits_of, front}
-use Rattle.item_catalog.proofs.FrontFacts.{front_past, scan_more}
+use Rattle.item_catalog.specs.Fronts.{after_digits, behind, digits_of, front}
+use Rattle.item_catalog.proofs.FrontFacts.{end_behind, end_front, front_past, scan_behind, scan_front, scan_more}
 
--- All digits at the front were read.
-module _ (text : List ℕ) (len n : ℕ) (read : DigitsRead text len n) (within : len ≤ length text) (digits : take len text ≡ digits_of text) where
+-- All digits at the front were read: what stands behind them, if anything does, is no digit.
+module _ (text : List ℕ) (len n : ℕ) (read : DigitsRead text len n) (within : len ≤ length text) (stop : is_ascii_digit (get_or text len 0) ≡ false) where
   long : length (take len text) ≡ len
   long = length-take-le len text within
+
+  digits : take len text ≡ digits_of text
+  unfolding digits_of
+  digits = elim (cases_lt len (length text)) as (λ _. take len text ≡ front is_ascii_digit text) [
+    | inl less ↦ scan_front is_ascii_digit text len read.digits 0 less stop
+    | inr end ↦ end_front is_ascii_digit text len read.digits len end end
+  ]
+
+  pub rest_read : drop len text ≡ after_digits text
+  unfolding after_digits
+  rest_read = elim (cases_lt len (length text)) as (λ _. drop len text ≡ behind is_ascii_digit text) [
+    | inl less ↦ scan_behind is_ascii_digit text len read.digits 0 less stop
+    | inr end ↦ end_behind is_ascii_digit text len read.digits len end end
+  ]
 
   pub front_number : 0 < len → (get_or text 0 0 ≡ 48 → len ≡ 1) → number_of (digits_of text) ≡ Some n
   front_number some alone =

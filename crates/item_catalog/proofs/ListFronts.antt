@@ -1,10 +1,8 @@
 -- A list is read from its front: what is done, and what the rest spells, is what the whole spells.
-use Rattle.std.proofs.Common.{◌≡◌, ◌<◌, ◌≤◌, ◌+◌, ◌++◌, ◌∷◌, [], ℕ, List, Option, Some, None, Bool, true, false, cond, not, refl, sym, ap, ◌∙◌, map, length, append_assoc, option_map, arith}
-use Rattle.std.specs.Prelude.{◌==◌}
-use Rattle.std.proofs.lemmas.List.{append-nil}
+use Rattle.std.proofs.Common.{◌≡◌, ◌<◌, ◌≤◌, ◌++◌, ◌∷◌, [], ℕ, List, Option, Some, None, Bool, true, false, cond, refl, sym, ap, ◌∙◌, map, length, append_assoc, option_map, arith}
 use Rattle.air_base.specs.NumberLists.{all_some, list_of}
 use Rattle.item_catalog.specs.Fields.{cut_at}
-use Rattle.item_catalog.specs.Fronts.{FrontIs, after_part, behind, first_part, front, is_no_space}
+use Rattle.item_catalog.specs.Fronts.{after_part, behind, first_part, is_no_space}
 use Rattle.item_catalog.proofs.WriteFronts.{cut_first, cut_rest}
 
 -- What the parts between spaces spell, of a text that isn't empty.

@@ -2,7 +2,7 @@
 --
 -- `part_ends`, `part_goes_on` answer the reader of numbers, `part_is_start` that of events. `spelled_digits` (a number's text
 -- has digits alone) and `no_number` (a text with another byte is no number) serve the writes too.
-use Rattle.std.proofs.Common.{◌≡◌, ◌<◌, ◌≤◌, ◌^◌, ◌+◌, ◌++◌, ◌∷◌, [], ℕ, zero, suc, List, Option, Some, None, Bool, true, false, cond, not, length, nat_lt, refl, sym, ap, ◌∙◌, arith, option_map, codes, take, drop, ◌-◌}
+use Rattle.std.proofs.Common.{◌≡◌, ◌<◌, ◌^◌, ◌++◌, ◌∷◌, [], ℕ, suc, List, Option, Some, None, Bool, true, false, cond, not, length, nat_lt, refl, sym, ap, ◌∙◌, arith, option_map, codes, take, drop, ◌-◌}
 use Rattle.std.specs.Prelude.{◌&&◌, ◌||◌, ◌==◌}
 use Rattle.std.specs.Char.{is_ascii_digit}
 use Rattle.std.specs.List.{list_all}

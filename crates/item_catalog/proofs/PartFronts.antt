@@ -6,9 +6,8 @@ use Rattle.std.specs.List.{list_all}
 use Rattle.std.proofs.lemmas.List.{append-nil}
 use Rattle.std.proofs.lemmas.Bool.Decides.{nat_tests}
 use Rattle.air_base.specs.Numbers.{number_of}
-use Rattle.air_history.specs.declared.updates.Write.{Write}
 use Rattle.item_catalog.specs.Fields.{changed, constant, value_of, write_of}
-use Rattle.item_catalog.specs.Fronts.{FrontIs, after_digits, after_part, begins, digits_of, ends_part, first_part, front}
+use Rattle.item_catalog.specs.Fronts.{FrontIs, after_digits, after_part, begins, digits_of, ends_part, first_part, sign_of}
 use Rattle.item_catalog.proofs.FrontFacts.{front_all}
 use Rattle.item_catalog.proofs.NumberFronts.{after_by_digits, behind_digits, ended, goes_on, part_by_digits}
 use Rattle.item_catalog.proofs.WriteFronts.{value_minus, value_number, value_other, value_no_item, value_plus, write_digits, write_equals, write_other}
@@ -59,6 +58,9 @@ module _ (text : List ℕ) where
       by [] h = cc h
       by (c ∷ more) h = let same : c ≡ s = grind (arith, nat_tests, h) in (more, ap (λ x. x ∷ more) same)
 
+  pub after_sign : (s : ℕ) (more : List ℕ) → after_digits text ≡ s ∷ more → (s == 32) ≡ false → after_part more ≡ after_part text
+  after_sign s more e space = sym (after_with text s more e space)
+
   pub value_plus_front : (item : Option ℕ) (more : List ℕ) → after_digits text ≡ 43 ∷ more
       → value_of item (first_part text) ≡ changed false item (number_of (digits_of text)) (number_of (first_part more))
   value_plus_front item more e = ap (value_of item) (part_with text 43 more e refl) ∙ value_plus item (digits_of text) (first_part more) (digits text)
@@ -66,6 +68,11 @@ module _ (text : List ℕ) where
   pub value_minus_front : (item : Option ℕ) (more : List ℕ) → after_digits text ≡ 45 ∷ more
       → value_of item (first_part text) ≡ changed true item (number_of (digits_of text)) (number_of (first_part more))
   value_minus_front item more e = ap (value_of item) (part_with text 45 more e refl) ∙ value_minus item (digits_of text) (first_part more) (digits text)
+
+  pub value_signed_front : (minus : Bool) (item : Option ℕ) (more : List ℕ) → after_digits text ≡ sign_of minus ∷ more
+      → (value_of item (first_part text) ≡ changed minus item (number_of (digits_of text)) (number_of (first_part more))) × (after_part more ≡ after_part text)
+  value_signed_front true item more e = (value_minus_front item more e, after_sign 45 more e refl)
+  value_signed_front false item more e = (value_plus_front item more e, after_sign 43 more e refl)
 
   pub value_number_front : (item : Option ℕ) → ends_part (after_digits text) ≡ true → value_of item (first_part text) ≡ constant item (number_of (digits_of text))
   value_number_front item ends = ap (value_of item) (part_alone text ends) ∙ value_number item (digits_of text) (digits text)
@@ -78,9 +85,6 @@ module _ (text : List ℕ) where
       by false true t p_is m_is t_is = let more = behind_sign 45 m_is in value_minus_front item more.0 more.1 ∙ rw none (no_base true item _)
       by false false true p_is m_is t_is = value_number_front item t_is ∙ rw none (no_amount item)
       by false false false p_is m_is t_is = value_other_front item p_is m_is t_is
-
-  pub after_sign : (s : ℕ) (more : List ℕ) → after_digits text ≡ s ∷ more → (s == 32) ≡ false → after_part more ≡ after_part text
-  after_sign s more e space = sym (after_with text s more e space)
 
   -- A whole write.
   pub write_value_front : (more : List ℕ) → after_digits text ≡ 61 ∷ more → write_of (first_part text) ≡ value_of (number_of (digits_of text)) (first_part more)

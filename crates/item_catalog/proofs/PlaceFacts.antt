@@ -2,17 +2,16 @@
 --
 -- `kinds_before` and `kinds_here` say that a place's kinds hang on the records up to it alone; `added` and `refused` are the
 -- step of a reader that keeps a draft, `ended_good` and `ended_bad` its end.
-use Rattle.std.proofs.Common.{◌≡◌, ◌<◌, ◌≤◌, ◌+◌, ◌++◌, ◌∷◌, [], ℕ, zero, suc, List, Option, Some, None, Result, Ok, Err, Bool, true, false, cond, ◌∙◌, sym, refl, ap, arith, map, take, length, nat_lt, get_or, append_assoc, length-append, inl, inr}
+use Rattle.std.proofs.Common.{◌≡◌, ◌<◌, ◌≤◌, ◌+◌, ◌++◌, ◌∷◌, [], ℕ, zero, suc, List, Some, None, Result, Ok, Err, Bool, true, false, cond, ◌∙◌, sym, refl, ap, arith, take, length, nat_lt, append_assoc, length-append, inl, inr}
 use Rattle.std.specs.Prelude.{◌&&◌, All, slice_get}
-use Rattle.std.specs.List.{filter, filter_map}
 use Rattle.std.proofs.lemmas.Bool.{and_parts, cases_lt}
 use Rattle.std.proofs.lemmas.Bool.Decides.{nat_tests}
-use Rattle.std.proofs.lemmas.List.{append-nil, take-append-le, take_all}
+use Rattle.std.proofs.lemmas.List.{take-append-le, take_all}
 use Rattle.std.proofs.lemmas.List.Elements.{filter_map-append}
-use Rattle.item_catalog.specs.Drafts.{DraftValue, draft_of, draft_tests, judged, with_entry, with_spelled}
+use Rattle.item_catalog.specs.Drafts.{draft_of, judged, with_spelled}
 use Rattle.item_catalog.specs.Entries.{Entry, entry_of}
 use Rattle.item_catalog.specs.Entries as e
-use Rattle.item_catalog.specs.Faults.{end_tests, entries_in, entry_if, first_of, kinds_after, kinds_at, kinds_of, place_kinds, tests_of}
+use Rattle.item_catalog.specs.Faults.{end_tests, entries_in, entry_if, first_of, kinds_after, kinds_at, kinds_of, tests_of}
 use Rattle.item_catalog.specs.Grammar.{Faultless, IsFirstFault, IsLeast}
 use Rattle.item_catalog.specs.Parts.{disks_in, items_in}
 use Rattle.item_catalog.proofs.DraftFacts.{draft_more, tests_same}

@@ -1,12 +1,11 @@
 -- What is answered of a text whose first records were read: the fault of the next one, or that of the end, or the deck.
-use Rattle.std.proofs.Common.{◌≡◌, ◌+◌, ◌++◌, ◌∷◌, [], ℕ, List, Option, Some, None, Result, Ok, Err, ◌∙◌, sym, refl, ap, subst, arith, length}
+use Rattle.std.proofs.Common.{◌≡◌, ◌+◌, ◌++◌, ◌∷◌, [], ℕ, List, Option, Some, None, Result, Ok, Err, ◌∙◌, sym, refl, ap, subst, length}
 use Rattle.std.specs.Prelude.{IfErr, IfOk}
 use Rattle.csv.specs.Machine.{next_record}
 use Rattle.csv.specs.Reading.{Reached, default_config, strip_bom}
 use Rattle.csv.specs.declared.parser.State.{State}
 use Rattle.csv.specs.declared.parser.State.TheVariants as st
 use Rattle.air_model.specs.Decks.{Deck}
-use Rattle.item_catalog.specs.Decks.{deck_of}
 use Rattle.item_catalog.specs.Drafts.{DraftValue, deck_from, draft_of, judged}
 use Rattle.item_catalog.specs.Ends.{CanEnd, EndsBy}
 use Rattle.item_catalog.specs.Entries.{entry_of}

@@ -1,15 +1,14 @@
 -- Lists of items and of writes while they are read: one more, and what all of a list leaves.
-use Rattle.std.proofs.Common.{◌≡◌, ◌++◌, ◌∷◌, [], ℕ, List, Option, Some, None, Bool, true, false, refl, sym, ap, ◌∙◌, fold, append_assoc, cond, nat_le, map}
-use Rattle.std.specs.Prelude.{◌||◌, ◌==◌}
-use Rattle.std.specs.List.{list_any}
-use Rattle.std.proofs.lemmas.List.{append-nil, map-append}
+use Rattle.std.proofs.Common.{◌≡◌, ◌++◌, ◌∷◌, [], ℕ, List, Option, Some, None, Bool, true, false, refl, sym, ap, ◌∙◌, fold, append_assoc, cond, nat_le}
+use Rattle.std.specs.Prelude.{◌||◌}
+use Rattle.std.proofs.lemmas.List.{append-nil}
 use Rattle.std.proofs.lemmas.List.Folds.{list_any-append}
-use Rattle.air_history.specs.UpdateRules.{has_repeat, item_of}
-use Rattle.item_catalog.specs.Faults.{is_unread, reaches, write_reaches}
+use Rattle.air_history.specs.UpdateRules.{has_repeat}
+use Rattle.item_catalog.specs.Faults.{reaches}
 use Rattle.item_catalog.proofs.RepeatFacts.{or_false, repeat_push}
 use Rattle.std.proofs.lemmas.List.Sums.{fold-append}
 use Rattle.air_history.specs.declared.updates.Write.{Write}
-use Rattle.item_catalog.specs.Seen.{ItemsSeen, ReadIs, WritesSeen, among, items_seen, no_items, no_writes, see_item, see_write, writes_seen}
+use Rattle.item_catalog.specs.Seen.{ItemsSeen, ReadIs, among, items_seen, no_items, no_writes, see_item, see_write, writes_seen}
 
 pub read_some : {A : Type 0} (list : Option A) (x : A) (Holds : A → Type 0) → list ≡ Some x → Holds x → ReadIs true list Holds
 read_some list x Holds e h = rw e (refl, h)

@@ -1,9 +1,9 @@
 -- What a record spells has numbers that fit.
-use Rattle.std.proofs.Common.{◌≡◌, ◌<◌, ◌≤◌, ◌^◌, ◌∷◌, [], ℕ, List, Option, Some, None, Result, Ok, Err, Bool, true, false, cond, not, sym, refl, ap, ◌∙◌, arith, nat_lt, get_or, map, option_map, codes}
-use Rattle.std.specs.Prelude.{◌||◌, All}
+use Rattle.std.proofs.Common.{◌≡◌, ◌<◌, ◌^◌, ◌∷◌, [], ℕ, List, Option, Some, None, Ok, Bool, true, false, cond, refl, arith, nat_lt, option_map, codes}
+use Rattle.std.specs.Prelude.{All}
 use Rattle.std.proofs.lemmas.Bool.Decides.{nat_tests}
 use Rattle.air_base.specs.Numbers.{number_of}
-use Rattle.air_base.specs.NumberLists.{all_some, list_of, parts_of}
+use Rattle.air_base.specs.NumberLists.{list_of, parts_of}
 use Rattle.air_base.specs.declared.verdicts.Policy.{Policy}
 use Rattle.air_history.specs.declared.updates.Write.{Write}
 use Rattle.item_catalog.specs.Entries.{◌>>=◌, Entry, disk_by, entry_by, entry_of, item_by, or_fault, query_by, reader_by, script_by, set_by, tag_of, update_by}

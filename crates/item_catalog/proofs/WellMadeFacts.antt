@@ -1,27 +1,24 @@
 -- The deck of parts to which no kind applies is well made, and within the limits.
-use Rattle.std.proofs.Common.{◌≡◌, ◌<◌, ◌≤◌, ◌+◌, ◌*◌, ◌^◌, ◌++◌, ◌∷◌, [], ℕ, zero, suc, List, Option, Some, None, Result, Ok, Err, Bool, true, false, cond, not, ◌∙◌, sym, refl, ap, subst, arith, map, get_or, length, take, nat_lt, inl, inr, replicate}
-use Rattle.std.specs.Prelude.{◌==◌, ◌||◌, All, slice_get, sum_by, unwrap_or}
+use Rattle.std.proofs.Common.{◌≡◌, ◌<◌, ◌≤◌, ◌+◌, ◌*◌, ◌^◌, ◌∷◌, [], ℕ, zero, suc, List, Option, Some, None, Bool, true, false, cond, not, ◌∙◌, sym, refl, ap, arith, map, get_or, length, take, nat_lt, inl, inr}
+use Rattle.std.specs.Prelude.{◌==◌, ◌||◌, All, sum_by, unwrap_or}
 use Rattle.std.specs.List.{range_with_len}
 use Rattle.std.proofs.lemmas.Bool.{cases_lt}
 use Rattle.std.proofs.lemmas.Bool.Decides.{nat_tests}
-use Rattle.std.proofs.lemmas.List.{get_or-map, get_or-take, get_or_past, length-map, length-take-le, take_more, get_or-replicate}
+use Rattle.std.proofs.lemmas.List.{get_or-take, length-map, length-take-le}
 use Rattle.std.proofs.lemmas.List.Elements.{All-map}
-use Rattle.std.proofs.lemmas.List.FromFn.{length-map-range_with_len, get_or-map-range_with_len}
 use Rattle.std.proofs.lemmas.List.Sums.{sum_by-cons}
 use Rattle.std.proofs.lemmas.Nat.{mul-le}
-use Rattle.std.proofs.lemmas.Option.{slice_get-get_or}
-use Rattle.air_model.specs.Decks.{Deck, IsDeck, IsQuery, IsUpdate, Item, count_parts, updates_by}
+use Rattle.air_model.specs.Decks.{Deck, IsDeck, IsQuery, IsUpdate, Item, count_parts}
 use Rattle.air_history.specs.UpdateLists.{UpdateLists}
 use Rattle.air_model.specs.declared.deck.ReaderPlan.{ReaderPlan}
 use Rattle.air_model.specs.declared.deck.Settings.{Settings}
 use Rattle.item_catalog.specs.Parts.{queries_in, readers_in, updaters_in, updates_in}
 use Rattle.air_model.specs.Disks.{DiskSpec}
-use Rattle.item_catalog.specs.DeckLimits.{DiskWithin, ReaderWithin, SettingsWithin, WithinLimits}
-use Rattle.item_catalog.specs.Decks.{deck_of, for_each, plain_item, with_freqs}
-use Rattle.item_catalog.specs.Drafts.{DraftValue, deck_from, draft_of, draft_tests, with_entry}
-use Rattle.item_catalog.specs.Entries.{Entry, entry_of}
-use Rattle.item_catalog.specs.Faults.{end_tests, entries_in, first_of, kinds_after, kinds_at, kinds_of, option_any, place_kinds, tests_of}
-use Rattle.item_catalog.specs.Grammar.{Faultless}
+use Rattle.item_catalog.specs.DeckLimits.{SettingsWithin, WithinLimits}
+use Rattle.item_catalog.specs.Decks.{deck_of, plain_item, with_freqs}
+use Rattle.item_catalog.specs.Drafts.{DraftValue, deck_from, draft_of}
+use Rattle.item_catalog.specs.Entries.{Entry}
+use Rattle.item_catalog.specs.Faults.{end_tests, first_of, option_any}
 use Rattle.item_catalog.specs.Limits.{outside}
 use Rattle.item_catalog.specs.Settings.{default_of, number_in, number_said, range_of, same_name, settings_in}
 use Rattle.item_catalog.specs.declared.parts.DiskPart.{DiskPart}
@@ -30,12 +27,8 @@ use Rattle.item_catalog.specs.declared.settings.Name.TheVariants as n
 use Rattle.item_catalog.specs.declared.settings.Setting.{Setting}
 use Rattle.item_catalog.specs.declared.settings.Setting.TheVariants as setting
 use Rattle.item_catalog.proofs.DiskFacts.{freqs_len}
-use Rattle.item_catalog.proofs.DraftFacts.{draft_more, tests_same}
 use Rattle.item_catalog.proofs.EntryFacts.{none_of_two, or_none}
-use Rattle.item_catalog.proofs.KeptFacts.{DiskKept, InRange, Kept, all_more}
-use Rattle.item_catalog.proofs.KeptSteps.{kept_more}
-use Rattle.item_catalog.proofs.PlaceFacts.{entries_more, some_apply}
-use Rattle.item_catalog.proofs.SpeltFacts.{entry_spelt}
+use Rattle.item_catalog.proofs.KeptFacts.{DiskKept, InRange, Kept}
 
 -- ---- settings
 

@@ -1,5 +1,5 @@
 -- Lists of writes of which all was seen, and what the tests of an update and of a query say by what was seen.
-use Rattle.std.proofs.Common.{◌≡◌, ◌++◌, ◌∷◌, [], ℕ, List, Option, Some, None, Bool, true, false, not, refl, sym, ap, ◌∙◌, fold, append_assoc, cond, length, nat_le, nat_lt, map}
+use Rattle.std.proofs.Common.{◌≡◌, ◌++◌, ◌∷◌, [], ℕ, List, None, Bool, true, false, refl, sym, ap, ◌∙◌, fold, append_assoc, cond, nat_le, map}
 use Rattle.std.specs.Prelude.{◌||◌}
 use Rattle.std.specs.List.{list_any}
 use Rattle.std.proofs.lemmas.List.{append-nil, map-append}
@@ -7,7 +7,6 @@ use Rattle.std.proofs.lemmas.List.Folds.{list_any-append}
 use Rattle.air_history.specs.declared.updates.Write.{Write}
 use Rattle.air_history.specs.UpdateRules.{has_repeat, item_of}
 use Rattle.item_catalog.specs.Faults.{first_of, is_unread, query_tests, reaches, update_tests, write_reaches}
-use Rattle.item_catalog.specs.Limits.{outside}
 use Rattle.item_catalog.specs.Seen.{ItemsSeen, WritesSeen, among, items_seen, no_writes, see_write, seen_query_kind, seen_update_kind, writes_seen}
 use Rattle.item_catalog.proofs.RepeatFacts.{or_false, repeat_push}
 use Rattle.item_catalog.proofs.SeenFacts.{AllSeen, all_seen, left_false, or_true}

@@ -2,8 +2,8 @@
 --
 -- `value_number`, `value_plus`, `value_minus`, `value_other` say what follows `=` by its first number and what stands behind
 -- that; `write_equals`, `write_other` and `write_digits` say the same of a whole write.
-use Rattle.std.proofs.Common.{◌≡◌, ◌≢◌, ◌+◌, ◌++◌, ◌∷◌, [], ℕ, zero, suc, List, Option, Some, None, Bool, true, false, cond, not, refl, sym, ap, ◌∙◌, arith, inl, inr, ◌⊎◌}
-use Rattle.std.specs.Prelude.{◌&&◌, ◌==◌}
+use Rattle.std.proofs.Common.{◌≡◌, ◌≢◌, ◌++◌, ◌∷◌, [], ℕ, List, Option, Some, None, Bool, true, false, cond, not, refl, sym, ap, ◌∙◌, arith}
+use Rattle.std.specs.Prelude.{◌==◌}
 use Rattle.std.specs.Char.{is_ascii_digit}
 use Rattle.std.specs.List.{list_all, onto_first}
 use Rattle.std.proofs.lemmas.List.{append-nil}
@@ -11,7 +11,6 @@ use Rattle.std.proofs.lemmas.List.Folds.{list_all-append}
 use Rattle.std.proofs.lemmas.Bool.{and_parts}
 use Rattle.std.proofs.lemmas.Bool.Decides.{nat_tests}
 use Rattle.air_base.specs.Numbers.{number_of}
-use Rattle.air_history.specs.declared.updates.Write.{Write}
 use Rattle.item_catalog.specs.Fields.{changed, constant, cut_at, two_of, value_of, write_by, write_from, write_of}
 use Rattle.item_catalog.specs.Fronts.{front, behind}
 use Rattle.item_catalog.proofs.FrontFacts.{front_all, front_past, behind_past, front_behind}

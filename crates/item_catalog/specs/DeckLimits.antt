@@ -1,9 +1,9 @@
 -- The limits of a deck in the grammar, beside what makes it well made (`IsDeck`).
-use Rattle.std.specs.Prelude.{◌≡◌, ℕ, ◌^◌, ◌<◌, ◌≤◌, List, length, All, sum_by}
+use Rattle.std.specs.Prelude.{ℕ, ◌^◌, ◌<◌, ◌≤◌, length, All, sum_by}
 use Rattle.air_model.specs.declared.deck.ReaderPlan.{ReaderPlan}
 use Rattle.air_model.specs.declared.deck.Settings.{Settings}
 use Rattle.air_model.specs.Disks.{DiskSpec}
-use Rattle.air_model.specs.Decks.{Deck, Item, count_parts}
+use Rattle.air_model.specs.Decks.{Deck}
 use Rattle.std.specs.Prelude.{Option, Some, None, Bool, true, false, count_by}
 
 -- A disk takes at most 256 items, and a cycle airs each of them at most 64 times.

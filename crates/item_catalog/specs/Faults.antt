@@ -3,7 +3,7 @@
 -- For each tag there is a list of kinds with their tests, and a kind applies where its test holds. A test asks of what the
 -- entries before declare alone: how many items, how many updates of an updater, and so on. The end of the deck is judged
 -- as one further record.
-use Rattle.std.specs.Prelude.{◌+◌, ◌==◌, ◌||◌, ◌++◌, ℕ, zero, suc, List, [], ◌∷◌, Bool, true, false, not, Option, Some, None, Result, Ok, Err, length, take, nat_lt, nat_le, map, count_by, slice_get, if◌then◌else◌}
+use Rattle.std.specs.Prelude.{◌+◌, ◌==◌, ◌||◌, ◌++◌, ℕ, zero, suc, List, [], ◌∷◌, Bool, false, not, Option, Some, None, Result, Ok, Err, length, take, nat_lt, nat_le, map, count_by, slice_get, if◌then◌else◌}
 use Rattle.std.specs.List.{list_any, filter, filter_map, sum_by}
 use Rattle.air_history.specs.declared.updates.Write.{Write}
 use Rattle.air_history.specs.UpdateRules.{has_repeat, item_of}

@@ -31,6 +31,10 @@ abbrev pub begins : ℕ → List ℕ → Bool
 begins byte [] = false
 begins byte (c ∷ cs) = c == byte
 
+-- The byte of a sign: `-` of a minus, else `+`.
+abbrev pub sign_of : Bool → ℕ
+sign_of minus = if minus then 45 else 43
+
 -- A text's first part is the `s` of a start.
 abbrev pub begins_start : List ℕ → Bool
 begins_start [] = false

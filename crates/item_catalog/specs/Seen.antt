@@ -2,7 +2,7 @@
 --
 -- Items and writes are kept as long as they are declared and distinct, so that at most as many are kept as there are
 -- items, however long a list is.
-use Rattle.std.specs.Prelude.{◌≡◌, ◌==◌, ◌||◌, ◌++◌, ◌<◌, ℕ, List, [], ◌∷◌, Bool, true, false, not, Option, Some, None, map, fold, length, get_or, nat_le, nat_lt, if◌then◌else◌}
+use Rattle.std.specs.Prelude.{◌≡◌, ◌==◌, ◌||◌, ◌++◌, ◌<◌, ℕ, List, [], ◌∷◌, Bool, true, false, Option, Some, None, map, fold, length, get_or, nat_le, nat_lt, if◌then◌else◌}
 use Rattle.std.specs.List.{list_any}
 use Rattle.air_history.specs.declared.updates.Write.{Write}
 use Rattle.air_history.specs.UpdateRules.{item_of}

@@ -3,11 +3,12 @@
 //! A list is read from its front, one part after the other, with no memory: a reader gives the value of the first part
 //! and the text behind it, which is empty or begins with a space.
 
-ghost use Rattle.std.specs.Prelude.{◌≡◌, ◌≤◌, ◌∷◌, drop, length, option_map, take, MatchOption, Some, None, false};
+ghost use Rattle.std.specs.Prelude.{◌≡◌, ◌<◌, ◌≤◌, ◌+◌, ◌*◌, ◌∷◌, get_or, length, option_map, MatchOption, Some, None, false};
+ghost use Rattle.std.specs.Char.{is_ascii_digit};
 ghost use Rattle.air_base.specs.Numbers.{number_of};
 ghost use Rattle.air_base.proofs.NumberFacts.{DigitsRead};
 ghost use Rattle.item_catalog.specs.Fields.{changed, event_of, value_of, write_of};
-ghost use Rattle.item_catalog.specs.Fronts.{FrontIs, digits_of, after_digits, begins, begins_start, ends_part};
+ghost use Rattle.item_catalog.specs.Fronts.{FrontIs, digits_of, after_digits, begins, begins_start, ends_part, sign_of};
 ghost use Rattle.item_catalog.specs.Seen.{write_said};
 
 use air_base::with_digit;
@@ -32,11 +33,11 @@ fn ends_part(text: &[u8]) -> bool
 }
 
 /// The number of the digits at the front, where these are so many and have this value; what follows them.
+#[inline(always)]
 fn numbered(text: &[u8], len: usize, number: u64) -> Option<(u64, &[u8])>
     requires within { len ≤ length text.now }
     requires read { DigitsRead text.now len number }
-    requires digits { take len text.now ≡ digits_of text.now }
-    requires rest { drop len text.now ≡ after_digits text.now }
+    requires stop { is_ascii_digit (get_or text.now len 0) ≡ false }
     ensures { MatchOption result (number_of (digits_of text.now) ≡ None) (λ f. (number_of (digits_of text.now) ≡ Some f.0) × (f.1.now ≡ after_digits text.now)) }
 {
     if len == 0 {
@@ -48,16 +49,34 @@ fn numbered(text: &[u8], len: usize, number: u64) -> Option<(u64, &[u8])>
     Some((number, &text[len..]))
 }
 
-/// The number that the digits at the front spell, whatever follows them.
-fn leading_number(text: &[u8]) -> Option<(u64, &[u8])>
+/// The number with the digit at this place at its end, where one stands there.
+#[inline(always)]
+fn with_place(text: &[u8], place: usize, number: u64) -> Option<u64>
+    requires within { place < length text.now }
+    requires small { number < 1000 }
+    requires read { DigitsRead text.now place number }
+    ensures { MatchOption result (is_ascii_digit (get_or text.now place 0) ≡ false) (λ more. DigitsRead text.now (place + 1) more × (more ≤ number * 10 + 9)) }
+{
+    let byte = text[place];
+    if !byte.is_ascii_digit() {
+        return None;
+    }
+    Some(number * 10 + u64::from(byte - b'0'))
+}
+
+/// The number that the digits at the front spell, of which so many were read and have this value.
+#[inline(always)]
+fn long_number(text: &[u8], from: usize, read: u64) -> Option<(u64, &[u8])>
+    requires within { from ≤ length text.now }
+    requires read { DigitsRead text.now from read }
     ensures { MatchOption result (number_of (digits_of text.now) ≡ None) (λ f. (number_of (digits_of text.now) ≡ Some f.0) × (f.1.now ≡ after_digits text.now)) }
 {
-    let mut number = 0;
-    for (i, byte) in text.iter().enumerate() {
-        if !byte.is_ascii_digit() {
+    let mut number = read;
+    for i in from..text.len() {
+        if !text[i].is_ascii_digit() {
             return numbered(text, i, number);
         }
-        let Some(more) = with_digit(number, *byte - b'0') else {
+        let Some(more) = with_digit(number, text[i] - b'0') else {
             return None;
         };
         number = more;
@@ -65,8 +84,32 @@ fn leading_number(text: &[u8]) -> Option<(u64, &[u8])>
     numbered(text, text.len(), number)
 }
 
+/// The number that the digits at the front spell, whatever follows them: an item's three digits without a loop.
+#[inline(always)]
+fn leading_number(text: &[u8]) -> Option<(u64, &[u8])>
+    ensures { MatchOption result (number_of (digits_of text.now) ≡ None) (λ f. (number_of (digits_of text.now) ≡ Some f.0) × (f.1.now ≡ after_digits text.now)) }
+{
+    if text.len() < 4 {
+        return long_number(text, 0, 0);
+    }
+    let Some(one) = with_place(text, 0, 0) else {
+        return numbered(text, 0, 0);
+    };
+    let Some(two) = with_place(text, 1, one) else {
+        return numbered(text, 1, one);
+    };
+    let Some(three) = with_place(text, 2, two) else {
+        return numbered(text, 2, two);
+    };
+    if text[3].is_ascii_digit() {
+        return long_number(text, 3, three);
+    }
+    numbered(text, 3, three)
+}
+
 /// The number that the first part spells.
 #[tactic(auto, using(crate::proofs::NumberFronts::part_ends, crate::proofs::NumberFronts::after_ends, crate::proofs::NumberFronts::part_goes_on, crate::proofs::NumberFronts::no_digits))]
+#[inline(always)]
 pub fn number_front(text: &[u8]) -> Option<(u64, &[u8])>
     ensures { FrontIs number_of text.now (option_map (λ f. (f.0, f.1.now)) result) }
 {
@@ -104,6 +147,7 @@ pub fn event_front(text: &[u8]) -> Option<(Option<u64>, &[u8])>
 }
 
 /// The write of an item and a base, by the text behind the sign.
+#[inline(always)]
 fn changed_front(item: u64, base: u64, minus: bool, text: &[u8]) -> Option<(WritePart, &[u8])>
     ensures { FrontIs (λ part. changed minus (Some item) (Some base) (number_of part)) text.now (option_map (λ f. (write_said f.0, f.1.now)) result) }
 {
@@ -131,19 +175,27 @@ fn behind(text: &[u8], byte: u8) -> Option<&[u8]>
     }
 }
 
+/// Whether the sign at the front is a minus, and the text behind it.
+fn signed(text: &[u8]) -> Option<(bool, &[u8])>
+    ensures { MatchOption result ((begins 43 text.now ≡ false) × (begins 45 text.now ≡ false)) (λ s. text.now ≡ sign_of s.0 ∷ s.1.now) }
+{
+    match text.split_first() {
+        Some((first, rest)) if *first == b'+' || *first == b'-' => Some((*first == b'-', rest)),
+        _ => None,
+    }
+}
+
 /// The write of an item, by the text behind the `=`.
-#[tactic(auto, using(crate::proofs::PartFronts::value_plus_front, crate::proofs::PartFronts::value_minus_front, crate::proofs::PartFronts::value_number_front, crate::proofs::PartFronts::value_no_number, crate::proofs::PartFronts::value_other_front, crate::proofs::PartFronts::after_sign, crate::proofs::NumberFronts::after_ends))]
+#[tactic(auto, using(crate::proofs::PartFronts::value_number_front, crate::proofs::PartFronts::value_no_number, crate::proofs::PartFronts::value_other_front, crate::proofs::NumberFronts::after_ends))]
+#[inline(always)]
 fn value_front(item: u64, text: &[u8]) -> Option<(WritePart, &[u8])>
     ensures { FrontIs (value_of (Some item)) text.now (option_map (λ f. (write_said f.0, f.1.now)) result) }
 {
     let Some((amount, rest)) = leading_number(text) else {
         return None;
     };
-    if let Some(more) = behind(rest, b'+') {
-        return changed_front(item, amount, false, more);
-    }
-    if let Some(more) = behind(rest, b'-') {
-        return changed_front(item, amount, true, more);
+    if let Some((minus, more)) = signed(rest) {
+        return changed_front(item, amount, minus, more);
     }
     if !ends_part(rest) {
         return None;
@@ -159,6 +211,7 @@ fn value_front(item: u64, text: &[u8]) -> Option<(WritePart, &[u8])>
 
 /// The write that the first part spells.
 #[tactic(auto, using(crate::proofs::PartFronts::write_value_front, crate::proofs::PartFronts::write_no_number, crate::proofs::PartFronts::write_other_front, crate::proofs::PartFronts::after_sign))]
+#[inline(always)]
 pub fn write_front(text: &[u8]) -> Option<(WritePart, &[u8])>
     ensures { FrontIs write_of text.now (option_map (λ f. (write_said f.0, f.1.now)) result) }
 {

@@ -15,8 +15,8 @@ use std::marker::Model;
 /// The items that are declared and distinct, in order; whether one wasn't declared, or stood twice.
 #[derive(Debug, Drop)]
 pub struct ItemList {
-    items: Vec<u16>,
     marks: [bool; 256],
+    items: Vec<u16>,
     undeclared: bool,
     repeated: bool,
 }

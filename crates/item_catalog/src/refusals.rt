@@ -1,5 +1,6 @@
 //! Why a record adds nothing to a deck that is read.
 
+use air_base::NoMemory;
 use std::alloc::{AllocError, AllocFailed};
 
 /// A fault of this kind applies, or there was no memory.
@@ -27,6 +28,17 @@ impl<T: Drop> From<AllocFailed<T>> for Refusal {
     ghost from_gives = { λ _ e. e ≡ NoMemory };
 
     fn from(_error: AllocFailed<T>) -> Self {
+        Refusal::NoMemory
+    }
+}
+
+impl From<NoMemory> for Refusal {
+    ghost use Rattle.std.specs.Prelude.{◌≡◌};
+    ghost use Rattle.item_catalog.specs.declared.refusals.Refusal.TheVariants.{NoMemory};
+
+    ghost from_gives = { λ _ e. e ≡ NoMemory };
+
+    fn from(_error: NoMemory) -> Self {
         Refusal::NoMemory
     }
 }

@@ -18,8 +18,8 @@ use std::marker::Model;
 /// written before, or has a base that isn't read.
 #[derive(Debug, Drop)]
 pub struct WriteList {
-    writes: Vec<Write>,
     marks: [bool; 256],
+    writes: Vec<Write>,
     undeclared: bool,
     repeated: bool,
     unread: bool,
@@ -151,11 +151,14 @@ impl WriteList {
         }
         self.writes.push(narrow(write))?;
         self.marks[place] = true;
-        self.unread = self.unread || is_unread(reads, write);
+        if is_unread(reads, write) {
+            self.unread = true;
+        }
         Ok(())
     }
 
     /// Reads the writes of a list: whether the text spells a list.
+    #[inline(never)]
     pub fn read(
         &mut self,
         declared: u16,

@@ -1,4 +1,4 @@
-use Rattle.std.proofs.Common.{◌≡◌, ◌∙◌, Some, refl, sym}
+use Rattle.std.proofs.Common.{◌∙◌, Some, refl, sym}
 use Rattle.item_catalog.specs.Fields.{value_of, write_of}
 use Rattle.item_catalog.proofs.PartFronts.{after_sign, front_moved, write_value_front}
 use Rattle.item_catalog.proofs.fronts.write_front.Goals as goal

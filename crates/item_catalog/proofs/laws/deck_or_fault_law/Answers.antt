@@ -1,4 +1,4 @@
-use Rattle.std.proofs.Common.{◌≡◌, ◌+◌, inl, inr, length, refl, arith}
+use Rattle.std.proofs.Common.{◌+◌, inl, inr, length, refl, arith}
 use Rattle.item_catalog.specs.Records.{records_of}
 use Rattle.item_catalog.specs.Faults.{entries_in}
 use Rattle.item_catalog.specs.Decks.{deck_of}

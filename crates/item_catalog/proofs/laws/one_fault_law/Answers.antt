@@ -1,4 +1,4 @@
-use Rattle.std.proofs.Common.{◌≡◌, ◌+◌, ◌∙◌, ap, sym}
+use Rattle.std.proofs.Common.{◌+◌, ◌∙◌, ap, sym}
 use Rattle.item_catalog.specs.Records.{records_of}
 use Rattle.item_catalog.specs.Grammar.{HasFault}
 use Rattle.item_catalog.proofs.FaultPlaces.{one_kind, one_place}

@@ -1,12 +1,12 @@
-use Rattle.std.proofs.Common.{Bor, List, ℕ, ◌≡◌, ◌∙◌, ◌+◌, ◌<◌, ◌≤◌, sym, refl, subst, arith, inl, inr, Some, None, Ok, Err, ◌∷◌, [], ◌++◌, ap, length, length-append, true, false}
-use Rattle.csv.specs.Reading.{Reached, ReadRecord, Ready, default_config, strip_bom}
+use Rattle.std.proofs.Common.{Bor, List, ℕ, ◌≡◌, ◌∙◌, sym, refl, subst, arith, inl, inr, Some, None, ◌∷◌, [], ◌++◌, ap, length-append}
+use Rattle.csv.specs.Reading.{Reached, default_config, strip_bom}
 use Rattle.csv.specs.Records.{fields_of}
 use Rattle.csv.specs.declared.parser.State.TheVariants as st
 use Rattle.csv.proofs.ReadFacts.{rows-end, rows-more}
 use Rattle.item_catalog.specs.Drafts.{DraftValue, draft_of, judged, with_spelled}
 use Rattle.item_catalog.specs.Ends.{CanEnd}
 use Rattle.item_catalog.specs.Entries.{entry_of}
-use Rattle.item_catalog.specs.Faults.{end_tests, entries_in, first_of}
+use Rattle.item_catalog.specs.Faults.{entries_in}
 use Rattle.item_catalog.specs.Grammar.{HasFault, IsAnswer, Spells}
 use Rattle.item_catalog.proofs.PlaceFacts.{added, faultless_more}
 use Rattle.item_catalog.proofs.ReadingFacts.{can_end, ends_deck, ends_fault, err_more, ok_more, read_fault}

@@ -1,8 +1,7 @@
 //! Records with lists: updates, queries and events of the script.
 
-ghost use Rattle.std.specs.Prelude.{◌≡◌, IfErr, IfOk, None, OnOk, drop};
+ghost use Rattle.std.specs.Prelude.{◌≡◌, OnOk, drop};
 ghost use Rattle.csv.specs.Records.{fields_of};
-ghost use Rattle.air_history.specs.UpdateRules.{update_fault};
 ghost use Rattle.item_catalog.specs.Drafts.{Adds, QueryRead, UpdateRead};
 ghost use Rattle.item_catalog.specs.Entries.{query_by, script_by, update_by};
 ghost use Rattle.item_catalog.specs.Fields.{one_of, three_of, two_of};
@@ -15,7 +14,7 @@ use crate::parts::Query;
 use crate::refusals::Refusal;
 use crate::write_lists::WriteList;
 use air_base::read_u64;
-use air_history::{Update, Write};
+use air_history::Update;
 use csv::ByteRecord;
 use std::alloc::Global;
 
@@ -56,18 +55,6 @@ fn query_kind(asked: &ItemList, readers: usize, reader: u64, given: u32) -> Opti
     None
 }
 
-/// The update of lists that keep its rules, so that only memory can be wanting.
-fn make_update(alloc: Global, reads: &[u16], writes: &[Write]) -> Result<Update, Refusal>
-    requires { update_fault reads.now writes.now ≡ None }
-    ensures made { IfOk result (λ update. update ≡ record { reads = reads.now; writes = writes.now }) }
-    ensures cause { IfErr result (λ refusal. refusal ≡ Refusal.NoMemory) }
-{
-    match Update::of_lists(alloc, reads, writes) {
-        Ok(update) => Ok(update),
-        Err(_) => Err(Refusal::NoMemory),
-    }
-}
-
 impl Draft {
     /// Reads the update of a record, and adds nothing.
     fn read_update(&mut self, alloc: Global, row: &ByteRecord) -> Result<(u64, Update), Refusal>
@@ -90,7 +77,7 @@ impl Draft {
         if let Some(kind) = update_kind(&self.item_list, &self.write_list, by, self.update_count) {
             return Err(Refusal::Kind(kind));
         }
-        let update = make_update(alloc, self.item_list.items(), self.write_list.writes())?;
+        let update = Update::of_lists(alloc, self.item_list.items(), self.write_list.writes())?;
         Ok((by, update))
     }
 

@@ -1,4 +1,4 @@
-use Rattle.std.proofs.Common.{◌≡◌, ◌≤◌, arith, ap, length}
+use Rattle.std.proofs.Common.{◌≤◌, arith, ap, length}
 use Rattle.std.proofs.lemmas.List.{length-map}
 use Rattle.air_model.specs.Decks.{Deck, Item}
 use Rattle.item_catalog.specs.Decks.{plain_item}

@@ -1,9 +1,8 @@
-use Rattle.std.proofs.Common.{◌≡◌, ◌<◌, ◌≤◌, ◌∙◌, ◌++◌, ◌∷◌, [], ℕ, Some, None, arith, ap, length, refl, sym}
+use Rattle.std.proofs.Common.{◌≡◌, ◌<◌, ◌∙◌, ◌++◌, ◌∷◌, [], arith, ap, length, sym}
 use Rattle.std.proofs.lemmas.List.{nil_from_length}
 use Rattle.std.proofs.lemmas.Bool.Decides.{nat_tests}
 use Rattle.air_base.specs.Numbers.{number_of}
 use Rattle.air_base.specs.NumberLists.{list_of}
-use Rattle.item_catalog.specs.Fronts.{after_part}
 use Rattle.item_catalog.specs.Seen.{items_seen, see_item}
 use Rattle.item_catalog.proofs.ListFronts.{after_short, joined_none, list_bad, list_empty, list_last, list_more, list_spelled, spelled}
 use Rattle.item_catalog.proofs.SeenFacts.{items_more, read_none, read_some}

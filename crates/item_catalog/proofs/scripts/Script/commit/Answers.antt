@@ -1,8 +1,8 @@
-use Rattle.std.proofs.Common.{◌≡◌, ◌<◌, ◌≤◌, ◌+◌, ◌∙◌, ◌++◌, ◌∷◌, [], Some, ap, arith, length, get_or, set, sym}
+use Rattle.std.proofs.Common.{◌+◌, ◌∙◌, ◌∷◌, [], Some, ap, arith, length, get_or, sym}
 use Rattle.std.proofs.Common.{length-append}
 use Rattle.std.proofs.lemmas.List.{length-set}
 use Rattle.air_model.specs.Decks.{count_parts}
-use Rattle.item_catalog.specs.Faults.{count_starts, script_passes}
+use Rattle.item_catalog.specs.Faults.{count_starts}
 use Rattle.item_catalog.proofs.ScriptFacts.{commit_fits, commits_more, starts_all}
 use Rattle.item_catalog.proofs.scripts.Script.commit.Goals as goal
 

@@ -1,10 +1,7 @@
-use Rattle.std.proofs.Common.{◌≡◌, ◌<◌, ◌≤◌, ◌∙◌, ◌++◌, ◌∷◌, [], ℕ, List, Option, Some, None, Bool, false, arith, ap, length, refl, sym}
+use Rattle.std.proofs.Common.{◌≡◌, ◌∙◌, ◌++◌, ◌∷◌, [], Some, arith, ap, length, refl, sym}
 use Rattle.std.proofs.lemmas.List.{append-nil, nil_from_length}
 use Rattle.std.proofs.lemmas.Bool.Decides.{nat_tests}
-use Rattle.air_base.specs.NumberLists.{list_of}
-use Rattle.item_catalog.specs.Faults.{script_passes}
 use Rattle.item_catalog.specs.Fields.{event_of}
-use Rattle.item_catalog.specs.Seen.{EventsRead}
 use Rattle.item_catalog.proofs.ListFronts.{after_short, list_bad, list_empty, list_last, list_more}
 use Rattle.item_catalog.proofs.ScriptFacts.{passes_none, step_passes, step_taken}
 use Rattle.item_catalog.proofs.scripts.Script.read.Goals as goal

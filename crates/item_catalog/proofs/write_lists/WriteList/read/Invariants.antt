@@ -1,4 +1,4 @@
-use Rattle.std.proofs.Common.{◌≡◌, ℕ, List, length}
+use Rattle.std.proofs.Common.{◌≡◌, List, length}
 use Rattle.item_catalog.specs.Fields.{write_of}
 use Rattle.air_history.specs.declared.updates.Write.{Write}
 use Rattle.air_base.specs.NumberLists.{list_of}

@@ -8,7 +8,6 @@ use Rattle.item_catalog.specs.Entries as e
 use Rattle.item_catalog.specs.Entries.{script_by}
 use Rattle.item_catalog.specs.Faults.{script_passes, some_below}
 use Rattle.item_catalog.specs.Fields.{event_of, one_of}
-use Rattle.item_catalog.specs.Seen.{EventsRead}
 use Rattle.item_catalog.proofs.EntryFacts.{events_are, script_spelled}
 use Rattle.item_catalog.proofs.deck.draft.Draft.add_events.Goals as goal
 use Rattle.item_catalog.proofs.deck.draft.Draft.add_events.Goals.{After-overdraws}

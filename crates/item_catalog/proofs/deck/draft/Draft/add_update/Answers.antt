@@ -1,4 +1,4 @@
-use Rattle.std.proofs.Common.{◌≡◌, ◌≤◌, ◌∙◌, None, ap, arith, length, sym}
+use Rattle.std.proofs.Common.{◌≡◌, ◌∙◌, None, ap, arith, length, sym}
 use Rattle.std.proofs.lemmas.List.{length-set}
 use Rattle.item_catalog.specs.Drafts.{DraftValue, judged}
 use Rattle.item_catalog.specs.Faults.{first_of, update_tests}

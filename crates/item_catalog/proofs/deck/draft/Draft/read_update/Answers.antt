@@ -1,4 +1,4 @@
-use Rattle.std.proofs.Common.{◌≡◌, ◌∙◌, List, ℕ, None, Some, Ok, Result, ap, drop, length, refl, sym, arith}
+use Rattle.std.proofs.Common.{◌≡◌, ◌∙◌, List, ℕ, None, Some, Ok, Result, ap, drop, length, sym, arith}
 use Rattle.csv.specs.Records.{fields_of}
 use Rattle.air_base.specs.Numbers.{number_of}
 use Rattle.air_base.specs.NumberLists.{list_of}
@@ -69,9 +69,9 @@ reads_kept c l none = ap (λ (s : ItemsSeen). s.items) l.reads ∙ (update_kept 
 writes_kept : (c : After-update_kind) (l : Lists c) → c.update_kind.result ≡ None → c.read-2.new.self.writes ≡ l.ws
 writes_kept c l none = ap (λ (s : WritesSeen). s.writes) l.writes ∙ (update_kept (length c.args.self.now.items) l.rs l.ws c.in-Some-read_u64.by c.args.self.now.update_count (none_told c l none)).1
 
-pub make_update-requires : goal.make_update-requires
-make_update-requires c =
-    let a = (goal.at.make_update-requires c).After-update_kind in let l = lists a in
+pub of_lists-requires : goal.of_lists-requires
+of_lists-requires c =
+    let a = (goal.at.of_lists-requires c).After-update_kind in let l = lists a in
     ap (λ r. update_fault r c.writes.result.now) (c.items.ensures ∙ reads_kept a l c.in_default-update_kind.is) ∙ ap (λ w. update_fault l.rs w) (c.writes.ensures ∙ writes_kept a l c.in_default-update_kind.is)
     ∙ rules_kept (length c.args.self.now.items) c.in-Some-read_u64.by c.args.self.now.update_count l.rs l.ws (writes_signed c.in-Some.writes.now l.ws l.listed) (none_told a l c.in_default-update_kind.is)
 
@@ -80,7 +80,7 @@ returns-clause-read c =
     let a = (goal.at.returns-clause-read c).After-update_kind in let l = lists a in
     let reads : c.items.result.now ≡ l.rs = c.items.ensures ∙ reads_kept a l c.in_default-update_kind.is in
     let writes : c.writes.result.now ≡ l.ws = c.writes.ensures ∙ writes_kept a l c.in_default-update_kind.is in
-    let made : c.in_ok-update.update ≡ record { reads = l.rs; writes = l.ws } = c.in_ok-update.ensures.made ∙ ap (λ r. lists_of r c.writes.result.now) reads ∙ ap (λ w. lists_of l.rs w) writes in (
+    let made : c.in_ok-update.update ≡ record { reads = l.rs; writes = l.ws } = c.in_ok-update.ensures ∙ ap (λ r. lists_of r c.writes.result.now) reads ∙ ap (λ w. lists_of l.rs w) writes in (
       ap (judged c.args.self.now) l.spelled ∙ none_told a l c.in_default-update_kind.is,
       l.spelled ∙ sym (ap (λ (u : UpdateLists). result_of c.in-Some-read_u64.by u) made),
     )

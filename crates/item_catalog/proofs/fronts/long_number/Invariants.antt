@@ -1,5 +1,5 @@
 use Rattle.air_base.proofs.NumberFacts.{DigitsRead}
-use Rattle.item_catalog.proofs.fronts.leading_number.Given as goal
+use Rattle.item_catalog.proofs.fronts.long_number.Given as goal
 
 abbrev pub invariant-loop-i : goal.invariant-loop-i
 invariant-loop-i l = DigitsRead l.text l.i l.number
