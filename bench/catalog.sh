@@ -1,31 +1,13 @@
 #!/usr/bin/env bash
 # How long `read_deck` takes, and how much memory, beside a bare pass over the records of the same text.
 # Usage: bench/catalog.sh [RUNS]. Prints a table; each time is the median of the runs, each memory the peak of the process
-# that GNU time tells (a dash where it is not installed), with that of reading the file alone before it. The program
-# stands in bench/catalog.txt; it is proved and built in a scratch copy of the crates, so that the repository keeps no such crate.
+# that GNU time tells (a dash where it is not installed), with that of reading the file alone before it. The program is
+# bench/catalog.txt.
 set -u
 cd "$(dirname "$0")/.." || exit 1
 runs=${1:-5}
-scratch=$(mktemp -d) || exit 1
-trap 'rm -rf "$scratch"' EXIT
-mkdir "$scratch/crates"
-for crate in air_base air_history air_model item_catalog; do
-    cp -r "crates/$crate" "$scratch/crates/" || exit 1
-    rm -rf "$scratch/crates/$crate/must-fail"
-    grep "^$crate:" crates.txt >>"$scratch/crates.txt" || exit 1
-done
-cd "$scratch" || exit 1
-(rt new crates/catalog_bench start_io && rm -rf crates/catalog_bench/* BUILD.bazel) >/dev/null 2>&1
-mkdir crates/catalog_bench/src
-echo "catalog_bench: air_base air_history air_model item_catalog csv" >>crates.txt
-cp "$OLDPWD/bench/catalog.txt" crates/catalog_bench/src/main.rt
-touch crates/catalog_bench/stdin
-(cd crates/catalog_bench && rt run) >"$scratch/log" 2>&1
-program=$scratch/crates/catalog_bench/out/catalog_bench
-if [ ! -x "$program" ]; then
-    cat "$scratch/log"
-    exit 1
-fi
+source bench/build.sh
+build catalog air_base air_history air_model item_catalog csv
 
 # deck UPDATES AMOUNT: 256 items, so many updates of sixteen reads and sixteen writes each, and 10,000 queries of sixteen items
 deck() {
@@ -67,16 +49,19 @@ row() {
     local bare deck
     bare=$(median records "$2")
     deck=$(median deck "$2")
-    printf '%-32s %10s %9d.%03d %9d.%03d %5d.%02d %10s %10s %10s\n' "$1" "$(wc -c <"$2")" \
+    printf '%-38s %10s %9d.%03d %9d.%03d %5d.%02d %10s %10s %10s\n' "$1" "$(wc -c <"$2")" \
         $((bare / 1000)) $((bare % 1000)) $((deck / 1000)) $((deck % 1000)) $((deck / bare)) $((deck * 100 / bare % 100)) \
         "$(peak bytes "$2")" "$(peak records "$2")" "$(peak deck "$2")"
 }
 
-printf '%-32s %10s %13s %13s %8s %10s %10s %10s\n' deck bytes 'pass, ms' 'read_deck, ms' times 'file, KiB' 'pass, KiB' 'deck, KiB'
+printf '%-38s %10s %13s %13s %8s %10s %10s %10s\n' deck bytes 'pass, ms' 'read_deck, ms' times 'file, KiB' 'pass, KiB' 'deck, KiB'
 for updates in 25000 50000 100000; do
     deck "$updates" 12 >"$scratch/deck.csv"
-    row "$updates updates, 10000 queries" "$scratch/deck.csv"
+    row "$updates updates, amounts of 2 digits" "$scratch/deck.csv"
 done
+deck 100000 123456789 >"$scratch/deck.csv"
+row '100000 updates, amounts of 9 digits' "$scratch/deck.csv"
 deck 100000 18446744073709551615 >"$scratch/deck.csv"
+row '100000 updates, amounts of 20 digits' "$scratch/deck.csv"
 fill "$scratch/deck.csv" 67108864
-row 'the same at the limit of bytes' "$scratch/deck.csv"
+row 'the same, filled up to 67108864 bytes' "$scratch/deck.csv"
