@@ -3,9 +3,11 @@ pub mod FaultPlaces
 pub mod FrontFacts
 pub mod NumberFronts
 pub mod LeadingNumbers
+pub mod PlainFronts
 pub mod WriteFronts
 pub mod PartFronts
 pub mod ListFronts
+pub mod PlainLists
 pub mod RepeatFacts
 pub mod SeenFacts
 pub mod WriteFacts

@@ -2,17 +2,8 @@
 use Rattle.std.proofs.Common.{◌≡◌, ◌<◌, ◌≤◌, ◌++◌, ◌∷◌, [], ℕ, List, Option, Some, None, Bool, true, false, cond, refl, sym, ap, ◌∙◌, map, length, append_assoc, option_map, arith}
 use Rattle.air_base.specs.NumberLists.{all_some, list_of}
 use Rattle.item_catalog.specs.Fields.{cut_at}
-use Rattle.item_catalog.specs.Fronts.{after_part, behind, first_part, is_no_space}
+use Rattle.item_catalog.specs.Fronts.{after_part, behind, first_part, is_no_space, joined, spelled}
 use Rattle.item_catalog.proofs.WriteFronts.{cut_first, cut_rest}
-
--- What the parts between spaces spell, of a text that isn't empty.
-abbrev pub spelled : {A : Type 0} → (List ℕ → Option A) → List ℕ → Option (List A)
-spelled value text = all_some (map value (cut_at 32 text))
-
--- These elements, and then those.
-abbrev pub joined : {A : Type 0} → List A → Option (List A) → Option (List A)
-joined done None = None
-joined done (Some more) = Some (done ++ more)
 
 pub parts_front : (text : List ℕ) → cut_at 32 text ≡ first_part text ∷ cut_rest 32 (after_part text)
 unfolding first_part after_part

@@ -1,6 +1,9 @@
 -- A text up to its first space, and what a reader of the value at the front of a list says of it.
-use Rattle.std.specs.Prelude.{◌≡◌, ◌==◌, ℕ, List, [], ◌∷◌, Bool, true, false, not, ◌&&◌, Option, Some, None, if◌then◌else◌}
+use Rattle.std.specs.Prelude.{◌≡◌, ◌==◌, ◌<◌, ◌≤◌, ◌+◌, ◌++◌, ℕ, List, [], ◌∷◌, Bool, true, false, not, ◌&&◌, Option, Some, None, map, drop, get_or, length, if◌then◌else◌}
 use Rattle.std.specs.Char.{is_ascii_digit}
+use Rattle.air_base.specs.NumberLists.{all_some, list_of}
+use Rattle.air_base.proofs.NumberFacts.{DigitsRead}
+use Rattle.item_catalog.specs.Fields.{cut_at}
 
 -- What stands before the first element that doesn't pass the test, and what stands from it on.
 abbrev pub front : (ℕ → Bool) → List ℕ → List ℕ
@@ -51,3 +54,28 @@ after_digits text = behind is_ascii_digit text
 abbrev pub FrontIs : {A : Type 0} → (List ℕ → Option A) → List ℕ → Option (A × List ℕ) → Type 0
 FrontIs value text None = value (first_part text) ≡ None
 FrontIs value text (Some f) = (value (first_part text) ≡ Some f.0) × (f.1 ≡ after_part text)
+
+-- The digits at the front of a text, one to three of them, are a number: with no zero before others.
+abbrev pub ShortRead : List ℕ → ℕ → ℕ → Type 0
+ShortRead text few n = (0 < few) × (few ≤ 3) × DigitsRead text few n × (get_or text 0 0 ≡ 48 → few ≡ 1)
+
+-- Such a number stands at a place, with the place behind it.
+abbrev pub ShortAt : List ℕ → ℕ → ℕ × ℕ → Type 0
+ShortAt text place f = (few : ℕ) × (f.1 ≡ place + few) × ShortRead (drop place text) few f.0
+
+-- The value of the part at a place, where a space stands behind it, with the place behind that space.
+abbrev pub PlainAt : {A : Type 0} → (List ℕ → Option A) → List ℕ → ℕ → A × ℕ → Type 0
+PlainAt value text place f = FrontIs value (drop place text) (Some (f.0, 32 ∷ drop f.1 text)) × (f.1 ≤ length text)
+
+-- What the parts between spaces spell, of a text that isn't empty.
+abbrev pub spelled : {A : Type 0} → (List ℕ → Option A) → List ℕ → Option (List A)
+spelled value text = all_some (map value (cut_at 32 text))
+
+-- These elements, and then those.
+abbrev pub joined : {A : Type 0} → List A → Option (List A) → Option (List A)
+joined done None = None
+joined done (Some more) = Some (done ++ more)
+
+-- Parts of a list were read up to a place: of their values this holds, and what the rest spells with them is what the list spells.
+abbrev pub ReadsTo : {A : Type 0} → (List ℕ → Option A) → List ℕ → (List A → Type 0) → ℕ → Type 0
+ReadsTo value text Holds place = (done : List _) × Holds done × (joined done (spelled value (drop place text)) ≡ list_of value text) × (place ≤ length text)

@@ -3,7 +3,7 @@
 //! A list is read from its front, one part after the other, with no memory: a reader gives the value of the first part
 //! and the text behind it, which is empty or begins with a space.
 
-ghost use Rattle.std.specs.Prelude.{◌≡◌, ◌<◌, ◌≤◌, ◌+◌, ◌*◌, ◌∷◌, get_or, length, option_map, MatchOption, Some, None, false};
+ghost use Rattle.std.specs.Prelude.{◌≡◌, ◌≤◌, ◌∷◌, get_or, length, option_map, MatchOption, Some, None, false};
 ghost use Rattle.std.specs.Char.{is_ascii_digit};
 ghost use Rattle.air_base.specs.Numbers.{number_of};
 ghost use Rattle.air_base.proofs.NumberFacts.{DigitsRead};
@@ -11,7 +11,7 @@ ghost use Rattle.item_catalog.specs.Fields.{changed, event_of, value_of, write_o
 ghost use Rattle.item_catalog.specs.Fronts.{FrontIs, digits_of, after_digits, begins, begins_start, ends_part, sign_of};
 ghost use Rattle.item_catalog.specs.Seen.{write_said};
 
-use air_base::with_digit;
+use crate::digits::{all_digits, short_number};
 
 /// A write as its text says it.
 #[derive(Clone, Copy, Debug, PartialEq, Eq)]
@@ -49,62 +49,19 @@ fn numbered(text: &[u8], len: usize, number: u64) -> Option<(u64, &[u8])>
     Some((number, &text[len..]))
 }
 
-/// The number with the digit at this place at its end, where one stands there.
-#[inline(always)]
-fn with_place(text: &[u8], place: usize, number: u64) -> Option<u64>
-    requires within { place < length text.now }
-    requires small { number < 1000 }
-    requires read { DigitsRead text.now place number }
-    ensures { MatchOption result (is_ascii_digit (get_or text.now place 0) ≡ false) (λ more. DigitsRead text.now (place + 1) more × (more ≤ number * 10 + 9)) }
-{
-    let byte = text[place];
-    if !byte.is_ascii_digit() {
-        return None;
-    }
-    Some(number * 10 + u64::from(byte - b'0'))
-}
-
-/// The number that the digits at the front spell, of which so many were read and have this value.
-#[inline(always)]
-fn long_number(text: &[u8], from: usize, read: u64) -> Option<(u64, &[u8])>
-    requires within { from ≤ length text.now }
-    requires read { DigitsRead text.now from read }
-    ensures { MatchOption result (number_of (digits_of text.now) ≡ None) (λ f. (number_of (digits_of text.now) ≡ Some f.0) × (f.1.now ≡ after_digits text.now)) }
-{
-    let mut number = read;
-    for i in from..text.len() {
-        if !text[i].is_ascii_digit() {
-            return numbered(text, i, number);
-        }
-        let Some(more) = with_digit(number, text[i] - b'0') else {
-            return None;
-        };
-        number = more;
-    }
-    numbered(text, text.len(), number)
-}
-
-/// The number that the digits at the front spell, whatever follows them: an item's three digits without a loop.
+/// The number that the digits at the front spell, whatever follows them.
 #[inline(always)]
 fn leading_number(text: &[u8]) -> Option<(u64, &[u8])>
     ensures { MatchOption result (number_of (digits_of text.now) ≡ None) (λ f. (number_of (digits_of text.now) ≡ Some f.0) × (f.1.now ≡ after_digits text.now)) }
 {
-    if text.len() < 4 {
-        return long_number(text, 0, 0);
+    if text.len() >= 4
+        && let Some((number, few)) = short_number(text, 0)
+        && !text[few].is_ascii_digit()
+    {
+        return Some((number, &text[few..]));
     }
-    let Some(one) = with_place(text, 0, 0) else {
-        return numbered(text, 0, 0);
-    };
-    let Some(two) = with_place(text, 1, one) else {
-        return numbered(text, 1, one);
-    };
-    let Some(three) = with_place(text, 2, two) else {
-        return numbered(text, 2, two);
-    };
-    if text[3].is_ascii_digit() {
-        return long_number(text, 3, three);
-    }
-    numbered(text, 3, three)
+    let (number, len) = all_digits(text, 0, 0)?;
+    numbered(text, len, number)
 }
 
 /// The number that the first part spells.

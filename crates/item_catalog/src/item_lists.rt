@@ -3,12 +3,14 @@
 //! An item is kept as long as it is declared and wasn't there before, which an array of marks tells at once: so a list
 //! takes no more memory than there are items, however long it is. What a list had that isn't kept is remembered.
 
-ghost use Rattle.std.specs.Prelude.{◌≡◌, ◌<◌, ◌≤◌, IfOk, OnOk, get_or, length, IsTrue};
+ghost use Rattle.std.specs.Prelude.{◌≡◌, ◌<◌, ◌≤◌, ◌&&◌, IfOk, OnOk, get_or, length, IsTrue, nat_lt, not};
 ghost use Rattle.air_base.specs.Numbers.{number_of};
 ghost use Rattle.air_base.specs.NumberLists.{list_of};
+ghost use Rattle.item_catalog.specs.Fronts.{ReadsTo};
 ghost use Rattle.item_catalog.specs.Seen.{ReadIs, among, items_seen, no_items, see_item};
 
 use crate::fronts::number_front;
+use crate::plain_fronts::plain_item;
 use std::alloc::{AllocFailed, Global};
 use std::marker::Model;
 
@@ -83,6 +85,14 @@ impl ItemList {
         self.repeated = false;
     }
 
+    /// Whether an item is declared, and isn't one of them.
+    fn is_new(&self, declared: u16, item: u64) -> bool
+        requires { declared ≤ 256 }
+        ensures { result ≡ (nat_lt item declared && not (among self.now.items item)) }
+    {
+        item < u64::from(declared) && !self.marks[item as usize]
+    }
+
     /// Takes one more item, where those below `declared` are declared.
     fn see(&mut self, declared: u16, item: u64) -> Result<(), AllocFailed<u16>>
         requires { declared ≤ 256 }
@@ -102,6 +112,28 @@ impl ItemList {
         Ok(())
     }
 
+    /// Takes the items of the plain parts at the front of a list, up to the place at which the rest begins.
+    #[inline(always)]
+    fn read_plain(&mut self, declared: u16, text: &[u8]) -> Result<usize, AllocFailed<u16>>
+        requires known { declared ≤ 256 }
+        requires some { 0 < length text.now }
+        requires none { self.old ≡ no_items }
+        ensures { IfOk result (ReadsTo number_of text.now (λ items. self.new ≡ items_seen declared items)) }
+    {
+        let mut place = 0;
+        while text.len() - place >= 4 {
+            let Some((item, behind)) = plain_item(text, place) else {
+                return Ok(place);
+            };
+            if !self.is_new(declared, item) {
+                return Ok(place);
+            }
+            self.see(declared, item)?;
+            place = behind;
+        }
+        Ok(place)
+    }
+
     /// Reads the items of a list, where those below `declared` are declared: whether the text spells a list.
     pub fn read(&mut self, declared: u16, text: &[u8]) -> Result<bool, AllocFailed<u16>>
         requires { declared ≤ 256 }
@@ -111,7 +143,8 @@ impl ItemList {
         if text.is_empty() {
             return Ok(true);
         }
-        let mut rest = text;
+        let place = self.read_plain(declared, text)?;
+        let mut rest = &text[place..];
         loop {
             let Some((item, after)) = number_front(rest) else {
                 return Ok(false);

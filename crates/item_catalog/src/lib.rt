@@ -2,12 +2,14 @@
 #![tactic(auto)]
 
 pub mod deck;
+mod digits;
 pub mod faults;
 mod fields;
 mod fronts;
 mod item_lists;
 pub mod laws;
 mod parts;
+mod plain_fronts;
 pub mod reading;
 mod refusals;
 mod scripts;

@@ -2,14 +2,16 @@
 //!
 //! As a list of items: a write is kept as long as all that it names is declared and its item wasn't written before.
 
-ghost use Rattle.std.specs.Prelude.{◌≡◌, ◌<◌, ◌≤◌, ◌||◌, IfOk, OnOk, IfSome, nat_le};
+ghost use Rattle.std.specs.Prelude.{◌≡◌, ◌<◌, ◌≤◌, ◌||◌, IfOk, OnOk, IfSome, length, nat_le};
 ghost use Rattle.air_base.specs.NumberLists.{list_of};
 ghost use Rattle.item_catalog.specs.Fields.{write_of};
 ghost use Rattle.item_catalog.specs.Faults.{is_unread, option_any, write_reaches};
+ghost use Rattle.item_catalog.specs.Fronts.{ReadsTo};
 ghost use Rattle.item_catalog.specs.Seen.{ReadIs, no_writes, see_write, write_said, writes_seen};
 
 use crate::fronts::{WritePart, write_front};
 use crate::item_lists::ItemList;
+use crate::plain_fronts::plain_write;
 use air_history::Write;
 use std::alloc::{AllocFailed, Global};
 use std::marker::Model;
@@ -157,6 +159,30 @@ impl WriteList {
         Ok(())
     }
 
+    /// Takes the writes of the plain parts at the front of a list, up to the place at which the rest begins.
+    #[inline(always)]
+    fn read_plain(
+        &mut self,
+        declared: u16,
+        reads: &ItemList,
+        text: &[u8],
+    ) -> Result<usize, AllocFailed<Write>>
+        requires known { declared ≤ 256 }
+        requires some { 0 < length text.now }
+        requires none { self.old ≡ no_writes }
+        ensures { IfOk result (ReadsTo write_of text.now (λ writes. self.new ≡ writes_seen declared reads.now.items writes)) }
+    {
+        let mut place = 0;
+        while text.len() - place >= 12 {
+            let Some((write, behind)) = plain_write(text, place) else {
+                return Ok(place);
+            };
+            self.see(declared, reads, write)?;
+            place = behind;
+        }
+        Ok(place)
+    }
+
     /// Reads the writes of a list: whether the text spells a list.
     #[inline(never)]
     pub fn read(
@@ -172,7 +198,8 @@ impl WriteList {
         if text.is_empty() {
             return Ok(true);
         }
-        let mut rest = text;
+        let place = self.read_plain(declared, reads, text)?;
+        let mut rest = &text[place..];
         loop {
             let Some((write, after)) = write_front(rest) else {
                 return Ok(false);

@@ -1,10 +1,12 @@
-use Rattle.std.proofs.Common.{◌≡◌, ◌<◌, ◌∙◌, ◌++◌, ◌∷◌, [], arith, ap, length, sym}
+use Rattle.std.proofs.Common.{◌≡◌, ◌∙◌, ◌++◌, ◌∷◌, [], arith, ap, length, sym}
 use Rattle.std.proofs.lemmas.List.{nil_from_length}
 use Rattle.std.proofs.lemmas.Bool.Decides.{nat_tests}
 use Rattle.air_base.specs.Numbers.{number_of}
 use Rattle.air_base.specs.NumberLists.{list_of}
 use Rattle.item_catalog.specs.Seen.{items_seen, see_item}
-use Rattle.item_catalog.proofs.ListFronts.{after_short, joined_none, list_bad, list_empty, list_last, list_more, list_spelled, spelled}
+use Rattle.item_catalog.proofs.ListFronts.{after_short, list_bad, list_empty, list_last, list_more}
+use Rattle.item_catalog.specs.Fronts.{joined, spelled}
+use Rattle.item_catalog.proofs.PlainFronts.{from_place}
 use Rattle.item_catalog.proofs.SeenFacts.{items_more, read_none, read_some}
 use Rattle.item_catalog.proofs.item_lists.ItemList.read.Goals as goal
 
@@ -15,10 +17,9 @@ returns-then-is_empty c =
     read_some (list_of number_of c.args.text.now) [] _ (list_empty number_of c.args.text.now none) c.clear.ensures
 
 pub loop-item-init : goal.loop-item-init
-unfolding items_seen
 loop-item-init c =
-    let some : 0 < length c.args.text.now = grind (arith, nat_tests) in
-    ([], c.clear.ensures, joined_none (spelled number_of c.args.text.now) ∙ sym (list_spelled number_of c.args.text.now some))
+    let to = c.in_ok-place.ensures in
+    (to.0, to.1, ap (λ l. joined to.0 (spelled number_of l)) (from_place c.args.text.now c.in_ok-place.place) ∙ to.2)
 
 pub returns-in_default : goal.returns-in_default
 returns-in_default c =

@@ -2,7 +2,7 @@ use Rattle.std.proofs.Common.{◌≡◌, ℕ, List, length}
 use Rattle.air_base.specs.Numbers.{number_of}
 use Rattle.air_base.specs.NumberLists.{list_of}
 use Rattle.item_catalog.specs.Seen.{items_seen}
-use Rattle.item_catalog.proofs.ListFronts.{joined, spelled}
+use Rattle.item_catalog.specs.Fronts.{joined, spelled}
 use Rattle.item_catalog.proofs.item_lists.ItemList.read.Given as goal
 
 -- Some items were read, and what the rest spells with them is what the text spells.

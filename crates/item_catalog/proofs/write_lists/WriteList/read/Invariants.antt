@@ -3,7 +3,7 @@ use Rattle.item_catalog.specs.Fields.{write_of}
 use Rattle.air_history.specs.declared.updates.Write.{Write}
 use Rattle.air_base.specs.NumberLists.{list_of}
 use Rattle.item_catalog.specs.Seen.{writes_seen}
-use Rattle.item_catalog.proofs.ListFronts.{joined, spelled}
+use Rattle.item_catalog.specs.Fronts.{joined, spelled}
 use Rattle.item_catalog.proofs.write_lists.WriteList.read.Given as goal
 
 -- Some writes were read, and what the rest spells with them is what the text spells.
