@@ -1,11 +1,11 @@
 #!/usr/bin/env bash
 # How long `read_deck` takes, and how much memory, beside a bare pass over the records of the same text.
-# Usage: bench/catalog.sh [RUNS]. Prints a table; each time is the median of the runs, each memory the peak of the process
-# that GNU time tells (a dash where it is not installed), with that of reading the file alone before it. The program is
-# bench/catalog.txt.
+# Usage: bench/catalog.sh [RUNS]. Prints a table; pass and deck are run in turns, and each time is the least of the runs, as
+# other work on the machine only adds to it. Each memory is the peak of the process that GNU time tells (a dash where it is
+# not installed), with that of reading the file alone before it. The program is bench/catalog.txt.
 set -u
 cd "$(dirname "$0")/.." || exit 1
-runs=${1:-5}
+runs=${1:-9}
 source bench/build.sh
 build catalog air_base air_history air_model item_catalog csv
 
@@ -34,9 +34,9 @@ fill() {
     head -c $(($2 - $(wc -c <"$1"))) /dev/zero | tr '\0' '\n' >>"$1"
 }
 
-# median WHAT FILE: the microseconds of the median of the runs
-median() {
-    for _ in $(seq "$runs"); do "$program" "$1" "$2"; done | sort -n | sed -n "$(((runs + 1) / 2))p"
+# least TIME SO_FAR: the lesser of the two, where there is one so far
+least() {
+    if [ -n "$2" ] && [ "$2" -le "$1" ]; then echo "$2"; else echo "$1"; fi
 }
 
 # peak WHAT FILE: the KiB that the process took at most
@@ -46,9 +46,11 @@ peak() {
 
 # row NAME FILE: a line of the table
 row() {
-    local bare deck
-    bare=$(median records "$2")
-    deck=$(median deck "$2")
+    local bare= deck=
+    for _ in $(seq "$runs"); do
+        bare=$(least "$("$program" records "$2")" "$bare")
+        deck=$(least "$("$program" deck "$2")" "$deck")
+    done
     printf '%-38s %10s %9d.%03d %9d.%03d %5d.%02d %10s %10s %10s\n' "$1" "$(wc -c <"$2")" \
         $((bare / 1000)) $((bare % 1000)) $((deck / 1000)) $((deck % 1000)) $((deck / bare)) $((deck * 100 / bare % 100)) \
         "$(peak bytes "$2")" "$(peak records "$2")" "$(peak deck "$2")"
