@@ -95,6 +95,7 @@ impl Update {
     }
 
     /// An update of lists that keep the rules: these are asked of the caller, and not looked through again.
+    #[inline(always)]
     pub fn of_lists(alloc: Global, reads: &[u16], writes: &[Write]) -> Result<Update, NoMemory>
         requires { update_fault reads.now writes.now ≡ None }
         ensures { IfOk result (λ u. u ≡ record { reads = reads.now; writes = writes.now }) }
@@ -145,6 +146,7 @@ impl Update {
 }
 
 /// The items in the value itself, as an update keeps them.
+#[inline(always)]
 fn inline(items: &[u16]) -> ArrayVec<u16, 16>
     requires { length items.now ≤ 16 }
     ensures { result.items ≡ items.now }

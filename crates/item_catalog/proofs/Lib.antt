@@ -3,6 +3,7 @@ pub mod FaultPlaces
 pub mod FrontFacts
 pub mod NumberFronts
 pub mod LeadingNumbers
+pub mod MoreDigits
 pub mod PlainFronts
 pub mod WriteFronts
 pub mod PartFronts

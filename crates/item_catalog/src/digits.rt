@@ -8,53 +8,70 @@ ghost use Rattle.item_catalog.specs.Fronts.{ShortAt, digits_of};
 
 use air_base::with_digit;
 
-/// The number with the digit at this place at its end, where one stands there.
+/// Whether a byte is a digit's.
 #[inline(always)]
-fn with_place(text: &[u8], place: usize, number: u64) -> Option<u64>
-    requires within { place < length text.now }
-    requires small { number < 10 ^ 18 }
-    requires read { DigitsRead text.now place number }
-    ensures { MatchOption result (is_ascii_digit (get_or text.now place 0) ≡ false) (λ more. DigitsRead text.now (place + 1) more × (more ≤ number * 10 + 9)) }
+fn is_digit(byte: u64) -> bool
+    ensures { result ≡ is_ascii_digit byte }
 {
-    let digit = u64::from(text[place]).wrapping_sub(48);
-    if 9 < digit {
-        return None;
-    }
-    Some(number * 10 + digit)
+    48 <= byte && byte <= 57
 }
 
-/// The number of one to three digits at a place, and the place behind them.
+/// The number of one to three digits at a place, and the place behind them: behind a zero in front there is none more.
 #[inline(always)]
 pub fn short_number(text: &[u8], place: usize) -> Option<(u64, usize)>
     requires { place + 4 ≤ length text.now }
     ensures { IfSome result (ShortAt text.now place) }
 {
     let digits = &text[place..];
-    let one = with_place(digits, 0, 0)?;
-    let Some(two) = with_place(digits, 1, one) else {
-        return Some((one, place + 1));
-    };
-    if one == 0 {
-        return None;
+    let one = u64::from(digits[0]);
+    if one < 49 || 57 < one {
+        return if one == 48 {
+            Some((0, place + 1))
+        } else {
+            None
+        };
     }
-    let Some(three) = with_place(digits, 2, two) else {
-        return Some((two, place + 2));
-    };
-    Some((three, place + 3))
+    let two = u64::from(digits[1]);
+    if !is_digit(two) {
+        return Some((one - 48, place + 1));
+    }
+    let tens = one * 10 + two;
+    let three = u64::from(digits[2]);
+    if !is_digit(three) {
+        return Some((tens - 528, place + 2));
+    }
+    Some((tens * 10 + three - 5328, place + 3))
 }
 
-/// The number with the four digits from this place on at its end, where four stand there.
+/// The number with the digits from this place on at its end, up to four of them, and how many they are.
 #[inline(always)]
-fn with_four(text: &[u8], place: usize, number: u64) -> Option<u64>
+fn with_four(text: &[u8], place: usize, number: u64) -> (u64, usize)
     requires within { place + 4 ≤ length text.now }
     requires small { number < 10 ^ 15 }
     requires read { DigitsRead text.now place number }
-    ensures { IfSome result (DigitsRead text.now (place + 4)) }
+    ensures few { result.1 ≤ 4 }
+    ensures read { DigitsRead text.now (place + result.1) result.0 }
 {
-    let one = with_place(text, place, number)?;
-    let two = with_place(text, place + 1, one)?;
-    let three = with_place(text, place + 2, two)?;
-    with_place(text, place + 3, three)
+    let one = u64::from(text[place]);
+    if !is_digit(one) {
+        return (number, 0);
+    }
+    let more = number * 10 + one;
+    let two = u64::from(text[place + 1]);
+    if !is_digit(two) {
+        return (more - 48, 1);
+    }
+    let more = more * 10 + two;
+    let three = u64::from(text[place + 2]);
+    if !is_digit(three) {
+        return (more - 528, 2);
+    }
+    let more = more * 10 + three;
+    let four = u64::from(text[place + 3]);
+    if !is_digit(four) {
+        return (more - 5328, 3);
+    }
+    (more * 10 + four - 53_328, 4)
 }
 
 /// More digits of a number of which so many were read, four at a time: its value so far, and how many were read.
@@ -69,9 +86,10 @@ fn with_fours(text: &[u8], from: usize, read: u64) -> (u64, usize)
     let mut number = read;
     let mut place = from;
     while text.len() - place >= 4 && number < 1_000_000_000_000_000 {
-        let Some(more) = with_four(text, place, number) else {
-            return (number, place);
-        };
+        let (more, few) = with_four(text, place, number);
+        if few < 4 {
+            return (more, place + few);
+        }
         number = more;
         place += 4;
     }

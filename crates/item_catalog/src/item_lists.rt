@@ -120,8 +120,12 @@ impl ItemList {
         requires none { self.old ≡ no_items }
         ensures { IfOk result (ReadsTo number_of text.now (λ items. self.new ≡ items_seen declared items)) }
     {
+        if text.len() < 4 {
+            return Ok(0);
+        }
+        let last = text.len() - 4;
         let mut place = 0;
-        while text.len() - place >= 4 {
+        while place <= last {
             let Some((item, behind)) = plain_item(text, place) else {
                 return Ok(place);
             };

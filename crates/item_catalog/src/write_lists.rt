@@ -172,8 +172,12 @@ impl WriteList {
         requires none { self.old ≡ no_writes }
         ensures { IfOk result (ReadsTo write_of text.now (λ writes. self.new ≡ writes_seen declared reads.now.items writes)) }
     {
+        if text.len() < 12 {
+            return Ok(0);
+        }
+        let last = text.len() - 12;
         let mut place = 0;
-        while text.len() - place >= 12 {
+        while place <= last {
             let Some((write, behind)) = plain_write(text, place) else {
                 return Ok(place);
             };

@@ -5,6 +5,10 @@ use Rattle.item_catalog.proofs.PlainLists.{plain_further, reads_more, reads_none
 use Rattle.item_catalog.proofs.SeenFacts.{items_more}
 use Rattle.item_catalog.proofs.item_lists.ItemList.read_plain.Goals as goal
 
+pub returns-then-text-lt4 : goal.returns-then-text-lt4
+unfolding items_seen
+returns-then-text-lt4 c = reads_none number_of c.args.text.now (λ items. c.args.self.now ≡ items_seen c.args.declared items) c.requires.some c.requires.none
+
 pub loop-place-init : goal.loop-place-init
 unfolding items_seen
 loop-place-init c = reads_none number_of c.args.text.now (λ items. c.args.self.now ≡ items_seen c.args.declared items) c.requires.some c.requires.none

@@ -5,6 +5,10 @@ use Rattle.item_catalog.proofs.PlainLists.{plain_further, reads_more, reads_none
 use Rattle.item_catalog.proofs.SeenFacts.{writes_more}
 use Rattle.item_catalog.proofs.write_lists.WriteList.read_plain.Goals as goal
 
+pub returns-then-text-lt12 : goal.returns-then-text-lt12
+unfolding writes_seen
+returns-then-text-lt12 c = reads_none write_of c.args.text.now (λ writes. c.args.self.now ≡ writes_seen c.args.declared c.args.reads.now.items writes) c.requires.some c.requires.none
+
 pub loop-place-init : goal.loop-place-init
 unfolding writes_seen
 loop-place-init c = reads_none write_of c.args.text.now (λ writes. c.args.self.now ≡ writes_seen c.args.declared c.args.reads.now.items writes) c.requires.some c.requires.none
