@@ -16,6 +16,20 @@ fn is_digit(byte: u64) -> bool
     48 <= byte && byte <= 57
 }
 
+/// The number of a zero at a place, and the place behind it.
+#[cold]
+#[inline(never)]
+fn zero_alone(text: &[u8], place: usize) -> Option<(u64, usize)>
+    requires { place + 4 ≤ length text.now }
+    ensures { IfSome result (ShortAt text.now place) }
+{
+    if text[place] == b'0' {
+        Some((0, place + 1))
+    } else {
+        None
+    }
+}
+
 /// The number of one to three digits at a place, and the place behind them: behind a zero in front there is none more.
 #[inline(always)]
 pub fn short_number(text: &[u8], place: usize) -> Option<(u64, usize)>
@@ -25,11 +39,7 @@ pub fn short_number(text: &[u8], place: usize) -> Option<(u64, usize)>
     let digits = &text[place..];
     let one = u64::from(digits[0]);
     if one < 49 || 57 < one {
-        return if one == 48 {
-            Some((0, place + 1))
-        } else {
-            None
-        };
+        return zero_alone(text, place);
     }
     let two = u64::from(digits[1]);
     if !is_digit(two) {
