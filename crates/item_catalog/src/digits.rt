@@ -1,6 +1,6 @@
 //! Digits at the front of a text, read from a place on: four at a time, and one by one where fewer are left.
 
-ghost use Rattle.std.specs.Prelude.{◌≡◌, ◌<◌, ◌≤◌, ◌+◌, ◌*◌, ◌^◌, get_or, length, IfSome, MatchOption, None, false};
+ghost use Rattle.std.specs.Prelude.{◌≡◌, ◌<◌, ◌≤◌, ◌+◌, ◌*◌, ◌^◌, get_or, length, IfSome, IsTrue, MatchOption, None, false};
 ghost use Rattle.std.specs.Char.{is_ascii_digit};
 ghost use Rattle.air_base.specs.Numbers.{number_of};
 ghost use Rattle.air_base.proofs.NumberFacts.{DigitsRead};
@@ -61,6 +61,7 @@ fn with_four(text: &[u8], place: usize, number: u64) -> (u64, usize)
     requires read { DigitsRead text.now place number }
     ensures few { result.1 ≤ 4 }
     ensures read { DigitsRead text.now (place + result.1) result.0 }
+    ensures end { result.1 < 4 → is_ascii_digit (get_or text.now (place + result.1) 0) ≡ false }
 {
     let one = u64::from(text[place]);
     if !is_digit(one) {
@@ -84,26 +85,28 @@ fn with_four(text: &[u8], place: usize, number: u64) -> (u64, usize)
     (more * 10 + four - 53_328, 4)
 }
 
-/// More digits of a number of which so many were read, four at a time: its value so far, and how many were read.
+/// More digits of a number of which so many were read, four at a time: its value so far, how many were read, and whether
+/// these are all.
 #[inline(always)]
-fn with_fours(text: &[u8], from: usize, read: u64) -> (u64, usize)
+fn with_fours(text: &[u8], from: usize, read: u64) -> (u64, usize, bool)
     requires within { from ≤ length text.now }
     requires read { DigitsRead text.now from read }
     ensures more { from ≤ result.1 }
     ensures within { result.1 ≤ length text.now }
     ensures read { DigitsRead text.now result.1 result.0 }
+    ensures end { IsTrue result.2 → is_ascii_digit (get_or text.now result.1 0) ≡ false }
 {
     let mut number = read;
     let mut place = from;
     while text.len() - place >= 4 && number < 1_000_000_000_000_000 {
         let (more, few) = with_four(text, place, number);
         if few < 4 {
-            return (more, place + few);
+            return (more, place + few, true);
         }
         number = more;
         place += 4;
     }
-    (number, place)
+    (number, place, false)
 }
 
 /// The value of all digits at the front, of which so many were read, and their number: none where the value is too great.
@@ -113,7 +116,10 @@ pub fn all_digits(text: &[u8], from: usize, read: u64) -> Option<(u64, usize)>
     requires read { DigitsRead text.now from read }
     ensures { MatchOption result (number_of (digits_of text.now) ≡ None) (λ f. DigitsRead text.now f.1 f.0 × (from ≤ f.1) × (f.1 ≤ length text.now) × (is_ascii_digit (get_or text.now f.1 0) ≡ false)) }
 {
-    let (start, place) = with_fours(text, from, read);
+    let (start, place, end) = with_fours(text, from, read);
+    if end {
+        return Some((start, place));
+    }
     let mut number = start;
     for i in place..text.len() {
         if !text[i].is_ascii_digit() {
