@@ -1,8 +1,12 @@
 -- Numbers with more digits at their end, told by the digits' bytes.
--- `with_four` of `digits` cites these.
-use Rattle.std.proofs.Common.{◌≡◌, ◌<◌, ◌≤◌, ◌+◌, ◌*◌, ◌-◌, ◌^◌, ℕ, List, true, get_or, length, sym, subst, arith}
+-- `with_four` and `with_fours` of `digits` cite these.
+use Rattle.std.proofs.Common.{◌≡◌, ◌<◌, ◌≤◌, ◌+◌, ◌*◌, ◌-◌, ◌^◌, ℕ, List, true, get_or, length, take, sym, subst, arith, rules}
 use Rattle.std.specs.Char.{IsAsciiDigit, is_ascii_digit}
+use Rattle.std.specs.List.{list_all}
+use Rattle.std.specs.Str.Parse.{digits_value}
 use Rattle.std.proofs.lemmas.Bool.Decides.{nat_tests}
+use Rattle.std.proofs.lemmas.List.{length-take-le}
+use Rattle.std.proofs.lemmas.Str.Parse.{IsNumeralModel, digits_value_short, numerals_by_value}
 use Rattle.air_base.proofs.NumberFacts.{DigitsRead, digits_more_read}
 
 -- A byte of a text, which is a digit's.
@@ -16,6 +20,15 @@ pub digit_is : (text : List ℕ) (place byte : ℕ) → is_ascii_digit byte ≡ 
 digit_is text place byte digit is =
     let range : IsAsciiDigit byte = grind (arith, nat_tests, digit) in
     record { digit = subst (λ b. is_ascii_digit b ≡ true) is digit; is = is; least = omega (arith, range); most = omega (arith, range) }
+
+-- So few digits have a value that four more leave below the greatest.
+decimal_digits : IsNumeralModel (λ ds. list_all is_ascii_digit ds ≡ true) (digits_value 10)
+decimal_digits = numerals_by_value (λ ds. list_all is_ascii_digit ds ≡ true) (search rules)
+
+pub few_small : (text : List ℕ) (place n : ℕ) → DigitsRead text place n → place ≤ length text → place < 15 → n < 10 ^ 15
+few_small text place n read within few =
+    let short : length (take place text) ≤ 15 = omega (arith, length-take-le place text within, few) in
+    omega (arith, read.value, digits_value_short decimal_digits (take place text) 15 read.digits short)
 
 -- One more digit.
 digit_more : (text : List ℕ) (i j n m byte : ℕ) → j ≡ i + 1 → i < length text → IsDigit text i byte → n < 10 ^ 18 → m + 48 ≡ n * 10 + byte → DigitsRead text i n → DigitsRead text j m

@@ -1,16 +1,16 @@
--- Plain parts: the digits at a text's front, a byte behind them, and what the place behind it leaves of the text.
-use Rattle.std.proofs.Common.{◌≡◌, ◌<◌, ◌+◌, ◌-◌, ◌∷◌, ℕ, List, Option, Some, None, IfSome, Bool, true, false, length, get_or, take, drop, refl, sym, ap, ◌∙◌, arith, length-drop}
+-- Plain parts: the digits at a text's front, what stands behind them, and what the place at which the part ends leaves of the text.
+use Rattle.std.proofs.Common.{◌≡◌, ◌<◌, ◌≤◌, ◌+◌, ◌-◌, ◌++◌, ◌∷◌, [], cond, ℕ, List, Option, Some, None, IfSome, Bool, true, false, length, get_or, take, drop, refl, sym, ap, subst, ◌∙◌, arith, length-drop, replicate, zero, suc}
 use Rattle.std.specs.Char.{is_ascii_digit}
-use Rattle.std.proofs.lemmas.List.{drop-drop, drop_more, get_or-drop, take_all}
+use Rattle.std.proofs.lemmas.List.{append_cancel_right, drop-append-le, drop-drop, drop_more, get_or-drop, length-append, take_all}
 use Rattle.air_base.specs.Numbers.{number_of}
 use Rattle.air_base.proofs.NumberFacts.{DigitsRead}
 use Rattle.air_history.specs.declared.updates.Write.{Write}
 use Rattle.item_catalog.specs.declared.fronts.WritePart.{WritePart}
 use Rattle.item_catalog.specs.Seen.{write_said}
 use Rattle.item_catalog.specs.Fields.{changed, value_of, write_of}
-use Rattle.item_catalog.specs.Fronts.{PlainAt, after_digits, digits_of, ends_part, sign_of}
+use Rattle.item_catalog.specs.Fronts.{PlainAt, after_digits, after_part, behind, digits_of, ends_part, first_part, is_no_space, sign_of}
 use Rattle.item_catalog.proofs.LeadingNumbers.{front_number, rest_read}
-use Rattle.item_catalog.proofs.NumberFronts.{after_ends, part_ends}
+use Rattle.item_catalog.proofs.NumberFronts.{after_ends, ended, part_ends}
 use Rattle.item_catalog.proofs.PartFronts.{after_sign, front_moved, value_signed_front, write_value_front}
 
 -- The text from a place on, as a slice has it.
@@ -21,54 +21,90 @@ sign_other : (minus : Bool) → is_ascii_digit (sign_of minus) ≡ false
 sign_other true = refl
 sign_other false = refl
 
--- A number's digits were read at a place, and another byte stands behind them.
-module _ (whole : List ℕ) (place behind len n : ℕ) (there : behind ≡ place + len) (read : DigitsRead (drop place whole) len n) (inside : behind < length whole) (some : 0 < len)
+-- A part ends at a space, and at the text's end.
+pub ends_space : (text : List ℕ) (place : ℕ) → place < length text → get_or text place 0 ≡ 32 → ends_part (drop place text) ≡ true
+ends_space text place inside space = ap ends_part (drop_more text place 0 inside ∙ ap (λ b. b ∷ drop (place + 1) text) space)
+
+-- A number's digits were read at a place, and none stands behind them.
+module _ (whole : List ℕ) (place behind len n : ℕ) (there : behind ≡ place + len) (read : DigitsRead (drop place whole) len n) (inside : behind ≤ length whole) (some : 0 < len)
     (alone : get_or (drop place whole) 0 0 ≡ 48 → len ≡ 1) where
   abbrev text : List ℕ
   text = drop place whole
 
-  within : len < length text
+  within : len ≤ length text
   within = omega (arith, there, inside, length-drop place whole)
 
-  byte_at : (byte : ℕ) → get_or whole behind 0 ≡ byte → get_or text len 0 ≡ byte
-  byte_at byte is = get_or-drop place whole len 0 ∙ ap (λ i. get_or whole i 0) (sym there) ∙ is
+  stop_at : is_ascii_digit (get_or whole behind 0) ≡ false → is_ascii_digit (get_or text len 0) ≡ false
+  stop_at stop = ap is_ascii_digit (get_or-drop place whole len 0 ∙ ap (λ i. get_or whole i 0) (sym there)) ∙ stop
 
-  rest_at : drop (len + 1) text ≡ drop (behind + 1) whole
-  rest_at = drop-drop (len + 1) place whole ∙ ap (λ i. drop i whole) (omega (arith, there))
+  number_then : is_ascii_digit (get_or whole behind 0) ≡ false → number_of (digits_of text) ≡ Some n
+  number_then stop = front_number text len n read within (stop_at stop) some alone
 
-  number_then : (byte : ℕ) → get_or whole behind 0 ≡ byte → is_ascii_digit byte ≡ false → number_of (digits_of text) ≡ Some n
-  number_then byte is other = front_number text len n read (omega (arith, within)) (ap is_ascii_digit (byte_at byte is) ∙ other) some alone
+  rest_then : is_ascii_digit (get_or whole behind 0) ≡ false → after_digits text ≡ drop behind whole
+  rest_then stop = sym (rest_read text len n read within (stop_at stop)) ∙ drop-drop len place whole ∙ ap (λ i. drop i whole) (sym there)
 
-  byte_then : (byte : ℕ) → get_or whole behind 0 ≡ byte → is_ascii_digit byte ≡ false → after_digits text ≡ byte ∷ drop (behind + 1) whole
-  byte_then byte is other =
-      sym (rest_read text len n read (omega (arith, within)) (ap is_ascii_digit (byte_at byte is) ∙ other))
-      ∙ drop_more text len 0 within ∙ ap (λ b. b ∷ drop (len + 1) text) (byte_at byte is) ∙ ap (λ l. byte ∷ l) rest_at
+  byte_then : (byte : ℕ) → behind < length whole → get_or whole behind 0 ≡ byte → is_ascii_digit byte ≡ false → after_digits text ≡ byte ∷ drop (behind + 1) whole
+  byte_then byte more is other = rest_then (ap is_ascii_digit is ∙ other) ∙ drop_more whole behind 0 more ∙ ap (λ b. b ∷ drop (behind + 1) whole) is
 
-  pub number_plain : get_or whole behind 0 ≡ 32 → PlainAt number_of whole place (n, behind + 1)
-  number_plain space =
-      let after = byte_then 32 space refl in
-      let ends : ends_part (after_digits text) ≡ true = ap ends_part after in
-      ((ap number_of (part_ends text ends) ∙ number_then 32 space refl, sym after ∙ after_ends text ends), omega (arith, inside))
+  pub number_plain : is_ascii_digit (get_or whole behind 0) ≡ false → ends_part (drop behind whole) ≡ true → PlainAt number_of whole place (n, behind)
+  number_plain stop end =
+      let ends : ends_part (after_digits text) ≡ true = ap ends_part (rest_then stop) ∙ end in
+      ((ap number_of (part_ends text ends) ∙ number_then stop, sym (rest_then stop) ∙ after_ends text ends), inside)
 
   -- The write of an item, where a sign stands behind the digits, and a whole write, where it is a `=`.
-  pub value_plain : (item : ℕ) (minus : Bool) (f : ℕ × ℕ) → get_or whole behind 0 ≡ sign_of minus → PlainAt number_of whole (behind + 1) f
+  pub value_plain : (item : ℕ) (minus : Bool) (f : ℕ × ℕ) → behind < length whole → get_or whole behind 0 ≡ sign_of minus → PlainAt number_of whole (behind + 1) f
       → PlainAt (value_of (Some item)) whole place (record { item = item; base = Some n; minus = minus; amount = f.0 }, f.1)
-  value_plain item minus f sign plain =
+  value_plain item minus f more sign plain =
       let rest = drop (behind + 1) whole in
       let other = sign_other minus in
-      let is = value_signed_front text minus (Some item) rest (byte_then (sign_of minus) sign other) in (
-        front_moved (value_of (Some item)) (λ part. changed minus (Some item) (Some n) (number_of part)) text rest (Some (record { item = item; base = Some n; minus = minus; amount = f.0 }, 32 ∷ drop f.1 whole))
-            (is.0 ∙ rw (number_then (sign_of minus) sign other) refl) is.1 (rw plain.0.0 refl, plain.0.1),
+      let is = value_signed_front text minus (Some item) rest (byte_then (sign_of minus) more sign other) in (
+        front_moved (value_of (Some item)) (λ part. changed minus (Some item) (Some n) (number_of part)) text rest (Some (record { item = item; base = Some n; minus = minus; amount = f.0 }, drop f.1 whole))
+            (is.0 ∙ rw (number_then (ap is_ascii_digit sign ∙ other)) refl) is.1 (rw plain.0.0 refl, plain.0.1),
         plain.1,
       )
 
-  pub write_plain : (f : Write × ℕ) → get_or whole behind 0 ≡ 61 → PlainAt (value_of (Some n)) whole (behind + 1) f → PlainAt write_of whole place f
-  write_plain f equals plain =
+  pub write_plain : (f : Write × ℕ) → behind < length whole → get_or whole behind 0 ≡ 61 → PlainAt (value_of (Some n)) whole (behind + 1) f → PlainAt write_of whole place f
+  write_plain f more equals plain =
       let rest = drop (behind + 1) whole in
-      let after = byte_then 61 equals refl in
-      (front_moved write_of (value_of (Some n)) text rest (Some (f.0, 32 ∷ drop f.1 whole)) (write_value_front text rest after ∙ rw (number_then 61 equals refl) refl) (after_sign text 61 rest after refl) plain.0, plain.1)
+      let after = byte_then 61 more equals refl in
+      (front_moved write_of (value_of (Some n)) text rest (Some (f.0, drop f.1 whole)) (write_value_front text rest after ∙ rw (number_then (ap is_ascii_digit equals)) refl) (after_sign text 61 rest after refl) plain.0, plain.1)
 
-  pub all_plain : (r : Option (WritePart × ℕ)) → get_or whole behind 0 ≡ 61 → IfSome r (λ f. PlainAt (value_of (Some n)) whole (behind + 1) (write_said f.0, f.1))
+  pub all_plain : (r : Option (WritePart × ℕ)) → behind < length whole → get_or whole behind 0 ≡ 61 → IfSome r (λ f. PlainAt (value_of (Some n)) whole (behind + 1) (write_said f.0, f.1))
       → IfSome r (λ f. PlainAt write_of whole place (write_said f.0, f.1))
-  all_plain None equals plain = plain
-  all_plain (Some f) equals plain = write_plain (write_said f.0, f.1) equals plain
+  all_plain None more equals plain = plain
+  all_plain (Some f) more equals plain = write_plain (write_said f.0, f.1) more equals plain
+
+-- A text with spaces behind it has the same first part, and what follows that with the spaces behind it.
+module _ (spaces : List ℕ) (ends : ends_part spaces ≡ true) where
+  first_spaced : (text : List ℕ) → first_part (text ++ spaces) ≡ first_part text
+  unfolding first_part
+  first_spaced [] = (ended spaces ends).0
+  first_spaced (c ∷ cs) = ap (λ l. cond (is_no_space c) (c ∷ l) []) (first_spaced cs)
+
+  after_spaced : (text : List ℕ) → after_part (text ++ spaces) ≡ after_part text ++ spaces
+  unfolding after_part
+  after_spaced [] = (ended spaces ends).1
+  after_spaced (c ∷ cs) = by (is_no_space c) (after_spaced cs)
+    where
+      by : (b : Bool) → behind is_no_space (cs ++ spaces) ≡ behind is_no_space cs ++ spaces
+          → cond b (behind is_no_space (cs ++ spaces)) (c ∷ cs ++ spaces) ≡ cond b (behind is_no_space cs) (c ∷ cs) ++ spaces
+      by true h = h
+      by false h = refl
+
+  pub spaced_plain : {A : Type 0} (value : List ℕ → Option A) (text : List ℕ) (f : A × ℕ) → PlainAt value (text ++ spaces) 0 f → PlainAt value text 0 f
+  spaced_plain value text f plain =
+      let after : drop f.1 (text ++ spaces) ≡ after_part text ++ spaces = plain.0.1 ∙ after_spaced text in
+      let within : f.1 ≤ length text = omega (arith, ap length after, length-drop f.1 (text ++ spaces), length-append text spaces, length-append (after_part text) spaces, plain.1) in
+      ((ap value (sym (first_spaced text)) ∙ plain.0.0, append_cancel_right (drop f.1 text) (after_part text) spaces (sym (drop-append-le f.1 text spaces within) ∙ after)), within)
+
+  pub last_plain : {A B : Type 0} (value : List ℕ → Option A) (said : B → A) (whole copy : List ℕ) → copy ≡ whole → (r : Option (B × ℕ))
+      → IfSome r (λ f. PlainAt value (copy ++ spaces) 0 (said f.0, f.1)) → IfSome r (λ f. PlainAt value whole 0 (said f.0, f.1))
+  last_plain value said whole copy same None plain = plain
+  last_plain value said whole copy same (Some f) plain = spaced_plain value whole (said f.0, f.1) (subst (λ l. PlainAt value (l ++ spaces) 0 (said f.0, f.1)) same plain)
+
+-- What is left of spaces begins with a space, or is nothing.
+pub spaces_end : (n k : ℕ) → ends_part (drop n (replicate k 32)) ≡ true
+spaces_end zero zero = refl
+spaces_end zero (suc k) = refl
+spaces_end (suc n) zero = refl
+spaces_end (suc n) (suc k) = spaces_end n k

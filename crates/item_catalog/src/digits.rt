@@ -1,6 +1,10 @@
-//! Digits at the front of a text, read from a place on: four at a time, and one by one where fewer are left.
+//! Digits at the front of a text, read from a place on: up to four at a time, and one by one where the text has fewer than
+//! four bytes left or the number fifteen digits.
+//!
+//! A digit's byte is its value and 48 more, which is taken off once a number: two digits have 48 * 11 = 528 too much, three
+//! 48 * 111 = 5,328, and four 48 * 1,111 = 53,328.
 
-ghost use Rattle.std.specs.Prelude.{◌≡◌, ◌<◌, ◌≤◌, ◌+◌, ◌*◌, ◌^◌, get_or, length, IfSome, IsTrue, MatchOption, None, false};
+ghost use Rattle.std.specs.Prelude.{◌≡◌, ◌==◌, ◌<◌, ◌≤◌, ◌+◌, ◌*◌, ◌^◌, get_or, length, IfSome, IsTrue, MatchOption, None, false};
 ghost use Rattle.std.specs.Char.{is_ascii_digit};
 ghost use Rattle.air_base.specs.Numbers.{number_of};
 ghost use Rattle.air_base.proofs.NumberFacts.{DigitsRead};
@@ -16,18 +20,13 @@ fn is_digit(byte: u64) -> bool
     48 <= byte && byte <= 57
 }
 
-/// The number of a zero at a place, and the place behind it.
+/// Whether a byte is a zero's: a call of its own, so that it lies beside the common way.
 #[cold]
 #[inline(never)]
-fn zero_alone(text: &[u8], place: usize) -> Option<(u64, usize)>
-    requires { place + 4 ≤ length text.now }
-    ensures { IfSome result (ShortAt text.now place) }
+fn is_zero(byte: u64) -> bool
+    ensures { result ≡ (byte == 48) }
 {
-    if text[place] == b'0' {
-        Some((0, place + 1))
-    } else {
-        None
-    }
+    byte == 48
 }
 
 /// The number of one to three digits at a place, and the place behind them: behind a zero in front there is none more.
@@ -36,17 +35,20 @@ pub fn short_number(text: &[u8], place: usize) -> Option<(u64, usize)>
     requires { place + 4 ≤ length text.now }
     ensures { IfSome result (ShortAt text.now place) }
 {
-    let digits = &text[place..];
-    let one = u64::from(digits[0]);
+    let one = u64::from(text[place]);
     if one < 49 || 57 < one {
-        return zero_alone(text, place);
+        return if is_zero(one) {
+            Some((0, place + 1))
+        } else {
+            None
+        };
     }
-    let two = u64::from(digits[1]);
+    let two = u64::from(text[place + 1]);
     if !is_digit(two) {
         return Some((one - 48, place + 1));
     }
     let tens = one * 10 + two;
-    let three = u64::from(digits[2]);
+    let three = u64::from(text[place + 2]);
     if !is_digit(three) {
         return Some((tens - 528, place + 2));
     }
@@ -98,7 +100,7 @@ fn with_fours(text: &[u8], from: usize, read: u64) -> (u64, usize, bool)
 {
     let mut number = read;
     let mut place = from;
-    while text.len() - place >= 4 && number < 1_000_000_000_000_000 {
+    while place < 15 && text.len() - place >= 4 {
         let (more, few) = with_four(text, place, number);
         if few < 4 {
             return (more, place + few, true);
@@ -109,19 +111,15 @@ fn with_fours(text: &[u8], from: usize, read: u64) -> (u64, usize, bool)
     (number, place, false)
 }
 
-/// The value of all digits at the front, of which so many were read, and their number: none where the value is too great.
-#[inline(always)]
-pub fn all_digits(text: &[u8], from: usize, read: u64) -> Option<(u64, usize)>
+/// The value of all digits at the front, of which so many were read, and their number: the others are read one by one.
+#[inline(never)]
+fn one_by_one(text: &[u8], from: usize, read: u64) -> Option<(u64, usize)>
     requires within { from ≤ length text.now }
     requires read { DigitsRead text.now from read }
     ensures { MatchOption result (number_of (digits_of text.now) ≡ None) (λ f. DigitsRead text.now f.1 f.0 × (from ≤ f.1) × (f.1 ≤ length text.now) × (is_ascii_digit (get_or text.now f.1 0) ≡ false)) }
 {
-    let (start, place, end) = with_fours(text, from, read);
-    if end {
-        return Some((start, place));
-    }
-    let mut number = start;
-    for i in place..text.len() {
+    let mut number = read;
+    for i in from..text.len() {
         if !text[i].is_ascii_digit() {
             return Some((number, i));
         }
@@ -131,4 +129,18 @@ pub fn all_digits(text: &[u8], from: usize, read: u64) -> Option<(u64, usize)>
         number = more;
     }
     Some((number, text.len()))
+}
+
+/// The value of all digits at the front, of which so many were read, and their number: none where the value is too great.
+#[inline(always)]
+pub fn all_digits(text: &[u8], from: usize, read: u64) -> Option<(u64, usize)>
+    requires within { from ≤ length text.now }
+    requires read { DigitsRead text.now from read }
+    ensures { MatchOption result (number_of (digits_of text.now) ≡ None) (λ f. DigitsRead text.now f.1 f.0 × (from ≤ f.1) × (f.1 ≤ length text.now) × (is_ascii_digit (get_or text.now f.1 0) ≡ false)) }
+{
+    let (number, place, end) = with_fours(text, from, read);
+    if end {
+        return Some((number, place));
+    }
+    one_by_one(text, place, number)
 }

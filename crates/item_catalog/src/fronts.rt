@@ -1,7 +1,8 @@
 //! The value at the front of a list, and what follows it.
 //!
 //! A list is read from its front, one part after the other, with no memory: a reader gives the value of the first part
-//! and the text behind it, which is empty or begins with a space.
+//! and the text behind it, which is empty or begins with a space. What is left at a list's end is mostly a plain part, and
+//! is read as such where it is one.
 
 ghost use Rattle.std.specs.Prelude.{◌≡◌, ◌≤◌, ◌∷◌, get_or, length, option_map, MatchOption, Some, None, false};
 ghost use Rattle.std.specs.Char.{is_ascii_digit};
@@ -12,6 +13,7 @@ ghost use Rattle.item_catalog.specs.Fronts.{FrontIs, digits_of, after_digits, be
 ghost use Rattle.item_catalog.specs.Seen.{write_said};
 
 use crate::digits::{all_digits, short_number};
+use crate::plain_fronts::{last_item, last_write};
 
 /// A write as its text says it.
 #[derive(Clone, Copy, Debug, PartialEq, Eq)]
@@ -23,7 +25,8 @@ pub struct WritePart {
 }
 
 /// Whether a text is empty or begins with a space.
-fn ends_part(text: &[u8]) -> bool
+#[inline(always)]
+pub fn ends_part(text: &[u8]) -> bool
     ensures { result ≡ ends_part text.now }
 {
     match text.first() {
@@ -70,6 +73,11 @@ fn leading_number(text: &[u8]) -> Option<(u64, &[u8])>
 pub fn number_front(text: &[u8]) -> Option<(u64, &[u8])>
     ensures { FrontIs number_of text.now (option_map (λ f. (f.0, f.1.now)) result) }
 {
+    if text.len() < 4
+        && let Some((number, end)) = last_item(text)
+    {
+        return Some((number, &text[end..]));
+    }
     let Some((number, rest)) = leading_number(text) else {
         return None;
     };
@@ -172,6 +180,11 @@ fn value_front(item: u64, text: &[u8]) -> Option<(WritePart, &[u8])>
 pub fn write_front(text: &[u8]) -> Option<(WritePart, &[u8])>
     ensures { FrontIs write_of text.now (option_map (λ f. (write_said f.0, f.1.now)) result) }
 {
+    if text.len() < 12
+        && let Some((write, end)) = last_write(text)
+    {
+        return Some((write, &text[end..]));
+    }
     let Some((item, rest)) = leading_number(text) else {
         return None;
     };

@@ -79,10 +79,10 @@ impl ItemList {
     fn clear(&mut self)
         ensures { self.new ≡ no_items }
     {
-        self.items.clear();
         self.marks = [false; 256];
         self.undeclared = false;
         self.repeated = false;
+        self.items.clear();
     }
 
     /// Whether an item is declared, and isn't one of them.
@@ -126,14 +126,14 @@ impl ItemList {
         let last = text.len() - 4;
         let mut place = 0;
         while place <= last {
-            let Some((item, behind)) = plain_item(text, place) else {
+            let Some((item, end)) = plain_item(text, place) else {
                 return Ok(place);
             };
             if !self.is_new(declared, item) {
                 return Ok(place);
             }
             self.see(declared, item)?;
-            place = behind;
+            place = end + 1;
         }
         Ok(place)
     }
@@ -148,6 +148,9 @@ impl ItemList {
             return Ok(true);
         }
         let place = self.read_plain(declared, text)?;
+        if text.len() < place {
+            return Ok(true);
+        }
         let mut rest = &text[place..];
         loop {
             let Some((item, after)) = number_front(rest) else {

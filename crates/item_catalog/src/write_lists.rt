@@ -178,11 +178,11 @@ impl WriteList {
         let last = text.len() - 12;
         let mut place = 0;
         while place <= last {
-            let Some((write, behind)) = plain_write(text, place) else {
+            let Some((write, end)) = plain_write(text, place) else {
                 return Ok(place);
             };
             self.see(declared, reads, write)?;
-            place = behind;
+            place = end + 1;
         }
         Ok(place)
     }
@@ -203,6 +203,9 @@ impl WriteList {
             return Ok(true);
         }
         let place = self.read_plain(declared, reads, text)?;
+        if text.len() < place {
+            return Ok(true);
+        }
         let mut rest = &text[place..];
         loop {
             let Some((write, after)) = write_front(rest) else {

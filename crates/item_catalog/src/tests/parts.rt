@@ -104,6 +104,30 @@ fn updates_are_given_by_their_updater(rt: HostRuntime) -> Result<(), DeckError> 
 }
 
 #[test]
+fn a_long_amount_is_given_wherever_it_stands(rt: HostRuntime) -> Result<(), DeckError> {
+    let text =
+        "item,0,1,1\nitem,1,1,1\ndisk,2,1\nupdate,0,0 1,0=1+123456789 1=0-18446744073709551614\nupdate,0,1,1=1+1000000000000000 0=1-98765432\n";
+    let deck = deck_of(&rt, rt.alloc(), text.as_bytes())?;
+    let write = |item, base, minus, amount| Write {
+        item,
+        base: Some(base),
+        minus,
+        amount,
+    };
+    let first = [
+        write(0, 1, false, 123_456_789),
+        write(1, 0, true, u64::MAX - 1),
+    ];
+    is_update(&rt, &deck, 0, 0, [0, 1].as_slice(), first.as_slice());
+    let second = [
+        write(1, 1, false, 1_000_000_000_000_000),
+        write(0, 1, true, 98_765_432),
+    ];
+    is_update(&rt, &deck, 0, 1, [1].as_slice(), second.as_slice());
+    Ok(())
+}
+
+#[test]
 fn readers_and_queries_are_given(rt: HostRuntime) -> Result<(), DeckError> {
     let deck = all(&rt, rt.alloc())?;
     let plan = |room, age, tries| ReaderPlan { room, age, tries };

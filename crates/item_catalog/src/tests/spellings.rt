@@ -97,6 +97,32 @@ fn a_write_has_one_of_three_forms(rt: HostRuntime) -> Result<(), Fail> {
 }
 
 #[test]
+fn a_list_ends_behind_a_part_of_any_length(rt: HostRuntime) -> Result<(), Fail> {
+    let rows = [
+        ("update,0,0 1,0=0+1 1=1-1\n", 0, 0),
+        ("update,0,0 1,0=0+1 1=1-1 \n", 6, 2),
+        ("update,0,0 1,0=0+1 1=5\n", 0, 0),
+        ("update,0,0 1,0=0+1 1=\n", 6, 2),
+        ("update,0,0 1,0=0+1 1\n", 6, 2),
+        ("update,0,0 1,0=0+1 1=1-\n", 6, 2),
+        ("update,0,0 1,0=0+1 1=1-01\n", 6, 2),
+        ("update,0,0 1,0=0+1 1=1-x\n", 6, 2),
+        ("update,0,0 1,0=0+123456789 1=1-123456789\n", 0, 0),
+        ("update,0,0 1,0=0+123456789 1=1-123456789 \n", 6, 2),
+        ("update,0,0 1,0=0+123456789 1=1-123456789x\n", 6, 2),
+        ("update,0,0 1,0=0+1 1=1-18446744073709551615\n", 0, 0),
+        ("update,0,0 1,0=0+1 1=1-18446744073709551616\n", 6, 2),
+        ("update,0,0 1,0=0+1 1=1-18446744073709551615 \n", 6, 2),
+        ("update,0,0 1,0=0+0001 1=1-1\n", 6, 2),
+        ("update,0,0 1x,0=1\n", 6, 2),
+        ("query,0,1 0\n", 0, 0),
+        ("query,0,1 0x\n", 6, 2),
+        ("query,0,1 00\n", 6, 2),
+    ];
+    have_faults(&rt, rt.alloc(), BASE, rows.as_slice())
+}
+
+#[test]
 fn each_tag_has_its_number_of_fields(rt: HostRuntime) -> Result<(), Fail> {
     let rows = [
         ("item,2,3\n", 6, 1),

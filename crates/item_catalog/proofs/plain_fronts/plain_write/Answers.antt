@@ -1,9 +1,10 @@
-use Rattle.std.proofs.Common.{arith}
+use Rattle.std.proofs.Common.{◌<◌, arith, length}
 use Rattle.item_catalog.proofs.PlainFronts.{all_plain}
 use Rattle.item_catalog.proofs.plain_fronts.plain_write.Goals as goal
 
 pub returns : goal.returns
 returns c =
     let short = c.in_ok-item.ensures in
-    all_plain c.args.text.now c.args.place c.in_ok-item.equals short.0 c.in_ok-item.item short.1 short.2.2 (omega (arith, short.1, short.2.1, c.requires)) short.2.0 short.2.3
-    c.plain_value.result c.if-text-equals-ne61.false c.plain_value.ensures
+    let inside : c.in_ok-item.equals < length c.args.text.now = omega (arith, short.1, short.2.1, c.requires) in
+    all_plain c.args.text.now c.args.place c.in_ok-item.equals short.0 c.in_ok-item.item short.1 short.2.2 (omega (arith, inside)) short.2.0 short.2.3
+    c.plain_value.result inside c.if-text-equals-ne61.false c.plain_value.ensures

@@ -19,6 +19,7 @@ use csv::ByteRecord;
 use std::alloc::Global;
 
 /// The least kind that applies to an update, where so many updates were given before it.
+#[inline(always)]
 fn update_kind(reads: &ItemList, writes: &WriteList, by: u64, given: u32) -> Option<u8>
     ensures { result ≡ seen_update_kind reads.now writes.now by given }
 {

@@ -16,10 +16,15 @@ returns-then-is_empty c =
     let none : length c.args.text.now ≡ 0 = grind (arith, nat_tests) in
     read_some (list_of number_of c.args.text.now) [] _ (list_empty number_of c.args.text.now none) c.clear.ensures
 
+pub returns-then-text-place : goal.returns-then-text-place
+returns-then-text-place c =
+    let to = c.in_ok-place.ensures in
+    read_some (list_of number_of c.args.text.now) to.0 _ (to.2.1 c.if-text-place.true) to.1
+
 pub loop-item-init : goal.loop-item-init
 loop-item-init c =
     let to = c.in_ok-place.ensures in
-    (to.0, to.1, ap (λ l. joined to.0 (spelled number_of l)) (from_place c.args.text.now c.in_ok-place.place) ∙ to.2)
+    (to.0, to.1, ap (λ l. joined to.0 (spelled number_of l)) (from_place c.args.text.now c.in_ok-place.place) ∙ to.2.0 c.if-text-place.false)
 
 pub returns-in_default : goal.returns-in_default
 returns-in_default c =

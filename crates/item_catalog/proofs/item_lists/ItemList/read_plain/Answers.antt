@@ -1,4 +1,4 @@
-use Rattle.std.proofs.Common.{◌≡◌, ◌∙◌, ◌++◌, ◌∷◌, [], ap, arith, sym}
+use Rattle.std.proofs.Common.{◌≡◌, ◌≤◌, ◌∙◌, length, ◌++◌, ◌∷◌, [], ap, arith, sym}
 use Rattle.air_base.specs.Numbers.{number_of}
 use Rattle.item_catalog.specs.Seen.{items_seen, see_item}
 use Rattle.item_catalog.proofs.PlainLists.{plain_further, reads_more, reads_none}
@@ -15,15 +15,14 @@ loop-place-init c = reads_none number_of c.args.text.now (λ items. c.args.self.
 
 pub loop-place-smaller : goal.loop-place-smaller
 loop-place-smaller c =
-    let plain = c.in-Some.ensures in
-    let further = plain_further number_of c.args.text.now c.loop-place.place (c.in-Some.item, c.in-Some.behind) plain c.loop-place.invariant.3 in
-    omega (arith, further, plain.1)
+    let within : c.loop-place.place ≤ length c.args.text.now = omega (arith, c.loop-place-test.true) in
+    let further = plain_further number_of c.args.text.now c.loop-place.place (c.in-Some.item, c.in-Some.end) c.in-Some.ensures within in
+    omega (arith, further, within, c.in-Some.ensures.1)
 
 pub loop-place-preserved : goal.loop-place-preserved
 loop-place-preserved c =
     let inv = c.loop-place.invariant in (
       inv.0 ++ c.in-Some.item ∷ [],
       c.in_ok-see.ensures ∙ ap (λ s. see_item c.args.declared s c.in-Some.item) inv.1 ∙ sym (items_more c.args.declared inv.0 c.in-Some.item),
-      reads_more number_of c.args.text.now c.loop-place.place (c.in-Some.item, c.in-Some.behind) c.in-Some.ensures inv.0 inv.2,
-      c.in-Some.ensures.1,
+      reads_more number_of c.args.text.now c.loop-place.place (c.in-Some.item, c.in-Some.end) c.in-Some.ensures inv.0 (omega (arith, c.loop-place-test.true)) inv.2,
     )

@@ -1,4 +1,4 @@
-use Rattle.std.proofs.Common.{◌≡◌, ◌-◌, length}
+use Rattle.std.proofs.Common.{◌≡◌, ◌+◌, ◌-◌, length}
 use Rattle.air_base.specs.Numbers.{number_of}
 use Rattle.item_catalog.specs.Fronts.{ReadsTo}
 use Rattle.item_catalog.specs.Seen.{items_seen}
@@ -8,4 +8,4 @@ abbrev pub invariant-loop-place : goal.invariant-loop-place
 invariant-loop-place l = ReadsTo number_of l.text (λ items. l.self ≡ items_seen l.declared items) l.place
 
 abbrev pub decreases-loop-place : goal.decreases-loop-place
-decreases-loop-place l = length l.text - l.place
+decreases-loop-place l = length l.text + 1 - l.place

@@ -1,4 +1,4 @@
-use Rattle.std.proofs.Common.{◌≡◌, ◌∙◌, ◌++◌, ◌∷◌, [], ap, arith, sym}
+use Rattle.std.proofs.Common.{◌≡◌, ◌≤◌, ◌∙◌, length, ◌++◌, ◌∷◌, [], ap, arith, sym}
 use Rattle.item_catalog.specs.Fields.{write_of}
 use Rattle.item_catalog.specs.Seen.{writes_seen, see_write, write_said}
 use Rattle.item_catalog.proofs.PlainLists.{plain_further, reads_more, reads_none}
@@ -15,15 +15,14 @@ loop-place-init c = reads_none write_of c.args.text.now (λ writes. c.args.self.
 
 pub loop-place-smaller : goal.loop-place-smaller
 loop-place-smaller c =
-    let plain = c.in-Some.ensures in
-    let further = plain_further write_of c.args.text.now c.loop-place.place (write_said c.in-Some.write, c.in-Some.behind) plain c.loop-place.invariant.3 in
-    omega (arith, further, plain.1)
+    let within : c.loop-place.place ≤ length c.args.text.now = omega (arith, c.loop-place-test.true) in
+    let further = plain_further write_of c.args.text.now c.loop-place.place (write_said c.in-Some.write, c.in-Some.end) c.in-Some.ensures within in
+    omega (arith, further, within, c.in-Some.ensures.1)
 
 pub loop-place-preserved : goal.loop-place-preserved
 loop-place-preserved c =
     let inv = c.loop-place.invariant in (
       inv.0 ++ (write_said c.in-Some.write) ∷ [],
       c.in_ok-see.ensures ∙ ap (λ s. see_write c.args.declared c.args.reads.now.items s (write_said c.in-Some.write)) inv.1 ∙ sym (writes_more c.args.declared c.args.reads.now.items inv.0 (write_said c.in-Some.write)),
-      reads_more write_of c.args.text.now c.loop-place.place (write_said c.in-Some.write, c.in-Some.behind) c.in-Some.ensures inv.0 inv.2,
-      c.in-Some.ensures.1,
+      reads_more write_of c.args.text.now c.loop-place.place (write_said c.in-Some.write, c.in-Some.end) c.in-Some.ensures inv.0 (omega (arith, c.loop-place-test.true)) inv.2,
     )

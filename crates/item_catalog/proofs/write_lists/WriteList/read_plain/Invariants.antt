@@ -1,4 +1,4 @@
-use Rattle.std.proofs.Common.{◌≡◌, ◌-◌, length}
+use Rattle.std.proofs.Common.{◌≡◌, ◌+◌, ◌-◌, length}
 use Rattle.item_catalog.specs.Fields.{write_of}
 use Rattle.item_catalog.specs.Fronts.{ReadsTo}
 use Rattle.item_catalog.specs.Seen.{writes_seen}
@@ -8,4 +8,4 @@ abbrev pub invariant-loop-place : goal.invariant-loop-place
 invariant-loop-place l = ReadsTo write_of l.text (λ writes. l.self ≡ writes_seen l.declared l.reads.items writes) l.place
 
 abbrev pub decreases-loop-place : goal.decreases-loop-place
-decreases-loop-place l = length l.text - l.place
+decreases-loop-place l = length l.text + 1 - l.place

@@ -1,7 +1,7 @@
 use Rattle.std.proofs.Common.{arith, sym}
 use Rattle.air_base.proofs.NumberFacts.{digits_more_read}
 use Rattle.item_catalog.proofs.LeadingNumbers.{too_long}
-use Rattle.item_catalog.proofs.digits.all_digits.Goals as goal
+use Rattle.item_catalog.proofs.digits.one_by_one.Goals as goal
 
 pub loop-i-preserved : goal.loop-i-preserved
 loop-i-preserved c = (
