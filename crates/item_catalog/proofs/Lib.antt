@@ -11,6 +11,7 @@ pub mod ListFronts
 pub mod PlainLists
 pub mod RepeatFacts
 pub mod SeenFacts
+pub mod KeptOnceFacts
 pub mod WriteFacts
 pub mod ScriptFacts
 pub mod EntryFacts

@@ -10,7 +10,7 @@ pub or_false : (b : Bool) → (b || false) ≡ b
 or_false true = refl
 or_false false = refl
 
-eq_sym : (a b : ℕ) → (a == b) ≡ (b == a)
+pub eq_sym : (a b : ℕ) → (a == b) ≡ (b == a)
 eq_sym a b = by (cases_eq a b)
   where
     by : (a ≡ b) ⊎ (a ≡ b → ⊥) → (a == b) ≡ (b == a)

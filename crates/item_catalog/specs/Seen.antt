@@ -5,7 +5,7 @@
 use Rattle.std.specs.Prelude.{◌≡◌, ◌==◌, ◌||◌, ◌++◌, ◌<◌, ℕ, List, [], ◌∷◌, Bool, true, false, Option, Some, None, map, fold, length, get_or, nat_le, nat_lt, if◌then◌else◌}
 use Rattle.std.specs.List.{list_any}
 use Rattle.air_history.specs.declared.updates.Write.{Write}
-use Rattle.air_history.specs.UpdateRules.{item_of}
+use Rattle.air_history.specs.UpdateRules.{has_repeat, item_of}
 use Rattle.item_catalog.specs.declared.fronts.WritePart.{WritePart}
 use Rattle.item_catalog.specs.Limits.{most_asked, most_queries, most_reads, most_updaters, most_updates, most_writes, outside}
 use Rattle.item_catalog.specs.Faults.{first_of, is_unread, script_passes, write_reaches}
@@ -65,9 +65,11 @@ abbrev pub ReadIs : {A : Type 0} → Bool → Option A → (A → Type 0) → Ty
 ReadIs read None Holds = read ≡ false
 ReadIs read (Some list) Holds = (read ≡ true) × Holds list
 
--- An array of marks marks these items.
-abbrev pub Marks : List Bool → List ℕ → Type 0
-Marks marks items = (k : ℕ) → k < 256 → get_or marks k false ≡ among items k
+-- These items stand once each, and an array of marks marks them.
+pub record KeptOnce (marks : List Bool) (items : List ℕ) : Type 0 where
+  pub marked : (k : ℕ) → k < 256 → get_or marks k false ≡ among items k
+  pub below : (k : ℕ) → among items k ≡ true → k < 256
+  pub once : has_repeat items ≡ false
 
 -- A reader of events answers whether they pass a limit, and has added them where they don't; none where the text spells no list.
 abbrev pub EventsRead : Option Bool → Option (List (Option ℕ)) → List (Option ℕ) → List (Option ℕ) → Type 0

@@ -1,9 +1,9 @@
 //! A list of items while it is read.
 //!
-//! An item is kept as long as it is declared and wasn't there before, which an array of marks tells at once: so a list
-//! takes no more memory than there are items, however long it is. What a list had that isn't kept is remembered.
+//! An item is kept as long as it is declared and wasn't there before, which an array of marks tells at once: so an array has
+//! room for all that is kept, however long a list is. What a list had that isn't kept is remembered.
 
-ghost use Rattle.std.specs.Prelude.{◌≡◌, ◌<◌, ◌≤◌, ◌&&◌, IfOk, OnOk, get_or, length, IsTrue, nat_lt, not};
+ghost use Rattle.std.specs.Prelude.{◌≡◌, ◌<◌, ◌≤◌, ◌&&◌, get_or, length, IsTrue, nat_lt, not};
 ghost use Rattle.air_base.specs.Numbers.{number_of};
 ghost use Rattle.air_base.specs.NumberLists.{list_of};
 ghost use Rattle.item_catalog.specs.Fronts.{ReadsTo};
@@ -11,36 +11,39 @@ ghost use Rattle.item_catalog.specs.Seen.{ReadIs, among, items_seen, no_items, s
 
 use crate::fronts::number_front;
 use crate::plain_fronts::plain_item;
-use std::alloc::{AllocFailed, Global};
 use std::marker::Model;
 
-/// The items that are declared and distinct, in order; whether one wasn't declared, or stood twice.
+/// The items that are declared and distinct, in order; whether one wasn't declared, or stood twice. The first `count` of
+/// the array are kept.
 #[derive(Debug, Drop)]
 pub struct ItemList {
     marks: [bool; 256],
-    items: Vec<u16>,
+    items: [u16; 256],
+    count: usize,
     undeclared: bool,
     repeated: bool,
 }
 
 impl Model for ItemList {
-    ghost use Rattle.item_catalog.specs.Seen.{ItemsSeen, Marks};
+    ghost use Rattle.std.specs.Prelude.{◌≤◌, take};
+    ghost use Rattle.item_catalog.specs.Seen.{ItemsSeen, KeptOnce};
 
     ghost Value = { ItemsSeen };
 
-    ghost view = { λ l. record { items = l.items.items; undeclared = l.undeclared; repeated = l.repeated } };
+    ghost view = { λ l. record { items = take l.count l.items; undeclared = l.undeclared; repeated = l.repeated } };
 
-    ghost invariant = { λ l. Marks l.marks l.items.items };
+    ghost invariant = { λ l. (l.count ≤ 256) × KeptOnce l.marks (take l.count l.items) };
 }
 
 impl ItemList {
     /// No items.
-    pub fn new(alloc: Global) -> Self
+    pub fn new() -> Self
         ensures { result ≡ no_items }
     {
         ItemList {
-            items: Vec::new(alloc),
             marks: [false; 256],
+            items: [0; 256],
+            count: 0,
             undeclared: false,
             repeated: false,
         }
@@ -50,7 +53,7 @@ impl ItemList {
     pub fn items(&self) -> &[u16]
         ensures { result.now ≡ self.now.items }
     {
-        &self.items
+        &self.items[..self.count]
     }
 
     /// Whether an item wasn't declared.
@@ -82,7 +85,7 @@ impl ItemList {
         self.marks = [false; 256];
         self.undeclared = false;
         self.repeated = false;
-        self.items.clear();
+        self.count = 0;
     }
 
     /// Whether an item is declared, and isn't one of them.
@@ -94,71 +97,71 @@ impl ItemList {
     }
 
     /// Takes one more item, where those below `declared` are declared.
-    fn see(&mut self, declared: u16, item: u64) -> Result<(), AllocFailed<u16>>
+    fn see(&mut self, declared: u16, item: u64)
         requires { declared ≤ 256 }
-        ensures { OnOk result (self.new ≡ see_item declared self.old item) }
+        ensures { self.new ≡ see_item declared self.old item }
     {
         if u64::from(declared) <= item {
             self.undeclared = true;
-            return Ok(());
+            return;
         }
         let place = item as usize;
         if self.marks[place] {
             self.repeated = true;
-            return Ok(());
+            return;
         }
-        self.items.push(item as u16)?;
+        self.items[self.count] = item as u16;
+        self.count += 1;
         self.marks[place] = true;
-        Ok(())
     }
 
     /// Takes the items of the plain parts at the front of a list, up to the place at which the rest begins.
     #[inline(always)]
-    fn read_plain(&mut self, declared: u16, text: &[u8]) -> Result<usize, AllocFailed<u16>>
+    fn read_plain(&mut self, declared: u16, text: &[u8]) -> usize
         requires known { declared ≤ 256 }
         requires some { 0 < length text.now }
         requires none { self.old ≡ no_items }
-        ensures { IfOk result (ReadsTo number_of text.now (λ items. self.new ≡ items_seen declared items)) }
+        ensures { ReadsTo number_of text.now (λ items. self.new ≡ items_seen declared items) result }
     {
         if text.len() < 4 {
-            return Ok(0);
+            return 0;
         }
         let last = text.len() - 4;
         let mut place = 0;
         while place <= last {
             let Some((item, end)) = plain_item(text, place) else {
-                return Ok(place);
+                return place;
             };
             if !self.is_new(declared, item) {
-                return Ok(place);
+                return place;
             }
-            self.see(declared, item)?;
+            self.see(declared, item);
             place = end + 1;
         }
-        Ok(place)
+        place
     }
 
     /// Reads the items of a list, where those below `declared` are declared: whether the text spells a list.
-    pub fn read(&mut self, declared: u16, text: &[u8]) -> Result<bool, AllocFailed<u16>>
+    pub fn read(&mut self, declared: u16, text: &[u8]) -> bool
         requires { declared ≤ 256 }
-        ensures { IfOk result (λ read. ReadIs read (list_of number_of text.now) (λ items. self.new ≡ items_seen declared items)) }
+        ensures { ReadIs result (list_of number_of text.now) (λ items. self.new ≡ items_seen declared items) }
     {
         self.clear();
         if text.is_empty() {
-            return Ok(true);
+            return true;
         }
-        let place = self.read_plain(declared, text)?;
+        let place = self.read_plain(declared, text);
         if text.len() < place {
-            return Ok(true);
+            return true;
         }
         let mut rest = &text[place..];
         loop {
             let Some((item, after)) = number_front(rest) else {
-                return Ok(false);
+                return false;
             };
-            self.see(declared, item)?;
+            self.see(declared, item);
             let Some((_, more)) = after.split_first() else {
-                return Ok(true);
+                return true;
             };
             rest = more;
         }

@@ -101,7 +101,7 @@ pub fn last_item(text: &[u8]) -> Option<(u64, usize)>
 }
 
 /// The write of the plain part that a short text begins with, and the place at which the part ends.
-#[inline(always)]
+#[inline(never)]
 pub fn last_write(text: &[u8]) -> Option<(WritePart, usize)>
     requires { length text.now < 12 }
     ensures { IfSome result (λ f. PlainAt write_of text.now 0 (write_said f.0, f.1)) }

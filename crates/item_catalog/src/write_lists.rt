@@ -2,7 +2,7 @@
 //!
 //! As a list of items: a write is kept as long as all that it names is declared and its item wasn't written before.
 
-ghost use Rattle.std.specs.Prelude.{◌≡◌, ◌<◌, ◌≤◌, ◌||◌, IfOk, OnOk, IfSome, length, nat_le};
+ghost use Rattle.std.specs.Prelude.{◌≡◌, ◌<◌, ◌≤◌, ◌||◌, IfSome, length, nat_le};
 ghost use Rattle.air_base.specs.NumberLists.{list_of};
 ghost use Rattle.item_catalog.specs.Fields.{write_of};
 ghost use Rattle.item_catalog.specs.Faults.{is_unread, option_any, write_reaches};
@@ -13,30 +13,30 @@ use crate::fronts::{WritePart, write_front};
 use crate::item_lists::ItemList;
 use crate::plain_fronts::plain_write;
 use air_history::Write;
-use std::alloc::{AllocFailed, Global};
 use std::marker::Model;
 
 /// The writes of declared and distinct items, in order; whether one names what isn't declared, is of an item that was
-/// written before, or has a base that isn't read.
+/// written before, or has a base that isn't read. The first `count` of the array are kept.
 #[derive(Debug, Drop)]
 pub struct WriteList {
+    writes: [Write; 256],
     marks: [bool; 256],
-    writes: Vec<Write>,
+    count: usize,
     undeclared: bool,
     repeated: bool,
     unread: bool,
 }
 
 impl Model for WriteList {
-    ghost use Rattle.std.specs.Prelude.{map};
+    ghost use Rattle.std.specs.Prelude.{◌≡◌, ◌≤◌, length, map, take};
     ghost use Rattle.air_history.specs.UpdateRules.{item_of};
-    ghost use Rattle.item_catalog.specs.Seen.{Marks, WritesSeen};
+    ghost use Rattle.item_catalog.specs.Seen.{KeptOnce, WritesSeen};
 
     ghost Value = { WritesSeen };
 
-    ghost view = { λ l. record { writes = l.writes.items; undeclared = l.undeclared; repeated = l.repeated; unread = l.unread } };
+    ghost view = { λ l. record { writes = take l.count l.writes; undeclared = l.undeclared; repeated = l.repeated; unread = l.unread } };
 
-    ghost invariant = { λ l. Marks l.marks (map item_of l.writes.items) };
+    ghost invariant = { λ l. (length l.writes ≡ 256) × (l.count ≤ 256) × KeptOnce l.marks (map item_of (take l.count l.writes)) };
 }
 
 /// Whether a write names an item or a base that isn't below `declared`.
@@ -81,12 +81,19 @@ fn narrow(write: WritePart) -> Write
 
 impl WriteList {
     /// No writes.
-    pub fn new(alloc: Global) -> Self
+    pub fn new() -> Self
         ensures { result ≡ no_writes }
     {
+        let none = Write {
+            item: 0,
+            base: None,
+            minus: false,
+            amount: 0,
+        };
         WriteList {
-            writes: Vec::new(alloc),
+            writes: [none; 256],
             marks: [false; 256],
+            count: 0,
             undeclared: false,
             repeated: false,
             unread: false,
@@ -97,7 +104,7 @@ impl WriteList {
     pub fn writes(&self) -> &[Write]
         ensures { result.now ≡ self.now.writes }
     {
-        &self.writes
+        &self.writes[..self.count]
     }
 
     /// Whether a write names what isn't declared.
@@ -125,7 +132,7 @@ impl WriteList {
     fn clear(&mut self)
         ensures { self.new ≡ no_writes }
     {
-        self.writes.clear();
+        self.count = 0;
         self.marks = [false; 256];
         self.undeclared = false;
         self.repeated = false;
@@ -133,87 +140,72 @@ impl WriteList {
     }
 
     /// Takes one more write, where the items below `declared` are declared and these are read.
-    fn see(
-        &mut self,
-        declared: u16,
-        reads: &ItemList,
-        write: WritePart,
-    ) -> Result<(), AllocFailed<Write>>
+    fn see(&mut self, declared: u16, reads: &ItemList, write: WritePart)
         requires { declared ≤ 256 }
-        ensures { OnOk result (self.new ≡ see_write declared reads.now.items self.old (write_said write)) }
+        ensures { self.new ≡ see_write declared reads.now.items self.old (write_said write) }
     {
         if reaches(declared, write) {
             self.undeclared = true;
-            return Ok(());
+            return;
         }
         let place = write.item as usize;
         if self.marks[place] {
             self.repeated = true;
-            return Ok(());
+            return;
         }
-        self.writes.push(narrow(write))?;
+        self.writes[self.count] = narrow(write);
+        self.count += 1;
         self.marks[place] = true;
         if is_unread(reads, write) {
             self.unread = true;
         }
-        Ok(())
     }
 
     /// Takes the writes of the plain parts at the front of a list, up to the place at which the rest begins.
     #[inline(always)]
-    fn read_plain(
-        &mut self,
-        declared: u16,
-        reads: &ItemList,
-        text: &[u8],
-    ) -> Result<usize, AllocFailed<Write>>
+    fn read_plain(&mut self, declared: u16, reads: &ItemList, text: &[u8]) -> usize
         requires known { declared ≤ 256 }
         requires some { 0 < length text.now }
         requires none { self.old ≡ no_writes }
-        ensures { IfOk result (ReadsTo write_of text.now (λ writes. self.new ≡ writes_seen declared reads.now.items writes)) }
+        ensures { ReadsTo write_of text.now (λ writes. self.new ≡ writes_seen declared reads.now.items writes) result }
     {
         if text.len() < 12 {
-            return Ok(0);
+            return 0;
         }
         let last = text.len() - 12;
         let mut place = 0;
         while place <= last {
             let Some((write, end)) = plain_write(text, place) else {
-                return Ok(place);
+                return place;
             };
-            self.see(declared, reads, write)?;
+            self.see(declared, reads, write);
             place = end + 1;
         }
-        Ok(place)
+        place
     }
 
     /// Reads the writes of a list: whether the text spells a list.
     #[inline(never)]
-    pub fn read(
-        &mut self,
-        declared: u16,
-        reads: &ItemList,
-        text: &[u8],
-    ) -> Result<bool, AllocFailed<Write>>
+    pub fn read(&mut self, declared: u16, reads: &ItemList, text: &[u8]) -> bool
         requires { declared ≤ 256 }
-        ensures { IfOk result (λ read. ReadIs read (list_of write_of text.now) (λ writes. self.new ≡ writes_seen declared reads.now.items writes)) }
+        ensures { ReadIs result (list_of write_of text.now) (λ writes. self.new ≡ writes_seen declared reads.now.items writes) }
     {
         self.clear();
         if text.is_empty() {
-            return Ok(true);
+            return true;
         }
-        let place = self.read_plain(declared, reads, text)?;
+        let place = self.read_plain(declared, reads, text);
         if text.len() < place {
-            return Ok(true);
+            return true;
         }
         let mut rest = &text[place..];
         loop {
             let Some((write, after)) = write_front(rest) else {
-                return Ok(false);
+                return false;
             };
-            self.see(declared, reads, write)?;
+            self.see(declared, reads, write);
             let Some((_, more)) = after.split_first() else {
-                return Ok(true);
+                return true;
             };
             rest = more;
         }

@@ -139,8 +139,8 @@ impl Draft {
             query_count: 0,
             script: Script::new(alloc),
             set: Vec::new(alloc),
-            item_list: ItemList::new(alloc),
-            write_list: WriteList::new(alloc),
+            item_list: ItemList::new(),
+            write_list: WriteList::new(),
         })
     }
 

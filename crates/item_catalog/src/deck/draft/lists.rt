@@ -69,10 +69,10 @@ impl Draft {
             return Err(Refusal::Kind(2));
         };
         let declared = self.items.len() as u16;
-        if !self.item_list.read(declared, reads)? {
+        if !self.item_list.read(declared, reads) {
             return Err(Refusal::Kind(2));
         }
-        if !self.write_list.read(declared, &self.item_list, writes)? {
+        if !self.write_list.read(declared, &self.item_list, writes) {
             return Err(Refusal::Kind(2));
         }
         if let Some(kind) = update_kind(&self.item_list, &self.write_list, by, self.update_count) {
@@ -105,7 +105,7 @@ impl Draft {
             return Err(Refusal::Kind(2));
         };
         let declared = self.items.len() as u16;
-        if !self.item_list.read(declared, asked)? {
+        if !self.item_list.read(declared, asked) {
             return Err(Refusal::Kind(2));
         }
         if let Some(kind) = query_kind(

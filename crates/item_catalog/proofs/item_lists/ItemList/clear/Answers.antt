@@ -1,7 +1,6 @@
-use Rattle.std.proofs.Common.{◌∙◌, false, sym, ap}
-use Rattle.std.proofs.lemmas.List.{get_or-replicate}
-use Rattle.item_catalog.specs.Seen.{among}
+use Rattle.std.proofs.Common.{arith}
+use Rattle.item_catalog.proofs.KeptOnceFacts.{kept_none}
 use Rattle.item_catalog.proofs.item_lists.ItemList.clear.Goals as goal
 
 pub invariant_of-self : goal.invariant_of-self
-invariant_of-self c = λ k below. get_or-replicate 256 k false false below ∙ sym (ap (λ l. among l k) c.clear.ensures.items)
+invariant_of-self c = (omega arith, kept_none)

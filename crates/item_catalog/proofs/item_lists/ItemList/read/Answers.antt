@@ -18,13 +18,13 @@ returns-then-is_empty c =
 
 pub returns-then-text-place : goal.returns-then-text-place
 returns-then-text-place c =
-    let to = c.in_ok-place.ensures in
+    let to = c.read_plain-place.ensures in
     read_some (list_of number_of c.args.text.now) to.0 _ (to.2.1 c.if-text-place.true) to.1
 
 pub loop-item-init : goal.loop-item-init
 loop-item-init c =
-    let to = c.in_ok-place.ensures in
-    (to.0, to.1, ap (λ l. joined to.0 (spelled number_of l)) (from_place c.args.text.now c.in_ok-place.place) ∙ to.2.0 c.if-text-place.false)
+    let to = c.read_plain-place.ensures in
+    (to.0, to.1, ap (λ l. joined to.0 (spelled number_of l)) (from_place c.args.text.now c.read_plain-place.result) ∙ to.2.0 c.if-text-place.false)
 
 pub returns-in_default : goal.returns-in_default
 returns-in_default c =
@@ -36,7 +36,7 @@ returns-in_default-split_first c =
     let inv = c.loop-item.invariant in
     let end : c.in-Some.after.now ≡ [] = nil_from_length c.in-Some.after.now c.in_default-split_first.ensures.cases in
     read_some (list_of number_of c.args.text.now) (inv.0 ++ c.in-Some.item ∷ []) _ (list_last number_of _ inv.0 c.loop-item.rest.now inv.2 c.in-Some.item c.in-Some.ensures.0 (sym c.in-Some.ensures.1 ∙ end))
-    (c.in_ok-see.ensures ∙ ap (λ s. see_item c.args.declared s c.in-Some.item) inv.1 ∙ sym (items_more c.args.declared inv.0 c.in-Some.item))
+    (c.see.ensures ∙ ap (λ s. see_item c.args.declared s c.in-Some.item) inv.1 ∙ sym (items_more c.args.declared inv.0 c.in-Some.item))
 
 pub loop-item-smaller : goal.loop-item-smaller
 loop-item-smaller c =
@@ -47,6 +47,6 @@ pub loop-item-preserved : goal.loop-item-preserved
 loop-item-preserved c =
     let inv = c.loop-item.invariant in (
       inv.0 ++ c.in-Some.item ∷ [],
-      c.in_ok-see.ensures ∙ ap (λ s. see_item c.args.declared s c.in-Some.item) inv.1 ∙ sym (items_more c.args.declared inv.0 c.in-Some.item),
+      c.see.ensures ∙ ap (λ s. see_item c.args.declared s c.in-Some.item) inv.1 ∙ sym (items_more c.args.declared inv.0 c.in-Some.item),
       list_more number_of _ inv.0 c.loop-item.rest.now inv.2 c.in-Some.item _ c.in-Some-split_first.more.now c.in-Some.ensures.0 (sym c.in-Some.ensures.1 ∙ c.in-Some-split_first.ensures.cases.0),
     )

@@ -23,6 +23,6 @@ pub loop-place-preserved : goal.loop-place-preserved
 loop-place-preserved c =
     let inv = c.loop-place.invariant in (
       inv.0 ++ c.in-Some.item ∷ [],
-      c.in_ok-see.ensures ∙ ap (λ s. see_item c.args.declared s c.in-Some.item) inv.1 ∙ sym (items_more c.args.declared inv.0 c.in-Some.item),
+      c.see.ensures ∙ ap (λ s. see_item c.args.declared s c.in-Some.item) inv.1 ∙ sym (items_more c.args.declared inv.0 c.in-Some.item),
       reads_more number_of c.args.text.now c.loop-place.place (c.in-Some.item, c.in-Some.end) c.in-Some.ensures inv.0 (omega (arith, c.loop-place-test.true)) inv.2,
     )

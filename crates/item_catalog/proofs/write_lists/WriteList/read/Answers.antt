@@ -18,13 +18,13 @@ returns-then-is_empty c =
 
 pub returns-then-text-place : goal.returns-then-text-place
 returns-then-text-place c =
-    let to = c.in_ok-place.ensures in
+    let to = c.read_plain-place.ensures in
     read_some (list_of write_of c.args.text.now) to.0 _ (to.2.1 c.if-text-place.true) to.1
 
 pub loop-write-init : goal.loop-write-init
 loop-write-init c =
-    let to = c.in_ok-place.ensures in
-    (to.0, to.1, ap (λ l. joined to.0 (spelled write_of l)) (from_place c.args.text.now c.in_ok-place.place) ∙ to.2.0 c.if-text-place.false)
+    let to = c.read_plain-place.ensures in
+    (to.0, to.1, ap (λ l. joined to.0 (spelled write_of l)) (from_place c.args.text.now c.read_plain-place.result) ∙ to.2.0 c.if-text-place.false)
 
 pub returns-in_default : goal.returns-in_default
 returns-in_default c =
@@ -36,7 +36,7 @@ returns-in_default-split_first c =
     let inv = c.loop-write.invariant in
     let end : c.in-Some.after.now ≡ [] = nil_from_length c.in-Some.after.now c.in_default-split_first.ensures.cases in
     read_some (list_of write_of c.args.text.now) (inv.0 ++ (write_said c.in-Some.write) ∷ []) _ (list_last write_of _ inv.0 c.loop-write.rest.now inv.2 (write_said c.in-Some.write) c.in-Some.ensures.0 (sym c.in-Some.ensures.1 ∙ end))
-    (c.in_ok-see.ensures ∙ ap (λ s. see_write c.args.declared c.args.reads.now.items s (write_said c.in-Some.write)) inv.1 ∙ sym (writes_more c.args.declared c.args.reads.now.items inv.0 (write_said c.in-Some.write)))
+    (c.see.ensures ∙ ap (λ s. see_write c.args.declared c.args.reads.now.items s (write_said c.in-Some.write)) inv.1 ∙ sym (writes_more c.args.declared c.args.reads.now.items inv.0 (write_said c.in-Some.write)))
 
 pub loop-write-smaller : goal.loop-write-smaller
 loop-write-smaller c =
@@ -47,6 +47,6 @@ pub loop-write-preserved : goal.loop-write-preserved
 loop-write-preserved c =
     let inv = c.loop-write.invariant in (
       inv.0 ++ (write_said c.in-Some.write) ∷ [],
-      c.in_ok-see.ensures ∙ ap (λ s. see_write c.args.declared c.args.reads.now.items s (write_said c.in-Some.write)) inv.1 ∙ sym (writes_more c.args.declared c.args.reads.now.items inv.0 (write_said c.in-Some.write)),
+      c.see.ensures ∙ ap (λ s. see_write c.args.declared c.args.reads.now.items s (write_said c.in-Some.write)) inv.1 ∙ sym (writes_more c.args.declared c.args.reads.now.items inv.0 (write_said c.in-Some.write)),
       list_more write_of _ inv.0 c.loop-write.rest.now inv.2 (write_said c.in-Some.write) _ c.in-Some-split_first.more.now c.in-Some.ensures.0 (sym c.in-Some.ensures.1 ∙ c.in-Some-split_first.ensures.cases.0),
     )
