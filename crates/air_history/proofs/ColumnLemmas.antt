@@ -12,10 +12,9 @@ use Rattle.air_history.specs.Columns.{column, column_entry}
 use Rattle.air_history.specs.Reads.{ReadAt, origin}
 use Rattle.air_history.specs.Consistency.{descends_from}
 use Rattle.air_history.proofs.PlaceLemmas.{greatest_suc, greatest_upto, greatest_none, greatest_same}
-use Rattle.air_history.proofs.HistoryLemmas.{descends_le, front_within}
-use Rattle.air_history.proofs.StepLemmas.{cycle_mono}
+use Rattle.air_history.proofs.HistoryLemmas.{descends_le, front_within, cycle_mono}
 use Rattle.air_history.proofs.ScanLemmas.{event_read, start_writes_nothing}
-use Rattle.air_history.proofs.ConsistencyLemmas.{entry_whole, origin_some}
+use Rattle.air_history.proofs.OriginLemmas.{entry_whole, origin_some}
 
 -- the greatest cycle of a marked commit among the first p events that writes item i, else 0
 abbrev pub marked_entry : List Event → List Bool → ℕ → ℕ → ℕ

@@ -3,7 +3,7 @@ use Rattle.std.proofs.Common.{◌≡◌, ℕ, zero, suc, ◌<◌, ◌≤◌, Boo
 use Rattle.std.specs.List.{list_any}
 use Rattle.std.proofs.Math.Numerals.{one-add}
 use Rattle.std.proofs.lemmas.Bool.{cases_lt, both_ways, or_cases, or_left, cond-true, cond-false, eqb-true, eq-eqb, ne_eqb, false≢true}
-use Rattle.std.proofs.lemmas.List.Sums.{sum_by-cons}
+use Rattle.std.proofs.lemmas.List.Sums.{sum_by-cons, sum_by-take-le}
 use Rattle.std.proofs.lemmas.List.{get_or_past, get_or-take, length-take, take-take}
 use Rattle.air_history.specs.declared.histories.Event.{Event}
 use Rattle.air_history.specs.declared.histories.Event.TheVariants.{Commit, Start}
@@ -200,3 +200,11 @@ unfolding descends
 descends_is G p q =
     descends_top G p q ∙ ap (λ b. (q == p) || b) (any_same _ _ (reads (event_at G p))
     (λ item. place_same (writer_before G p item) _ _ (λ w e. descends_in_view p G w q (writer_before_some G p item w e).0)))
+
+-- the cycles of places only rise
+pub cycle_mono : (G : List Event) (p q : ℕ) → p ≤ q → cycle_at G p ≤ cycle_at G q
+unfolding cycle_at
+cycle_mono G p q h =
+    let e : count_by is_start (take p (take q G)) ≡ count_by is_start (take p G) = ap (count_by is_start) (take-take p q G h) in
+    let le : count_by is_start (take p (take q G)) ≤ count_by is_start (take q G) = sum_by-take-le (λ x. cond (is_start x) 1 0) (take q G) p in
+    omega arith

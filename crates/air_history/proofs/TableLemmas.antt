@@ -1,72 +1,22 @@
--- Running chosen commits gives each item the value that its last chosen writer gave it in the whole history.
-use Rattle.std.proofs.Common.{◌≡◌, ℕ, zero, suc, ◌+◌, ◌-◌, ◌%◌, ◌^◌, ◌<◌, ◌≤◌, Bool, true, false, cond, ◌&&◌, ◌||◌, ◌==◌, Option, Some, None, IfSome, List, [], ◌∷◌, ◌++◌, length, get_or, take, find, All, Contains, IsTrue, refl, sym, ◌∙◌, ap, subst, inl, inr, arith, add-one}
-use Rattle.std.specs.List.{list_any}
-use Rattle.std.proofs.lemmas.Bool.{cases_Bool, both_ways, false≢true, and_parts, and_from, and_right, or_parts, cond-true, cond-false}
-use Rattle.std.proofs.lemmas.List.{take_more, append-nil, get_or_default}
-use Rattle.std.proofs.lemmas.List.Elements.{All-head, All-tail}
+-- The values after no event and after one more, and that an event makes the same of the same values.
+use Rattle.std.proofs.Common.{◌≡◌, ℕ, ◌+◌, ◌-◌, ◌%◌, ◌^◌, Bool, cond, Option, Some, None, List, [], ◌∷◌, ◌++◌, refl, ap}
 use Rattle.air_history.specs.declared.updates.Write.{Write}
 use Rattle.air_history.specs.declared.histories.Event.{Event}
-use Rattle.air_history.specs.declared.histories.Event.TheVariants.{Commit, Start}
-use Rattle.air_history.specs.Places.{last_place}
-use Rattle.air_history.specs.Histories.{event_at, writes, reads, front, writer_before}
-use Rattle.air_history.specs.Descents.{descends}
-use Rattle.air_history.specs.DescentLaws.{IsClosed}
-use Rattle.air_history.specs.Reads.{ReadAt, origin, read_value}
-use Rattle.air_history.specs.Consistency.{descends_from, runs_alone, last_alone, picked, alone, IsConsistent}
-use Rattle.air_history.specs.Tables.{based, write_of, put, value_after, table, BasesRead}
-use Rattle.air_history.proofs.PlaceLemmas.{IsLast, last_place_from, last_place_suc, place_at, place_from}
-use Rattle.air_history.proofs.HistoryLemmas.{front_prefix, front_within, writer_before_is}
-use Rattle.air_history.proofs.ConsistencyLemmas.{origin_whole, alone_at, alone_from}
-use Rattle.air_history.proofs.ClosureLemmas.{closure}
-use Rattle.air_history.proofs.ScanLemmas.{writer_before_none}
+use Rattle.air_history.specs.Tables.{based, write_of, put, value_after, table}
 
 pub table_nil : (V : ℕ → ℕ) (i : ℕ) → table V [] i ≡ V i
 unfolding table
 table_nil V i = refl
-
-last_place_none : (test : ℕ → Bool) → last_place 0 test ≡ None
-unfolding last_place
-last_place_none test = refl
 
 pub table_push : (V : ℕ → ℕ) (G : List Event) (e : Event) (i : ℕ) → table V (G ++ e ∷ []) i ≡ value_after (table V G) e i
 unfolding table value_after
 table_push V [] e i = refl
 table_push V (f ∷ G) e i = table_push (value_after V f) G e i
 
-based_same : (V W : ℕ → ℕ) (o : Option ℕ) (minus : Bool) (amount : ℕ) → ((b : ℕ) → o ≡ Some b → V b ≡ W b) → based V o minus amount ≡ based W o minus amount
+pub based_same : (V W : ℕ → ℕ) (o : Option ℕ) (minus : Bool) (amount : ℕ) → ((b : ℕ) → o ≡ Some b → V b ≡ W b) → based V o minus amount ≡ based W o minus amount
 unfolding based
 based_same V W None minus amount h = refl
 based_same V W (Some b) minus amount h = ap (λ v. cond minus ((v + (2 ^ 64 - amount)) % 2 ^ 64) ((v + amount) % 2 ^ 64)) (h b refl)
-
--- an item that isn't written keeps its value
-find_none : (i : ℕ) (ws : List Write) → list_any (λ w. w.item == i) ws ≡ false → find (λ w. w.item == i) ws ≡ None
-find_none i [] h = refl
-find_none i (w ∷ ws) h = let both = or_parts (w.item == i) (list_any (λ w. w.item == i) ws) h in cond-false (w.item == i) (Some w) (find (λ w. w.item == i) ws) both.0 ∙ find_none i ws both.1
-
-pub not_written : (V : ℕ → ℕ) (e : Event) (i : ℕ) → writes e i ≡ false → value_after V e i ≡ V i
-unfolding value_after write_of writes
-not_written V (Commit by seq u) i h = ap (put V i) (find_none i u.writes h)
-not_written V Start i h = refl
-
--- the values that the event reads decide what it writes
-found_reads : (P : Write → Type 0) (i : ℕ) (ws : List Write) → All P ws → list_any (λ w. w.item == i) ws ≡ true → (w : Write) × (find (λ w. w.item == i) ws ≡ Some w) × P w
-found_reads P i [] all h = absurd (false≢true h)
-found_reads P i (w ∷ ws) all h = elim (cases_Bool (w.item == i)) as (λ _. (v : Write) × (find (λ w. w.item == i) (w ∷ ws) ≡ Some v) × P v) [
-  | inl here ↦ (w, cond-true (w.item == i) _ _ here, All-head P w ws all)
-  | inr miss ↦ (let r = found_reads P i ws (All-tail P w ws all) (let there : list_any (λ w. w.item == i) ws ≡ true = sym (ap (λ b. b || list_any (λ w. w.item == i) ws) miss) ∙ h in there) in
-      (r.0, cond-false (w.item == i) _ _ miss ∙ r.1, r.2))
-]
-
-pub written_same : (V W : ℕ → ℕ) (e : Event) (i : ℕ) → BasesRead e → writes e i ≡ true → ((k : ℕ) → k < length (reads e) → V (get_or (reads e) k 0) ≡ W (get_or (reads e) k 0)) → value_after V e i ≡ value_after W e i
-unfolding value_after write_of writes reads BasesRead
-written_same V W (Commit by seq u) i bases h same =
-    let r = found_reads (λ w. IfSome w.base (Contains u.reads)) i u.writes bases h in
-    ap (put V i) r.1 ∙ based_same V W r.0.base r.0.minus r.0.amount (λ b e. base_same r.0.base b e r.2) ∙ sym (ap (put W i) r.1)
-  where
-    base_same : (o : Option ℕ) (b : ℕ) → o ≡ Some b → IfSome o (Contains u.reads) → V b ≡ W b
-    base_same None b e x = absurd (let f : ◌≡◌ {A = Option ℕ} None (Some b) = e in cc)
-    base_same (Some c) b e x = let cb : c ≡ b = cc in subst (λ b. V b ≡ W b) (get_or_default u.reads x.0 0 c x.1 ∙ x.2 ∙ cb) (same x.0 x.1)
-written_same V W Start i bases h same = absurd (false≢true h)
 
 pub value_after_same : (V W : ℕ → ℕ) (e : Event) (i : ℕ) → ((k : ℕ) → V k ≡ W k) → value_after V e i ≡ value_after W e i
 unfolding value_after
@@ -75,103 +25,3 @@ value_after_same V W e i same = go (write_of e i)
     go : (o : Option Write) → put V i o ≡ put W i o
     go None = same i
     go (Some w) = based_same V W w.base w.minus w.amount (λ b _. same b)
-
-module _ (V : ℕ → ℕ) (H : List Event) where
-  -- the values after running the places below n that pass
-  unfoldable ran : (ℕ → Bool) → ℕ → ℕ → ℕ
-  ran S zero i = V i
-  ran S (suc n) i = cond (S n) (value_after (ran S n) (event_at H n) i) (ran S n i)
-
-  picked_ran : (S : ℕ → Bool) (n i : ℕ) → table V (picked n H S) i ≡ ran S n i
-  unfolding picked ran
-  picked_ran S zero i = table_nil V i
-  picked_ran S (suc n) i = more (S n) (picked_ran S n)
-    where
-      more : (b : Bool) → ((k : ℕ) → table V (picked n H S) k ≡ ran S n k) → table V (picked n H S ++ cond b (event_at H n ∷ []) []) i ≡ cond b (value_after (ran S n) (event_at H n) i) (ran S n i)
-      more true h = table_push V (picked n H S) (event_at H n) i ∙ value_after_same (table V (picked n H S)) (ran S n) (event_at H n) i h
-      more false h = ap (λ G. table V G i) (append-nil (picked n H S)) ∙ h i
-
-  -- the values after the first n events
-  abbrev seen : ℕ → ℕ → ℕ
-  seen n i = ran (λ _. true) n i
-
-  take_seen : (n i : ℕ) → n ≤ length H → table V (take n H) i ≡ seen n i
-  unfolding ran
-  take_seen zero i h = table_nil V i
-  take_seen (suc n) i h =
-      ap (λ G. table V G i) (ap (λ m. take m H) (sym (add-one n)) ∙ take_more H n Start (omega arith))
-      ∙ table_push V (take n H) (event_at H n) i
-      ∙ value_after_same (table V (take n H)) (seen n) (event_at H n) i (λ k. take_seen n k (omega arith))
-
-  -- the value that a place left, or the first one
-  abbrev left : ℕ → Option ℕ → ℕ
-  left i None = V i
-  left i (Some w) = value_after (seen w) (event_at H w) i
-
-  cond_left : (b : Bool) (n i : ℕ) (o : Option ℕ) (x : ℕ) → (b ≡ true → x ≡ left i (Some n)) → (b ≡ false → x ≡ left i o) → x ≡ left i (cond b (Some n) o)
-  cond_left true n i o x f g = f refl
-  cond_left false n i o x f g = g refl
-
-  before_suc : (n i : ℕ) → writer_before H (suc n) i ≡ cond (writes (event_at H n) i) (Some n) (writer_before H n i)
-  unfolding writer_before
-  before_suc n i = last_place_suc n (λ q. writes (event_at H q) i)
-
-  -- in the whole history an item has what its last writer left
-  seen_left : (n i : ℕ) → seen n i ≡ left i (writer_before H n i)
-  unfolding ran
-  seen_left zero i = ap (left i) (sym (writer_before_none H i))
-  seen_left (suc n) i =
-      cond_left (writes (event_at H n) i) n i (writer_before H n i) (value_after (seen n) (event_at H n) i) (λ _. refl)
-      (λ miss. not_written (seen n) (event_at H n) i miss ∙ seen_left n i)
-      ∙ ap (left i) (sym (before_suc n i))
-
-  module _ (S : ℕ → Bool) (closed : IsClosed H S) (bases : All BasesRead H) where
-    -- for a chosen commit the last chosen writer of what it reads is the last writer
-    before_same : (n k : ℕ) → IsTrue (S n) → k < length (reads (event_at H n)) →
-        (o : Option ℕ) → writer_before H n (get_or (reads (event_at H n)) k 0) ≡ o → IsLast n (λ q. writes (event_at H q) (get_or (reads (event_at H n)) k 0)) o →
-        last_place n (λ q. S q && writes (event_at H q) (get_or (reads (event_at H n)) k 0)) ≡ o
-    before_same n k chosen l None e is = last_place_from n _ None (λ q lt. and_right (S q) _ (is q lt))
-    before_same n k chosen l (Some w) e is = last_place_from n _ (Some w)
-        (is.0, and_from (S w) _ (closed n w chosen (record { nth = k; within = l; wrote = e })) is.1, λ q above lt. and_right (S q) _ (is.2 q above lt))
-
-    chosen_suc : (n i : ℕ) → last_place (suc n) (λ q. S q && writes (event_at H q) i) ≡ cond (S n && writes (event_at H n) i) (Some n) (last_place n (λ q. S q && writes (event_at H q) i))
-    chosen_suc n i = last_place_suc n (λ q. S q && writes (event_at H q) i)
-
-    -- where the chosen commits run alone an item has what its last chosen writer left in the whole history
-    chosen_left : (n i : ℕ) → n ≤ length H → ran S n i ≡ left i (last_place n (λ q. S q && writes (event_at H q) i))
-    unfolding ran
-    chosen_left zero i h = ap (left i) (sym (last_place_none (λ q. S q && writes (event_at H q) i)))
-    chosen_left (suc n) i h = more (S n) refl (λ k. chosen_left n k (omega arith)) ∙ ap (left i) (sym (chosen_suc n i))
-      where
-        more : (b : Bool) → S n ≡ b → ((k : ℕ) → ran S n k ≡ left k (last_place n (λ q. S q && writes (event_at H q) k))) →
-            cond b (value_after (ran S n) (event_at H n) i) (ran S n i) ≡ left i (cond (S n && writes (event_at H n) i) (Some n) (last_place n (λ q. S q && writes (event_at H q) i)))
-        more true e rest = cond_left (S n && writes (event_at H n) i) n i (last_place n (λ q. S q && writes (event_at H q) i)) (value_after (ran S n) (event_at H n) i)
-            (λ hit. written_same (ran S n) (seen n) (event_at H n) i (bases n Start (omega arith)) (and_parts _ _ hit).1
-            (λ k l. rest (get_or (reads (event_at H n)) k 0)
-            ∙ ap (left (get_or (reads (event_at H n)) k 0)) (before_same n k e l (writer_before H n (get_or (reads (event_at H n)) k 0)) refl (writer_before_is H n (get_or (reads (event_at H n)) k 0)))
-            ∙ sym (seen_left n (get_or (reads (event_at H n)) k 0))))
-            (λ miss. not_written (ran S n) (event_at H n) i (sym (ap (λ b. b && writes (event_at H n) i) e) ∙ miss) ∙ rest i)
-        more false e rest = cond_left (S n && writes (event_at H n) i) n i (last_place n (λ q. S q && writes (event_at H q) i)) (ran S n i)
-            (λ hit. absurd (both_ways (S n) e (and_parts _ _ hit).0))
-            (λ miss. rest i)
-
--- what runs alone is closed
-alone_closed : (H : List Event) (R : List ReadAt) → IsClosed H (runs_alone H R)
-unfolding descends_from
-alone_closed H R p w h r =
-    let d : ReadAt = record { item = 0; cycle = 0 } in
-    let s = alone_at H R p d h in
-    let v = place_at (origin H (get_or R s.0 d)) (λ o. descends H o p) s.2 in
-    alone_from H R w s.0 d s.1 (place_from (origin H (get_or R s.0 d)) (λ o. descends H o w) v.0 v.1 ((closure H v.0).closed p w v.2 r))
-
-pub values : (V : ℕ → ℕ) (H : List Event) (R : List ReadAt) → All BasesRead H → IsConsistent H R →
-    All (λ r. table V (alone H R) r.item ≡ read_value V H r) R
-unfolding alone last_alone
-values V H R bases consistent k d l =
-    let r = get_or R k d in
-    picked_ran V H (runs_alone H R) (length H) r.item
-    ∙ chosen_left V H (runs_alone H R) (alone_closed H R) bases (length H) r.item (omega arith)
-    ∙ ap (left V H r.item) (consistent k d l ∙ origin_whole H r)
-    ∙ sym (seen_left V H (length (front H r.cycle)) r.item)
-    ∙ sym (take_seen V H (length (front H r.cycle)) r.item (front_within H r.cycle))
-    ∙ ap (λ G. table V G r.item) (sym (front_prefix H r.cycle))

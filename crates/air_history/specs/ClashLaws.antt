@@ -1,5 +1,5 @@
 -- The words of the laws of clashes: entries that a history aired, and reads that a policy accepted one after another.
--- The laws are `clash_law`, `stays_consistent_law`, `stays_current_law`, `takes_law` and `accepted_law` of `laws`.
+-- The laws are `clash_law`, `stays_consistent_law`, `stays_current_law`, `takes_law` and `accepted_law` of `history_laws`.
 use Rattle.std.specs.Prelude.{◌≡◌, ℕ, ◌<◌, ◌≤◌, cond, not, false, List, [], ◌∷◌, ◌++◌, AllPairs, None}
 use Rattle.std.specs.List.{list_all}
 use Rattle.air_base.specs.declared.verdicts.Policy.{Policy}

@@ -1,4 +1,4 @@
--- The word of the law that reads of one cycle are consistent, `one_cycle_law` of `laws`.
+-- The word of the law that reads of one cycle are consistent, `one_cycle_law` of `history_laws`.
 use Rattle.std.specs.Prelude.{◌≡◌, ℕ, List, All}
 use Rattle.air_history.specs.declared.histories.Event.{Event}
 use Rattle.air_history.specs.Histories.{front, writer}

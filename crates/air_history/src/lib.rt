@@ -2,12 +2,11 @@
 //!
 //! `specs/` is the first half of what must be believed: it defines the cycle and the front of a history, the
 //! last writer, descent, tables of values, consistent reads, control columns, write vectors and clashes.
-//! `laws` says how these hang together, over every history. `scans` has the slow programs, each proved to be
-//! its definition: faster bodies are compared with them, and the audit uses them.
+//! The crate `history_laws` says how these hang together, over every history. `scans` has the slow programs, each proved
+//! to be its definition: faster bodies are compared with them, and the audit uses them.
 #![tactic(auto)]
 
 pub mod histories;
-pub mod laws;
 pub mod scans;
 pub mod tables;
 pub mod updates;

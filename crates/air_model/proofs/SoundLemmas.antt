@@ -20,9 +20,9 @@ use Rattle.air_history.specs.Reads.{ReadAt, IsRead, read_value}
 use Rattle.air_history.specs.Consistency.{alone, IsConsistent}
 use Rattle.air_history.specs.Clashes.{is_late, clash_by_history}
 use Rattle.air_history.specs.ClashLaws.{AcceptsAfter, Accepts, IsSound}
-use Rattle.air_history.proofs.TableLemmas.{values}
-use Rattle.air_history.proofs.PolicyLemmas.{stays_consistent}
-use Rattle.air_history.proofs.AcceptedLemmas.{accepted}
+use Rattle.history_laws.proofs.AloneLemmas.{values}
+use Rattle.history_laws.proofs.PolicyLemmas.{stays_consistent}
+use Rattle.history_laws.proofs.AcceptedLemmas.{accepted}
 use Rattle.air_model.specs.Buckets.{Bucket, Body, Idle, Column, Vector}
 use Rattle.air_model.specs.Reads.{Read}
 use Rattle.air_model.specs.Aired.{Air, fits}

@@ -1,5 +1,0 @@
-use Rattle.air_history.proofs.TableLemmas.{values}
-use Rattle.air_history.proofs.laws.values_law.Goals as goal
-
-pub returns : goal.returns
-returns c = values

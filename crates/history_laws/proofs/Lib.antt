@@ -1,0 +1,10 @@
+pub mod ConsistencyLemmas
+pub mod StepLemmas
+pub mod RepeatLemmas
+pub mod StaleLemmas
+pub mod NamedLemmas
+pub mod ClashLemmas
+pub mod PolicyLemmas
+pub mod AcceptedLemmas
+pub mod VectorLemmas
+pub mod AloneLemmas
