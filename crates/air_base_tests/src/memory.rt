@@ -1,0 +1,20 @@
+//! A push whose value is a text of its own: its failure becomes want of memory too.
+
+use air_base::NoMemory;
+use std::alloc::Global;
+use std::test::Fail;
+
+/// The list of one text.
+fn list_of(alloc: Global, text: Vec<u8>) -> Result<Vec<Vec<u8>>, NoMemory> {
+    let mut texts = Vec::new(alloc);
+    texts.push(text)?;
+    Ok(texts)
+}
+
+#[test]
+fn a_push_of_a_text_may_want_memory(rt: HostRuntime) -> Result<(), Fail> {
+    let texts = list_of(rt.alloc(), Vec::from_array(rt.alloc(), [7_u8, 8])?)?;
+    let held = texts.first().map(|text| text.as_slice());
+    assert_eq!(rt; (texts.len(), held), (1, Some([7, 8].as_slice())));
+    Ok(())
+}
