@@ -15,6 +15,3 @@ pub use histories::{Event, History};
 pub use scans::{column_scan, descends, writer_at};
 pub use tables::{run_event, table_of};
 pub use updates::{Update, UpdateFault, Write};
-
-#[cfg(test)]
-mod tests;

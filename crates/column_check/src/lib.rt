@@ -9,6 +9,3 @@ pub mod laws;
 mod reads;
 
 pub use held::{Held, ROOM};
-
-#[cfg(test)]
-mod tests;

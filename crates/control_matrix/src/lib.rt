@@ -10,6 +10,3 @@ mod kernels;
 pub mod laws;
 
 pub use board::Board;
-
-#[cfg(test)]
-mod tests;
