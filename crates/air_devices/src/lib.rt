@@ -23,8 +23,3 @@ pub use memory_shelf::MemShelf;
 pub use reading::{ReadFileError, read_file};
 pub use shelves::{Failed, Shelf};
 pub use tape_room::TapeRoom;
-
-#[cfg(test)]
-mod mast_tests;
-#[cfg(test)]
-mod tests;
