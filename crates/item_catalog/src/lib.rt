@@ -20,6 +20,3 @@ pub use deck::Deck;
 pub use faults::{DeckError, DeckFault};
 pub use laws::{deck_or_fault_law, not_both_law, one_deck_law, one_fault_law, well_made_law};
 pub use reading::read_deck;
-
-#[cfg(test)]
-mod tests;
