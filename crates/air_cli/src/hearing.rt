@@ -159,6 +159,3 @@ pub(crate) fn check_tape(tape: &[u8]) -> Result<(), TapeFault>
     while let Some(_bytes) = records.next()? {}
     Ok(())
 }
-
-#[cfg(test)]
-mod tests;

@@ -23,6 +23,3 @@ mod works;
 
 pub use quiet::air_quiet;
 pub use status::Status;
-
-#[cfg(test)]
-mod tests;

@@ -280,6 +280,3 @@ pub(crate) fn put_verdicts(
     }
     Ok(())
 }
-
-#[cfg(test)]
-mod tests;

@@ -1,0 +1,167 @@
+//! The form of a case: what a command is given, and what is wanted of it.
+//!
+//! A file is written as its parts, so that a long deck is as short as what makes it. `first_other` plays cases over
+//! a shelf in memory, and names the first that leaves something else than is wanted, and in what.
+
+use air_cli::{Status, air_quiet};
+use air_devices::MemShelf;
+use std::alloc::Global;
+use std::test::Fail;
+use std::thread::Threads;
+
+/// A part of a file.
+#[derive(Clone, Copy)]
+pub enum Part<'a> {
+    Text(&'a str),
+    Bytes(&'a [u8]),
+    /// The first so many of these bytes.
+    Front(usize, &'a [u8]),
+    /// These bytes, the one at this place with its highest bit changed.
+    Flipped(usize, &'a [u8]),
+    /// This text so many times.
+    Times(u32, &'a str),
+    /// So many rows of these texts, with the row's number, from 0, between each two.
+    Rows(u32, &'a [&'a str]),
+}
+
+/// The parts of a file or of a text.
+pub type Parts<'a> = &'a [Part<'a>];
+
+/// The words over the file `deck`, a file and an output that are both named `tape`, and this room for the printed
+/// text and for the output; the listed calls fail. Then what is wanted.
+#[derive(Clone, Copy)]
+pub struct Case<'a> {
+    pub shows: &'a str,
+    pub words: &'a [&'a str],
+    pub deck: Parts<'a>,
+    pub tape: Parts<'a>,
+    pub room: usize,
+    pub fail: &'a [u64],
+    pub status: Status,
+    pub printed: Parts<'a>,
+    pub output: Parts<'a>,
+}
+
+/// In what a run differs from its case.
+#[derive(Clone, Copy, Debug, PartialEq, Eq)]
+pub enum Other {
+    Status(Status),
+    Printed,
+    Output,
+}
+
+/// Adds these texts with a number between each two.
+fn add_row(bytes: &mut Vec<u8>, number: &str, texts: &[&str]) -> Result<(), Fail> {
+    for (place, text) in texts.iter().enumerate() {
+        if place > 0 {
+            bytes.extend_from_slice(number.as_bytes())?;
+        }
+        bytes.extend_from_slice(text.as_bytes())?;
+    }
+    Ok(())
+}
+
+/// Adds so many rows of these texts.
+fn add_rows(alloc: Global, bytes: &mut Vec<u8>, rows: u32, texts: &[&str]) -> Result<(), Fail> {
+    for row in 0..rows {
+        let number = format!(in alloc; "{row}")?;
+        add_row(bytes, &number, texts)?;
+    }
+    Ok(())
+}
+
+/// Adds this text so many times.
+fn add_times(bytes: &mut Vec<u8>, times: u32, text: &str) -> Result<(), Fail> {
+    for _ in 0..times {
+        bytes.extend_from_slice(text.as_bytes())?;
+    }
+    Ok(())
+}
+
+/// Adds these bytes, the one at this place with its highest bit changed.
+fn add_flipped(bytes: &mut Vec<u8>, at: usize, more: &[u8]) -> Result<(), Fail> {
+    for (place, byte) in more.iter().enumerate() {
+        let byte = if place == at { *byte ^ 128 } else { *byte };
+        bytes.push(byte)?;
+    }
+    Ok(())
+}
+
+/// The bytes of these parts.
+fn bytes_of(alloc: Global, parts: Parts<'_>) -> Result<Vec<u8>, Fail> {
+    let mut bytes = Vec::new(alloc);
+    for part in parts {
+        match *part {
+            Part::Text(text) => bytes.extend_from_slice(text.as_bytes())?,
+            Part::Bytes(more) => bytes.extend_from_slice(more)?,
+            Part::Front(count, more) => bytes.extend_from_slice(&more[..count.min(more.len())])?,
+            Part::Flipped(at, more) => add_flipped(&mut bytes, at, more)?,
+            Part::Times(times, text) => add_times(&mut bytes, times, text)?,
+            Part::Rows(rows, texts) => add_rows(alloc, &mut bytes, rows, texts)?,
+        }
+    }
+    Ok(bytes)
+}
+
+/// The shelf of a case.
+fn shelf_of(alloc: Global, case: &Case<'_>) -> Result<MemShelf, Fail> {
+    let mut files = Vec::new(alloc);
+    files.push((
+        String::from_str(alloc, "deck")?,
+        bytes_of(alloc, case.deck)?,
+    ))?;
+    files.push((
+        String::from_str(alloc, "tape")?,
+        bytes_of(alloc, case.tape)?,
+    ))?;
+    let mut outputs = Vec::new(alloc);
+    outputs.push(String::from_str(alloc, "tape")?)?;
+    let fail = Vec::from_slice(alloc, case.fail)?;
+    Ok(MemShelf::new(alloc, files, outputs, case.room, fail)?)
+}
+
+/// The words of a case.
+fn words_of(alloc: Global, words: &[&str]) -> Result<Vec<String>, Fail> {
+    let mut all = Vec::new(alloc);
+    for word in words {
+        all.push(String::from_str(alloc, word)?)?;
+    }
+    Ok(all)
+}
+
+/// In what the run of a case differs from what is wanted, if it does.
+fn difference<R: Threads + Sync>(
+    rt: &R,
+    alloc: Global,
+    case: &Case<'_>,
+) -> Result<Option<Other>, Fail> {
+    let mut shelf = shelf_of(alloc, case)?;
+    let words = words_of(alloc, case.words)?;
+    let status = air_quiet(rt, alloc, &words, &mut shelf);
+    if status != case.status {
+        return Ok(Some(Other::Status(status)));
+    }
+    let printed = bytes_of(alloc, case.printed)?;
+    if shelf.printed() != printed.as_slice() {
+        return Ok(Some(Other::Printed));
+    }
+    let output = bytes_of(alloc, case.output)?;
+    if shelf.output("tape") != Some(output.as_slice()) {
+        return Ok(Some(Other::Output));
+    }
+    Ok(None)
+}
+
+/// The first case that leaves something else than is wanted: what it shows, and in what it differs.
+pub fn first_other<'a, R: Threads + Sync>(
+    rt: &R,
+    alloc: Global,
+    cases: &[Case<'a>],
+) -> Result<Option<(&'a str, Other)>, Fail> {
+    for case in cases {
+        if let Some(other) = difference(rt, alloc, case)? {
+            return Ok(Some((case.shows, other)));
+        }
+    }
+    Ok(None)
+}

@@ -1,0 +1,37 @@
+//! The deck that most cases begin with, its report and its tape; and the words of each command.
+
+use crate::cases::{Case, Part};
+use air_cli::Status;
+
+/// Two items on one flat disk, one reader with one query, one cycle.
+pub const FIRST: &str = "item,0,10,1\nitem,1,20,1\ndisk,2,1\nreader,0,0,1\nquery,0,0 1\nscript,s\n";
+
+pub const FIRST_REPORT: &[u8] = b"start\naccept,0,0,1,0@1=10 1@1=20\ncounts,0,2,0,0,0,0,0\n";
+
+/// The tape of the first deck.
+pub const FIRST_TAPE: [u8; 72] = [
+    0, 0, 0, 32, 0x41, 0x44, 1, 1, 0, 0, 0, 2, 0, 0, 0, 1, 0, 0, 0, 0, 0, 0, 0, 0, 0, 0, 0, 10, 0,
+    0, 0, 0, 0, 0, 0, 0, 0, 0, 0, 32, 0x41, 0x44, 1, 1, 0, 0, 0, 2, 0, 0, 0, 1, 0, 1, 0, 1, 0, 0,
+    0, 0, 0, 0, 0, 20, 0, 0, 0, 0, 0, 0, 0, 0,
+];
+
+pub const PLAN: &[&str] = &["plan", "deck"];
+
+pub const SCRIPT: &[&str] = &["script", "deck"];
+
+pub const SCRIPT_TAPE: &[&str] = &["script", "deck", "tape"];
+
+pub const TUNE: &[&str] = &["tune", "deck", "tape"];
+
+/// A case of the first deck and its tape with room enough, of which the words and what is wanted are left to say.
+pub const FIRST_CASE: Case<'static> = Case {
+    shows: "",
+    words: &[],
+    deck: &[Part::Text(FIRST)],
+    tape: &[Part::Bytes(&FIRST_TAPE)],
+    room: 2000,
+    fail: &[],
+    status: Status::Ok,
+    printed: &[],
+    output: &[],
+};

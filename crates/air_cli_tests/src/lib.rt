@@ -1,0 +1,26 @@
+//! The commands of airdisk over a shelf in memory: words, a deck and a tape in; a status, a text and an output out.
+//!
+//! All goes through `air_quiet`. A test is a table of one behaviour. `cases` has the form of a case and plays it,
+//! `first` has the deck that most of them begin with, its tape, and the words of each command.
+#![tactic(auto)]
+
+#[cfg(test)]
+mod cases;
+#[cfg(test)]
+mod first;
+#[cfg(test)]
+mod orders;
+#[cfg(test)]
+mod outside;
+#[cfg(test)]
+mod plans;
+#[cfg(test)]
+mod reports;
+#[cfg(test)]
+mod scripts;
+#[cfg(test)]
+mod tapes;
+#[cfg(test)]
+mod tunings;
+#[cfg(test)]
+mod wording;

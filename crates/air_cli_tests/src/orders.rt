@@ -1,0 +1,180 @@
+//! Refusals, each before those that come later in their order; none writes to the output.
+
+use crate::cases::{Case, Other, Part, Parts, first_other};
+use crate::first::{FIRST, FIRST_CASE, PLAN, SCRIPT, SCRIPT_TAPE, TUNE};
+use air_cli::Status;
+use std::alloc::Global;
+use std::test::Fail;
+use std::thread::Threads;
+
+/// To tune to a file that isn't there.
+const TUNE_NONE: &[&str] = &["tune", "deck", "none"];
+
+/// A deck whose seventh record has a base that isn't read, and whose last has an unknown tag.
+const NO_BASE: &str = "item,0,1,1\nitem,1,2,1\ndisk,2,1\nreader,0,0,1\nquery,0,0\n\
+    update,0,0,0=0+1\nupdate,0,0,1=1+1\nscript,s\nfoo,1\n";
+
+/// A deck whose reader has room for a copy, and whose last record has an unknown tag.
+const UNKNOWN_TAG: &str = "item,0,10,1\ndisk,1,1\nreader,1,0,1\nfoo,1\n";
+
+/// A deck of 737,856 slots, without readers.
+const LONG: &str = "item,0,0,1\nitem,1,0,1\nitem,2,0,1\ndisk,1,64\ndisk,1,63\ndisk,1,61\n";
+
+/// A deck of 20,160 slots, whose script starts eight cycles.
+const LONG_SCRIPT: Parts<'static> = &[
+    Part::Rows(256, &["item,", ",0,1\n"]),
+    Part::Text("disk,128,64\ndisk,128,63\nscript,s s s s s s s s\n"),
+];
+
+/// A deck whose script starts 63 cycles of 16,384 buckets of 256 entries.
+const LONG_TAPE: Parts<'static> = &[
+    Part::Rows(256, &["item,", ",0,1\n"]),
+    Part::Text("disk,256,64\nscript,s"),
+    Part::Times(62, " s"),
+    Part::Text("\n"),
+];
+
+/// These words over this deck end with the status, and print the line.
+fn refused<'a>(
+    shows: &'a str,
+    words: &'a [&'a str],
+    deck: Parts<'a>,
+    status: Status,
+    line: Parts<'a>,
+) -> Case<'a> {
+    Case {
+        shows,
+        words,
+        deck,
+        status,
+        printed: line,
+        ..FIRST_CASE
+    }
+}
+
+#[test]
+fn a_fault_of_the_deck_is_told_before_all_else(rt: HostRuntime) -> Result<(), Fail> {
+    let base: Parts<'_> = &[Part::Text(NO_BASE)];
+    let fault = Status::Deck { row: 7, kind: 8 };
+    let line: Parts<'_> = &[Part::Text("fault,2,7,8\n")];
+    let empty = Status::Deck { row: 1, kind: 7 };
+    let empty_line: Parts<'_> = &[Part::Text("fault,2,1,7\n")];
+    let odd: Parts<'_> = &[Part::Text(UNKNOWN_TAG)];
+    let odd_tag = Status::Deck { row: 4, kind: 9 };
+    let odd_tag_line: Parts<'_> = &[Part::Text("fault,2,4,9\n")];
+    let cases = [
+        refused("by a plan", PLAN, base, fault, line),
+        refused("by a script", SCRIPT, base, fault, line),
+        refused("by a script to a tape", SCRIPT_TAPE, base, fault, line),
+        refused("before a missing tape", TUNE_NONE, base, fault, line),
+        refused("of an empty deck", SCRIPT, &[], empty, empty_line),
+        refused("before another form", SCRIPT, odd, odd_tag, odd_tag_line),
+    ];
+    assert_eq!(rt; first_other(&rt, rt.alloc(), &cases)?, None);
+    Ok(())
+}
+
+/// The first of these decks of one item that isn't planned, or that `script` or `tune` don't refuse for its form.
+fn first_done<'a, R: Threads + Sync>(
+    rt: &R,
+    alloc: Global,
+    decks: &[(&'a str, &'a str)],
+) -> Result<Option<(&'a str, Other)>, Fail> {
+    let form = Status::Deck { row: 0, kind: 12 };
+    let line: Parts<'_> = &[Part::Text("fault,2,0,12\n")];
+    let plan: Parts<'_> = &[Part::Text(
+        "program,1,1,1\ndisk,0,1,1,1\nminor,0,0\nitem,0,0,1,1,0,1\n",
+    )];
+    for (shows, more) in decks {
+        let deck = [Part::Text("item,0,10,1\ndisk,1,1\n"), Part::Text(more)];
+        let cases = [
+            refused(shows, SCRIPT, &deck, form, line),
+            refused(shows, TUNE_NONE, &deck, form, line),
+            refused(shows, PLAN, &deck, Status::Ok, plan),
+        ];
+        if let Some((_, other)) = first_other(rt, alloc, &cases)? {
+            return Ok(Some((*shows, other)));
+        }
+    }
+    Ok(None)
+}
+
+#[test]
+fn decks_of_another_form_are_planned_and_not_done(rt: HostRuntime) -> Result<(), Fail> {
+    let decks = [
+        ("a reader keeps copies", "reader,1,0,1\n"),
+        ("Datacycle", "set,policy,D\n"),
+        ("R-Matrix", "set,policy,R\n"),
+        ("buckets are lost", "set,loss,1\n"),
+        ("buckets are heard again", "set,again,1\n"),
+        ("buckets are heard late", "set,late,1\n"),
+    ];
+    assert_eq!(rt; first_done(&rt, rt.alloc(), &decks)?, None);
+    Ok(())
+}
+
+#[test]
+fn settings_that_no_reader_sees_are_done(rt: HostRuntime) -> Result<(), Fail> {
+    let cycles: Parts<'_> = &[Part::Text("item,0,10,1\ndisk,1,1\nset,cycles,5\n")];
+    let seed: Parts<'_> = &[Part::Text("item,0,10,1\ndisk,1,1\nset,seed,3\n")];
+    let monitors: Parts<'_> = &[Part::Text("item,0,10,1\ndisk,1,1\nset,monitors,1\n")];
+    let hears: Parts<'_> = &[Part::Text("item,0,10,1\ndisk,1,1\nset,hears,5\n")];
+    let cases = [
+        refused("cycles", SCRIPT, cycles, Status::Ok, &[]),
+        refused("seed", SCRIPT, seed, Status::Ok, &[]),
+        refused("monitors", SCRIPT, monitors, Status::Ok, &[]),
+        refused("hears", SCRIPT, hears, Status::Ok, &[]),
+    ];
+    assert_eq!(rt; first_other(&rt, rt.alloc(), &cases)?, None);
+    Ok(())
+}
+
+#[test]
+fn a_program_that_is_too_long_is_refused_before_its_tape(rt: HostRuntime) -> Result<(), Fail> {
+    let deck: Parts<'_> = &[Part::Text(LONG)];
+    let long = Status::PlanTooLong { slots: 737_856 };
+    let line: Parts<'_> = &[Part::Text("fault,13,737856\n")];
+    let less = Status::PlanTooLong { slots: 20_160 };
+    let less_line: Parts<'_> = &[Part::Text("fault,13,20160\n")];
+    let copies: Parts<'_> = &[Part::Text(LONG), Part::Text("reader,1,0,1\n")];
+    let form = Status::Deck { row: 0, kind: 12 };
+    let form_line: Parts<'_> = &[Part::Text("fault,2,0,12\n")];
+    let cases = [
+        refused("by a plan", PLAN, deck, long, line),
+        refused("by a script", SCRIPT, deck, long, line),
+        refused("by a script to a tape", SCRIPT_TAPE, deck, long, line),
+        refused("before a missing tape", TUNE_NONE, deck, long, line),
+        refused("of eight starts", SCRIPT, LONG_SCRIPT, less, less_line),
+        refused("behind another form", SCRIPT, copies, form, form_line),
+        refused("by a plan of another form", PLAN, copies, long, line),
+    ];
+    assert_eq!(rt; first_other(&rt, rt.alloc(), &cases)?, None);
+    Ok(())
+}
+
+#[test]
+fn a_tape_of_63_full_cycles_is_too_long(rt: HostRuntime) -> Result<(), Fail> {
+    let long = Status::TooLong {
+        bytes: 1_085_865_984,
+    };
+    let line: Parts<'_> = &[Part::Text("fault,12,1085865984\n")];
+    let cases = [
+        refused("unwritten", SCRIPT, LONG_TAPE, long, line),
+        refused("written", SCRIPT_TAPE, LONG_TAPE, long, line),
+    ];
+    assert_eq!(rt; first_other(&rt, rt.alloc(), &cases)?, None);
+    Ok(())
+}
+
+#[test]
+fn a_file_that_is_not_there_is_told(rt: HostRuntime) -> Result<(), Fail> {
+    let deck: Parts<'_> = &[Part::Text(FIRST)];
+    let line: Parts<'_> = &[Part::Text("fault,3\n")];
+    let no_deck: &[&str] = &["tune", "none", "tape"];
+    let cases = [
+        refused("the tape", TUNE_NONE, deck, Status::ReadFault, line),
+        refused("the deck", no_deck, deck, Status::ReadFault, line),
+    ];
+    assert_eq!(rt; first_other(&rt, rt.alloc(), &cases)?, None);
+    Ok(())
+}

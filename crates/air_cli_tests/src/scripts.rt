@@ -1,0 +1,133 @@
+//! The command `script`: its report and its tape.
+
+use crate::cases::{Case, Part, Parts, first_other};
+use crate::first::{FIRST_CASE, FIRST_REPORT, FIRST_TAPE, SCRIPT, SCRIPT_TAPE};
+use std::test::Fail;
+
+/// Two items, of which the second is the hotter, so that the program airs it first.
+const TWO: Part<'static> = Part::Text(
+    "item,0,10,1\nitem,1,20,2\ndisk,2,1\nreader,0,0,1\nquery,0,0 1\n",
+);
+
+/// Three items, and updates by which item 1 descends from item 0.
+const THREE: Part<'static> = Part::Text(
+    "item,0,10,2\nitem,1,20,3\nitem,2,30,1\ndisk,3,1\n\
+    update,0,,0=11\nupdate,0,0,2=0+1\nupdate,0,2,1=2+1\n",
+);
+
+/// A script of this deck prints this report.
+fn reported<'a>(shows: &'a str, deck: Parts<'a>, printed: Parts<'a>) -> Case<'a> {
+    Case {
+        shows,
+        words: SCRIPT,
+        deck,
+        printed,
+        ..FIRST_CASE
+    }
+}
+
+#[test]
+fn a_script_airs_its_program_and_prints_what_the_reader_hears(rt: HostRuntime) -> Result<(), Fail> {
+    let first: Parts<'_> = &[Part::Bytes(FIRST_REPORT)];
+    let printed = reported("the first deck", FIRST_CASE.deck, first);
+    let in_order: Parts<'_> = &[
+        Part::Rows(3, &["item,", ",0,1\n"]),
+        Part::Text("disk,3,1\nreader,0,0,1\nquery,0,2 0\nscript,s s\n"),
+    ];
+    let in_order_report: Parts<'_> = &[Part::Text(
+        "start\nstart\naccept,0,0,1,2@1=0 0@2=0\ncounts,0,2,4,0,0,0,0\n",
+    )];
+    let no_start: Parts<'_> = &[Part::Text(
+        "item,0,10,1\ndisk,1,1\nreader,0,0,1\nquery,0,0\nscript,\n",
+    )];
+    let no_start_report: Parts<'_> = &[Part::Text("unfinished,0,0,1,\ncounts,0,0,0,0,0,0,0\n")];
+    let sums: Parts<'_> = &[Part::Text(
+        "item,0,18446744073709551615,1\ndisk,1,1\nupdate,0,0,0=0+1\n\
+        reader,0,0,1\nquery,0,0\nscript,0 s\n",
+    )];
+    let sums_report: Parts<'_> = &[Part::Text(
+        "commit,0,0\nstart\naccept,0,0,1,0@1=0\ncounts,0,1,0,0,0,0,0\n",
+    )];
+    let disks: Parts<'_> = &[Part::Text(
+        "item,0,7,5\nitem,1,8,1\nitem,2,9,1\ndisk,1,2\ndisk,2,1\n\
+        reader,0,0,1\nquery,0,2 0\nquery,0,1\nscript,s s\n",
+    )];
+    let disks_report: Parts<'_> = &[Part::Text(
+        "start\nstart\naccept,0,0,1,2@1=9 0@2=7\naccept,0,1,1,1@2=8\ncounts,0,3,5,0,0,0,0\n",
+    )];
+    let cases = [
+        printed,
+        Case {
+            shows: "the first deck's tape",
+            words: SCRIPT_TAPE,
+            tape: &[],
+            output: &[Part::Bytes(&FIRST_TAPE)],
+            ..printed
+        },
+        reported(
+            "items are read in the query's order",
+            in_order,
+            in_order_report,
+        ),
+        reported(
+            "without starts the query is unfinished",
+            no_start,
+            no_start_report,
+        ),
+        reported("sums go around", sums, sums_report),
+        reported("disks of any frequency are aired", disks, disks_report),
+    ];
+    assert_eq!(rt; first_other(&rt, rt.alloc(), &cases)?, None);
+    Ok(())
+}
+
+#[test]
+fn reads_clash_exactly_where_one_is_overwritten_by_an_ancestor_of_another(
+    rt: HostRuntime,
+) -> Result<(), Fail> {
+    let both: Parts<'_> = &[
+        TWO,
+        Part::Text("update,0,,0=11\nupdate,0,,1=21\nscript,s 0 0 s\n"),
+    ];
+    let both_report: Parts<'_> = &[Part::Text(
+        "start\ncommit,0,0\ncommit,0,1\nstart\n\
+        accept,0,0,1,0@1=10 1@2=21\ncounts,0,2,2,0,0,0,0\n",
+    )];
+    let one: Parts<'_> = &[TWO, Part::Text("update,0,,0=11\nscript,s 0 s\n")];
+    let one_report: Parts<'_> = &[Part::Text(
+        "start\ncommit,0,0\nstart\naccept,0,0,1,0@1=10 1@2=20\ncounts,0,2,2,0,0,0,0\n",
+    )];
+    let clash: Parts<'_> = &[
+        THREE,
+        Part::Text("reader,0,0,1\nquery,0,0 1\nscript,s 0 0 0 s\n"),
+    ];
+    let clash_report: Parts<'_> = &[Part::Text(
+        "start\ncommit,0,0\ncommit,0,1\ncommit,0,2\nstart\n\
+        abort,0,0,1,0@1=10,1@2,0\ncounts,0,2,4,0,0,0,0\n",
+    )];
+    let early: Parts<'_> = &[
+        THREE,
+        Part::Text("reader,0,0,1\nquery,0,0 1\nscript,0 0 0 s s\n"),
+    ];
+    let early_report: Parts<'_> = &[Part::Text(
+        "commit,0,0\ncommit,0,1\ncommit,0,2\nstart\nstart\n\
+        accept,0,0,1,0@1=11 1@2=13\ncounts,0,2,4,0,0,0,0\n",
+    )];
+    let again: Parts<'_> = &[
+        THREE,
+        Part::Text("reader,0,0,2\nquery,0,0 1\nscript,s 0 0 0 s s\n"),
+    ];
+    let again_report: Parts<'_> = &[Part::Text(
+        "start\ncommit,0,0\ncommit,0,1\ncommit,0,2\nstart\nstart\n\
+        abort,0,0,1,0@1=10,1@2,0\naccept,0,0,2,0@2=11 1@3=13\ncounts,0,4,5,0,0,0,0\n",
+    )];
+    let cases = [
+        reported("updates that read nothing", both, both_report),
+        reported("an update of the older read", one, one_report),
+        reported("an ancestor of the newer read", clash, clash_report),
+        reported("updates before the first start", early, early_report),
+        reported("a second try holds nothing", again, again_report),
+    ];
+    assert_eq!(rt; first_other(&rt, rt.alloc(), &cases)?, None);
+    Ok(())
+}

@@ -1,0 +1,192 @@
+//! The command `tune` over tapes that are whole, cut or changed in a byte.
+
+use crate::cases::{Case, Other, Part, Parts, first_other};
+use crate::first::{FIRST_CASE, FIRST_TAPE, TUNE};
+use air_cli::Status;
+use std::alloc::Global;
+use std::test::Fail;
+use std::thread::Threads;
+
+/// A record of two bytes, then one of none.
+const SHORT: [u8; 10] = [0, 0, 0, 2, 7, 8, 0, 0, 0, 0];
+
+const AT_0: Status = Status::TapeCut { at: 0 };
+
+const AT_6: Status = Status::TapeCut { at: 6 };
+
+const AT_36: Status = Status::TapeCut { at: 36 };
+
+const CUT_AT_0: Parts<'static> = &[Part::Text("fault,6,0\n")];
+
+const CUT_AT_6: Parts<'static> = &[Part::Text("fault,6,6\n")];
+
+const CUT_AT_36: Parts<'static> = &[Part::Text("fault,6,36\n")];
+
+/// What is left after nothing was heard, and after one or two records that are no buckets.
+const NOTHING: Parts<'static> = &[Part::Text("unfinished,0,0,1,\ncounts,0,0,0,0,0,0,0\n")];
+
+const ONE_REFUSED: Parts<'static> = &[Part::Text("unfinished,0,0,1,\ncounts,0,0,0,0,1,0,0\n")];
+
+const TWO_REFUSED: Parts<'static> = &[Part::Text("unfinished,0,0,1,\ncounts,0,0,0,0,2,0,0\n")];
+
+/// What is left after the first record alone was heard.
+const ONE_READ: Parts<'static> = &[Part::Text("unfinished,0,0,1,0@1=10\ncounts,0,1,0,0,0,0,0\n")];
+
+/// What is left after the first record was refused or foreign, and the second not wanted.
+const FIRST_REFUSED: Parts<'static> = &[Part::Text("unfinished,0,0,1,\ncounts,0,0,1,0,1,0,0\n")];
+
+const FIRST_FOREIGN: Parts<'static> = &[Part::Text("unfinished,0,0,1,\ncounts,0,0,1,0,0,1,0\n")];
+
+/// The first deck's reader over this tape.
+fn tuned<'a>(tape: Parts<'a>, status: Status, printed: Parts<'a>) -> Case<'a> {
+    Case {
+        words: TUNE,
+        tape,
+        status,
+        printed,
+        ..FIRST_CASE
+    }
+}
+
+/// The first length to which a tape is cut, so that something else is left, and in what that differs.
+fn first_other_length<R: Threads + Sync>(
+    rt: &R,
+    alloc: Global,
+    tape: &[u8],
+    lengths: &[(usize, Status, Parts<'_>)],
+) -> Result<Option<(usize, Other)>, Fail> {
+    for (length, status, printed) in lengths {
+        let front = [Part::Front(*length, tape)];
+        let case = tuned(&front, *status, printed);
+        if let Some((_, other)) = first_other(rt, alloc, &[case])? {
+            return Ok(Some((*length, other)));
+        }
+    }
+    Ok(None)
+}
+
+#[test]
+fn a_tape_is_heard_exactly_where_its_last_record_is_whole(rt: HostRuntime) -> Result<(), Fail> {
+    let lengths = [
+        (0, Status::Ok, NOTHING),
+        (1, AT_0, CUT_AT_0),
+        (3, AT_0, CUT_AT_0),
+        (4, AT_0, CUT_AT_0),
+        (35, AT_0, CUT_AT_0),
+        (36, Status::Ok, ONE_READ),
+        (37, AT_36, CUT_AT_36),
+        (38, AT_36, CUT_AT_36),
+        (40, AT_36, CUT_AT_36),
+        (60, AT_36, CUT_AT_36),
+        (71, AT_36, CUT_AT_36),
+    ];
+    assert_eq!(rt;
+        first_other_length(&rt, rt.alloc(), &FIRST_TAPE, &lengths)?,
+        None
+    );
+    Ok(())
+}
+
+#[test]
+fn records_that_are_no_buckets_end_where_they_say(rt: HostRuntime) -> Result<(), Fail> {
+    let lengths = [
+        (0, Status::Ok, NOTHING),
+        (1, AT_0, CUT_AT_0),
+        (5, AT_0, CUT_AT_0),
+        (6, Status::Ok, ONE_REFUSED),
+        (9, AT_6, CUT_AT_6),
+        (10, Status::Ok, TWO_REFUSED),
+    ];
+    assert_eq!(rt;
+        first_other_length(&rt, rt.alloc(), &SHORT, &lengths)?,
+        None
+    );
+    Ok(())
+}
+
+#[test]
+fn a_deck_is_no_tape(rt: HostRuntime) -> Result<(), Fail> {
+    let case = Case {
+        shows: "the deck for its tape",
+        words: &["tune", "deck", "deck"],
+        ..tuned(&[], AT_0, CUT_AT_0)
+    };
+    assert_eq!(rt; first_other(&rt, rt.alloc(), &[case])?, None);
+    Ok(())
+}
+
+/// The first of these places at which a change of the highest bit in the first tape leaves something else than this,
+/// and in what that differs.
+fn first_other_place<R: Threads + Sync>(
+    rt: &R,
+    alloc: Global,
+    changes: &[(&[usize], Status, Parts<'_>)],
+) -> Result<Option<(usize, Other)>, Fail> {
+    for (places, status, printed) in changes {
+        for place in *places {
+            let tape = [Part::Flipped(*place, &FIRST_TAPE)];
+            let case = tuned(&tape, *status, printed);
+            if let Some((_, other)) = first_other(rt, alloc, &[case])? {
+                return Ok(Some((*place, other)));
+            }
+        }
+    }
+    Ok(None)
+}
+
+#[test]
+fn a_changed_byte_of_length_or_head_cuts_refuses_or_makes_foreign(
+    rt: HostRuntime,
+) -> Result<(), Fail> {
+    let changes: [(&[usize], Status, Parts<'_>); 5] = [
+        (&[0, 1, 2, 3], AT_0, CUT_AT_0),
+        (&[36, 37, 38, 39], AT_36, CUT_AT_36),
+        (&[4, 5, 6, 7, 10, 11, 18, 19], Status::Ok, FIRST_REFUSED),
+        (&[28, 29, 30, 31, 32, 33, 34, 35], Status::Ok, FIRST_REFUSED),
+        (&[8, 9, 16, 17], Status::Ok, FIRST_FOREIGN),
+    ];
+    assert_eq!(rt; first_other_place(&rt, rt.alloc(), &changes)?, None);
+    Ok(())
+}
+
+/// The first place at which a change of the highest bit in the first tape has its first read told by another text,
+/// and in what that differs.
+fn first_other_read<R: Threads + Sync>(
+    rt: &R,
+    alloc: Global,
+    reads: &[(usize, &str)],
+) -> Result<Option<(usize, Other)>, Fail> {
+    for (place, read) in reads {
+        let printed = [
+            Part::Text("accept,0,0,1,"),
+            Part::Text(read),
+            Part::Text(" 1@1=20\ncounts,0,2,0,0,0,0,0\n"),
+        ];
+        let tape = [Part::Flipped(*place, &FIRST_TAPE)];
+        let case = tuned(&tape, Status::Ok, &printed);
+        if let Some((_, other)) = first_other(rt, alloc, &[case])? {
+            return Ok(Some((*place, other)));
+        }
+    }
+    Ok(None)
+}
+
+#[test]
+fn a_changed_cycle_or_value_is_read_as_it_stands(rt: HostRuntime) -> Result<(), Fail> {
+    let reads = [
+        (12, "0@2147483649=10"),
+        (13, "0@8388609=10"),
+        (14, "0@32769=10"),
+        (15, "0@129=10"),
+        (20, "0@1=9223372036854775818"),
+        (21, "0@1=36028797018963978"),
+        (22, "0@1=140737488355338"),
+        (23, "0@1=549755813898"),
+        (24, "0@1=2147483658"),
+        (25, "0@1=8388618"),
+        (26, "0@1=32778"),
+        (27, "0@1=138"),
+    ];
+    assert_eq!(rt; first_other_read(&rt, rt.alloc(), &reads)?, None);
+    Ok(())
+}
