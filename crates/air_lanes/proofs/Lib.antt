@@ -1,0 +1,5 @@
+pub mod PlaceLemmas
+pub mod GreaterLemmas
+pub mod StampLemmas
+pub mod FirstLemmas
+pub mod KernelExamples
