@@ -1,5 +1,6 @@
 -- From what a call wrote, and what it then printed, to what was delivered.
 use Rattle.std.proofs.Common.{◌≡◌, ℕ, ◌≤◌, List, Option, Some, None, sym, subst, inl, inr, arith}
+use Rattle.std.proofs.lemmas.Bool.{cases_lt}
 use Rattle.std.specs.Io.KnownBytes.{Appends}
 use Rattle.air_devices.specs.Counts.{KeepsCounts, Rose}
 use Rattle.air_devices.specs.Known.{AppendsPart, Becomes}
@@ -10,7 +11,11 @@ use Rattle.air_cli.proofs.ReadFacts.{kept_twice}
 
 -- a count that rose since a later moment rose since an earlier one
 pub rose_since : (before mid now : ℕ) → before ≤ mid → Rose mid now → Rose before now
-rose_since before mid now le rose = omega arith
+rose_since before mid now le (inl rose) = inl (omega arith)
+rose_since before mid now le (inr last) = let top = last.0 in let stays = last.1 in elim (cases_lt before now) as (λ _. Rose before now) [
+  | inl less ↦ inl less
+  | inr same ↦ inr (omega arith, omega arith)
+]
 
 -- an output holds what it held
 holds_still : (output : Option (List ℕ)) (bytes : List ℕ) (before mid now : Shelved) → KeepsOutputs mid now → OutputHolds output bytes before mid → OutputHolds output bytes before now

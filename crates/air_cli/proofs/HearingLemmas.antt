@@ -4,16 +4,16 @@ use Rattle.std.proofs.Common.{◌≡◌, Bool, true, false, cond, nat_lt, List, 
 use Rattle.std.proofs.lemmas.Bool.{ltb-true}
 use Rattle.std.proofs.lemmas.List.{append-nil}
 use Rattle.air_model.specs.Judges.{Judge, by_entries}
-use Rattle.air_model.specs.Sessions
 use Rattle.air_model.specs.Sessions.{Line, Reader, State, settle}
 use Rattle.air_model.specs.SessionLaws.{after}
 use Rattle.air_model.proofs.LineLemmas.{lines}
-use Rattle.air_model.proofs.SettleLemmas.{settle_is}
+use Rattle.receiver_core.proofs.SettlingLemmas.{on_the_way}
 use Rattle.air_base.specs.declared.verdicts.ReadOf.{ReadOf}
 use Rattle.air_base.specs.declared.verdicts.Verdict.{Verdict}
 use Rattle.receiver_core.specs.declared.receivers.Step.{Step}
 use Rattle.receiver_core.specs.declared.receivers.Step.TheVariants as step
 use Rattle.receiver_core.specs.Handing.{StepTells, lines_given}
+use Rattle.receiver_core.specs.Steps
 use Rattle.receiver_core.specs.Receivings.{IsSettled, Receiving, stepped}
 
 -- a state with these lines in place of its own
@@ -33,18 +33,18 @@ module _ (r : Receiving) where
   stepped_settles : settle (judge_of r) r.air r.reader (stepped r) ≡ settle (judge_of r) r.air r.reader r.state
   stepped_settles = by (nat_lt 0 (length r.state.lines))
     where
-      by : (b : Bool) → settle (judge_of r) r.air r.reader (cond b r.state (Sessions.step (judge_of r) r.air r.reader r.state)) ≡ settle (judge_of r) r.air r.reader r.state
+      by : (b : Bool) → settle (judge_of r) r.air r.reader (cond b r.state (Steps.step (judge_of r) r.air r.reader r.state)) ≡ settle (judge_of r) r.air r.reader r.state
       by true = refl
-      by false = (settle_is (judge_of r) r.air r.reader r.state).steps
+      by false = (on_the_way (judge_of r) r.air r.reader r.state).steps
 
   -- a step without a line settles
   no_line_settles : (stepped r).lines ≡ [] → stepped r ≡ settle (judge_of r) r.air r.reader r.state
   no_line_settles none = by (nat_lt 0 (length r.state.lines)) refl none
     where
-      by : (b : Bool) → nat_lt 0 (length r.state.lines) ≡ b → (cond b r.state (Sessions.step (judge_of r) r.air r.reader r.state)).lines ≡ []
-          → cond b r.state (Sessions.step (judge_of r) r.air r.reader r.state) ≡ settle (judge_of r) r.air r.reader r.state
+      by : (b : Bool) → nat_lt 0 (length r.state.lines) ≡ b → (cond b r.state (Steps.step (judge_of r) r.air r.reader r.state)).lines ≡ []
+          → cond b r.state (Steps.step (judge_of r) r.air r.reader r.state) ≡ settle (judge_of r) r.air r.reader r.state
       by true some none = absurd (let more = ltb-true 0 (length r.state.lines) some in let empty : length r.state.lines ≡ 0 = ap length none in omega arith)
-      by false waits none = (settle_is (judge_of r) r.air r.reader r.state).no_line none
+      by false waits none = (on_the_way (judge_of r) r.air r.reader r.state).no_line none
 
   -- the same with lines that were handed out
   given_settles : (L given : List Line) (s : State) → with_lines given s ≡ stepped r → s.lines ≡ []

@@ -1,6 +1,7 @@
 -- From a cause and a printed line to what a refusal's status says.
 use Rattle.std.proofs.Common.{◌≡◌, ◌≢◌, ℕ, ◌≤◌, List, Option, Some, None, refl, sym, ◌∙◌, subst, inl, inr, arith}
 use Rattle.std.specs.Io.KnownBytes.{Appends, IsAtEnd}
+use Rattle.std.proofs.lemmas.Bool.{cases_lt}
 use Rattle.air_devices.specs.Counts.{NoCountFalls, Rose}
 use Rattle.air_devices.specs.Frames.{KeepsButPrinted}
 use Rattle.air_devices.specs.Known.{AppendsPart}
@@ -19,7 +20,11 @@ use Rattle.air_cli.proofs.DeliveryFacts.{rose_since}
 -- ---- a cause that was found stays one while a line is printed
 
 rose_still : (before mid now : ℕ) → mid ≤ now → Rose before mid → Rose before now
-rose_still before mid now le rose = omega arith
+rose_still before mid now le (inl rose) = inl (omega arith)
+rose_still before mid now le (inr last) = let top = last.0 in let stays = last.1 in elim (cases_lt before now) as (λ _. Rose before now) [
+  | inl less ↦ inl less
+  | inr same ↦ inr (omega arith, omega arith)
+]
 
 unread_still : (name : List ℕ) (most : ℕ) (before mid now : Shelved) (s : Status) → NoCountFalls mid.faults now.faults → UnreadCause name most before mid s → UnreadCause name most before now s
 unfolding UnreadCause

@@ -1,5 +1,5 @@
 -- How often the calls of a shelf failed. A caller that is told of a failure knows that the count of its call rose.
-use Rattle.std.specs.Prelude.{◌≡◌, ◌≤◌, ◌+◌, ◌-◌, ◌^◌, ℕ, List, min, Result, OnErr, OnOk}
+use Rattle.std.specs.Prelude.{◌≡◌, ◌<◌, ◌≤◌, ◌⊎◌, ◌-◌, ◌^◌, ℕ, List, Result, OnErr, OnOk}
 
 -- how often reading and writing by each name failed, and how often printing did
 pub record Faults : Type 0 where
@@ -23,9 +23,9 @@ printing_of faults = faults.printing
 abbrev pub one_count : ℕ → Faults
 one_count n = record { reading = λ _. n; writing = λ _. n; printing = n }
 
--- a count of faults rose, or stands at its last value
+-- a count of faults rose, or stood at its last value and stays there
 abbrev pub Rose : ℕ → ℕ → Type 0
-Rose before now = min (before + 1) (2 ^ 64 - 1) ≤ now
+Rose before now = (before < now) ⊎ ((before ≡ 2 ^ 64 - 1) × (now ≡ before))
 
 -- no count is below what it was
 pub record NoCountFalls (before now : Faults) : Type 0 where

@@ -7,13 +7,13 @@ use Rattle.air_history.specs.declared.histories.Event.{Event}
 use Rattle.air_history.specs.declared.histories.Event.TheVariants.{Start}
 use Rattle.air_history.specs.Places.{last_place, greatest}
 use Rattle.air_history.specs.Histories.{is_start, reads, writes, cycle_at, front, writer_before, writer}
-use Rattle.air_history.specs.Descents.{descends_within, descends}
+use Rattle.air_history.specs.Descents.{descends_in, descends}
 use Rattle.air_history.specs.Columns.{column_entry, vector_entry, aired_entries}
 use Rattle.air_history.specs.Tables.{based, write_of, value_after, table}
 use Rattle.air_history.specs.Reads.{ReadAt, origin, stale, read_value}
 use Rattle.air_history.specs.Consistency.{descends_from, runs_alone, picked, alone, last_alone, consistent}
 use Rattle.air_history.specs.Clashes.{least, is_late, clash_by_history, Heard, clash_by_entries}
-use Rattle.air_history.specs.ClashLaws.{current_cycle_after, current_cycle}
+use Rattle.air_history.specs.ClashLaws.{current_cycle}
 use Rattle.air_history.proofs.HistoryExamples.{set_to, commit, chained, then_blind, tens}
 
 abbrev pub at : ℕ → ℕ → ReadAt
@@ -53,7 +53,7 @@ pub record Consistency : Type 0 where
   value : read_value (Rattle.air_history.specs.Tables.values_of tens) chained (at 2 2) ≡ 12
 
 pub consistency : Consistency
-unfolding consistent alone picked last_alone runs_alone descends_from origin table value_after write_of based writer writer_before last_place writes descends descends_within reads front
+unfolding consistent alone picked last_alone runs_alone descends_from origin table value_after write_of based writer writer_before last_place writes descends descends_in reads front
 consistency = record { chain = refl; one_cycle = refl; no_cycle = refl; blind = refl; alone_for_two = refl; value = refl }
 
 pub record Clashes : Type 0 where
@@ -74,7 +74,7 @@ pub record Clashes : Type 0 where
   shares : current_cycle one_written (at 0 1 ∷ at 1 2 ∷ []) ≡ 1
 
 pub clashes : Clashes
-unfolding clash_by_history clash_by_entries is_late least stale consistent last_alone runs_alone descends_from origin column_entry vector_entry greatest writer writer_before last_place writes descends descends_within reads front cycle_at is_start current_cycle_after
+unfolding clash_by_history clash_by_entries is_late least stale consistent last_alone runs_alone descends_from origin column_entry vector_entry greatest writer writer_before last_place writes descends descends_in reads front cycle_at is_start current_cycle
 clashes = record {
   f_matrix_apart = (refl, refl);
   datacycle_apart = (refl, refl);

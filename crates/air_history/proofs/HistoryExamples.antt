@@ -7,7 +7,7 @@ use Rattle.air_history.specs.declared.histories.Event.TheVariants.{Commit, Start
 use Rattle.air_history.specs.UpdateRules.{has_repeat, update_fault}
 use Rattle.air_history.specs.Places.{last_place, greatest}
 use Rattle.air_history.specs.Histories.{is_start, reads, writes, writes_of, starts, cycle_at, front, writer_before, writer}
-use Rattle.air_history.specs.Descents.{descends_within, descends}
+use Rattle.air_history.specs.Descents.{descends_in, descends}
 use Rattle.air_history.specs.Columns.{column_entry, vector_entry, column, vector}
 use Rattle.air_history.specs.Tables.{based, write_of, value_after, table, table_list}
 use Rattle.air_history.specs.Boards.{reply_of, board_of, frame_of}
@@ -77,7 +77,7 @@ pub record Descents : Type 0 where
   itself : descends then_blind 5 5 ≡ true
 
 pub descents : Descents
-unfolding descends descends_within reads writer_before last_place writes
+unfolding descends descends_in reads writer_before last_place writes
 descents = record { through_two = refl; not_a_start = refl; cut = refl; itself = refl }
 
 pub record Entries : Type 0 where
@@ -90,7 +90,7 @@ pub record Entries : Type 0 where
   before_cycles : column 3 before_all 1 ≡ 0 ∷ 0 ∷ 0 ∷ []
 
 pub entries : Entries
-unfolding column_entry vector_entry greatest writer writer_before last_place writes descends descends_within reads cycle_at is_start
+unfolding column_entry vector_entry greatest writer writer_before last_place writes descends descends_in reads cycle_at is_start
 entries = record { column_of_0 = refl; column_of_1 = refl; column_of_2 = refl; all_in_one = refl; after_blind = refl; vector_after = refl; before_cycles = refl }
 
 pub record Values : Type 0 where
@@ -111,5 +111,5 @@ pub record Boards : Type 0 where
   frame : frame_of tens chained ≡ record { cycle = 2; values = 11 ∷ 13 ∷ 12 ∷ []; columns = (1 ∷ 0 ∷ 0 ∷ []) ∷ (1 ∷ 1 ∷ 1 ∷ []) ∷ (1 ∷ 0 ∷ 1 ∷ []) ∷ []; total = 36 }
 
 pub boards : Boards
-unfolding table value_after write_of based starts column_entry vector_entry greatest writer writer_before last_place writes writes_of descends descends_within reads cycle_at is_start
+unfolding table value_after write_of based starts column_entry vector_entry greatest writer writer_before last_place writes writes_of descends descends_in reads cycle_at is_start
 boards = record { reply = refl; board = refl; frame = refl }

@@ -2,15 +2,15 @@
 use Rattle.std.proofs.Common.{◌≡◌, ℕ, zero, suc, ◌<◌, ◌≤◌, Bool, true, false, cond, ◌||◌, ◌⊎◌, ◌==◌, Some, List, [], ◌∷◌, length, get_or, take, count_by, refl, sym, ◌∙◌, ap, subst, inl, inr, arith, zero-add}
 use Rattle.std.specs.List.{list_any}
 use Rattle.std.proofs.Math.Numerals.{one-add}
-use Rattle.std.proofs.lemmas.Bool.{cases_lt, both_ways, or_cases, or_left, cond-true, cond-false, eqb-true, eq-eqb, ne_eqb, false≢true}
+use Rattle.std.proofs.lemmas.Bool.{cases_lt, both_ways, or_cases, or_left, eqb-true, eq-eqb, false≢true}
 use Rattle.std.proofs.lemmas.List.Sums.{sum_by-cons, sum_by-take-le}
 use Rattle.std.proofs.lemmas.List.{get_or_past, get_or-take, length-take, take-take}
 use Rattle.air_history.specs.declared.histories.Event.{Event}
 use Rattle.air_history.specs.declared.histories.Event.TheVariants.{Commit, Start}
 use Rattle.air_history.specs.UpdateLists.{UpdateLists}
-use Rattle.air_history.specs.Places.{place_and}
+use Rattle.air_history.specs.Places.{last_place, place_and}
 use Rattle.air_history.specs.Histories.{is_start, writes, reads, event_at, cycle_at, front, writer_before}
-use Rattle.air_history.specs.Descents.{descends_within, descends}
+use Rattle.air_history.specs.Descents.{descends_in, descends}
 use Rattle.air_history.proofs.PlaceLemmas.{IsLast, last_place_is, last_place_same, any_at, any_same, place_at, place_same}
 
 -- a commit that writes is no Start
@@ -99,107 +99,99 @@ pub writer_before_is : (G : List Event) (p i : ℕ) → IsLast p (λ q. writes (
 unfolding writer_before
 writer_before_is G p i = last_place_is p (λ q. writes (event_at G q) i)
 
-pub descends_within_same : (n : ℕ) (G H : List Event) (p q : ℕ) → SameBelow n G H → descends_within G n p q ≡ descends_within H n p q
-unfolding descends_within
-descends_within_same zero G H p q h = refl
-descends_within_same (suc n) G H p q h =
-    let below : SameBelow n G H = λ k l. h k (omega arith) in
-    let here : event_at G n ≡ event_at H n = h n (omega arith) in
-    let rest : descends_within G n p q ≡ descends_within H n p q = descends_within_same n G H p q below in
-    let each : (item : ℕ) → place_and (writer_before G n item) (λ w. descends_within G n w q) ≡ place_and (writer_before H n item) (λ w. descends_within H n w q) =
-    λ item. ap (λ o. place_and o (λ w. descends_within G n w q)) (writer_before_same n G H item below)
-    ∙ place_same (writer_before H n item) (λ w. descends_within G n w q) (λ w. descends_within H n w q) (λ w _. descends_within_same n G H w q below) in
-    let any : list_any (λ item. place_and (writer_before G n item) (λ w. descends_within G n w q)) (reads (event_at G n)) ≡ list_any (λ item. place_and (writer_before H n item) (λ w. descends_within H n w q)) (reads (event_at H n)) =
-    any_same _ _ (reads (event_at G n)) each ∙ ap (λ e. list_any (λ item. place_and (writer_before H n item) (λ w. descends_within H n w q)) (reads e)) here in
-    cc
-
-cond_true_cases : (b x y : Bool) → cond b x y ≡ true → ((b ≡ true) × (x ≡ true)) ⊎ (y ≡ true)
-cond_true_cases true x y e = inl (refl, e)
-cond_true_cases false x y e = inr e
-
--- q is in the descent of the writer of some item that the commit at n reads
-pub record ThroughRead (G : List Event) (n q : ℕ) : Type 0 where
-  pub nth : ℕ
-  pub place : ℕ
-  pub read : nth < length (reads (event_at G n))
-  pub wrote : writer_before G n (get_or (reads (event_at G n)) nth 0) ≡ Some place
-  pub rest : descends_within G n place q ≡ true
-
-through_any : (G : List Event) (n q : ℕ) → list_any (λ item. place_and (writer_before G n item) (λ w. descends_within G n w q)) (reads (event_at G n)) ≡ true → ThroughRead G n q
-through_any G n q e =
-    let r = any_at (λ item. place_and (writer_before G n item) (λ w. descends_within G n w q)) (reads (event_at G n)) 0 e in
-    let v = place_at (writer_before G n (get_or (reads (event_at G n)) r.0 0)) (λ w. descends_within G n w q) r.2 in
-    record { nth = r.0; place = v.0; read = r.1; wrote = v.1; rest = v.2 }
-
--- what it means to be in the descent of p among the first n + 1 events
-pub descends_cases : (G : List Event) (n p q : ℕ) → descends_within G (suc n) p q ≡ true →
-    ((p ≡ n) × ((q ≡ n) ⊎ ThroughRead G n q)) ⊎ (descends_within G n p q ≡ true)
-unfolding descends_within
-descends_cases G n p q e =
-    elim (cond_true_cases (p == n) ((q == n) || list_any (λ item. place_and (writer_before G n item) (λ w. descends_within G n w q)) (reads (event_at G n))) (descends_within G n p q) e)
-    as (λ _. ((p ≡ n) × ((q ≡ n) ⊎ ThroughRead G n q)) ⊎ (descends_within G n p q ≡ true)) [
-      | inl a ↦ inl (
-        eqb-true p n a.0,
-        elim (or_cases (q == n) _ a.1) as (λ _. (q ≡ n) ⊎ ThroughRead G n q) [
-          | inl h ↦ inl (eqb-true q n h)
-          | inr h ↦ inr (through_any G n q h)
-        ],
-      )
-      | inr b ↦ inr b
-    ]
-
 pub writer_before_some : (G : List Event) (p i w : ℕ) → writer_before G p i ≡ Some w → IsLast p (λ q. writes (event_at G q) i) (Some w)
 writer_before_some G p i w e = subst (IsLast p (λ q. writes (event_at G q) i)) e (writer_before_is G p i)
 
--- a descent goes back
-pub descends_back : (n : ℕ) (G : List Event) (p q : ℕ) → descends_within G n p q ≡ true → q ≤ p
-unfolding descends_within
-descends_back zero G p q e = absurd (false≢true e)
-descends_back (suc n) G p q e =
-    elim (descends_cases G n p q e) as (λ _. q ≤ p) [
-      | inl a ↦ elim a.1 as (λ _. q ≤ p) [
-        | inl h ↦ omega (arith, a.0, h)
-        | inr r ↦ (let low : q ≤ r.place = descends_back n G r.place q r.rest in
-            let lt : r.place < n = (writer_before_some G n (get_or (reads (event_at G n)) r.nth 0) r.place r.wrote).0 in
-            omega (arith, a.0))
-      ]
-      | inr b ↦ descends_back n G p q b
-    ]
-
-pub descends_top : (G : List Event) (n q : ℕ) →
-    descends_within G (suc n) n q ≡ ((q == n) || list_any (λ item. place_and (writer_before G n item) (λ w. descends_within G n w q)) (reads (event_at G n)))
-unfolding descends_within
-descends_top G n q = cond-true (n == n) _ _ (eq-eqb n n refl)
-
--- more events in view change no descent
-pub descends_in_view : (n : ℕ) (G : List Event) (p q : ℕ) → p < n → descends_within G n p q ≡ descends G p q
-unfolding descends descends_within
-descends_in_view zero G p q h = absurd (omega arith)
-descends_in_view (suc n) G p q h = elim (cases_lt p n) as (λ _. descends_within G (suc n) p q ≡ descends_within G (suc p) p q) [
-  | inl l ↦ (let ne : p ≡ n → ⊥ = λ e. omega arith in cond-false (p == n) _ _ (ne_eqb p n ne) ∙ descends_in_view n G p q l)
-  | inr g ↦ (let same : n ≡ p = omega arith in ap (λ m. descends_within G (suc m) p q) same)
-]
-
-pub descends_self : (G : List Event) (p : ℕ) → descends G p p ≡ true
-unfolding descends
-descends_self G p = descends_top G p p ∙ or_left (p == p) _ (eq-eqb p p refl)
-
-pub descends_le : (G : List Event) (p q : ℕ) → descends G p q ≡ true → q ≤ p
-unfolding descends
-descends_le G p q e = descends_back (suc p) G p q e
-
 -- the descent of p looks at the events up to p alone
-pub descends_same : (G H : List Event) (p q : ℕ) → SameBelow (suc p) G H → descends G p q ≡ descends H p q
-unfolding descends
-descends_same G H p q h = descends_within_same (suc p) G H p q h
+descends_in_same : (n : ℕ) (G H : List Event) (p q : ℕ) → SameBelow (suc p) G H → descends_in n G p q ≡ descends_in n H p q
+unfolding descends_in
+descends_in_same zero G H p q h = refl
+descends_in_same (suc n) G H p q h =
+    let below : SameBelow p G H = λ k l. h k (omega arith) in
+    let here : event_at G p ≡ event_at H p = h p (omega arith) in
+    let each : (item : ℕ) → place_and (writer_before G p item) (λ w. descends_in n G w q) ≡ place_and (writer_before H p item) (λ w. descends_in n H w q) =
+    λ item. ap (λ o. place_and o (λ w. descends_in n G w q)) (writer_before_same p G H item below)
+    ∙ place_same (writer_before H p item) (λ w. descends_in n G w q) (λ w. descends_in n H w q)
+    (λ w e. descends_in_same n G H w q (λ k l. h k (let lt = (writer_before_some H p item w e).0 in omega arith))) in
+    ap (λ b. (q == p) || b)
+    (any_same _ _ (reads (event_at G p)) each ∙ ap (λ e. list_any (λ item. place_and (writer_before H p item) (λ w. descends_in n H w q)) (reads e)) here)
+
+any_none : {X : Type 0} (f : X → Bool) (xs : List X) → ((x : X) → f x ≡ false) → list_any f xs ≡ false
+any_none f [] h = refl
+any_none f (x ∷ xs) h = let here = h x in let rest = any_none f xs h in cc
+
+-- before place 0 nothing was written
+none_before : (n : ℕ) (G : List Event) (p q : ℕ) → p ≡ 0 → descends_in n G p q ≡ (q == p)
+unfolding descends_in writer_before last_place
+none_before zero G p q e = refl
+none_before (suc n) G p q e =
+    ap (λ b. (q == p) || b) (any_none _ (reads (event_at G p)) (λ item. ap (λ m. place_and (writer_before G m item) (λ w. descends_in n G w q)) e))
+    ∙ or_none (q == p)
+  where
+    or_none : (b : Bool) → (b || false) ≡ b
+    or_none true = refl
+    or_none false = refl
+
+-- a bound above the place changes no descent
+enough : (n m : ℕ) (G : List Event) (p q : ℕ) → p ≤ n → p ≤ m → descends_in n G p q ≡ descends_in m G p q
+unfolding descends_in
+enough zero m G p q h k = sym (none_before m G p q (omega arith))
+enough (suc n) zero G p q h k = none_before (suc n) G p q (omega arith)
+enough (suc n) (suc m) G p q h k = ap (λ b. (q == p) || b) (any_same _ _ (reads (event_at G p)) (λ item. place_same (writer_before G p item) _ _
+    (λ w e. let lt = (writer_before_some G p item w e).0 in enough n m G w q (omega arith) (omega arith))))
 
 -- the descent of p holds p and, for each item that the commit at p reads, the descent of its writer before p
 pub descends_is : (G : List Event) (p q : ℕ) →
     descends G p q ≡ ((q == p) || list_any (λ item. place_and (writer_before G p item) (λ w. descends G w q)) (reads (event_at G p)))
-unfolding descends
+unfolding descends descends_in
 descends_is G p q =
-    descends_top G p q ∙ ap (λ b. (q == p) || b) (any_same _ _ (reads (event_at G p))
-    (λ item. place_same (writer_before G p item) _ _ (λ w e. descends_in_view p G w q (writer_before_some G p item w e).0)))
+    enough p (suc p) G p q (omega arith) (omega arith)
+    ∙ ap (λ b. (q == p) || b) (any_same _ _ (reads (event_at G p)) (λ item. place_same (writer_before G p item) _ _
+    (λ w e. let lt = (writer_before_some G p item w e).0 in enough p w G w q (omega arith) (omega arith))))
+
+-- q is in the descent of the writer of some item that the commit at p reads
+pub record ThroughRead (G : List Event) (p q : ℕ) : Type 0 where
+  pub nth : ℕ
+  pub place : ℕ
+  pub read : nth < length (reads (event_at G p))
+  pub wrote : writer_before G p (get_or (reads (event_at G p)) nth 0) ≡ Some place
+  pub rest : descends G place q ≡ true
+
+through_any : (G : List Event) (p q : ℕ) → list_any (λ item. place_and (writer_before G p item) (λ w. descends G w q)) (reads (event_at G p)) ≡ true → ThroughRead G p q
+through_any G p q e =
+    let r = any_at (λ item. place_and (writer_before G p item) (λ w. descends G w q)) (reads (event_at G p)) 0 e in
+    let v = place_at (writer_before G p (get_or (reads (event_at G p)) r.0 0)) (λ w. descends G w q) r.2 in
+    record { nth = r.0; place = v.0; read = r.1; wrote = v.1; rest = v.2 }
+
+-- what it means to be in the descent of p
+pub descends_cases : (G : List Event) (p q : ℕ) → descends G p q ≡ true → (q ≡ p) ⊎ ThroughRead G p q
+descends_cases G p q e = elim (or_cases (q == p) _ (sym (descends_is G p q) ∙ e)) as (λ _. (q ≡ p) ⊎ ThroughRead G p q) [
+  | inl h ↦ inl (eqb-true q p h)
+  | inr h ↦ inr (through_any G p q h)
+]
+
+pub descends_self : (G : List Event) (p : ℕ) → descends G p p ≡ true
+descends_self G p = descends_is G p p ∙ or_left (p == p) _ (eq-eqb p p refl)
+
+-- the writer of a read item stands before the place that reads it
+pub through_lower : (G : List Event) (p q : ℕ) (r : ThroughRead G p q) → r.place < p
+through_lower G p q r = (writer_before_some G p (get_or (reads (event_at G p)) r.nth 0) r.place r.wrote).0
+
+-- a descent goes back
+back : (n : ℕ) (G : List Event) (p q : ℕ) → p < n → descends G p q ≡ true → q ≤ p
+back zero G p q l e = absurd (omega arith)
+back (suc n) G p q l e = elim (descends_cases G p q e) as (λ _. q ≤ p) [
+  | inl h ↦ omega arith
+  | inr r ↦ (let lt = through_lower G p q r in let low = back n G r.place q (omega arith) r.rest in omega arith)
+]
+
+pub descends_le : (G : List Event) (p q : ℕ) → descends G p q ≡ true → q ≤ p
+descends_le G p q e = back (suc p) G p q (omega arith) e
+
+-- the descent of p looks at the events up to p alone
+pub descends_same : (G H : List Event) (p q : ℕ) → SameBelow (suc p) G H → descends G p q ≡ descends H p q
+unfolding descends
+descends_same G H p q h = descends_in_same p G H p q h
 
 -- the cycles of places only rise
 pub cycle_mono : (G : List Event) (p q : ℕ) → p ≤ q → cycle_at G p ≤ cycle_at G q

@@ -3,13 +3,15 @@ use Rattle.std.proofs.Common.{◌≡◌, ℕ, zero, suc, ◌<◌, ◌≤◌, Boo
 use Rattle.std.proofs.lemmas.Bool.{false≢true, eqb-true, or_cases}
 use Rattle.std.proofs.lemmas.List.Elements.{All-nil, All-cons, All-from_recursion}
 use Rattle.std.proofs.lemmas.List.Kept.{AllPairs-cons}
+use Rattle.air_base.specs.declared.verdicts.Policy.{Policy}
 use Rattle.air_base.specs.declared.verdicts.Policy.TheVariants.{FMatrix, Datacycle, RMatrix}
+use Rattle.air_history.specs.declared.histories.Event.{Event}
 use Rattle.air_history.specs.declared.histories.Event.TheVariants.{Start}
 use Rattle.air_history.specs.UpdateRules.{has_repeat, update_fault, KeepsRules, UpdateFits}
 use Rattle.air_history.specs.UpdateLists.{UpdateLists}
 use Rattle.air_history.specs.Places.{last_place, greatest, greatest_of}
 use Rattle.air_history.specs.Histories.{is_start, reads, writes, cycle_at, front, writer_before, writer, EventFits}
-use Rattle.air_history.specs.Descents.{descends_within, descends}
+use Rattle.air_history.specs.Descents.{descends_in, descends}
 use Rattle.air_history.specs.DescentLaws.{ReadsFrom, IsClosed}
 use Rattle.air_history.specs.Columns.{column_entry, vector_entry, entry_at}
 use Rattle.air_history.specs.Tables.{BasesRead, WriteFits}
@@ -17,7 +19,7 @@ use Rattle.air_history.specs.Reads.{ReadAt, IsRead, origin, stale}
 use Rattle.air_history.specs.Consistency.{descends_from, runs_alone, last_alone, consistent, IsConsistent}
 use Rattle.air_history.specs.ConsistencyLaws.{SharesCycle}
 use Rattle.air_history.specs.Clashes.{least, is_late, clash_by_history, IsCurrent, Takes}
-use Rattle.air_history.specs.ClashLaws.{IsHeard, IsAllowed, AcceptsAfter, Accepts, current_cycle_after, SharesItsCycle, IsSound}
+use Rattle.air_history.specs.ClashLaws.{IsHeard, IsAllowed, passes, Accepts, current_cycle, SharesItsCycle, IsSound}
 use Rattle.air_history.proofs.HistoryExamples.{add_to, commit, chained}
 use Rattle.air_history.proofs.ClashExamples.{at, apart, one_written}
 
@@ -140,14 +142,14 @@ pub record Reads : Type 0 where
   greatest_cycle : greatest_of (λ r. r.cycle) first_then_next ≡ 2
 
 pub reads_shown : Reads
-unfolding column_entry greatest greatest_of cycle_at is_start last_alone runs_alone descends_from origin writer writer_before last_place writes descends descends_within reads front
+unfolding consistent column_entry greatest greatest_of cycle_at is_start last_alone runs_alone descends_from origin writer writer_before last_place writes descends descends_in reads front
 reads_shown = record {
   read = omega arith;
   not_read = λ h. omega arith;
   shares_one = All-from_recursion (λ r. writer (front one_written 1) r.item ≡ origin one_written r) first_then_next (refl, (refl, tt));
   not_two = λ h. let e : Some 1 ≡ None = h 0 (at 0 1) (omega arith) in cc;
-  consistent_apart = All-from_recursion (λ r. last_alone apart first_then_next r.item ≡ origin apart r) first_then_next (refl, (refl, tt));
-  not_consistent = λ h. let e : Some 1 ≡ None = h 0 (at 0 1) (omega arith) in cc;
+  consistent_apart = refl;
+  not_consistent = λ h. let e : false ≡ true = h in cc;
   entry = refl;
   greatest_cycle = refl;
 }
@@ -177,7 +179,7 @@ held = record {
   takes_unchanged = record { in_time = refl; fresh = inr refl };
   not_taken = λ t. elim t.fresh [
     | inl all ↦ (let e : true ≡ false = all 0 (at 0 1) (omega arith) in cc)
-    | inr same ↦ (let e : Some 2 ≡ None = same in cc)
+    | inr same ↦ (let e : false ≡ true = same in cc)
   ];
   too_late = λ t. let e : true ≡ false = t.in_time in cc;
 }
@@ -196,8 +198,10 @@ pub record Accepted : Type 0 where
   -- and they may not fall
   not_in_order : IsAllowed RMatrix (at 0 2 ∷ at 1 1 ∷ []) → ⊥
   -- item 1 of cycle 2 passes after item 0 of cycle 1
-  accepts_after : AcceptsAfter RMatrix one_written (at 0 1 ∷ []) (at 1 2 ∷ [])
-  -- and that one passes first
+  passes_next : passes RMatrix one_written (at 0 1 ∷ []) (at 1 2) ≡ true
+  -- after item 0 of cycle 2 item 1 of cycle 1 is late, and doesn't
+  late_fails : passes RMatrix one_written (at 0 2 ∷ []) (at 1 1) ≡ false
+  -- and the first passes after nothing
   accepts_r : Accepts RMatrix one_written first_then_next
   -- F-Matrix accepts reads that share no cycle
   accepts_f : Accepts FMatrix apart first_then_next
@@ -214,8 +218,14 @@ pub record Accepted : Type 0 where
   -- under F-Matrix they are consistent
   sound_f : IsSound FMatrix apart first_then_next
 
+-- where each of the two reads passes, they are accepted
+both_pass : (policy : Policy) (H : List Event) → passes policy H [] (at 0 1) ≡ true → passes policy H (at 0 1 ∷ []) (at 1 2) ≡ true → Accepts policy H first_then_next
+both_pass policy H one two zero d l = one
+both_pass policy H one two (suc zero) d l = two
+both_pass policy H one two (suc (suc k)) d l = absurd (omega arith)
+
 pub accepted : Accepted
-unfolding AcceptsAfter current_cycle_after clash_by_history is_late least stale consistent last_alone runs_alone descends_from origin column_entry vector_entry greatest writer writer_before last_place writes descends descends_within reads front cycle_at is_start
+unfolding passes current_cycle clash_by_history is_late least stale consistent last_alone runs_alone descends_from origin column_entry vector_entry greatest writer writer_before last_place writes descends descends_in reads front cycle_at is_start
 accepted =
     let shared : SharesCycle one_written first_then_next 1 = All-from_recursion (λ r. writer (front one_written 1) r.item ≡ origin one_written r) first_then_next (refl, (refl, tt)) in
     record {
@@ -224,19 +234,20 @@ accepted =
       any_order = tt;
       in_order = AllPairs-cons (λ r s. r.cycle ≤ s.cycle) (at 0 1) (at 1 2 ∷ []) (All-from_recursion (λ s. 1 ≤ s.cycle) (at 1 2 ∷ []) (omega arith, tt)) (λ i j d lt within. absurd (omega arith));
       not_in_order = λ h. let le = h 0 1 (at 0 0) (omega arith) (omega arith) in omega arith;
-      accepts_after = (refl, refl, tt);
-      accepts_r = (refl, refl, (refl, refl, tt));
-      accepts_f = (refl, refl, (refl, refl, tt));
-      not_accepted = λ h. let e = h.2.1 in cc;
+      passes_next = refl;
+      late_fails = refl;
+      accepts_r = both_pass RMatrix one_written refl refl;
+      accepts_f = both_pass FMatrix apart refl refl;
+      not_accepted = λ h. let e : false ≡ true = h 1 (at 0 0) (omega arith) in cc;
       shares_current = shared;
       shares_newest = All-from_recursion (λ r. writer (front one_written 2) r.item ≡ origin one_written r) (at 1 1 ∷ at 0 2 ∷ []) (refl, (refl, tt));
       not_shared = λ h. let e : Some 1 ≡ None = h 0 (at 0 1) (omega arith) in cc;
       sound_r = record {
-        consistent = All-from_recursion (λ r. last_alone one_written first_then_next r.item ≡ origin one_written r) first_then_next (refl, (refl, tt));
+        consistent = refl;
         shared = shared;
       };
       sound_f = record {
-        consistent = All-from_recursion (λ r. last_alone apart first_then_next r.item ≡ origin apart r) first_then_next (refl, (refl, tt));
+        consistent = refl;
         shared = tt;
       };
     }

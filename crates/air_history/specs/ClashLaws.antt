@@ -1,10 +1,12 @@
 -- The words of the laws of clashes: entries that a history aired, and reads that a policy accepted one after another.
 -- The laws are `clash_law`, `stays_consistent_law`, `stays_current_law`, `takes_law` and `accepted_law` of `history_laws`.
-use Rattle.std.specs.Prelude.{◌≡◌, ℕ, ◌<◌, ◌≤◌, cond, not, false, List, [], ◌∷◌, ◌++◌, AllPairs, None}
+use Rattle.std.specs.Prelude.{◌≡◌, ℕ, ◌<◌, ◌≤◌, Bool, not, ◌&&◌, is_none, List, length, map, take, get_or, slice_index, AllPairs, IsTrue}
 use Rattle.std.specs.List.{list_all}
+use Rattle.std.specs.Option.{option_map_or}
 use Rattle.air_base.specs.declared.verdicts.Policy.{Policy}
 use Rattle.air_base.specs.declared.verdicts.Policy.TheVariants.{FMatrix, Datacycle, RMatrix}
 use Rattle.air_history.specs.declared.histories.Event.{Event}
+use Rattle.air_history.specs.Places.{last_place}
 use Rattle.air_history.specs.Columns.{aired_entries}
 use Rattle.air_history.specs.Reads.{ReadAt, stale, newest_cycle}
 use Rattle.air_history.specs.Consistency.{IsConsistent}
@@ -23,25 +25,22 @@ IsAllowed FMatrix R = Unit {0}
 IsAllowed Datacycle R = Unit {0}
 IsAllowed RMatrix R = AllPairs (λ r s. r.cycle ≤ s.cycle) R
 
--- the policy accepts the reads one after another, after those before them: none is late, and none clashes
-unfoldable pub AcceptsAfter : Policy → List Event → List ReadAt → List ReadAt → Type 0
-AcceptsAfter policy H before [] = Unit {0}
-AcceptsAfter policy H before (x ∷ R) =
-    (is_late policy before x ≡ false) × (clash_by_history policy H before x ≡ None) × AcceptsAfter policy H (before ++ x ∷ []) R
+-- whether the new read passes after the held ones: it isn't late, and nothing clashes with it
+unfoldable pub passes : Policy → List Event → List ReadAt → ReadAt → Bool
+passes policy H R x = not (is_late policy R x) && is_none (clash_by_history policy H R x)
 
--- the policy accepts the reads one after another
+-- the policy accepts the reads: each passes after those before it
 abbrev pub Accepts : Policy → List Event → List ReadAt → Type 0
-Accepts policy H R = AcceptsAfter policy H [] R
+Accepts policy H R = (k : ℕ) (d : ReadAt) → k < length R → IsTrue (passes policy H (take k R) (get_or R k d))
 
--- the cycle of the last of the reads that passed because none before it was stale at its cycle
-unfoldable pub current_cycle_after : List Event → List ReadAt → ℕ → List ReadAt → ℕ
-current_cycle_after H before g [] = g
-current_cycle_after H before g (x ∷ R) =
-    current_cycle_after H (before ++ x ∷ []) (cond (list_all (λ r. not (stale H r x.cycle)) before) x.cycle g) R
+-- the cycle of a read of the list
+abbrev pub cycle_in : List ReadAt → ℕ → ℕ
+cycle_in R k = slice_index (map (λ r. r.cycle) R) k
 
--- the current cycle of the reads: of the last one that passed so, 0 where there is none
-abbrev pub current_cycle : List Event → List ReadAt → ℕ
-current_cycle H R = current_cycle_after H [] 0 R
+-- the current cycle of the reads: that of the last one at whose cycle none before it is stale, 0 where there is none
+unfoldable pub current_cycle : List Event → List ReadAt → ℕ
+current_cycle H R =
+    option_map_or (cycle_in R) (last_place (length R) (λ k. list_all (λ r. not (stale H r (cycle_in R k))) (take k R))) 0
 
 -- the cycle that the policy gives accepted reads: the newest one under Datacycle, the current one under R-Matrix
 abbrev pub SharesItsCycle : Policy → List Event → List ReadAt → Type 0

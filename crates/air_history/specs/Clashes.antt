@@ -1,12 +1,11 @@
 -- The clash of a new read with held ones, for each policy: by the history, which looks at origins alone, and
 -- by the entries that were heard with the reads. It is the held read of least item number among those named.
-use Rattle.std.specs.Prelude.{◌≡◌, ◌⊎◌, ℕ, Bool, false, cond, not, ◌||◌, ◌==◌, nat_le, nat_lt, List, [], ◌∷◌, map, filter, get_or, All, Option, Some, None}
+use Rattle.std.specs.Prelude.{◌≡◌, ◌⊎◌, ℕ, Bool, false, cond, not, ◌||◌, ◌==◌, nat_le, nat_lt, List, [], ◌∷◌, map, filter, get_or, All, IsTrue, Option, Some, None}
 use Rattle.air_base.specs.declared.verdicts.Policy.{Policy}
 use Rattle.air_base.specs.declared.verdicts.Policy.TheVariants.{FMatrix, Datacycle, RMatrix}
 use Rattle.air_base.specs.declared.verdicts.Clash.{Clash}
 use Rattle.air_history.specs.declared.histories.Event.{Event}
-use Rattle.air_history.specs.Histories.{front, writer}
-use Rattle.air_history.specs.Reads.{ReadAt, stale, newest_cycle, first_cycle, last_cycle}
+use Rattle.air_history.specs.Reads.{ReadAt, same_origin, stale, newest_cycle, first_cycle, last_cycle}
 use Rattle.air_history.specs.Consistency.{consistent}
 
 -- of a read and a clash, the one of lesser item number
@@ -25,7 +24,7 @@ least (r ∷ R) = lesser r (least R)
 abbrev pub named_clash : (ReadAt → Bool) → List ReadAt → Option Clash
 named_clash test R = least (filter test R)
 
--- whether the new read comes too late after the held ones: under R-Matrix its cycle isn't below the last read's
+-- whether the new read comes too late after the held ones: under R-Matrix, where its cycle is below the last read's
 unfoldable pub is_late : Policy → List ReadAt → ReadAt → Bool
 is_late FMatrix R x = false
 is_late Datacycle R x = false
@@ -35,26 +34,26 @@ is_late RMatrix R x = nat_lt x.cycle (last_cycle R)
 unfoldable pub clash_by_history : Policy → List Event → List ReadAt → ReadAt → Option Clash
 -- F-Matrix names each held read that isn't consistent with the new one
 clash_by_history FMatrix H R x = named_clash (λ r. not (consistent H (r ∷ x ∷ []))) R
--- Datacycle names, where the new read's cycle is the newest, each held read that is stale there; else, where the
--- new read is stale at the newest held cycle, each held read of that cycle
+-- Datacycle names, where the new read's cycle is the newest, each held read that is stale there; else none where the
+-- new read's item has one origin at the newest held cycle and at its own, and otherwise each held read of that cycle
 clash_by_history Datacycle H R x =
     cond (nat_le (newest_cycle R) x.cycle)
     (named_clash (λ r. stale H r x.cycle) R)
-    (cond (stale H x (newest_cycle R)) (named_clash (λ r. r.cycle == newest_cycle R) R) None)
--- R-Matrix names none where the new read's item has the origin that it had at the first held cycle; else each
+    (cond (same_origin H x.item (newest_cycle R) x.cycle) None (named_clash (λ r. r.cycle == newest_cycle R) R))
+-- R-Matrix names none where the new read's item has one origin at its cycle and at the first held one; else each
 -- held read that is stale at the new cycle
 clash_by_history RMatrix H R x =
-    cond (stale H (record { item = x.item; cycle = first_cycle R }) x.cycle) (named_clash (λ r. stale H r x.cycle) R) None
+    cond (same_origin H x.item x.cycle (first_cycle R)) None (named_clash (λ r. stale H r x.cycle) R)
 
 -- Datacycle holds its reads to this: none is stale at their newest cycle
 abbrev pub IsCurrent : List Event → List ReadAt → Type 0
 IsCurrent H R = All (λ r. stale H r (newest_cycle R) ≡ false) R
 
--- R-Matrix takes a read that isn't late, where no held read is stale at its cycle, or where its item has there
--- the origin that it had at the first held cycle
+-- R-Matrix takes a read that isn't late, where no held read is stale at its cycle, or where its item has one origin
+-- there and at the first held cycle
 pub record Takes (H : List Event) (R : List ReadAt) (x : ReadAt) : Type 0 where
   pub in_time : is_late RMatrix R x ≡ false
-  pub fresh : All (λ r. stale H r x.cycle ≡ false) R ⊎ (writer (front H x.cycle) x.item ≡ writer (front H (first_cycle R)) x.item)
+  pub fresh : All (λ r. stale H r x.cycle ≡ false) R ⊎ IsTrue (same_origin H x.item x.cycle (first_cycle R))
 
 -- ---- by the entries
 

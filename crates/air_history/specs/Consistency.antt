@@ -1,6 +1,6 @@
 -- What it means that reads are consistent: when the updates from which they descend run alone, in commit
 -- order, each read item has as its last writer the read's own origin. No cycle of an entry is compared here.
-use Rattle.std.specs.Prelude.{◌≡◌, ℕ, zero, suc, Bool, cond, ◌&&◌, List, [], ◌∷◌, ◌++◌, length, All, Option}
+use Rattle.std.specs.Prelude.{ℕ, zero, suc, Bool, cond, ◌&&◌, List, [], ◌∷◌, ◌++◌, length, IsTrue, Option}
 use Rattle.std.specs.List.{list_any, list_all}
 use Rattle.air_history.specs.declared.histories.Event.{Event}
 use Rattle.air_history.specs.Places.{last_place, place_and, same_place}
@@ -29,10 +29,10 @@ alone H R = picked (length H) H (runs_alone H R)
 unfoldable pub last_alone : List Event → List ReadAt → ℕ → Option ℕ
 last_alone H R item = last_place (length H) (λ p. runs_alone H R p && writes (event_at H p) item)
 
--- the reads are consistent: the last that runs alone and writes a read's item is the read's origin
-abbrev pub IsConsistent : List Event → List ReadAt → Type 0
-IsConsistent H R = All (λ r. last_alone H R r.item ≡ origin H r) R
-
--- whether the reads are consistent
+-- whether the reads are consistent: the last that runs alone and writes a read's item is the read's own origin
 unfoldable pub consistent : List Event → List ReadAt → Bool
 consistent H R = list_all (λ r. same_place (last_alone H R r.item) (origin H r)) R
+
+-- the reads are consistent
+abbrev pub IsConsistent : List Event → List ReadAt → Type 0
+IsConsistent H R = IsTrue (consistent H R)

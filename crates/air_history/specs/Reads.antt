@@ -22,9 +22,13 @@ origin H r = writer (front H r.cycle) r.item
 abbrev pub read_value : (ℕ → ℕ) → List Event → ReadAt → ℕ
 read_value V H r = table V (front H r.cycle) r.item
 
+-- whether an item has one origin at two cycles: the same last writer before each starts, or none
+abbrev pub same_origin : List Event → ℕ → ℕ → ℕ → Bool
+same_origin H item c d = same_place (writer (front H c) item) (writer (front H d) item)
+
 -- whether the read is stale at cycle c: its item has another origin there
 unfoldable pub stale : List Event → ReadAt → ℕ → Bool
-stale H r c = not (same_place (writer (front H c) r.item) (origin H r))
+stale H r c = not (same_origin H r.item c r.cycle)
 
 -- the newest cycle of the reads, 0 where there is none
 abbrev pub newest_cycle : List ReadAt → ℕ

@@ -1,5 +1,5 @@
 -- The line that the reader of a small deck gives over all that is aired: what each relation of lines says of it.
-use Rattle.std.proofs.Common.{◌≡◌, ◌≤◌, Some, None, [], ◌∷◌, All, refl, subst, arith, IsTrue, IfSome, Contains}
+use Rattle.std.proofs.Common.{true, false, ◌≡◌, ◌≤◌, Some, None, [], ◌∷◌, All, refl, subst, arith, IsTrue, IfSome, Contains}
 use Rattle.std.proofs.lemmas.List.Elements.{All-from_recursion}
 use Rattle.std.proofs.lemmas.Bool.{false≢true}
 use Rattle.air_base.specs.declared.verdicts.Policy.TheVariants.{FMatrix}
@@ -18,7 +18,7 @@ use Rattle.air_model.specs.Airings.{chunks_of, disk_number, pix_number}
 use Rattle.air_model.specs.Aired.{IsAired, air_of, body_fits, body_of, bucket_of, buckets_of, fits}
 use Rattle.air_model.specs.Judges.{Judge, by_entries, by_history}
 use Rattle.air_model.specs.ReceiverLaws.{IsTrueSession, session_of}
-use Rattle.air_model.specs.SessionLaws.{CyclesFromOne, Follows, IsExactLine, IsOfReader, IsSoundLine, NamesHeld, after}
+use Rattle.air_model.specs.SessionLaws.{CyclesFromOne, IsExactLine, follows_query, IsOfReader, IsSoundLine, NamesHeld, after}
 use Rattle.air_model.specs.Sessions.{Line, abort, accept_if_whole, copy_of, count_copied, count_dozed, count_foreign, count_late, count_opened, count_refused, decide, drop_copy, end, end_query, hear, hear_all, hear_read, hold, is_unusable, line_of, next_attempt, next_query, offer, open_bucket, query_of, reader_of, session, settle, start, turn, turn_with, wanted, with_line}
 use Rattle.air_model.proofs.AiredLemmas.{aired}
 use Rattle.air_model.proofs.NameLemmas.{names}
@@ -69,14 +69,19 @@ not_tried : IsOfReader (reader_of pair 0) (line 0 2 Accept (read 0 1 10 ∷ read
 not_tried h = let most : 2 ≤ 1 = h.tried in omega arith
 
 -- How the read items follow the query 0, 1: all, the first with item 1 refused, and none yet.
-pub follow : Follows (0 ∷ 1 ∷ []) Accept (0 ∷ 1 ∷ []) × Follows (0 ∷ 1 ∷ []) (Abort 1 2 0) (0 ∷ []) × Follows (0 ∷ 1 ∷ []) Unfinished []
-unfolding Follows
-follow = (refl, (refl, refl, (0, omega arith, refl)), (refl, omega arith))
+pub follow : (follows_query (0 ∷ 1 ∷ []) Accept (0 ∷ 1 ∷ []) ≡ true) × (follows_query (0 ∷ 1 ∷ []) (Abort 1 2 0) (0 ∷ []) ≡ true) × (follows_query (0 ∷ 1 ∷ []) Unfinished [] ≡ true)
+unfolding follows_query
+follow = (refl, refl, refl)
 
--- Items in another order don't.
-no_other_order : Follows (0 ∷ 1 ∷ []) Accept (1 ∷ 0 ∷ []) → ⊥
-unfolding Follows
-no_other_order e = cc
+-- Items in another order don't; nor does one item alone where the query was accepted, or both where it is unfinished.
+not_follow : (follows_query (0 ∷ 1 ∷ []) Accept (1 ∷ 0 ∷ []) ≡ false) × (follows_query (0 ∷ 1 ∷ []) Accept (0 ∷ []) ≡ false) × (follows_query (0 ∷ 1 ∷ []) Unfinished (0 ∷ 1 ∷ []) ≡ false)
+unfolding follows_query
+not_follow = (refl, refl, refl)
+
+-- An abort's refused item is the next one, and its clash is one that was read.
+not_aborted : (follows_query (0 ∷ 1 ∷ []) (Abort 0 2 0) (0 ∷ []) ≡ false) × (follows_query (0 ∷ 1 ∷ []) (Abort 1 2 1) (0 ∷ []) ≡ false)
+unfolding follows_query
+not_aborted = (refl, refl)
 
 -- Cycles count from 1 where the bucket fits; of one that doesn't, of another edition, nothing is asked.
 pub cycles_from_one : CyclesFromOne (air_of pair) (Some (record { edition = 0; cycle = 1; slot = 0; body = Column 0 10 (0 ∷ 0 ∷ []) })

@@ -7,7 +7,7 @@ use Rattle.air_base.specs.declared.verdicts.Policy.{Policy}
 use Rattle.air_base.specs.declared.verdicts.Policy.TheVariants.{FMatrix, Datacycle, RMatrix}
 use Rattle.air_base.specs.declared.verdicts.Clash.{Clash}
 use Rattle.air_history.specs.declared.histories.Event.{Event}
-use Rattle.air_history.specs.Reads.{ReadAt, first_cycle, newest_cycle, stale}
+use Rattle.air_history.specs.Reads.{ReadAt, first_cycle, newest_cycle, same_origin}
 use Rattle.air_history.specs.Clashes.{Heard, clash_by_entries, clash_by_history, entry_in, entry_of, first_heard, heard_clash, least, lesser, named_clash, newest_heard, read_at}
 use Rattle.air_model.specs.Judges.{by_entries, by_history, heard_of, place_of}
 use Rattle.air_model.specs.SessionLaws.{NamesHeld}
@@ -65,8 +65,8 @@ cond_names R false x y h k = k
 history_names : (p : Policy) (H : List Event) (R : List ReadAt) (x : ReadAt) → Names R (clash_by_history p H R x)
 unfolding clash_by_history
 history_names FMatrix H R x = named_names _ R
-history_names Datacycle H R x = cond_names R (nat_le (newest_cycle R) x.cycle) _ _ (named_names _ R) (cond_names R (stale H x (newest_cycle R)) _ _ (named_names _ R) (none_names R))
-history_names RMatrix H R x = cond_names R (stale H (record { item = x.item; cycle = first_cycle R }) x.cycle) _ _ (named_names _ R) (none_names R)
+history_names Datacycle H R x = cond_names R (nat_le (newest_cycle R) x.cycle) _ _ (named_names _ R) (cond_names R (same_origin H x.item (newest_cycle R) x.cycle) _ _ (none_names R) (named_names _ R))
+history_names RMatrix H R x = cond_names R (same_origin H x.item x.cycle (first_cycle R)) _ _ (none_names R) (named_names _ R)
 
 heard_has : (test : Heard → Bool) (R : List Heard) (i : ℕ) → Has (map read_at (filter test R)) i → Has (map read_at R) i
 heard_has test [] i h = h

@@ -10,8 +10,6 @@ use Rattle.air_history.specs.Places.{greatest}
 use Rattle.air_history.specs.Tables.{table}
 use Rattle.air_history.specs.UpdateLists.{UpdateLists}
 use Rattle.air_history.specs.UpdateRules.{has_repeat, update_fault}
-use Rattle.air_base.specs.declared.verdicts.VerdictKind.TheVariants.{Accept}
-use Rattle.air_history.specs.Clashes.{clash_by_entries, is_late, least}
 use Rattle.air_model.specs.DeckLaws.{commits_from, made_by}
 use Rattle.air_model.specs.Decks.{Deck, IsDeck, IsNext, IsQuery, IsUpdate, IsWhole, ScriptFits, count_made, event_of, is_by, script_history, updates_by, values_in}
 use Rattle.air_model.specs.Disks.{Disk, all_items, cut, order, order_with, is_hotter}
@@ -25,14 +23,13 @@ use Rattle.air_model.specs.AiredLaws.{CanAir}
 use Rattle.air_model.specs.Copies.{HaveOwnItems}
 use Rattle.air_model.specs.Reads.{Read}
 use Rattle.air_model.specs.SessionLaws.{QueriesFilled, bare}
-use Rattle.air_model.specs.Judges.{by_entries}
 use Rattle.air_model.specs.ReceiverLaws.{IsTrueSession}
-use Rattle.air_model.specs.Sessions.{State, accept_if_whole, copy_of, count_copied, drop_copy, hold, is_unusable, line_of, next_query, query_of, reader_of, start, step, turn, turn_to_line, turn_with, wanted, with_line}
+use Rattle.air_model.specs.Sessions.{reader_of}
 use Rattle.air_model.proofs.BucketExamples.{first_bytes}
 use Rattle.air_model.proofs.DeckLemmas.{air}
 use Rattle.air_model.proofs.ScriptLemmas.{script}
 use Rattle.air_model.proofs.ReceiverLemmas.{receiver}
-use Rattle.air_model.proofs.SessionExamples.{copied, counted, line, pair, read, s, swapped, u}
+use Rattle.air_model.proofs.SessionExamples.{pair, s, swapped, u}
 use Rattle.air_model.proofs.TapeExamples.{both}
 
 -- ---- decks and their histories
@@ -257,12 +254,3 @@ copy i = record { item = i; cycle = 1; value = 0; entries = [] }
 
 pub own_items : HaveOwnItems (copy 0 ∷ copy 1 ∷ [])
 own_items = AllPairs-cons (λ a b. a.item ≢ b.item) (copy 0) (copy 1 ∷ []) (All-from_recursion (λ b. 0 ≢ b.item) (copy 1 ∷ []) (λ e. omega (arith, e), tt)) (λ i j d less within. absurd (omega arith))
-
--- A reader with a copy of item 0 wants just that: one step takes it, and gives the line.
-abbrev with_copy_of_zero : State
-with_copy_of_zero = record start { copies = record { item = 0; cycle = 1; value = 10; entries = 0 ∷ 0 ∷ [] } ∷ []; now = 1 }
-
-pub one_step : step (by_entries FMatrix) (air_of (copied [])) (reader_of (copied []) 0) with_copy_of_zero
-    ≡ record with_copy_of_zero { query = 1; counts = counted 0 0 1; lines = line 0 1 Accept (read 0 1 10 ∷ []) ∷ [] }
-unfolding step turn_to_line turn turn_with copy_of wanted query_of is_unusable drop_copy hold accept_if_whole next_query with_line line_of count_copied by_entries clash_by_entries is_late least
-one_step = refl

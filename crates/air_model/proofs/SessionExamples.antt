@@ -11,7 +11,7 @@ use Rattle.air_history.specs.declared.updates.Write.{Write}
 use Rattle.air_history.specs.UpdateLists.{UpdateLists}
 use Rattle.air_history.specs.Places.{last_place, greatest}
 use Rattle.air_history.specs.Histories.{cycle_at, front, starts, writer, writer_before, writes, reads, is_start}
-use Rattle.air_history.specs.Descents.{descends, descends_within}
+use Rattle.air_history.specs.Descents.{descends, descends_in}
 use Rattle.air_history.specs.Columns.{column_entry, vector_entry}
 use Rattle.air_history.specs.Tables.{based, write_of, value_after, table}
 use Rattle.air_history.specs.Reads.{origin, stale}
@@ -167,7 +167,7 @@ pub record Sessions : Type 0 where
 
 -- And they do.
 pub sessions : Sessions
-unfolding last_place greatest cycle_at front starts writer writer_before writes reads is_start descends descends_within column_entry vector_entry based write_of value_after table origin stale descends_from runs_alone last_alone consistent least is_late clash_by_history clash_by_entries keep without with_copy order order_with cut program least_common_multiple num_minors num_chunks chunk_len chunk minor_cycle disk_number chunks_of pix_number event_of script_history body_of bucket_of buckets_of body_fits fits by_history by_entries session query_of wanted line_of with_line count_copied count_opened count_dozed count_late count_refused count_foreign next_query next_attempt accept_if_whole hold abort is_unusable drop_copy copy_of turn_with turn settle decide offer open_bucket hear_read hear hear_all end_query end
+unfolding last_place greatest cycle_at front starts writer writer_before writes reads is_start descends descends_in column_entry vector_entry based write_of value_after table origin stale descends_from runs_alone last_alone consistent least is_late clash_by_history clash_by_entries keep without with_copy order order_with cut program least_common_multiple num_minors num_chunks chunk_len chunk minor_cycle disk_number chunks_of pix_number event_of script_history body_of bucket_of buckets_of body_fits fits by_history by_entries session query_of wanted line_of with_line count_copied count_opened count_dozed count_late count_refused count_foreign next_query next_attempt accept_if_whole hold abort is_unusable drop_copy copy_of turn_with turn settle decide offer open_bucket hear_read hear hear_all end_query end
 sessions = record {
   accepts = (refl, refl);
   f_matrix_accepts = (refl, refl);

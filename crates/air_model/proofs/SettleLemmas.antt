@@ -1,17 +1,17 @@
 -- Settling comes to an end: each turn drops a copy of the wanted item, or leaves one item less to read.
-use Rattle.std.proofs.Common.{◌≡◌, ℕ, zero, suc, ◌+◌, ◌-◌, ◌<◌, ◌≤◌, Bool, true, false, cond, not, ◌==◌, nat_lt, Option, Some, None, List, [], ◌∷◌, ◌++◌, length, drop, get_or, refl, sym, ◌∙◌, ap, subst, inl, inr, arith}
+use Rattle.std.proofs.Common.{◌≡◌, ℕ, zero, suc, ◌+◌, ◌-◌, ◌<◌, ◌≤◌, Bool, true, false, cond, not, ◌==◌, Option, Some, None, List, [], ◌∷◌, ◌++◌, length, drop, get_or, refl, sym, ◌∙◌, ap, subst, inl, inr, arith}
 use Rattle.std.specs.Prelude.{sum_by}
 use Rattle.std.specs.List.{find, filter, slice_get}
 use Rattle.std.specs.Option.{is_some}
 use Rattle.std.specs.Fn.{iterate}
 use Rattle.std.proofs.lemmas.List.Sums.{sum_by-cons}
-use Rattle.std.proofs.lemmas.Bool.{eqb-true, ltb-true, cases_lt, cond-false}
+use Rattle.std.proofs.lemmas.Bool.{eqb-true, cases_lt, cond-false}
 use Rattle.std.proofs.lemmas.List.{get_or_past, length_push}
 use Rattle.air_model.specs.Reads.{Read}
 use Rattle.air_model.specs.Copies.{without}
 use Rattle.air_model.specs.Aired.{Air}
 use Rattle.air_model.specs.Judges.{Judge}
-use Rattle.air_model.specs.Sessions.{Reader, State, wanted, query_of, copy_of, drop_copy, next_query, with_line, count_copied, accept_if_whole, hold, is_unusable, turn_with, turn, settle, turn_to_line, step}
+use Rattle.air_model.specs.Sessions.{Reader, State, wanted, query_of, copy_of, drop_copy, next_query, with_line, count_copied, accept_if_whole, hold, is_unusable, turn_with, turn, settle}
 use Rattle.air_model.proofs.MomentLemmas.{none_from, find_is, cond_keeps}
 use Rattle.air_model.proofs.SoundLemmas.{whole_query, part_of_query}
 
@@ -79,14 +79,12 @@ copy_none : (s : State) → copy_of None s ≡ None
 unfolding copy_of
 copy_none s = refl
 
--- After settling the wanted item has no copy, and a turn or a step more makes no difference: so to settle is to take turns
--- as long as the wanted item has a copy. A step that gives no line settles.
+-- After settling the wanted item has no copy, and a turn more makes no difference: so to settle is to take turns as long
+-- as the wanted item has a copy.
 pub record IsSettling (judge : Judge) (air : Air) (reader : Reader) (s : State) : Type 0 where
   pub settled : copy_of (wanted reader (settle judge air reader s)) (settle judge air reader s) ≡ None
   pub stays : copy_of (wanted reader s) s ≡ None → settle judge air reader s ≡ s
   pub goes_on : settle judge air reader (turn judge air reader s) ≡ settle judge air reader s
-  pub steps : settle judge air reader (step judge air reader s) ≡ settle judge air reader s
-  pub no_line : (step judge air reader s).lines ≡ [] → step judge air reader s ≡ settle judge air reader s
 
 module _ (judge : Judge) (air : Air) (reader : Reader) where
   turn_settled : (s : State) → IsSettled reader s → turn judge air reader s ≡ s
@@ -149,24 +147,8 @@ module _ (judge : Judge) (air : Air) (reader : Reader) where
       let fit = total_drop reader.queries s.query in
       iterate_after n s ∙ turn_settled (iterate (turn judge air reader) n s) (settles n s (omega arith))
 
-  step_on : (n : ℕ) (s : State) → settle judge air reader (turn_to_line judge air reader n s) ≡ settle judge air reader s
-  unfolding turn_to_line
-  step_on zero s = refl
-  step_on (suc n) s = cond_keeps (λ t. settle judge air reader t ≡ settle judge air reader s) (nat_lt 0 (length s.lines)) _ _ (λ _. refl) (λ _. step_on n (turn judge air reader s) ∙ go_on s)
-
-  all_turns : (n : ℕ) (s : State) → (turn_to_line judge air reader n s).lines ≡ [] → turn_to_line judge air reader n s ≡ iterate (turn judge air reader) n s
-  unfolding turn_to_line
-  all_turns zero s e = refl
-  all_turns (suc n) s e = by (nat_lt 0 (length s.lines)) refl e (all_turns n (turn judge air reader s))
-    where
-      by : (b : Bool) → nat_lt 0 (length s.lines) ≡ b → (cond b s (turn_to_line judge air reader n (turn judge air reader s))).lines ≡ [] →
-          ((turn_to_line judge air reader n (turn judge air reader s)).lines ≡ [] → turn_to_line judge air reader n (turn judge air reader s) ≡ iterate (turn judge air reader) n (turn judge air reader s)) →
-          cond b s (turn_to_line judge air reader n (turn judge air reader s)) ≡ iterate (turn judge air reader) n (turn judge air reader s)
-      by true t e rest = absurd (let l = ltb-true 0 (length s.lines) t in let m : length s.lines ≡ 0 = ap length e in omega arith)
-      by false t e rest = rest e
-
   pub settling : (s : State) → IsSettling judge air reader s
-  unfolding settle step
+  unfolding settle
   settling s =
       let n = sum_by length reader.queries in
       let fit = total_drop reader.queries s.query in
@@ -175,8 +157,6 @@ module _ (judge : Judge) (air : Air) (reader : Reader) where
         settled = done;
         stays = iterate_settled n s;
         goes_on = go_on s;
-        steps = step_on n s;
-        no_line = all_turns n s;
       }
 
 pub settle_is : (judge : Judge) (air : Air) (reader : Reader) (s : State) → IsSettling judge air reader s

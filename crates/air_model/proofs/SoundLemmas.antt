@@ -1,13 +1,13 @@
 -- What lines tell: each is sound where the history judges, under F-Matrix it tells whether the reads are consistent, and by
 -- any judge it is the reader's. Each law is an instance of `kept`.
-use Rattle.std.proofs.Common.{◌≡◌, ℕ, zero, suc, ◌<◌, ◌≤◌, true, false, Option, Some, None, List, [], ◌∷◌, ◌++◌, length, map, take, get_or, All, refl, sym, ◌∙◌, ap, subst, append_assoc, append-nil, inl, inr, arith}
+use Rattle.std.proofs.Common.{◌≡◌, ℕ, zero, suc, ◌<◌, ◌≤◌, true, false, Option, Some, None, List, [], ◌∷◌, ◌++◌, length, map, take, get_or, All, refl, sym, ◌∙◌, ap, subst, inl, inr, arith, ◌==◌}
 use Rattle.std.specs.Prelude.{Contains, IfSome, IsTrue}
 use Rattle.std.specs.List.{slice_get}
 use Rattle.std.specs.Option.{is_some}
-use Rattle.std.proofs.lemmas.Bool.{cases_lt}
+use Rattle.std.proofs.lemmas.Bool.{cases_lt, and_from, eq-eqb, lt-ltb}
 use Rattle.std.proofs.lemmas.Option.{get_or_from_slice_get, slice_get_within}
 use Rattle.std.proofs.lemmas.Simd.{map-map}
-use Rattle.std.proofs.lemmas.List.{map-append, take_more, length-map, take_all, length_push, get_or_past}
+use Rattle.std.proofs.lemmas.List.{map-append, take_more, length-map, take_all, length_push, get_or_past, get_or_default}
 use Rattle.std.proofs.lemmas.List.Elements.{All-head, All-tail, All-cons, All-push, All-nil, All-map}
 use Rattle.air_base.specs.declared.verdicts.Policy.{Policy}
 use Rattle.air_base.specs.declared.verdicts.Policy.TheVariants.{FMatrix}
@@ -19,36 +19,21 @@ use Rattle.air_history.specs.Tables.{table, values_of}
 use Rattle.air_history.specs.Reads.{ReadAt, IsRead, read_value}
 use Rattle.air_history.specs.Consistency.{alone, IsConsistent}
 use Rattle.air_history.specs.Clashes.{is_late, clash_by_history}
-use Rattle.air_history.specs.ClashLaws.{AcceptsAfter, Accepts, IsSound}
+use Rattle.air_history.specs.ClashLaws.{Accepts, IsSound}
 use Rattle.history_laws.proofs.AloneLemmas.{values}
 use Rattle.history_laws.proofs.PolicyLemmas.{stays_consistent}
-use Rattle.history_laws.proofs.AcceptedLemmas.{accepted}
+use Rattle.history_laws.proofs.AcceptedLemmas.{accepted, accepts_none, accepts_push}
 use Rattle.air_model.specs.Buckets.{Bucket, Body, Idle, Column, Vector}
 use Rattle.air_model.specs.Reads.{Read}
 use Rattle.air_model.specs.Aired.{Air, fits}
 use Rattle.air_model.specs.Judges.{Judge, place_of, by_history}
-use Rattle.air_model.specs.Sessions.{Reader, Line, line_of, read_in, session}
-use Rattle.air_model.specs.SessionLaws.{CyclesFromOne, Follows, IsOfReader, IsSoundLine, NamesHeld, QueriesFilled, reads_at}
+use Rattle.air_model.specs.Sessions.{Reader, Line, line_of, read_in, session, is_wanted}
+use Rattle.air_model.specs.SessionLaws.{CyclesFromOne, follows_query, IsOfReader, IsSoundLine, NamesHeld, QueriesFilled, reads_at}
 use Rattle.air_model.proofs.MomentLemmas.{item_after, Keeps, Gives, kept}
+use Rattle.std.specs.Cmp.Lexicographic.{bytes_decides}
+use Rattle.std.proofs.lemmas.List.Folds.{list_any_at}
 
 -- ---- reads that were accepted
-
--- one more read that is not late and does not clash is accepted after the others
-accepts_push : (p : Policy) (H : List Event) (before R : List ReadAt) (x : ReadAt) → AcceptsAfter p H before R → is_late p (before ++ R) x ≡ false →
-    clash_by_history p H (before ++ R) x ≡ None → AcceptsAfter p H before (R ++ x ∷ [])
-unfolding AcceptsAfter
-accepts_push p H before [] x a late none =
-    (subst (λ S. is_late p S x ≡ false) (append-nil before) late, subst (λ S. clash_by_history p H S x ≡ None) (append-nil before) none, tt)
-accepts_push p H before (y ∷ R) x a late none = (
-  a.0,
-  a.1,
-  accepts_push p H (before ++ y ∷ []) R x a.2 (subst (λ S. is_late p S x ≡ false) (sym (append_assoc before (y ∷ []) R)) late)
-      (subst (λ S. clash_by_history p H S x ≡ None) (sym (append_assoc before (y ∷ []) R)) none),
-)
-
-accepts_none : (p : Policy) (H : List Event) → Accepts p H []
-unfolding AcceptsAfter
-accepts_none p H = tt
 
 -- the read is from cycle 1 on
 abbrev FromOne : Read → Type 0
@@ -65,7 +50,7 @@ are_more : (p : Policy) (H : List Event) (R : List Read) (x : Read) → AreAccep
     clash_by_history p H (map place_of R) (place_of x) ≡ None → AreAccepted p H (R ++ x ∷ [])
 are_more p H R x k pos late none = (
   All-push FromOne R x k.0 pos,
-  subst (Accepts p H) (sym (map-append place_of R (x ∷ []))) (accepts_push p H [] (map place_of R) (place_of x) k.1 late none),
+  subst (Accepts p H) (sym (map-append place_of R (x ∷ []))) (accepts_push p H (map place_of R) (place_of x) k.1 late none),
 )
 
 are_reads : (R : List Read) → All FromOne R → All IsRead (map place_of R)
@@ -205,9 +190,28 @@ query_within reader q n l = elim (cases_lt q (length reader.queries)) as (λ _. 
   | inr ge ↦ absurd (let e = ap length (get_or_past reader.queries q [] ge) in omega arith)
 ]
 
+-- items that are all of a query follow it
+follows_all : (query items : List ℕ) → items ≡ query → follows_query query Accept items ≡ true
+unfolding follows_query
+follows_all query items e = (bytes_decides items query).1 e
+
+-- so do its first ones up to a refused one, where the clash is among them
+follows_to : (query : List ℕ) (item cycle clash : ℕ) (items : List ℕ) → items ≡ take (length items) query → slice_get query (length items) ≡ Some item → Contains items clash →
+    follows_query query (Abort item cycle clash) items ≡ true
+unfolding follows_query
+follows_to query item cycle clash items first next among =
+    and_from _ _ ((bytes_decides items (take (length items) query)).1 first)
+    (and_from _ _ (ap (λ o. is_wanted o item) next ∙ eq-eqb item item refl)
+    (list_any_at (λ i. i == clash) items among.0 0 among.1 (eq-eqb _ _ (get_or_default items among.0 0 clash among.1 ∙ among.2))))
+
+-- and its first ones where some are missing
+follows_in_part : (query items : List ℕ) → items ≡ take (length items) query → length items < length query → follows_query query Unfinished items ≡ true
+unfolding follows_query
+follows_in_part query items first less = and_from _ _ ((bytes_decides items (take (length items) query)).1 first) (lt-ltb (length items) (length query) less)
+
 pub of_reader : (judge : Judge) (air : Air) (reader : Reader) (heard : List (Option Bucket)) → NamesHeld judge → QueriesFilled reader → 1 ≤ reader.plan.tries →
     All (IsOfReader reader) (session judge air reader heard).lines
-unfolding Follows line_of
+unfolding line_of
 of_reader judge air reader heard names filled tries = kept judge air reader Any K (IsOfReader reader) filled rules heard (λ k d l. gives (get_or heard k d))
   where
     Any : Read → Type 0
@@ -243,18 +247,15 @@ of_reader judge air reader heard names filled tries = kept judge air reader Any 
         query = k.2 some;
         begun = k.0.0;
         tried = k.0.1;
-        follows = subst (λ S. S ≡ get_or reader.queries q []) (items q a Accept R) (k.1 ∙ take_all (length R) (get_or reader.queries q []) (whole_query (get_or reader.queries q []) (length R) e));
+        follows = follows_all (get_or reader.queries q []) _ (subst (λ S. S ≡ get_or reader.queries q []) (items q a Accept R) (k.1 ∙ take_all (length R) (get_or reader.queries q []) (whole_query (get_or reader.queries q []) (length R) e)));
       };
       aborted = λ q a R x c k any judged e. record {
         query = within q R x judged.wanted;
         begun = k.0.0;
         tried = k.0.1;
-        follows = subst (λ S. (S ≡ take (length S) (get_or reader.queries q [])) × (slice_get (get_or reader.queries q []) (length S) ≡ Some x.item) × Contains S c.item)
-            (items q a (Abort x.item x.cycle c.item) R) (
-              taken q R k.1,
-              ap (slice_get (get_or reader.queries q [])) (length-map R (λ r. r.item)) ∙ judged.wanted,
-              names R x c e,
-            );
+        follows = subst (λ S. follows_query (get_or reader.queries q []) (Abort x.item x.cycle c.item) S ≡ true) (items q a (Abort x.item x.cycle c.item) R)
+            (follows_to (get_or reader.queries q []) x.item x.cycle c.item (map (λ r. r.item) R) (taken q R k.1)
+            (ap (slice_get (get_or reader.queries q [])) (length-map R (λ r. r.item)) ∙ judged.wanted) (names R x c e));
       };
       unfinished = λ q a R k e.
           let part : length R < length (get_or reader.queries q []) = part_of_query (get_or reader.queries q []) (length R) e in
@@ -262,7 +263,8 @@ of_reader judge air reader heard names filled tries = kept judge air reader Any 
             query = query_within reader q (length R) part;
             begun = k.0.0;
             tried = k.0.1;
-            follows = subst (λ S. (S ≡ take (length S) (get_or reader.queries q [])) × (length S < length (get_or reader.queries q []))) (items q a Unfinished R)
-                (taken q R k.1, subst (λ n. n < length (get_or reader.queries q [])) (sym (length-map R (λ r. r.item))) part);
+            follows = subst (λ S. follows_query (get_or reader.queries q []) Unfinished S ≡ true) (items q a Unfinished R)
+                (follows_in_part (get_or reader.queries q []) (map (λ r. r.item) R) (taken q R k.1)
+                (subst (λ n. n < length (get_or reader.queries q [])) (sym (length-map R (λ r. r.item))) part));
           };
     }

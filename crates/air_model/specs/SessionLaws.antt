@@ -1,6 +1,8 @@
 -- The words of the laws of sessions: what heard lists and queries keep, and what each line tells. The laws are the
 -- contracts of the functions of `sessions`.
-use Rattle.std.specs.Prelude.{◌≡◌, ◌↔◌, ℕ, ◌<◌, ◌≤◌, List, [], ◌∷◌, ◌++◌, length, map, take, get_or, slice_get, All, Contains, IfSome, IsTrue, Option, Some}
+use Rattle.std.specs.Prelude.{◌≡◌, ◌↔◌, ℕ, ◌<◌, ◌≤◌, Bool, ◌&&◌, ◌==◌, nat_eq, nat_lt, List, [], ◌∷◌, ◌++◌, length, map, take, get_or, slice_get, All, Contains, IfSome, IsTrue, Option, Some}
+use Rattle.std.specs.List.{list_any}
+use Rattle.std.specs.Cmp.Lexicographic.{pointwise}
 use Rattle.air_base.specs.declared.verdicts.Policy.{Policy}
 use Rattle.air_base.specs.declared.verdicts.Clash.{Clash}
 use Rattle.air_base.specs.declared.verdicts.VerdictKind.{VerdictKind}
@@ -14,7 +16,7 @@ use Rattle.air_model.specs.Buckets.{Body, Bucket, Column, Idle, Vector}
 use Rattle.air_model.specs.Reads.{Read}
 use Rattle.air_model.specs.Aired.{Air, fits}
 use Rattle.air_model.specs.Judges.{Judge}
-use Rattle.air_model.specs.Sessions.{Reader, State, Line}
+use Rattle.air_model.specs.Sessions.{Reader, State, Line, is_wanted}
 
 -- No query is empty.
 abbrev pub QueriesFilled : Reader → Type 0
@@ -75,12 +77,13 @@ IsExactLine H reader l = IsExact H (get_or reader.queries l.verdict.query []) l.
 abbrev pub NamesHeld : Judge → Type 0
 NamesHeld judge = (R : List Read) (x : Read) (c : Clash) → judge.clash R x ≡ Some c → Contains (map (λ r. r.item) R) c.item
 
--- The read items are all of a query's where it was accepted; else its first ones, and some are missing; an abort's refused
+-- Whether read items follow a query: they are all of it where it was accepted; else its first ones, and some are missing; an abort's refused
 -- item is the next one, and its clash is one of the read items.
-unfoldable pub Follows : List ℕ → VerdictKind → List ℕ → Type 0
-Follows query Accept items = items ≡ query
-Follows query (Abort item cycle clash) items = (items ≡ take (length items) query) × (slice_get query (length items) ≡ Some item) × Contains items clash
-Follows query Unfinished items = (items ≡ take (length items) query) × (length items < length query)
+unfoldable pub follows_query : List ℕ → VerdictKind → List ℕ → Bool
+follows_query query Accept items = pointwise nat_eq items query
+follows_query query (Abort item cycle clash) items =
+    pointwise nat_eq items (take (length items) query) && (is_wanted (slice_get query (length items)) item && list_any (λ i. i == clash) items)
+follows_query query Unfinished items = pointwise nat_eq items (take (length items) query) && nat_lt (length items) (length query)
 
 -- A line is the reader's where its query is one of the reader's, its attempt is from 1 to the tries, and its reads follow
 -- the query.
@@ -88,7 +91,7 @@ pub record IsOfReader (reader : Reader) (l : Line) : Type 0 where
   pub query : l.verdict.query < length reader.queries
   pub begun : 1 ≤ l.verdict.attempt
   pub tried : l.verdict.attempt ≤ reader.plan.tries
-  pub follows : Follows (get_or reader.queries l.verdict.query []) l.verdict.kind (map (λ r. r.item) l.reads)
+  pub follows : IsTrue (follows_query (get_or reader.queries l.verdict.query []) l.verdict.kind (map (λ r. r.item) l.reads))
 
 -- ---- lines
 

@@ -1,7 +1,7 @@
 -- The session of a receiver: the verdict lines and the counts that a heard list gives, by a judge. The rules are words
 -- of their own: `settle` and `turn` use kept copies, `hear` takes one heard member, `end_query` ends one query.
 -- The laws of `sessions` say that both judges give one session, and what each line tells.
-use Rattle.std.specs.Prelude.{ℕ, zero, suc, ◌+◌, ◌-◌, max, Bool, false, cond, ◌||◌, ◌==◌, nat_lt, List, [], ◌∷◌, ◌++◌, length, map, get_or, sum_by, Option, Some, None}
+use Rattle.std.specs.Prelude.{ℕ, ◌+◌, ◌-◌, max, Bool, false, cond, ◌||◌, ◌==◌, nat_lt, List, [], ◌∷◌, ◌++◌, length, map, get_or, sum_by, Option, Some, None}
 use Rattle.std.specs.List.{find, slice_get}
 use Rattle.std.specs.Option.{is_some}
 use Rattle.std.specs.Fn.{iterate}
@@ -166,15 +166,6 @@ module _ (judge : Judge) (air : Air) (reader : Reader) where
   -- A receiver settles by as many turns as its queries have items: after these the wanted item has no copy.
   unfoldable pub settle : State → State
   settle s = iterate turn (sum_by length reader.queries) s
-
-  -- Turns are taken up to the first line, n at most.
-  unfoldable pub turn_to_line : ℕ → State → State
-  turn_to_line zero s = s
-  turn_to_line (suc n) s = cond (nat_lt 0 (length s.lines)) s (turn_to_line n (turn s))
-
-  -- One step of a receiver with no line waiting settles it up to the first line.
-  unfoldable pub step : State → State
-  step s = turn_to_line (sum_by length reader.queries) s
 
   -- ---- a heard member
 

@@ -13,7 +13,7 @@ ghost use Rattle.air_model.specs.Decks.{Deck, IsDeck, values_in};
 ghost use Rattle.air_model.specs.Aired.{Air, IsAired, SlotsFit, air_of};
 ghost use Rattle.air_model.specs.AiredLaws.{CanAir};
 ghost use Rattle.air_model.specs.Judges.{Judge, by_entries, by_history};
-ghost use Rattle.air_model.specs.Sessions.{Line, Reader, State, copy_of, end_query, hear, session, settle, step, turn, wanted};
+ghost use Rattle.air_model.specs.Sessions.{Line, Reader, State, copy_of, end_query, hear, session, settle, turn, wanted};
 ghost use Rattle.air_model.specs.SessionLaws.{CyclesFromOne, IsExactLine, IsOfReader, IsSoundLine, NamesHeld, QueriesFilled, after, bare};
 ghost use Rattle.air_model.specs.ReceiverLaws.{IsTrueSession};
 ghost use Rattle.air_model.specs.Outputs.{ether_of, sessions_over, true_sessions};
@@ -63,8 +63,8 @@ pub fn reader_law()
         All (IsOfReader reader) (session judge air reader heard).lines }
 {}
 
-/// After settling the wanted item has no copy, and a turn or a step more makes no difference: so to settle is to take
-/// turns as long as the wanted item has a copy. A step that gives no line settles.
+/// After settling the wanted item has no copy, and a turn more makes no difference: so to settle is to take turns as
+/// long as the wanted item has a copy.
 pub fn settle_law()
     ensures settled { (judge : Judge) (air : Air) (reader : Reader) (s : State) →
         copy_of (wanted reader (settle judge air reader s)) (settle judge air reader s) ≡ None }
@@ -72,10 +72,6 @@ pub fn settle_law()
         copy_of (wanted reader s) s ≡ None → settle judge air reader s ≡ s }
     ensures goes_on { (judge : Judge) (air : Air) (reader : Reader) (s : State) →
         settle judge air reader (turn judge air reader s) ≡ settle judge air reader s }
-    ensures steps { (judge : Judge) (air : Air) (reader : Reader) (s : State) →
-        settle judge air reader (step judge air reader s) ≡ settle judge air reader s }
-    ensures no_line { (judge : Judge) (air : Air) (reader : Reader) (s : State) →
-        (step judge air reader s).lines ≡ [] → step judge air reader s ≡ settle judge air reader s }
 {}
 
 /// Lines are only added at the end, and none is looked at: so each may be handed out as it comes.

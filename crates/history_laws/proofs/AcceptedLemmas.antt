@@ -1,19 +1,25 @@
 -- Reads that a policy accepted one after another are consistent, and share the cycle that the policy gives them.
-use Rattle.std.proofs.Common.{◌≡◌, ◌⊎◌, ℕ, ◌≤◌, Bool, true, false, cond, not, ◌&&◌, List, [], ◌∷◌, ◌++◌, get_or, All, None, refl, sym, ap, subst, append_assoc, append-nil, inl, inr, arith}
+use Rattle.std.proofs.Common.{◌≡◌, ◌∙◌, ◌⊎◌, ℕ, ◌≤◌, Bool, true, false, cond, not, ◌&&◌, List, [], ◌∷◌, ◌++◌, get_or, All, None, refl, sym, ap, subst, inl, inr, arith, zero, suc, ◌<◌, Option, Some, take, length, add-one}
 use Rattle.std.specs.List.{list_all}
-use Rattle.std.proofs.lemmas.Bool.{ltb-false, not-true, not_from_false, both_ways, and_parts}
+use Rattle.std.proofs.lemmas.Bool.{ltb-false, not-true, not_from_false, both_ways, and_parts, cases_lt, false≢true, and_from}
 use Rattle.std.proofs.lemmas.List.Elements.{All-head, All-tail, All-cons, All-push, All-nil}
 use Rattle.air_base.specs.declared.verdicts.Policy.{Policy}
 use Rattle.air_base.specs.declared.verdicts.Policy.TheVariants.{FMatrix, Datacycle, RMatrix}
 use Rattle.air_history.specs.declared.histories.Event.{Event}
 use Rattle.air_history.specs.Histories.{front, writer}
 use Rattle.air_history.specs.Reads.{ReadAt, IsRead, origin, stale, newest_cycle, first_cycle, last_cycle}
-use Rattle.air_history.specs.Consistency.{IsConsistent}
+use Rattle.air_history.specs.Consistency.{IsConsistent, consistent}
 use Rattle.air_history.specs.ConsistencyLaws.{SharesCycle}
 use Rattle.air_history.specs.Clashes.{is_late, clash_by_history, IsCurrent}
-use Rattle.air_history.specs.ClashLaws.{AcceptsAfter, Accepts, current_cycle_after, IsSound}
-use Rattle.history_laws.proofs.StaleLemmas.{fresh_same}
+use Rattle.air_history.specs.ClashLaws.{Accepts, IsSound, passes, cycle_in, current_cycle}
+use Rattle.history_laws.proofs.StaleLemmas.{fresh_same, same_origin_says}
 use Rattle.history_laws.proofs.PolicyLemmas.{stays_consistent, stays_current, takes, stays_between, one_cycle}
+use Rattle.std.specs.Prelude.{is_none}
+use Rattle.std.specs.Option.{option_map_or}
+use Rattle.std.proofs.lemmas.List.{take-append-le, take_all, take_more, get_or_append_left, get_or_push, length_push, length-take, get_or-take, get_or-map}
+use Rattle.air_base.specs.declared.verdicts.Clash.{Clash}
+use Rattle.air_history.specs.Places.{last_place}
+use Rattle.air_history.proofs.PlaceLemmas.{last_place_suc}
 
 pub last_push : (R : List ReadAt) (x : ReadAt) → last_cycle (R ++ x ∷ []) ≡ x.cycle
 last_push [] x = refl
@@ -49,7 +55,8 @@ abbrev pub cycle_with : List Event → List ReadAt → ReadAt → ℕ → ℕ
 cycle_with H R x g = cond (list_all (λ r. not (stale H r x.cycle)) R) x.cycle g
 
 kept_none : (p : Policy) (H : List Event) → IsKept p H [] 0
-kept_none FMatrix H = λ k d l. absurd (omega arith)
+unfolding consistent
+kept_none FMatrix H = refl
 kept_none Datacycle H = λ k d l. absurd (omega arith)
 kept_none RMatrix H = (λ k d l. absurd (omega arith), omega arith, omega arith)
 
@@ -73,7 +80,7 @@ r_matrix_more H R x g k late none false e =
     let high = k.2 in (
       elim (((takes H R x late).0 none).fresh) as (λ _. SharesCycle H (R ++ x ∷ []) g) [
         | inl all ↦ absurd (both_ways _ e (all_to (λ r. not (stale H r x.cycle)) R (λ i d l. not_from_false _ (all i d l))))
-        | inr same ↦ stays_between H (first_cycle R) g R x low (omega arith) k.0 same
+        | inr same ↦ stays_between H (first_cycle R) g R x low (omega arith) k.0 (same_origin_says H x.item x.cycle (first_cycle R) same)
       ],
       elim (first_push R x) as (λ _. first_cycle (R ++ x ∷ []) ≤ g) [
         | inl same ↦ omega arith
@@ -88,31 +95,87 @@ kept_more FMatrix H R x g are is k late none = (stays_consistent H R x are is k)
 kept_more Datacycle H R x g are is k late none = (stays_current H R x are is k).0 none
 kept_more RMatrix H R x g are is k late none = r_matrix_more H R x g k late none (list_all (λ r. not (stale H r x.cycle)) R) refl
 
--- what is kept of the reads before is kept of all
-kept_after : (p : Policy) (H : List Event) (before R : List ReadAt) (g : ℕ) → All IsRead before → All IsRead R → IsKept p H before g →
-    AcceptsAfter p H before R → IsKept p H (before ++ R) (current_cycle_after H before g R)
-unfolding AcceptsAfter current_cycle_after
-kept_after p H before [] g old are k accepts = subst (λ S. IsKept p H S g) (sym (append-nil before)) k
-kept_after p H before (x ∷ R) g old are k accepts =
-    let is : IsRead x = All-head IsRead x R are in
-    subst (λ S. IsKept p H S (current_cycle_after H (before ++ x ∷ []) (cycle_with H before x g) R)) (append_assoc before (x ∷ []) R)
-    (kept_after p H (before ++ x ∷ []) R (cycle_with H before x g) (All-push IsRead before x old is) (All-tail IsRead x R are)
-    (kept_more p H before x g old is k accepts.0 accepts.1) accepts.2)
+-- ---- one read after another
+
+none_if : (o : Option Clash) → is_none o ≡ true → o ≡ None
+none_if None e = refl
+none_if (Some c) e = absurd (false≢true e)
+
+-- what it means that a read passes
+pub passes_says : (p : Policy) (H : List Event) (R : List ReadAt) (x : ReadAt) → passes p H R x ≡ true → (is_late p R x ≡ false) × (clash_by_history p H R x ≡ None)
+unfolding passes
+passes_says p H R x e = let both = and_parts _ _ e in (not-true _ both.0, none_if _ both.1)
+
+pub passes_from : (p : Policy) (H : List Event) (R : List ReadAt) (x : ReadAt) → is_late p R x ≡ false → clash_by_history p H R x ≡ None → passes p H R x ≡ true
+unfolding passes
+passes_from p H R x late none = and_from _ _ (not_from_false _ late) (ap is_none none)
+
+pub accepts_none : (p : Policy) (H : List Event) → Accepts p H []
+accepts_none p H k d l = absurd (omega arith)
+
+pub accepts_push : (p : Policy) (H : List Event) (R : List ReadAt) (x : ReadAt) → Accepts p H R → is_late p R x ≡ false → clash_by_history p H R x ≡ None →
+    Accepts p H (R ++ x ∷ [])
+accepts_push p H R x accepts late none k d l = elim (cases_lt k (length R)) as (λ _. passes p H (take k (R ++ x ∷ [])) (get_or (R ++ x ∷ []) k d) ≡ true) [
+  | inl low ↦ ap (λ S. passes p H S (get_or (R ++ x ∷ []) k d)) (take-append-le k R (x ∷ []) (omega arith))
+      ∙ ap (passes p H (take k R)) (get_or_append_left R (x ∷ []) d k low) ∙ accepts k d low
+  | inr high ↦ (let same : k ≡ length R = omega (arith, length_push R x) in
+      ap (λ S. passes p H S (get_or (R ++ x ∷ []) k d)) (ap (λ m. take m (R ++ x ∷ [])) same ∙ take-append-le (length R) R (x ∷ []) (omega arith) ∙ take_all (length R) R (omega arith))
+      ∙ ap (passes p H R) (get_or_push R x d k (sym same)) ∙ passes_from p H R x late none)
+]
+
+-- the current cycle of the first n reads, by the tests over all
+abbrev cycle_of_first : List Event → List ReadAt → ℕ → ℕ
+cycle_of_first H R n = option_map_or (cycle_in R) (last_place n (λ k. list_all (λ r. not (stale H r (cycle_in R k))) (take k R))) 0
+
+cycle_of_no_read : (H : List Event) (R : List ReadAt) → cycle_of_first H R 0 ≡ 0
+unfolding last_place
+cycle_of_no_read H R = refl
+
+cond_mapped : (f : ℕ → ℕ) (b : Bool) (o p : Option ℕ) → option_map_or f (cond b o p) 0 ≡ cond b (option_map_or f o 0) (option_map_or f p 0)
+cond_mapped f true o p = refl
+cond_mapped f false o p = refl
+
+cycle_of_next : (H : List Event) (R : List ReadAt) (n : ℕ) (d : ReadAt) → n < length R → cycle_of_first H R (suc n) ≡ cycle_with H (take n R) (get_or R n d) (cycle_of_first H R n)
+cycle_of_next H R n d l =
+    let at : cycle_in R n ≡ (get_or R n d).cycle = get_or-map (λ (r : ReadAt). r.cycle) R n d 0 l in
+    ap (λ o. option_map_or (cycle_in R) o 0) (last_place_suc n (λ k. list_all (λ r. not (stale H r (cycle_in R k))) (take k R)))
+    ∙ cond_mapped (cycle_in R) (list_all (λ r. not (stale H r (cycle_in R n))) (take n R)) (Some n) (last_place n (λ k. list_all (λ r. not (stale H r (cycle_in R k))) (take k R)))
+    ∙ ap (λ c. cond (list_all (λ r. not (stale H r c)) (take n R)) c (cycle_of_first H R n)) at
+
+all_take : (R : List ReadAt) (n : ℕ) → All IsRead R → n ≤ length R → All IsRead (take n R)
+all_take R n are l k d lt = let within : k < n = omega (arith, length-take n R) in subst IsRead (sym (get_or-take n R k d within)) (are k d (omega arith))
+
+no_read : ReadAt
+no_read = record { item = 0; cycle = 0 }
+
+-- what accepted reads keep, the first n have
+kept_of_first : (p : Policy) (H : List Event) (R : List ReadAt) → All IsRead R → Accepts p H R → (n : ℕ) → n ≤ length R → IsKept p H (take n R) (cycle_of_first H R n)
+kept_of_first p H R are accepts zero l = subst (IsKept p H []) (sym (cycle_of_no_read H R)) (kept_none p H)
+kept_of_first p H R are accepts (suc n) l =
+    let within : n < length R = omega arith in
+    let passed = passes_says p H (take n R) (get_or R n no_read) (accepts n no_read within) in
+    let more : take (suc n) R ≡ take n R ++ get_or R n no_read ∷ [] = ap (λ m. take m R) (sym (add-one n)) ∙ take_more R n no_read within in
+    subst (IsKept p H (take (suc n) R)) (sym (cycle_of_next H R n no_read within))
+    (subst (λ S. IsKept p H S (cycle_with H (take n R) (get_or R n no_read) (cycle_of_first H R n))) (sym more)
+    (kept_more p H (take n R) (get_or R n no_read) (cycle_of_first H R n) (all_take R n are (omega arith)) (are n no_read within)
+    (kept_of_first p H R are accepts n (omega arith)) passed.0 passed.1))
 
 -- current reads share the newest cycle
 current_shares : (H : List Event) (R : List ReadAt) → IsCurrent H R → SharesCycle H R (newest_cycle R)
 current_shares H R h = λ k d l. fresh_same H (get_or R k d) (newest_cycle R) (h k d l)
 
-pub kept_sound : (p : Policy) (H : List Event) (R : List ReadAt) → All IsRead R → IsKept p H R (current_cycle_after H [] 0 R) → IsSound p H R
+kept_sound : (p : Policy) (H : List Event) (R : List ReadAt) → All IsRead R → IsKept p H R (current_cycle H R) → IsSound p H R
 kept_sound FMatrix H R are k = record { consistent = k; shared = tt }
 kept_sound Datacycle H R are k = record {
   consistent = one_cycle H R (newest_cycle R) are (current_shares H R k);
   shared = current_shares H R k;
 }
 kept_sound RMatrix H R are k = record {
-  consistent = one_cycle H R (current_cycle_after H [] 0 R) are k.0;
+  consistent = one_cycle H R (current_cycle H R) are k.0;
   shared = k.0;
 }
 
 pub accepted : (policy : Policy) (H : List Event) (R : List ReadAt) → All IsRead R → Accepts policy H R → IsSound policy H R
-accepted p H R are accepts = kept_sound p H R are (kept_after p H [] R 0 (All-nil IsRead) are (kept_none p H) accepts)
+unfolding current_cycle
+accepted p H R are accepts = kept_sound p H R are
+    (subst (λ S. IsKept p H S (current_cycle H R)) (take_all (length R) R (omega arith)) (kept_of_first p H R are accepts (length R) (omega arith)))

@@ -12,11 +12,11 @@ use Rattle.air_history.specs.Histories.{event_at, writes, reads, front, writer_b
 use Rattle.air_history.specs.Descents.{descends}
 use Rattle.air_history.specs.DescentLaws.{IsClosed}
 use Rattle.air_history.specs.Reads.{ReadAt, origin, read_value}
-use Rattle.air_history.specs.Consistency.{descends_from, runs_alone, last_alone, picked, alone, IsConsistent}
+use Rattle.air_history.specs.Consistency.{descends_from, runs_alone, last_alone, picked, alone, IsConsistent, consistent}
 use Rattle.air_history.specs.Tables.{write_of, put, value_after, table, BasesRead}
 use Rattle.air_history.proofs.PlaceLemmas.{IsLast, last_place_from, last_place_suc, place_at, place_from}
 use Rattle.air_history.proofs.HistoryLemmas.{front_prefix, front_within, writer_before_is}
-use Rattle.history_laws.proofs.ConsistencyLemmas.{alone_at, alone_from}
+use Rattle.history_laws.proofs.ConsistencyLemmas.{alone_at, alone_from, origins_last}
 use Rattle.air_history.proofs.OriginLemmas.{origin_whole}
 use Rattle.air_history.proofs.ClosureLemmas.{closure}
 use Rattle.air_history.proofs.ScanLemmas.{writer_before_none}
@@ -151,7 +151,7 @@ values V H R bases consistent k d l =
     let r = get_or R k d in
     picked_ran V H (runs_alone H R) (length H) r.item
     ∙ chosen_left V H (runs_alone H R) (alone_closed H R) bases (length H) r.item (omega arith)
-    ∙ ap (left V H r.item) (consistent k d l ∙ origin_whole H r)
+    ∙ ap (left V H r.item) (origins_last H R consistent k d l ∙ origin_whole H r)
     ∙ sym (seen_left V H (length (front H r.cycle)) r.item)
     ∙ sym (take_seen V H (length (front H r.cycle)) r.item (front_within H r.cycle))
     ∙ ap (λ G. table V G r.item) (sym (front_prefix H r.cycle))

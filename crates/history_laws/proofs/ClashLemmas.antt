@@ -10,11 +10,11 @@ use Rattle.air_base.specs.declared.verdicts.Clash.{Clash}
 use Rattle.air_history.specs.declared.histories.Event.{Event}
 use Rattle.air_history.specs.Histories.{front}
 use Rattle.air_history.specs.Columns.{column_entry, vector_entry, entry_at}
-use Rattle.air_history.specs.Reads.{ReadAt, stale}
+use Rattle.air_history.specs.Reads.{ReadAt, stale, same_origin}
 use Rattle.air_history.specs.Consistency.{consistent}
 use Rattle.air_history.specs.Clashes.{least, named_clash, clash_by_history, Heard, read_at, entry_of, entry_in, newest_heard, clash_by_entries}
 use Rattle.air_history.specs.ClashLaws.{IsHeard, IsAllowed}
-use Rattle.history_laws.proofs.StaleLemmas.{pair_test, stale_is}
+use Rattle.history_laws.proofs.StaleLemmas.{pair_test, stale_is, origin_told}
 use Rattle.history_laws.proofs.NamedLemmas.{clash_heard}
 use Rattle.std.proofs.lemmas.List.FromFn.{get_or-map-range_with_len}
 
@@ -88,6 +88,13 @@ stale_told : (n : ℕ) (H : List Event) (r x : Heard) → x.entries ≡ Rattle.a
     1 ≤ r.cycle → r.cycle ≤ x.cycle → r.item < n → stale H (read_at r) x.cycle ≡ nat_le r.cycle (entry_of x r.item)
 stale_told n H r x told pos le within = stale_is H (read_at r) x.cycle pos le ∙ ap (nat_le r.cycle) (sym (vector_of n H x x.cycle told r.item within))
 
+-- a choice by a test is the other way round by its opposite
+turned : (s b : Bool) (z : Option Clash) → not s ≡ b → cond s None z ≡ cond b z None
+turned true true z e = cc
+turned true false z e = refl
+turned false true z e = refl
+turned false false z e = cc
+
 datacycle : (n : ℕ) (H : List Event) (R : List Heard) (x : Heard) → All (IsHeard Datacycle n H) R → IsHeard Datacycle n H x →
     clash_by_history Datacycle H (map read_at R) (read_at x) ≡ clash_by_entries Datacycle R x
 unfolding clash_by_history clash_by_entries
@@ -96,8 +103,8 @@ datacycle n H R x held new = cond_same (nat_le (newest_heard R) x.cycle) _ _ _ _
     let newest = newest_at_least R k d l in let below = leb-true (newest_heard R) x.cycle ge in
     stale_told n H (get_or R k d) x new.entries (held k d l).cycle (omega arith) (held k d l).within))
     (λ lt. let less = leb-false (newest_heard R) x.cycle lt in
-    ap (λ b. cond b (named_clash (λ r. r.cycle == newest_heard R) (map read_at R)) None)
-    (stale_is H (read_at x) (newest_heard R) new.cycle (omega arith)
+    turned (same_origin H x.item (newest_heard R) x.cycle) _ (named_clash (λ r. r.cycle == newest_heard R) (map read_at R))
+    (origin_told H x.item x.cycle (newest_heard R) new.cycle (omega arith)
     ∙ ap (nat_le x.cycle) (sym (entry_in_is n H x.item (newest_heard R) new.within R held (newest_there R (omega arith)))))
     ∙ ap (λ o. cond (nat_le x.cycle (entry_in R (newest_heard R) x.item)) o None)
     (clash_heard (λ s. s.cycle == newest_heard R) (λ s. s.cycle == newest_heard R) R (λ k d l. refl)))
@@ -108,7 +115,7 @@ cond_none false z = refl
 
 r_matrix_of_none : (H : List Event) (x : Heard) → clash_by_history RMatrix H [] (read_at x) ≡ clash_by_entries RMatrix [] x
 unfolding clash_by_history clash_by_entries least
-r_matrix_of_none H x = cond_none (stale H (record { item = x.item; cycle = 0 }) x.cycle) None ∙ sym (cond_none (nat_le 0 (entry_of x x.item)) None)
+r_matrix_of_none H x = cond_none (same_origin H x.item x.cycle 0) None ∙ sym (cond_none (nat_le 0 (entry_of x x.item)) None)
 
 r_matrix : (n : ℕ) (H : List Event) (R : List Heard) (x : Heard) → All (IsHeard RMatrix n H) R → IsHeard RMatrix n H x →
     AllPairs (λ r s. r.cycle ≤ s.cycle) (map read_at R ++ read_at x ∷ []) →
@@ -118,8 +125,8 @@ r_matrix n H [] x held new order = r_matrix_of_none H x
 r_matrix n H (r ∷ R) x held new order =
     let in_time = never_later (map read_at (r ∷ R)) (read_at x) order in
     let first : r.cycle ≤ x.cycle = All-head (λ (s : ReadAt). s.cycle ≤ x.cycle) (read_at r) (map read_at R) in_time in
-    ap (λ b. cond b (named_clash (λ s. stale H s x.cycle) (map read_at (r ∷ R))) None)
-    (stale_is H (record { item = x.item; cycle = r.cycle }) x.cycle (All-head (IsHeard RMatrix n H) r R held).cycle first
+    turned (same_origin H x.item x.cycle r.cycle) _ (named_clash (λ s. stale H s x.cycle) (map read_at (r ∷ R)))
+    (origin_told H x.item r.cycle x.cycle (All-head (IsHeard RMatrix n H) r R held).cycle first
     ∙ ap (nat_le r.cycle) (sym (vector_of n H x x.cycle new.entries x.item new.within)))
     ∙ ap (λ o. cond (nat_le r.cycle (entry_of x x.item)) o None)
     (clash_heard (λ s. stale H s x.cycle) (λ s. nat_le s.cycle (entry_of x s.item)) (r ∷ R) (λ k d l.

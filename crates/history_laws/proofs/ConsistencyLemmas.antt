@@ -1,19 +1,40 @@
 -- Reads are consistent exactly where each column's entry of each read item is below that read's cycle.
-use Rattle.std.proofs.Common.{◌≡◌, ℕ, zero, suc, ◌<◌, ◌≤◌, true, ◌&&◌, ◌⊎◌, Option, Some, None, List, [], ◌∷◌, ◌++◌, length, get_or, All, ◌↔◌, refl, sym, subst, inl, inr, arith}
+use Rattle.std.proofs.Common.{◌≡◌, ℕ, zero, suc, ◌<◌, ◌≤◌, true, ◌&&◌, ◌⊎◌, Option, Some, None, List, [], ◌∷◌, ◌++◌, length, get_or, All, ◌↔◌, refl, sym, subst, inl, inr, arith, Decides, ap}
 use Rattle.std.specs.Prelude.{AllPairs}
-use Rattle.std.proofs.lemmas.Bool.{cases_lt, cases_order, both_ways, and_parts, and_from, false_from_ne_true}
+use Rattle.std.proofs.lemmas.Bool.{cases_lt, cases_order, both_ways, and_parts, and_from, false_from_ne_true, false≢true, eqb-true, eq-eqb}
 use Rattle.std.proofs.lemmas.List.{get_or_append_left, get_or_push, length_push}
 use Rattle.std.proofs.lemmas.List.Folds.{list_any_at}
 use Rattle.air_history.specs.declared.histories.Event.{Event}
-use Rattle.air_history.specs.Places.{greatest}
+use Rattle.air_history.specs.Places.{greatest, same_place}
 use Rattle.air_history.specs.Histories.{writes, event_at, cycle_at, front}
 use Rattle.air_history.specs.Descents.{descends}
 use Rattle.air_history.specs.Columns.{entry_at}
 use Rattle.air_history.specs.Reads.{ReadAt, origin, IsRead}
-use Rattle.air_history.specs.Consistency.{descends_from, runs_alone, last_alone, IsConsistent}
+use Rattle.air_history.specs.Consistency.{descends_from, runs_alone, last_alone, IsConsistent, consistent}
 use Rattle.air_history.proofs.PlaceLemmas.{IsLast, last_place_is, last_place_from, greatest_below, greatest_at, any_at, place_from}
 use Rattle.air_history.proofs.HistoryLemmas.{writer_no_start, writes_within, front_cycle, front_holds, front_within, descends_self}
 use Rattle.air_history.proofs.OriginLemmas.{origin_some, origin_none, descends_from_front, entry_whole}
+use Rattle.std.specs.List.{list_all}
+use Rattle.std.proofs.lemmas.Bool.Decides.{Decides-by_and}
+
+pub same_place_decides : (o p : Option ℕ) → Decides (same_place o p) (o ≡ p)
+same_place_decides None None = (λ _. refl, λ _. refl)
+same_place_decides None (Some q) = (λ h. absurd (false≢true h), λ e. cc)
+same_place_decides (Some p) None = (λ h. absurd (false≢true h), λ e. cc)
+same_place_decides (Some p) (Some q) = (λ h. ap Some (eqb-true p q h), λ e. eq-eqb p q (let h : p ≡ q = cc in h))
+
+-- each read's origin is the last that runs alone and writes its item
+abbrev pub OriginsLast : List Event → List ReadAt → Type 0
+OriginsLast H R = All (λ r. last_alone H R r.item ≡ origin H r) R
+
+pub consistent_decides : (H : List Event) (R : List ReadAt) → Decides (consistent H R) (OriginsLast H R)
+unfolding consistent
+consistent_decides H R = Decides-by_and (λ r. same_place (last_alone H R r.item) (origin H r)) (λ r. last_alone H R r.item ≡ origin H r) (list_all (λ r. same_place (last_alone H R r.item) (origin H r)))
+    (λ r. same_place_decides (last_alone H R r.item) (origin H r)) refl (λ _ _. refl) R
+
+-- consistent reads' origins are the last
+pub origins_last : (H : List Event) (R : List ReadAt) → IsConsistent H R → OriginsLast H R
+origins_last H R h = (consistent_decides H R).0 h
 
 -- below a positive c, the entry of i in a read's column is below c exactly where each commit from which
 -- the read descends and that writes i has a cycle below c
@@ -75,7 +96,7 @@ clear_at H R r p (Some o) e f a w =
 pub clear_from_consistent : (H : List Event) (R : List ReadAt) → All IsRead R → IsConsistent H R → AllClear H R
 clear_from_consistent H R are h k l d lk ll =
     entry_below H (get_or R l d) (get_or R k d).item (get_or R k d).cycle (are k d lk)
-    (λ p e w. clear_at H R (get_or R k d) p (origin H (get_or R k d)) (h k d lk) refl (alone_from H R p l d ll e) w)
+    (λ p e w. clear_at H R (get_or R k d) p (origin H (get_or R k d)) (origins_last H R h k d lk) refl (alone_from H R p l d ll e) w)
 
 -- a writer among those that run alone is no later than the origin
 origin_last : (H : List Event) (R : List ReadAt) (r : ReadAt) → ((p : ℕ) → runs_alone H R p ≡ true → writes (event_at H p) r.item ≡ true → cycle_at H p < r.cycle) →
@@ -100,12 +121,12 @@ origin_last H R r clear own (Some o) f =
 
 -- reads that are clear of each other are consistent
 pub consistent_from_clear : (H : List Event) (R : List ReadAt) → AllClear H R → IsConsistent H R
-consistent_from_clear H R h k d lk =
+consistent_from_clear H R h = (consistent_decides H R).1 (λ k d lk.
     last_alone_from H R (get_or R k d).item (origin H (get_or R k d))
     (origin_last H R (get_or R k d)
     (λ p a w. let s = alone_at H R p d a in entry_says H (get_or R s.0 d) (get_or R k d).item (get_or R k d).cycle p (h k s.0 d lk s.1) s.2 w)
     (λ p e. alone_from H R p k d lk e)
-    (origin H (get_or R k d)) refl)
+    (origin H (get_or R k d)) refl))
 
 -- ---- two reads, and one more read
 

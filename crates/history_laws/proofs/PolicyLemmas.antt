@@ -1,12 +1,12 @@
 -- When a policy has no clash, by policy: the reads stay consistent, stay current, or the read is taken.
-use Rattle.std.proofs.Common.{◌≡◌, ◌↔◌, ◌⊎◌, ℕ, zero, suc, ◌<◌, ◌≤◌, max, Bool, true, false, cond, not, ◌==◌, nat_le, Option, Some, None, List, [], ◌∷◌, ◌++◌, length, get_or, All, refl, sym, ◌∙◌, subst, inl, inr, arith}
-use Rattle.std.proofs.lemmas.Bool.{cases_Bool, cases_lt, both_ways, eq-eqb, cond-true, cond-false, leb-true, leb-false, false_from_ne_true, not_from_true, not-false}
+use Rattle.std.proofs.Common.{◌≡◌, ◌↔◌, ◌⊎◌, ℕ, zero, suc, ◌<◌, ◌≤◌, max, Bool, true, false, cond, not, ◌==◌, nat_le, Option, Some, None, List, [], ◌∷◌, ◌++◌, length, get_or, All, refl, sym, ◌∙◌, subst, inl, inr, arith, IsTrue}
+use Rattle.std.proofs.lemmas.Bool.{cases_lt, both_ways, eq-eqb, cond-true, cond-false, leb-true, leb-false, false_from_ne_true, not_from_true, not-false, false≢true, true_from_ne_false}
 use Rattle.std.proofs.lemmas.List.Elements.{All-head, All-tail, All-push}
 use Rattle.std.proofs.lemmas.List.{get_or_append_left, get_or_push, length_push}
 use Rattle.air_history.specs.declared.histories.Event.{Event}
 use Rattle.air_history.specs.Histories.{front, writer, cycle_at, writes, event_at}
 use Rattle.air_history.specs.Descents.{descends}
-use Rattle.air_history.specs.Reads.{ReadAt, IsRead, origin, stale, newest_cycle, first_cycle}
+use Rattle.air_history.specs.Reads.{ReadAt, IsRead, origin, stale, newest_cycle, first_cycle, same_origin}
 use Rattle.air_history.specs.Consistency.{descends_from, IsConsistent, consistent}
 use Rattle.air_history.specs.ConsistencyLaws.{SharesCycle}
 use Rattle.air_base.specs.declared.verdicts.Policy.TheVariants.{FMatrix, Datacycle, RMatrix}
@@ -15,16 +15,16 @@ use Rattle.air_history.proofs.PlaceLemmas.{IsLast, last_unique, place_at}
 use Rattle.air_history.proofs.HistoryLemmas.{front_cycle, writer_no_start, writes_within, front_holds, descends_le}
 use Rattle.air_history.proofs.ScanLemmas.{front_writer_is}
 use Rattle.history_laws.proofs.ConsistencyLemmas.{consistent_from_clear, entry_below, more}
-use Rattle.history_laws.proofs.StaleLemmas.{consistent_decides, writer_is, fresh_same, same_fresh, stale_self, origin_of}
+use Rattle.history_laws.proofs.StaleLemmas.{writer_is, stale_self, origin_of}
 use Rattle.history_laws.proofs.NamedLemmas.{none_named, named_none}
 
 -- ---- F-Matrix
 
 consistent_of : (H : List Event) (R : List ReadAt) → not (consistent H R) ≡ false → IsConsistent H R
-consistent_of H R e = (consistent_decides H R).0 (not-false _ e)
+consistent_of H R e = not-false _ e
 
 not_apart : (H : List Event) (R : List ReadAt) → IsConsistent H R → not (consistent H R) ≡ false
-not_apart H R h = not_from_true _ ((consistent_decides H R).1 h)
+not_apart H R h = not_from_true _ h
 
 pub stays_consistent : (H : List Event) (R : List ReadAt) (x : ReadAt) → All IsRead R → IsRead x → IsConsistent H R →
     (clash_by_history FMatrix H R x ≡ None) ↔ IsConsistent H (R ++ x ∷ [])
@@ -66,9 +66,17 @@ all_front P R x h k d l = subst P (get_or_append_left R (x ∷ []) d k l) (h k d
 pub all_last : (P : ReadAt → Type 0) (R : List ReadAt) (x : ReadAt) → All P (R ++ x ∷ []) → P x
 all_last P R x h = subst P (get_or_push R x x (length R) refl) (h (length R) x (omega (arith, length_push R x)))
 
+same_means_fresh : (H : List Event) (x : ReadAt) (c : ℕ) → same_origin H x.item c x.cycle ≡ true → stale H x c ≡ false
+unfolding stale
+same_means_fresh H x c e = not_from_true _ e
+
+fresh_means_same : (H : List Event) (x : ReadAt) (c : ℕ) → stale H x c ≡ false → same_origin H x.item c x.cycle ≡ true
+unfolding stale
+fresh_means_same H x c e = not-false _ e
+
 current_at : (H : List Event) (R : List ReadAt) (x : ReadAt) → 1 ≤ x.cycle → IsCurrent H R → (m : ℕ) → newest_cycle (R ++ x ∷ []) ≡ m →
     (b : Bool) → nat_le (newest_cycle R) x.cycle ≡ b →
-    (cond b (named_clash (λ r. stale H r x.cycle) R) (cond (stale H x (newest_cycle R)) (named_clash (λ r. r.cycle == newest_cycle R) R) None) ≡ None) ↔ All (λ r. stale H r m ≡ false) (R ++ x ∷ [])
+    (cond b (named_clash (λ r. stale H r x.cycle) R) (cond (same_origin H x.item (newest_cycle R) x.cycle) None (named_clash (λ r. r.cycle == newest_cycle R) R)) ≡ None) ↔ All (λ r. stale H r m ≡ false) (R ++ x ∷ [])
 current_at H R x is held m e true ge =
     let at : x.cycle ≡ m = omega (arith, leb-true (newest_cycle R) x.cycle ge, newest_push R x) in (
       λ none. subst (λ m. All (λ r. stale H r m ≡ false) (R ++ x ∷ [])) at (All-push (λ r. stale H r x.cycle ≡ false) R x (none_named (λ r. stale H r x.cycle) R none) (stale_self H x)),
@@ -78,8 +86,8 @@ current_at H R x is held m e false lt =
     let less = leb-false (newest_cycle R) x.cycle lt in
     let at : newest_cycle R ≡ m = omega (arith, newest_push R x) in (
       λ none. subst (λ m. All (λ r. stale H r m ≡ false) (R ++ x ∷ [])) at (All-push (λ r. stale H r (newest_cycle R) ≡ false) R x held
-          (false_from_ne_true _ (λ old. newest_reached R (omega arith) (sym (cond-true (stale H x (newest_cycle R)) _ _ old) ∙ none)))),
-      λ all. cond-false (stale H x (newest_cycle R)) _ _ (all_last (λ r. stale H r (newest_cycle R) ≡ false) R x (subst (λ m. All (λ r. stale H r m ≡ false) (R ++ x ∷ [])) (sym at) all)),
+          (same_means_fresh H x (newest_cycle R) (true_from_ne_false _ (λ other. newest_reached R (omega arith) (sym (cond-false (same_origin H x.item (newest_cycle R) x.cycle) _ _ other) ∙ none))))),
+      λ all. cond-true (same_origin H x.item (newest_cycle R) x.cycle) _ _ (fresh_means_same H x (newest_cycle R) (all_last (λ r. stale H r (newest_cycle R) ≡ false) R x (subst (λ m. All (λ r. stale H r m ≡ false) (R ++ x ∷ [])) (sym at) all))),
     )
 
 pub stays_current : (H : List Event) (R : List ReadAt) (x : ReadAt) → All IsRead R → IsRead x → IsCurrent H R →
@@ -89,29 +97,20 @@ stays_current H R x are is held = current_at H R x is held (newest_cycle (R ++ x
 
 -- ---- R-Matrix
 
-takes_at : (H : List Event) (first : ℕ) (R : List ReadAt) (x : ReadAt) →
-    (cond (stale H (record { item = x.item; cycle = first }) x.cycle) (named_clash (λ r. stale H r x.cycle) R) None ≡ None) ↔
-    (All (λ r. stale H r x.cycle ≡ false) R ⊎ (writer (front H x.cycle) x.item ≡ writer (front H first) x.item))
-takes_at H first R x = (
-  λ none. elim (cases_Bool (stale H (record { item = x.item; cycle = first }) x.cycle)) [
-    | inl old ↦ inl (none_named (λ r. stale H r x.cycle) R (sym (cond-true (stale H (record { item = x.item; cycle = first }) x.cycle) _ _ old) ∙ none))
-    | inr fresh ↦ inr (fresh_same H (record { item = x.item; cycle = first }) x.cycle fresh ∙ origin_of H x.item first)
-  ],
-  λ t. elim t [
-    | inl all ↦ elim (cases_Bool (stale H (record { item = x.item; cycle = first }) x.cycle)) [
-      | inl old ↦ cond-true (stale H (record { item = x.item; cycle = first }) x.cycle) _ _ old ∙ named_none (λ r. stale H r x.cycle) R all
-      | inr fresh ↦ cond-false (stale H (record { item = x.item; cycle = first }) x.cycle) _ _ fresh
-    ]
-    | inr same ↦ cond-false (stale H (record { item = x.item; cycle = first }) x.cycle) _ _ (same_fresh H (record { item = x.item; cycle = first }) x.cycle (same ∙ sym (origin_of H x.item first)))
-  ],
+takes_at : (H : List Event) (R : List ReadAt) (x : ReadAt) (same : Bool) →
+    (cond same None (named_clash (λ r. stale H r x.cycle) R) ≡ None) ↔ (All (λ r. stale H r x.cycle ≡ false) R ⊎ IsTrue same)
+takes_at H R x true = (λ none. inr refl, λ taken. refl)
+takes_at H R x false = (
+  λ none. inl (none_named (λ r. stale H r x.cycle) R none),
+  λ taken. elim taken [ inl all ↦ named_none (λ r. stale H r x.cycle) R all | inr same ↦ absurd (false≢true same) ],
 )
 
 pub takes : (H : List Event) (R : List ReadAt) (x : ReadAt) → is_late RMatrix R x ≡ false →
     (clash_by_history RMatrix H R x ≡ None) ↔ Takes H R x
 unfolding clash_by_history
 takes H R x in_time = (
-  λ none. record { in_time = in_time; fresh = (takes_at H (first_cycle R) R x).0 none },
-  λ taken. (takes_at H (first_cycle R) R x).1 taken.fresh,
+  λ none. record { in_time = in_time; fresh = (takes_at H R x (same_origin H x.item x.cycle (first_cycle R))).0 none },
+  λ taken. (takes_at H R x (same_origin H x.item x.cycle (first_cycle R))).1 taken.fresh,
 )
 
 -- an item with one origin at two cycles has it at each cycle between them

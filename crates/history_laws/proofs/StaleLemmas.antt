@@ -1,30 +1,17 @@
 -- Tests on places and reads, and what they mean: consistent as a test, two reads by the entries, stale reads.
-use Rattle.std.proofs.Common.{◌≡◌, ℕ, ◌<◌, ◌≤◌, true, false, not, ◌||◌, nat_le, leb, Option, Some, None, List, [], ◌∷◌, length, refl, sym, ◌∙◌, ap, subst, inl, inr, arith, Decides}
-use Rattle.std.specs.List.{list_all}
+use Rattle.std.proofs.Common.{◌≡◌, ℕ, ◌<◌, ◌≤◌, true, false, not, ◌||◌, nat_le, leb, Option, Some, None, List, [], ◌∷◌, length, refl, sym, ◌∙◌, subst, inl, inr, arith}
 use Rattle.std.specs.Option.{option_map_or}
-use Rattle.std.proofs.lemmas.Bool.{cases_lt, both_ways, false≢true, le-leb, lt-leb, eqb-true, eq-eqb, not_from_true, not_from_false, or_from, or_left, or_right, false_from_ne_true, not-false}
-use Rattle.std.proofs.lemmas.Bool.Decides.{Decides-by_and}
+use Rattle.std.proofs.lemmas.Bool.{cases_lt, both_ways, le-leb, lt-leb, not_from_true, not_from_false, or_from, or_left, or_right, false_from_ne_true, not-false}
 use Rattle.air_history.specs.declared.histories.Event.{Event}
 use Rattle.air_history.specs.Places.{same_place}
 use Rattle.air_history.specs.Histories.{front, writer, cycle_at, writes, event_at}
 use Rattle.air_history.specs.Columns.{entry_at, vector_entry}
-use Rattle.air_history.specs.Reads.{ReadAt, origin, stale}
-use Rattle.air_history.specs.Consistency.{last_alone, IsConsistent, consistent}
+use Rattle.air_history.specs.Reads.{ReadAt, origin, stale, same_origin}
+use Rattle.air_history.specs.Consistency.{consistent}
 use Rattle.air_history.proofs.PlaceLemmas.{IsLast, last_unique}
 use Rattle.air_history.proofs.HistoryLemmas.{writer_no_start, writes_within, front_cycle, front_holds, front_cycle_same}
 use Rattle.air_history.proofs.ScanLemmas.{front_writer_is}
-use Rattle.history_laws.proofs.ConsistencyLemmas.{pair_agree}
-
-pub same_place_decides : (o p : Option ℕ) → Decides (same_place o p) (o ≡ p)
-same_place_decides None None = (λ _. refl, λ _. refl)
-same_place_decides None (Some q) = (λ h. absurd (false≢true h), λ e. cc)
-same_place_decides (Some p) None = (λ h. absurd (false≢true h), λ e. cc)
-same_place_decides (Some p) (Some q) = (λ h. ap Some (eqb-true p q h), λ e. eq-eqb p q (let h : p ≡ q = cc in h))
-
-pub consistent_decides : (H : List Event) (R : List ReadAt) → Decides (consistent H R) (IsConsistent H R)
-unfolding consistent
-consistent_decides H R = Decides-by_and (λ r. same_place (last_alone H R r.item) (origin H r)) (λ r. last_alone H R r.item ≡ origin H r) (list_all (λ r. same_place (last_alone H R r.item) (origin H r)))
-    (λ r. same_place_decides (last_alone H R r.item) (origin H r)) refl (λ _ _. refl) R
+use Rattle.history_laws.proofs.ConsistencyLemmas.{pair_agree, same_place_decides}
 
 -- two reads clash by the history where they do by the entries
 pub pair_test : (H : List Event) (r x : ReadAt) → 1 ≤ r.cycle → 1 ≤ x.cycle →
@@ -32,10 +19,10 @@ pub pair_test : (H : List Event) (r x : ReadAt) → 1 ≤ r.cycle → 1 ≤ x.cy
 pair_test H r x ir ix =
     elim (cases_lt (entry_at H x.cycle x.item r.item) r.cycle) as (λ _. not (consistent H (r ∷ x ∷ [])) ≡ (nat_le r.cycle (entry_at H x.cycle x.item r.item) || nat_le x.cycle (entry_at H r.cycle r.item x.item))) [
       | inl a ↦ elim (cases_lt (entry_at H r.cycle r.item x.item) x.cycle) as (λ _. not (consistent H (r ∷ x ∷ [])) ≡ (nat_le r.cycle (entry_at H x.cycle x.item r.item) || nat_le x.cycle (entry_at H r.cycle r.item x.item))) [
-        | inl b ↦ not_from_true _ ((consistent_decides H (r ∷ x ∷ [])).1 ((pair_agree H r x ir ix).1 (a, b))) ∙ sym (or_from _ _ (lt-leb _ _ a) (lt-leb _ _ b))
-        | inr b ↦ not_from_false _ (false_from_ne_true _ (λ h. let both = (pair_agree H r x ir ix).0 ((consistent_decides H (r ∷ x ∷ [])).0 h) in let lt = both.1 in omega arith)) ∙ sym (or_right _ _ (le_true _ _ b))
+        | inl b ↦ not_from_true _ ((pair_agree H r x ir ix).1 (a, b)) ∙ sym (or_from _ _ (lt-leb _ _ a) (lt-leb _ _ b))
+        | inr b ↦ not_from_false _ (false_from_ne_true _ (λ h. let both = (pair_agree H r x ir ix).0 h in let lt = both.1 in omega arith)) ∙ sym (or_right _ _ (le_true _ _ b))
       ]
-      | inr a ↦ not_from_false _ (false_from_ne_true _ (λ h. let both = (pair_agree H r x ir ix).0 ((consistent_decides H (r ∷ x ∷ [])).0 h) in let lt = both.0 in omega arith)) ∙ sym (or_left _ _ (le_true _ _ a))
+      | inr a ↦ not_from_false _ (false_from_ne_true _ (λ h. let both = (pair_agree H r x ir ix).0 h in let lt = both.0 in omega arith)) ∙ sym (or_left _ _ (le_true _ _ a))
     ]
   where
     le_true : (a b : ℕ) → a ≤ b → leb a b ≡ true
@@ -82,16 +69,24 @@ stale_at H i a c pos le (Some w) e =
 
 -- a read is stale exactly where the vector's entry of its item isn't below its cycle
 pub stale_is : (H : List Event) (r : ReadAt) (c : ℕ) → 1 ≤ r.cycle → r.cycle ≤ c → stale H r c ≡ nat_le r.cycle (vector_entry (front H c) r.item)
-unfolding stale vector_entry origin
+unfolding stale vector_entry
 stale_is H r c pos le = stale_at H r.item r.cycle c pos le (writer (front H c) r.item) refl
+
+-- an item has another origin at a later cycle exactly where the later vector's entry isn't below the earlier cycle
+pub origin_told : (H : List Event) (i a c : ℕ) → 1 ≤ a → a ≤ c → not (same_origin H i c a) ≡ nat_le a (vector_entry (front H c) i)
+unfolding vector_entry
+origin_told H i a c pos le = stale_at H i a c pos le (writer (front H c) i) refl
+
+pub same_origin_says : (H : List Event) (i c d : ℕ) → same_origin H i c d ≡ true → writer (front H c) i ≡ writer (front H d) i
+same_origin_says H i c d e = (same_place_decides (writer (front H c) i) (writer (front H d) i)).0 e
 
 -- a read that isn't stale at c has its own origin there, and the other way round
 pub fresh_same : (H : List Event) (r : ReadAt) (c : ℕ) → stale H r c ≡ false → writer (front H c) r.item ≡ origin H r
-unfolding stale
+unfolding stale origin
 fresh_same H r c e = (same_place_decides (writer (front H c) r.item) (origin H r)).0 (not-false _ e)
 
 pub same_fresh : (H : List Event) (r : ReadAt) (c : ℕ) → writer (front H c) r.item ≡ origin H r → stale H r c ≡ false
-unfolding stale
+unfolding stale origin
 same_fresh H r c e = not_from_true _ ((same_place_decides (writer (front H c) r.item) (origin H r)).1 e)
 
 pub stale_self : (H : List Event) (r : ReadAt) → stale H r r.cycle ≡ false

@@ -2,8 +2,10 @@ pub mod AttemptLemmas
 pub mod FitLemmas
 pub mod PixLemmas
 pub mod WordLemmas
+pub mod SettlingLemmas
 pub mod StateLemmas
 pub mod OpenLemmas
 pub mod HearLemmas
 pub mod StepLemmas
 pub mod FeedLemmas
+pub mod StepExamples

@@ -11,7 +11,8 @@ use Rattle.air_model.specs.Aired.{Air}
 use Rattle.air_model.specs.Copies.{goes_before, keep, with_copy, without}
 use Rattle.air_model.specs.Judges.{Judge, by_entries}
 use Rattle.air_model.specs.Reads.{Read}
-use Rattle.air_model.specs.Sessions.{Reader, State, abort, accept_if_whole, copy_of, count_opened, decide, drop_copy, end_query, hold, next_attempt, next_query, offer, open_bucket, step, turn, turn_to_line, turn_with, wanted, with_line}
+use Rattle.air_model.specs.Sessions.{Reader, State, abort, accept_if_whole, copy_of, count_opened, decide, drop_copy, end_query, hold, next_attempt, next_query, offer, open_bucket, turn, turn_with, wanted, with_line}
+use Rattle.receiver_core.specs.Steps.{step, turn_to_line}
 use Rattle.air_model.proofs.MomentLemmas.{cond_keeps}
 
 abbrev J : Judge

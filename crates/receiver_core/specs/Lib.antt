@@ -3,6 +3,7 @@ pub mod AttemptView
 pub mod AirView
 pub mod SlotKinds
 pub mod ReaderView
+pub mod Steps
 pub mod Receivings
 pub mod Handing
 pub mod LastReads

@@ -5,8 +5,8 @@ use Rattle.air_base.specs.declared.verdicts.Counts.{Counts}
 use Rattle.air_model.specs.Aired.{Air, air_of}
 use Rattle.air_model.specs.Decks.{Deck}
 use Rattle.air_model.specs.Judges.{by_entries}
-use Rattle.air_model.specs.Sessions
 use Rattle.air_model.specs.Sessions.{Reader, State, copy_of, reader_of, start, wanted}
+use Rattle.receiver_core.specs.Steps
 
 -- A receiver knows what all receivers know, its own plan and queries, and its state; and it has the reads of the last
 -- verdict that it handed out, or that waits.
@@ -31,7 +31,7 @@ heard_count c = c.opened + c.dozed + c.late + c.refused + c.foreign
 
 -- The state after a step: as it is where a verdict waits, else after the rule's step, judged by the entries.
 abbrev pub stepped : Receiving → State
-stepped r = cond (nat_lt 0 (length r.state.lines)) r.state (Sessions.step (by_entries r.air.policy) r.air r.reader r.state)
+stepped r = cond (nat_lt 0 (length r.state.lines)) r.state (Steps.step (by_entries r.air.policy) r.air r.reader r.state)
 
 -- Fewer verdicts than this can still be handed out before the next heard member.
 abbrev pub steps_left : Receiving → ℕ

@@ -7,6 +7,7 @@
 
 mod airs;
 mod attempts;
+pub mod laws;
 mod readers;
 mod reads;
 pub mod receivers;

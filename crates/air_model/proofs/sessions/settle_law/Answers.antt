@@ -6,6 +6,4 @@ returns c = record {
   settled = λ judge air reader s. (settle_is judge air reader s).settled;
   stays = λ judge air reader s. (settle_is judge air reader s).stays;
   goes_on = λ judge air reader s. (settle_is judge air reader s).goes_on;
-  steps = λ judge air reader s. (settle_is judge air reader s).steps;
-  no_line = λ judge air reader s. (settle_is judge air reader s).no_line;
 }
