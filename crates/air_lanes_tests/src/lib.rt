@@ -1,0 +1,14 @@
+//! Tests of the kernels over rows: on short rows by hand, and on rows of twelve lengths beside plain loops.
+//!
+//! A case is a row of a table, with what has to come of it worked by hand. The rows of the twelve lengths are made by a
+//! linear congruence, or are held cycles with a column just below them; the loops that they are compared with stand here.
+#![tactic(auto)]
+
+#[cfg(test)]
+mod greater;
+#[cfg(test)]
+mod rows;
+#[cfg(test)]
+mod search;
+#[cfg(test)]
+mod stamps;
