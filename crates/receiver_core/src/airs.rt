@@ -17,9 +17,6 @@ use item_catalog::Deck;
 use std::alloc::Global;
 use std::marker::Model;
 
-#[cfg(test)]
-pub mod tests;
-
 /// The number of items, the item of each slot, and each item's PIX number; the policy is F-Matrix.
 #[derive(Drop)]
 pub struct Air {

@@ -13,6 +13,3 @@ mod reads;
 pub mod receivers;
 
 pub use receivers::{Fed, Receiver, Step};
-
-#[cfg(test)]
-mod tests;

@@ -10,9 +10,6 @@ use item_catalog::Deck;
 use std::alloc::Global;
 use std::marker::Model;
 
-#[cfg(test)]
-pub mod tests;
-
 /// A plan and its queries, each the items in the order of reading.
 #[derive(Drop)]
 pub struct Reader {

@@ -14,8 +14,6 @@ ghost use Rattle.receiver_core.specs.LastReads.{last_reads};
 ghost use Rattle.receiver_core.specs.Receivings.{IsSettled, heard_count, receiving_of, stepped};
 
 mod rules;
-#[cfg(test)]
-mod tests;
 
 use crate::airs::Air;
 use crate::attempts::Attempt;

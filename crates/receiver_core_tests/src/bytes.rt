@@ -1,0 +1,168 @@
+//! A receiver that hears bytes of other origin: no bucket, a bucket that doesn't fit, and each byte changed.
+
+use crate::buckets::{DECK, FIRST, SECOND, with};
+use crate::calls::{Call, NONE, first_other, read, verdict};
+use air_base::{Counts, VerdictKind};
+use receiver_core::{Fed, Step};
+use std::alloc::Global;
+use std::test::Fail;
+
+/// The bucket of item 0 with a byte too many.
+const LONGER: [u8; 33] = [
+    0x41, 0x44, 1, 1, 0, 0, 0, 2, 0, 0, 0, 1, 0, 0, 0, 0, 0, 0, 0, 0, 0, 0, 0, 0x0a, 0, 0, 0, 0, 0,
+    0, 0, 0, 0,
+];
+
+/// The bucket of item 0 with an entry that isn't below its cycle.
+const SHAPE: [u8; 32] = [
+    0x41, 0x44, 1, 1, 0, 0, 0, 2, 0, 0, 0, 1, 0, 0, 0, 0, 0, 0, 0, 0, 0, 0, 0, 0x0a, 0, 0, 0, 0, 0,
+    0, 0, 1,
+];
+
+/// No byte.
+const EMPTY: [u8; 0] = [];
+
+/// The bucket of item 0 with entries of three items.
+const OF_THREE: [u8; 36] = [
+    0x41, 0x44, 1, 1, 0, 0, 0, 3, 0, 0, 0, 1, 0, 0, 0, 0, 0, 0, 0, 0, 0, 0, 0, 0x0a, 0, 0, 0, 0, 0,
+    0, 0, 0, 0, 0, 0, 0,
+];
+
+/// The bucket of item 0 as a write vector.
+const VECTOR: [u8; 32] = [
+    0x41, 0x44, 1, 2, 0, 0, 0, 2, 0, 0, 0, 1, 0, 0, 0, 0, 0, 0, 0, 0, 0, 0, 0, 0x0a, 0, 0, 0, 0, 0,
+    0, 0, 0,
+];
+
+/// The bucket of item 0 in the slot of item 1.
+const OTHER_SLOT: [u8; 32] = [
+    0x41, 0x44, 1, 1, 0, 0, 0, 2, 0, 0, 0, 1, 0, 1, 0, 0, 0, 0, 0, 0, 0, 0, 0, 0x0a, 0, 0, 0, 0, 0,
+    0, 0, 0,
+];
+
+/// The bucket of item 0 in a slot behind the last.
+const NO_SLOT: [u8; 32] = [
+    0x41, 0x44, 1, 1, 0, 0, 0, 2, 0, 0, 0, 1, 0, 4, 0, 0, 0, 0, 0, 0, 0, 0, 0, 0x0a, 0, 0, 0, 0, 0,
+    0, 0, 0,
+];
+
+#[test]
+fn what_is_no_bucket_or_does_not_fit_is_counted_alone(rt: HostRuntime) -> Result<(), Fail> {
+    let counts = Counts {
+        refused: 3,
+        foreign: 4,
+        ..NONE
+    };
+    let calls = [
+        Call::Hear(&LONGER, Fed::Refused, Step::Waiting),
+        Call::Wanted(Some(0)),
+        Call::Hear(&SHAPE, Fed::Refused, Step::Waiting),
+        Call::Wanted(Some(0)),
+        Call::Hear(&EMPTY, Fed::Refused, Step::Waiting),
+        Call::Wanted(Some(0)),
+        Call::Hear(&OF_THREE, Fed::Foreign, Step::Waiting),
+        Call::Wanted(Some(0)),
+        Call::Hear(&VECTOR, Fed::Foreign, Step::Waiting),
+        Call::Wanted(Some(0)),
+        Call::Hear(&OTHER_SLOT, Fed::Foreign, Step::Waiting),
+        Call::Wanted(Some(0)),
+        Call::Hear(&NO_SLOT, Fed::Foreign, Step::Waiting),
+        Call::Wanted(Some(0)),
+        Call::Counts(counts),
+    ];
+    assert_eq!(rt; first_other(rt.alloc(), DECK, 0, &calls)?, None);
+    Ok(())
+}
+
+/// What becomes of the bucket of item 0 where one byte has its highest bit changed.
+#[derive(Clone, Copy)]
+enum Flipped {
+    /// It isn't read.
+    Not(Fed),
+    /// It is read, in this cycle with this value.
+    Read(u32, u64),
+}
+
+use Flipped::{Not, Read};
+
+/// Byte by byte: mark, version, kind, edition, count, cycle, slot, item, value and column.
+const FLIPPED: [Flipped; 32] = [
+    Not(Fed::Refused),
+    Not(Fed::Refused),
+    Not(Fed::Refused),
+    Not(Fed::Refused),
+    Not(Fed::Foreign),
+    Not(Fed::Foreign),
+    Not(Fed::Refused),
+    Not(Fed::Refused),
+    Read(2_147_483_649, 10),
+    Read(8_388_609, 10),
+    Read(32_769, 10),
+    Read(129, 10),
+    Not(Fed::Foreign),
+    Not(Fed::Foreign),
+    Not(Fed::Refused),
+    Not(Fed::Refused),
+    Read(1, 9_223_372_036_854_775_818),
+    Read(1, 36_028_797_018_963_978),
+    Read(1, 140_737_488_355_338),
+    Read(1, 549_755_813_898),
+    Read(1, 2_147_483_658),
+    Read(1, 8_388_618),
+    Read(1, 32_778),
+    Read(1, 138),
+    Not(Fed::Refused),
+    Not(Fed::Refused),
+    Not(Fed::Refused),
+    Not(Fed::Refused),
+    Not(Fed::Refused),
+    Not(Fed::Refused),
+    Not(Fed::Refused),
+    Not(Fed::Refused),
+];
+
+/// The first byte and the place of the call that is answered otherwise when that byte is changed: the bucket is heard, and
+/// then that of item 1.
+fn first_other_byte(alloc: Global, rows: &[Flipped]) -> Result<Option<(usize, usize)>, Fail> {
+    for (byte, flipped) in rows.iter().enumerate() {
+        let Some(old) = FIRST.get(byte) else {
+            return Ok(Some((byte, 0)));
+        };
+        let first = with(&FIRST, &[(byte, *old ^ 0x80)]);
+        let other = match *flipped {
+            Not(fed) => first_other(
+                alloc,
+                DECK,
+                0,
+                &[
+                    Call::Hear(&first, fed, Step::Waiting),
+                    Call::Hear(&SECOND, Fed::Dozed, Step::Waiting),
+                ],
+            )?,
+            Read(cycle, value) => first_other(
+                alloc,
+                DECK,
+                0,
+                &[
+                    Call::Hear(&first, Fed::Opened, Step::Waiting),
+                    Call::Hear(
+                        &SECOND,
+                        Fed::Opened,
+                        Step::Verdict(verdict(0, 1, VerdictKind::Accept)),
+                    ),
+                    Call::Reads(&[read(0, cycle, value), read(1, 1, 20)]),
+                ],
+            )?,
+        };
+        if let Some(place) = other {
+            return Ok(Some((byte, place)));
+        }
+    }
+    Ok(None)
+}
+
+#[test]
+fn each_byte_with_its_highest_bit_changed(rt: HostRuntime) -> Result<(), Fail> {
+    assert_eq!(rt; first_other_byte(rt.alloc(), &FLIPPED)?, None);
+    Ok(())
+}
