@@ -1,0 +1,62 @@
+-- Views: what the rule knows of each seat, and what the steps make of them. No clause of a layer above needs them.
+use Rattle.std.specs.Prelude.{ℕ, zero, suc, ◌+◌, ◌==◌, cond, List, [], ◌∷◌, ◌++◌, length, take, drop, Option, Some, None}
+use Rattle.turnstile.specs.declared.views.Sight.{Sight}
+use Rattle.turnstile.specs.declared.views.View.{View}
+use Rattle.turnstile.specs.Entries.{longer}
+
+-- how often the number stands in the list
+abbrev pub times : ℕ → List ℕ → ℕ
+times n [] = 0
+times n (m ∷ ms) = cond (n == m) 1 0 + times n ms
+
+-- so many numbers, from k on
+abbrev pub numbers_from : ℕ → ℕ → List ℕ
+numbers_from k zero = []
+numbers_from k (suc n) = k ∷ numbers_from (suc k) n
+
+abbrev pub counted : Option ℕ → ℕ
+counted None = 0
+counted (Some t) = 1
+
+abbrev pub sight : {E : Type 0} → List (ℕ × E) → List ℕ → Sight E
+sight es ns = record { entries = es; numbers = ns }
+
+module _ {E B : Type 0} where
+  -- 1 where the pass has a ticket, else 0
+  abbrev pub waits : View E B → ℕ
+  waits v = counted v.ticket
+
+  -- how many numbers it stands for
+  abbrev pub share : View E B → ℕ
+  share v = length v.sight.numbers
+
+  -- a pass outside
+  abbrev pub idle : ℕ → Option B → Sight E → View E B
+  idle n b s = record { ticket = None; passes = n; base = b; sight = s; noted = None; old = [] }
+
+  -- the first pass, which stands for every number
+  abbrev pub first : List (ℕ × E) → B → ℕ → View E B
+  first es b n = idle n (Some b) (sight es (numbers_from 0 n))
+
+  -- the value was given back, and its list was seen
+  abbrev pub gone : View E B → List (ℕ × E) → View E B
+  gone v es = record v { ticket = None; noted = None; sight = sight es v.sight.numbers }
+
+  -- the view with these numbers in place of its own
+  abbrev pub numbered : View E B → List ℕ → View E B
+  numbered v ns = record v { sight = sight v.sight.entries ns }
+
+  -- without its first number, and with that alone
+  abbrev pub without : View E B → View E B
+  without v = numbered v (drop 1 v.sight.numbers)
+
+  abbrev pub with_one : View E B → View E B
+  with_one v = numbered v (take 1 v.sight.numbers)
+
+  -- with the numbers and the longer list of both; it keeps both lists, each with its numbers, until the next load
+  abbrev pub united : View E B → View E B → View E B
+  united v w = record v { sight = sight (longer v.sight.entries w.sight.entries) (v.sight.numbers ++ w.sight.numbers); old = v.sight ∷ w.sight ∷ [] }
+
+  -- what is left of a pass that another took in
+  abbrev pub spent : View E B
+  spent = idle 0 None (sight [] [])

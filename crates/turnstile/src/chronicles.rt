@@ -1,0 +1,14 @@
+//! What the value of a turnstile stands for.
+ghost use Rattle.std.specs.Prelude.{ℕ, List};
+
+/// A value that stands for a list of entries, each beside the number of the pass that made it, and for a base, plain data
+/// that no turn changes.
+pub trait Chronicle {
+    type Entry;
+
+    type Base;
+
+    ghost entries: { Self → List (ℕ × Self.Entry) };
+
+    ghost base: { Self → Self.Base };
+}
