@@ -1,0 +1,17 @@
+//! Tests of the turnstile, by one list of pairs that many threads lengthen.
+//!
+//! `pairs` has the list, `workers` a pass with its number and its turns, `rounds` all workers at work and the end, when their
+//! passes are joined and the list comes out. What is proved here is that each call's conditions are met; what the list then
+//! has is shown by tests.
+#![tactic(auto)]
+
+mod pairs;
+mod rounds;
+mod workers;
+
+pub use pairs::Pairs;
+pub use rounds::{finish, hire, play, work_all};
+pub use workers::{Worker, add, fill};
+
+#[cfg(test)]
+mod tests;

@@ -1,0 +1,104 @@
+//! All workers at work, and the end: their passes are joined, and the list comes out.
+//!
+//! `passes` and `mark` are what the turnstile was made with; the calls take them for their contracts alone.
+ghost use Rattle.std.specs.Prelude.{◌≡◌, ℕ, ◌<◌, [], ◌∷◌, length, slice_get, slice_index_or, All, IfOk, None, Some};
+ghost use Rattle.std.specs.Thread.{IsSync};
+ghost use Rattle.turnstile_tests.specs.Workers.{IsReady, InOrder};
+
+use crate::pairs::Pairs;
+use crate::workers::Worker;
+use std::alloc::Global;
+use std::sync::Wait;
+use std::thread;
+use std::thread::Threads;
+use turnstile::{NoMemory, Pass, Turnstile};
+
+/// Gives each pass to a worker, in the order of their numbers.
+pub fn hire(
+    alloc: Global,
+    gate: &Turnstile<Pairs>,
+    mut passes: Vec<Pass<Pairs>>,
+    mark: u64,
+) -> Result<Vec<Worker>, NoMemory>
+    requires each { (k : ℕ) (p : _) → slice_get passes.items k ≡ Some p → (p.gate ≡ gate.now) × (p.passes ≡ length passes.items) × (p.base ≡ Some mark) × (p.numbers ≡ k ∷ []) × (p.turn ≡ None) }
+    ensures ready { IfOk result (λ workers. All (λ w. IsReady gate.now (length passes.items) mark w) workers.items) }
+    ensures order { IfOk result (λ workers. (length workers.items ≡ length passes.items) × InOrder workers.items) }
+{
+    let mut workers = Vec::new(alloc);
+    while let Some(pass) = passes.pop() {
+        let by = passes.len() as u64;
+        workers.push(Worker {
+            pass,
+            by,
+            done: false,
+        })?;
+    }
+    workers.reverse();
+    Ok(workers)
+}
+
+/// Lets each worker make its turns, by so many threads.
+pub fn work_all<R: Threads + Wait + Sync>(
+    rt: &R,
+    gate: &Turnstile<Pairs>,
+    passes: u32,
+    mark: u64,
+    workers: &mut [Worker],
+    threads: usize,
+    turns: u64,
+)
+    requires some { 0 < threads }
+    requires ready { All (λ w. IsReady gate.now passes mark w) workers.old }
+    ensures ready { All (λ w. IsReady gate.now passes mark w) workers.new }
+    ensures same { (k : ℕ) (d : _) → k < length workers.old → (slice_index_or workers.new k d).by ≡ (slice_index_or workers.old k d).by }
+{
+    thread::for_each_mut(
+        rt,
+        workers,
+        threads,
+        &|_, w| { w.work(rt, gate, passes, mark, turns) },
+    );
+}
+
+/// Joins all passes, the last one first, and gives the list.
+pub fn finish(gate: Turnstile<Pairs>, mut workers: Vec<Worker>, passes: u32, mark: u64) -> Pairs
+    requires some { 0 < passes }
+    requires ready { All (λ w. IsReady gate passes mark w) workers.items }
+    requires order { (length workers.items ≡ passes) × InOrder workers.items }
+    ensures mark { result.mark ≡ mark }
+{
+    let Some(Worker { pass: mut all, .. }) = workers.pop() else {
+        unreachable!()
+    };
+    while let Some(Worker { pass, .. }) = workers.pop() {
+        gate.join(&mut all, pass);
+    }
+    gate.close(all)
+}
+
+/// A turnstile of so many passes round an empty list, each pass with so many turns, by so many threads: the list at the end.
+pub fn play<R: Threads + Wait + Sync>(
+    rt: &R,
+    alloc: Global,
+    mark: u64,
+    passes: u32,
+    threads: usize,
+    turns: u64,
+) -> Result<Pairs, NoMemory>
+    requires some { (0 < passes) × (0 < threads) }
+    ensures mark { IfOk result (λ pairs. pairs.mark ≡ mark) }
+{
+    let items = Vec::new(alloc);
+    let (gate, all) = Turnstile::new(alloc, Pairs { items, mark }, passes)?;
+    let mut workers = hire(alloc, &gate, all, mark)?;
+    work_all(
+        rt,
+        &gate,
+        passes,
+        mark,
+        workers.as_mut_slice(),
+        threads,
+        turns,
+    );
+    Ok(finish(gate, workers, passes, mark))
+}

@@ -1,0 +1,83 @@
+//! The lists that come out: as many pairs as turns were made, and the pairs of each pass in its order.
+ghost use Rattle.std.specs.Prelude.{◌<◌};
+
+use crate::rounds::play;
+use std::alloc::Global;
+use std::sync::Wait;
+use std::test::Fail;
+use std::thread::Threads;
+use turnstile::NoMemory;
+
+/// A turnstile's passes, the threads that work, and the turns of each pass.
+#[derive(Drop)]
+struct Case {
+    passes: u32,
+    threads: usize,
+    turns: u64,
+}
+
+/// Whether the pairs of this number count from 0 to the turns, one after the other.
+fn counts(pairs: &[(u64, u64)], by: u64, turns: u64) -> bool {
+    let mut next = 0_u64;
+    for &(number, value) in pairs {
+        if number == by && value != next {
+            return false;
+        }
+        if number == by {
+            next = next.saturating_add(1);
+        }
+    }
+    next == turns
+}
+
+/// How many pairs there are, and the first pass whose pairs do not count.
+fn read(pairs: &[(u64, u64)], case: &Case) -> (usize, Option<u64>) {
+    for by in 0..u64::from(case.passes) {
+        if !counts(pairs, by, case.turns) {
+            return (pairs.len(), Some(by));
+        }
+    }
+    (pairs.len(), None)
+}
+
+/// Plays the case: the mark at the end, and what `read` finds.
+fn played<R: Threads + Wait + Sync>(
+    rt: &R,
+    alloc: Global,
+    case: &Case,
+) -> Result<(u64, usize, Option<u64>), NoMemory>
+    requires { (0 < case.now.passes) × (0 < case.now.threads) }
+{
+    let pairs = play(rt, alloc, 77, case.passes, case.threads, case.turns)?;
+    let (count, other) = read(pairs.items.as_slice(), case);
+    Ok((pairs.mark, count, other))
+}
+
+#[test]
+fn two_threads_with_a_thousand_turns_each(rt: HostRuntime) -> Result<(), Fail> {
+    let case = Case {
+        passes: 2,
+        threads: 2,
+        turns: 1000,
+    };
+    assert_eq!(rt; played(&rt, rt.alloc(), &case)?, (77, 2000, None));
+    Ok(())
+}
+
+#[test]
+fn one_pass_alone(rt: HostRuntime) -> Result<(), Fail> {
+    let pairs = play(&rt, rt.alloc(), 5, 1, 1, 3)?;
+    assert_eq!(rt; pairs.items.as_slice(), [(0, 0), (0, 1), (0, 2)].as_slice());
+    Ok(())
+}
+
+#[test]
+fn sixteen_passes_are_joined_from_the_last_to_the_first(rt: HostRuntime) -> Result<(), Fail> {
+    let case = Case {
+        passes: 16,
+        threads: 4,
+        turns: 25,
+    };
+    assert_eq!(rt; played(&rt, rt.alloc(), &case)?, (77, 400, None));
+    Ok(())
+}

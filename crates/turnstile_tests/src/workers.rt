@@ -1,0 +1,74 @@
+//! One worker: a pass, its number, and the turns that it makes.
+ghost use Rattle.std.specs.Prelude.{◌≡◌, [], ◌∷◌, ◌++◌, IfOk, None};
+ghost use Rattle.turnstile.specs.Entries.{Foreign};
+ghost use Rattle.turnstile_tests.specs.Workers.{IsReady, IsSamePass};
+
+use crate::pairs::Pairs;
+use std::sync::Wait;
+use turnstile::{NoMemory, Pass, Turn, Turnstile};
+
+/// A pass with the number that it was made with, and whether all its turns had memory.
+#[derive(Drop)]
+pub struct Worker {
+    pub pass: Pass<Pairs>,
+    pub by: u64,
+    pub done: bool,
+}
+
+/// One turn: the list gets the pair of this number and the value, and the pass has seen it.
+pub fn add<R: Wait>(
+    wait: &R,
+    gate: &Turnstile<Pairs>,
+    pass: &mut Pass<Pairs>,
+    by: u64,
+    value: u64,
+) -> Result<(), NoMemory>
+    requires own { pass.old.gate ≡ gate.now }
+    requires outside { pass.old.turn ≡ None }
+    requires number { pass.old.numbers ≡ by ∷ [] }
+    ensures pass { IsSamePass pass.old pass.new }
+    ensures added { IfOk result (λ _. (others : _) × (pass.new.seen ≡ (pass.old.seen ++ others) ++ (by, value) ∷ []) × Foreign (by ∷ []) others) }
+{
+    let Turn { value: mut pairs } = gate.enter(wait, pass);
+    let pushed = pairs.items.push((by, value));
+    gate.leave(pass, Turn { value: pairs });
+    pushed?;
+    Ok(())
+}
+
+/// So many turns, numbered from 0.
+pub fn fill<R: Wait>(
+    wait: &R,
+    gate: &Turnstile<Pairs>,
+    pass: &mut Pass<Pairs>,
+    by: u64,
+    turns: u64,
+) -> Result<(), NoMemory>
+    requires own { pass.old.gate ≡ gate.now }
+    requires outside { pass.old.turn ≡ None }
+    requires number { pass.old.numbers ≡ by ∷ [] }
+    ensures pass { IsSamePass pass.old pass.new }
+{
+    for value in 0..turns {
+        add(wait, gate, pass, by, value)?;
+    }
+    Ok(())
+}
+
+impl Worker {
+    /// Makes all its turns.
+    pub fn work<R: Wait>(
+        &mut self,
+        wait: &R,
+        gate: &Turnstile<Pairs>,
+        passes: u32,
+        mark: u64,
+        turns: u64,
+    )
+        requires ready { IsReady gate.now passes mark self.old }
+        ensures ready { IsReady gate.now passes mark self.new }
+        ensures by { self.new.by ≡ self.old.by }
+    {
+        self.done = fill(wait, gate, &mut self.pass, self.by, turns).is_ok();
+    }
+}
