@@ -6,6 +6,7 @@ use Rattle.std.specs.List.{range_with_len}
 use Rattle.std.proofs.lemmas.List.{append-nil, drop-drop, drop-set-lt, get_or-drop, length-set, map-append, take_all, take_more, take_more_set}
 use Rattle.std.proofs.lemmas.List.Elements.{All-map}
 use Rattle.std.proofs.lemmas.Simd.{map-map}
+use Rattle.air_model.specs.Aired.{scheme_in}
 use Rattle.air_model.specs.Buckets.{Bucket, bucket_in}
 use Rattle.air_model.specs.Decks.{Deck}
 use Rattle.air_model.specs.Judges.{by_entries}
@@ -32,7 +33,7 @@ unfolding heard_one
 listener_heard {old} {mid} {M} {N} now o took air reader heard =
     let J = judge_of old in
     let told : now.state ≡ hear J old.air old.reader o mid.state =
-    heard ∙ ap (λ x. hear (by_entries x.policy) x mid.reader o mid.state) took.air ∙ ap (λ x. hear J old.air x o mid.state) took.reader in
+    heard ∙ ap (λ x. hear (by_entries x.scheme) x mid.reader o mid.state) took.air ∙ ap (λ x. hear J old.air x o mid.state) took.reader in
     let state : after N now.state ≡ hear J old.air old.reader o (settle J old.air old.reader (after M old.state)) =
     ap (after N) told ∙ sym ((lines J old.air old.reader N mid.state).hear o) ∙ ap (hear J old.air old.reader o) took.state in
     ap (λ a. let h : Hearing = record { air = a; reader = now.reader; state = after N now.state } in h) (air ∙ took.air)
@@ -63,8 +64,8 @@ HasRoom n h = heard_by h.state + n < 2 ^ 64
 counted_one : (member : Option Bucket) (h : Hearing) → heard_by (heard_one member h).state ≡ heard_by h.state + 1
 unfolding heard_one
 counted_one member h =
-    hear_counts (by_entries h.air.policy) h.air h.reader member (settle (by_entries h.air.policy) h.air h.reader h.state)
-    ∙ ap (λ n. n + 1) (settle_counts (by_entries h.air.policy) h.air h.reader h.state)
+    hear_counts (by_entries h.air.scheme) h.air h.reader member (settle (by_entries h.air.scheme) h.air h.reader h.state)
+    ∙ ap (λ n. n + 1) (settle_counts (by_entries h.air.scheme) h.air h.reader h.state)
 
 pub room_after : (member : Option Bucket) (n : ℕ) (A : List Hearing) → All (HasRoom (n + 1)) A → All (HasRoom n) (map (heard_one member) A)
 room_after member n A room = All-map (HasRoom n) (heard_one member) A (λ k d below. let one = counted_one member (get_or A k d) in let most = room k d below in omega arith)
@@ -105,11 +106,11 @@ all_heard {hears} {i} {before} {now} h past = sym (take_all i now past) ∙ h.do
 -- what all tell at the end of the tape
 pub all_told : (deck : Deck) (records : List (List ℕ)) (A : List Hearing)
     → map (heard_all []) A ≡ map (heard_all (map bucket_in records)) (map (hearing_of deck) (range_with_len 0 (length deck.readers)))
-    → map (λ h. told_at_end (heard_all [] h)) A ≡ map told_of (sessions_over (by_entries deck.settings.policy) deck (λ r. records))
+    → map (λ h. told_at_end (heard_all [] h)) A ≡ map told_of (sessions_over (by_entries (scheme_in deck)) deck (λ r. records))
 unfolding told_at_end heard_all session
 all_told deck records A same =
     let readers = range_with_len 0 (length deck.readers) in
     let members = map bucket_in records in
     sym (map-map told_at_end (heard_all []) A) ∙ ap (map told_at_end) same ∙ map-map told_at_end (heard_all members) (map (hearing_of deck) readers)
     ∙ map-map (λ h. told_at_end (heard_all members h)) (hearing_of deck) readers
-    ∙ sym (map-map told_of (λ r. session (by_entries deck.settings.policy) (hearing_of deck r).air (hearing_of deck r).reader members) readers)
+    ∙ sym (map-map told_of (λ r. session (by_entries (scheme_in deck)) (hearing_of deck r).air (hearing_of deck r).reader members) readers)

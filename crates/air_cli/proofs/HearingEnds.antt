@@ -82,7 +82,7 @@ pub record Ends (before : Receiving) (L : List Line) (now : Receiving) (M : List
 
 -- ending a receiver like another
 pub end_like : (r before : Receiving) (s : State) → r.air ≡ before.air → r.reader ≡ before.reader → end (judge_of before) before.air before.reader s ≡ end (judge_of r) r.air r.reader s
-end_like r before s air reader = ap (λ a. end (by_entries a.policy) a before.reader s) (sym air) ∙ ap (λ d. end (judge_of r) r.air d s) (sym reader)
+end_like r before s air reader = ap (λ a. end (by_entries a.scheme) a before.reader s) (sym air) ∙ ap (λ d. end (judge_of r) r.air d s) (sym reader)
 
 -- one end, whose line is handed out
 ended : (r : Receiving) (M given : List Line) (s : State) → with_lines given s ≡ end_query (judge_of r) r.air r.reader r.state → s.lines ≡ []

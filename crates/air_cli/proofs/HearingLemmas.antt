@@ -22,7 +22,7 @@ with_lines ls s = record s { lines = ls }
 
 -- the judge of a receiver
 abbrev pub judge_of : Receiving → Judge
-judge_of r = by_entries r.air.policy
+judge_of r = by_entries r.air.scheme
 
 -- where a state has no lines of its own, lines that it is given are those behind the ones handed out
 pub after_given : (L given : List Line) (s : State) → s.lines ≡ [] → after (L ++ given) s ≡ after L (with_lines given s)
@@ -66,7 +66,7 @@ pub record Settles (before : Receiving) (L : List Line) (now : Receiving) (M : L
 
 -- settling a receiver like another
 settle_like : (r before : Receiving) (s : State) → r.air ≡ before.air → r.reader ≡ before.reader → settle (judge_of before) before.air before.reader s ≡ settle (judge_of r) r.air r.reader s
-settle_like r before s air reader = ap (λ a. settle (by_entries a.policy) a before.reader s) (sym air) ∙ ap (λ d. settle (judge_of r) r.air d s) (sym reader)
+settle_like r before s air reader = ap (λ a. settle (by_entries a.scheme) a before.reader s) (sym air) ∙ ap (λ d. settle (judge_of r) r.air d s) (sym reader)
 
 -- one more line was handed out
 pub settles_more : {before : Receiving} {L : List Line} {r : Receiving} {M : List Line} (now : Receiving) (given all : List Line) → Settles before L r M → now.air ≡ r.air → now.reader ≡ r.reader

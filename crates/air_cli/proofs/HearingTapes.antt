@@ -41,7 +41,7 @@ room_to_hear mid N bytes rest h e took few =
 
 -- settling a receiver like another
 settle_like : (r before : Receiving) (s : State) → r.air ≡ before.air → r.reader ≡ before.reader → settle (judge_of r) r.air r.reader s ≡ settle (judge_of before) before.air before.reader s
-settle_like r before s air reader = ap (λ a. settle (by_entries a.policy) a r.reader s) air ∙ ap (λ d. settle (judge_of before) before.air d s) reader
+settle_like r before s air reader = ap (λ a. settle (by_entries a.scheme) a r.reader s) air ∙ ap (λ d. settle (judge_of before) before.air d s) reader
 
 -- one more record was heard
 pub hears_more : {before : Receiving} {L : List Line} {whole : TapeRead} {r : Receiving} {M : List Line} {old : TapeRead} (mid now : Receiving) (N : List Line) (bytes : List ℕ) (rest : TapeRead)
@@ -54,7 +54,7 @@ hears_more {before} {L} {whole} {r} {M} {old} mid now N bytes rest h e took air 
     let d = before.reader in
     let more = hear_all J a d (map bucket_in rest.records) in
     let told : now.state ≡ hear J a d (bucket_in bytes) mid.state =
-    heard ∙ ap (λ x. hear (by_entries x.policy) x mid.reader (bucket_in bytes) mid.state) (took.air ∙ h.air) ∙ ap (λ x. hear J a x (bucket_in bytes) mid.state) (took.reader ∙ h.reader) in
+    heard ∙ ap (λ x. hear (by_entries x.scheme) x mid.reader (bucket_in bytes) mid.state) (took.air ∙ h.air) ∙ ap (λ x. hear J a x (bucket_in bytes) mid.state) (took.reader ∙ h.reader) in
     let settled : after N mid.state ≡ settle J a d (after M r.state) = took.state ∙ settle_like r before (after M r.state) h.air h.reader in
     record {
       uncut = sym (ap (λ (t : TapeRead). t.cut) e) ∙ h.uncut;

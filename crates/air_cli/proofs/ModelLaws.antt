@@ -14,7 +14,7 @@ abbrev pub ScriptLaw : Type 0
 ScriptLaw = (deck : Deck) → ScriptFits deck → IsLegal deck (script_history deck)
 
 abbrev pub EventsLaw : Type 0
-EventsLaw = (deck : Deck) (H : List Event) → IsDeck deck → IsLegal deck H → All (EventFits (length deck.items)) H × All BasesRead H
+EventsLaw = (deck : Deck) (H : List Event) → IsDeck deck → IsLegal deck H → All (EventFits (length deck.updates) (length deck.items)) H × All BasesRead H
 
 abbrev pub BytesLaw : Type 0
 BytesLaw = (deck : Deck) (H : List Event) (heard : List (List ℕ)) → CanAir deck H →

@@ -134,7 +134,7 @@ module _ (deck : Deck) (G : List Event) (e : Event) (board : Board) (is : board 
       let a = air_of deck in
       let new = G ++ Start ∷ [] in
       let cycle : cycle_buckets policy (program disks) board ≡ buckets_in values a new (starts new) =
-      ap (λ p. cycle_buckets p (program disks) board) p ∙ ap (λ d. cycle_buckets a.policy (program d) board) d ∙ ap (cycle_buckets a.policy a.slots) (started_board start)
+      ap (λ p. cycle_buckets p (program disks) board) p ∙ ap (λ d. cycle_buckets a.scheme.policy (program d) board) d ∙ ap (cycle_buckets a.scheme.policy a.slots) (started_board start)
       ∙ own values a G (sym (length-map deck.items (λ i. i.value))) ((air deck made).0) in
       grew ∙ ap (λ l. l ++ cycle_bytes policy (program disks) board) so_far ∙ ap (λ l. aired_bytes deck G ++ map spelling l) cycle
       ∙ sym (map-append spelling (buckets_of values a G) (buckets_in values a new (starts new))) ∙ ap (map spelling) (sym (buckets_start values a G))

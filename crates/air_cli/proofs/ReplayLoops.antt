@@ -4,10 +4,10 @@ use Rattle.std.proofs.lemmas.List.{length-take, take_all, take_more}
 use Rattle.std.proofs.lemmas.List.FromFn.{get_or-map-range_with_len, length-map-range_with_len}
 use Rattle.air_history.specs.declared.histories.Event.{Event}
 use Rattle.air_history.specs.declared.histories.Event.TheVariants.{Start}
-use Rattle.air_history.specs.Histories.{EventFits, starts}
+use Rattle.air_history.specs.Histories.{ItemsFit, starts}
 use Rattle.air_history.proofs.ScanLemmas.{starts_within}
 use Rattle.air_model.specs.Decks.{Deck, IsDeck, event_of, script_history}
-use Rattle.air_model.proofs.DeckLemmas.{events}
+use Rattle.air_model.proofs.DeckLemmas.{items_fit, events}
 use Rattle.air_model.proofs.ScriptLemmas.{script}
 use Rattle.air_cli.specs.Replays.{CountsParts, IsReplay}
 use Rattle.air_cli.specs.declared.replay.Replay.{Replay}
@@ -32,10 +32,10 @@ pub record IsDone (deck : Deck) (k : ℕ) (r : Replay) (made : List ℕ) : Type 
   pub counts : CountsParts deck k made
 
 -- the next event's items are the catalog's
-pub next_fits : (deck : Deck) (k : ℕ) (e : Event) → IsDeck deck → k < length deck.script → e ≡ event_in deck k → EventFits (length deck.items) e
+pub next_fits : (deck : Deck) (k : ℕ) (e : Event) → IsDeck deck → k < length deck.script → e ≡ event_in deck k → ItemsFit (length deck.items) e
 next_fits deck k e made l is =
-    let fit = (events deck (script_history deck) made (script deck made.script)).0 k Start (omega (arith, script_length deck)) in
-    subst (EventFits (length deck.items)) (event_there deck k l ∙ sym is) fit
+    let fit = items_fit (length deck.updates) (length deck.items) _ ((events deck (script_history deck) made (script deck made.script)).0 k Start (omega (arith, script_length deck))) in
+    subst (ItemsFit (length deck.items)) (event_there deck k l ∙ sym is) fit
 
 -- few cycles were started so far
 pub few_starts : (deck : Deck) (k : ℕ) (H : List Event) → H ≡ take k (script_history deck) → starts H ≤ k

@@ -5,7 +5,7 @@ use Rattle.std.specs.List.{range_with_len}
 use Rattle.std.proofs.lemmas.List.Elements.{All-cons, All-nil}
 use Rattle.air_history.specs.declared.histories.Event.{Event}
 use Rattle.air_history.proofs.ScanLemmas.{starts_within}
-use Rattle.air_model.specs.Aired.{air_of}
+use Rattle.air_model.specs.Aired.{scheme_in, air_of}
 use Rattle.air_model.specs.AiredLaws.{CanAir}
 use Rattle.air_model.specs.Buckets.{bucket_in}
 use Rattle.air_model.specs.Decks.{Deck, IsDeck, script_history}
@@ -66,10 +66,10 @@ hears_all deck H r form =
 
 -- so what is told over the tape is what the history judges
 pub script_told : (deck : Deck) (records : List (List ℕ)) → CanRun deck → IsDeck deck → length deck.script ≤ 200000 → length ((air_of deck).slots) ≤ 16384 → records ≡ aired_bytes deck (script_history deck)
-    → map told_of (true_sessions deck (script_history deck)) ≡ map told_of (sessions_over (by_entries deck.settings.policy) deck (λ r. records))
+    → map told_of (true_sessions deck (script_history deck)) ≡ map told_of (sessions_over (by_entries (scheme_in deck)) deck (λ r. records))
 script_told deck records form made few slots is =
     let H = script_history deck in
-    let judge = by_entries deck.settings.policy in
+    let judge = by_entries (scheme_in deck) in
     ap (map told_of) (sym (true_sessions_are deck H (can_air deck made few slots))
     ∙ map_same (λ r. session_of judge deck r (map bucket_in (ether_of deck H r))) (λ r. session_of judge deck r (map bucket_in records)) (range_with_len 0 (length deck.readers))
     (λ r. ap (λ l. session_of judge deck r (map bucket_in l)) (hears_all deck H r form ∙ sym is)))

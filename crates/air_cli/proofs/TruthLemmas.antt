@@ -13,7 +13,7 @@ use Rattle.air_model.specs.Buckets.{bucket_in, spelling}
 use Rattle.air_model.specs.Decks.{Deck, IsDeck, event_of, script_history, values_in}
 use Rattle.air_model.specs.Draws.{words_of}
 use Rattle.air_model.specs.Ethers.{heard_by}
-use Rattle.air_model.specs.Aired.{air_of, buckets_of}
+use Rattle.air_model.specs.Aired.{scheme_in, air_of, buckets_of}
 use Rattle.air_model.specs.AiredLaws.{CanAir}
 use Rattle.air_model.specs.Judges.{by_entries, by_history}
 use Rattle.air_model.specs.ReceiverLaws.{session_of}
@@ -102,7 +102,7 @@ pub true_tape : (d : Deck) → IsDeck d → ReceiverLaw → (records : List (Lis
 true_tape d made receiver records H aired =
     let heard = map bucket_in records in
     record {
-      text = ap tune_text (map_numbers (λ r. session_of (by_entries d.settings.policy) d r heard) (λ r. session_of (by_history d.settings.policy (values_in d) H) d r heard)
+      text = ap tune_text (map_numbers (λ r. session_of (by_entries (scheme_in d)) d r heard) (λ r. session_of (by_history (scheme_in d) (values_in d) H) d r heard)
           0 (length d.readers) (λ r low below. (receiver d H r heard made (omega arith) aired).same));
       sessions = λ r below. receiver d H r heard made below aired;
     }

@@ -19,12 +19,12 @@ hearing_of deck r = record { air = air_of deck; reader = reader_of deck r; state
 
 -- One more member is heard: the reader settles, and hears it.
 unfoldable pub heard_one : Option Bucket → Hearing → Hearing
-heard_one member h = record h { state = hear (by_entries h.air.policy) h.air h.reader member (settle (by_entries h.air.policy) h.air h.reader h.state) }
+heard_one member h = record h { state = hear (by_entries h.air.scheme) h.air h.reader member (settle (by_entries h.air.scheme) h.air h.reader h.state) }
 
 -- All these members are heard, and the reader settles.
 unfoldable pub heard_all : List (Option Bucket) → Hearing → Hearing
-heard_all members h = record h { state = hear_all (by_entries h.air.policy) h.air h.reader members h.state }
+heard_all members h = record h { state = hear_all (by_entries h.air.scheme) h.air h.reader members h.state }
 
 -- What the reader's session tells, where it ends here.
 unfoldable pub told_at_end : Hearing → Told
-told_at_end h = told_of (end (by_entries h.air.policy) h.air h.reader h.state)
+told_at_end h = told_of (end (by_entries h.air.scheme) h.air h.reader h.state)

@@ -4,7 +4,7 @@ use Rattle.air_history.specs.declared.histories.Event.{Event}
 use Rattle.air_history.specs.Tables.{BasesRead}
 use Rattle.air_model.specs.Buckets.{bucket_in}
 use Rattle.air_model.specs.Decks.{Deck, IsLegal, script_history, values_in}
-use Rattle.air_model.specs.Aired.{IsAired, air_of}
+use Rattle.air_model.specs.Aired.{scheme_in, IsAired, air_of}
 use Rattle.air_model.specs.Judges.{by_history}
 use Rattle.air_model.specs.ReceiverLaws.{IsTrueSession}
 use Rattle.air_model.specs.Reports.{tune_text}
@@ -24,7 +24,7 @@ pub record IsTrueScript (d : Deck) : Type 0 where
 
 -- Over the records of a tape what `tune` prints is what the history decides, and the sessions are true of it.
 pub record IsTrueTuning (d : Deck) (H : List Event) (records : List (List ℕ)) : Type 0 where
-  pub text : tune_output d records ≡ tune_text (sessions_over (by_history d.settings.policy (values_in d) H) d (λ r. records))
+  pub text : tune_output d records ≡ tune_text (sessions_over (by_history (scheme_in d) (values_in d) H) d (λ r. records))
   pub sessions : AreTrue d H (λ r. records)
 
 -- So it is of every history that aired those of the records that fit the deck; it needn't be the deck's.

@@ -6,6 +6,7 @@
 ghost use Rattle.std.specs.Prelude.{◌≡◌, ◌<◌, ◌≤◌, ◌+◌, ◌^◌, [], All, None, IfOk, OnOk, length, map};
 ghost use Rattle.std.specs.List.{range_with_len};
 ghost use Rattle.std.specs.Result.{result_ok};
+ghost use Rattle.air_model.specs.Aired.{scheme_in};
 ghost use Rattle.air_model.specs.Buckets.{IsInRange, bucket_in};
 ghost use Rattle.air_model.specs.Decks.{disks_in};
 ghost use Rattle.air_model.specs.Judges.{by_entries};
@@ -155,7 +156,7 @@ pub(crate) fn audience_sessions(
     requires form { CanRun deck.now }
     requires whole { (tape_read tape.now).cut ≡ None }
     requires size { length tape.now ≤ 1073741824 }
-    ensures told { IfOk result (λ s. s.items ≡ map told_of (sessions_over (by_entries deck.now.settings.policy) deck.now (λ r. (tape_read tape.now).records))) }
+    ensures told { IfOk result (λ s. s.items ≡ map told_of (sessions_over (by_entries (scheme_in deck.now)) deck.now (λ r. (tape_read tape.now).records))) }
     ensures few { IfOk result (λ s. length s.items ≤ 64) }
 {
     let mut audience = audience_of(alloc, deck, program)?;

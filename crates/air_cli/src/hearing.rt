@@ -4,6 +4,7 @@
 //! comes. The tape is lent: no reader copies it.
 
 ghost use Rattle.std.specs.Prelude.{◌≡◌, ◌<◌, ◌≤◌, ◌+◌, ◌^◌, ◌++◌, ◌∷◌, [], None, MatchOption, IfErr, IfOk, OnOk, length, map};
+ghost use Rattle.air_model.specs.Aired.{scheme_in};
 ghost use Rattle.air_model.specs.Buckets.{bucket_in};
 ghost use Rattle.air_model.specs.Decks.{disks_in};
 ghost use Rattle.air_model.specs.Judges.{by_entries};
@@ -49,7 +50,7 @@ pub(crate) fn take_verdicts(
 ) -> Result<(), NoMemory>
     ensures settled { OnOk result (IsSettled receiver.new) }
     ensures state { OnOk result (after lines.new.items receiver.new.state
-        ≡ settle (by_entries receiver.old.air.policy) receiver.old.air receiver.old.reader (after lines.old.items receiver.old.state)) }
+        ≡ settle (by_entries receiver.old.air.scheme) receiver.old.air receiver.old.reader (after lines.old.items receiver.old.state)) }
     ensures air { receiver.new.air ≡ receiver.old.air }
     ensures reader { receiver.new.reader ≡ receiver.old.reader }
 {
@@ -68,7 +69,7 @@ pub(crate) fn end_queries(
     requires { IsSettled receiver.old }
     ensures settled { OnOk result (IsSettled receiver.new) }
     ensures told { OnOk result (told_of (after lines.new.items receiver.new.state)
-        ≡ told_of (end (by_entries receiver.old.air.policy) receiver.old.air receiver.old.reader (after lines.old.items receiver.old.state))) }
+        ≡ told_of (end (by_entries receiver.old.air.scheme) receiver.old.air receiver.old.reader (after lines.old.items receiver.old.state))) }
 {
     while let Some(verdict) = receiver.end() {
         push_line(alloc, receiver, verdict, lines)?;
@@ -98,7 +99,7 @@ fn hear_tape(
     requires counts { heard_count receiver.old.state.counts + length (tape_read tape.now).records < 2 ^ 64 }
     ensures settled { OnOk result (IsSettled receiver.new) }
     ensures state { OnOk result (after lines.new.items receiver.new.state
-        ≡ hear_all (by_entries receiver.old.air.policy) receiver.old.air receiver.old.reader (map bucket_in (tape_read tape.now).records) (after lines.old.items receiver.old.state)) }
+        ≡ hear_all (by_entries receiver.old.air.scheme) receiver.old.air receiver.old.reader (map bucket_in (tape_read tape.now).records) (after lines.old.items receiver.old.state)) }
     ensures air { receiver.new.air ≡ receiver.old.air }
     ensures reader { receiver.new.reader ≡ receiver.old.reader }
 {
@@ -116,7 +117,7 @@ fn session_over(alloc: Global, mut receiver: Receiver, tape: &[u8]) -> Result<Se
     requires fresh { receiver.state ≡ start }
     requires whole { (tape_read tape.now).cut ≡ None }
     requires size { length tape.now ≤ 1073741824 }
-    ensures { IfOk result (λ s. s ≡ told_of (session (by_entries receiver.air.policy) receiver.air receiver.reader (map bucket_in (tape_read tape.now).records))) }
+    ensures { IfOk result (λ s. s ≡ told_of (session (by_entries receiver.air.scheme) receiver.air receiver.reader (map bucket_in (tape_read tape.now).records))) }
 {
     let mut lines = Vec::new(alloc);
     hear_tape(alloc, &mut receiver, tape, &mut lines)?;
@@ -136,7 +137,7 @@ pub(crate) fn sessions(
     requires form { CanRun deck.now }
     requires whole { (tape_read tape.now).cut ≡ None }
     requires size { length tape.now ≤ 1073741824 }
-    ensures told { IfOk result (λ s. s.items ≡ map told_of (sessions_over (by_entries deck.now.settings.policy) deck.now (λ r. (tape_read tape.now).records))) }
+    ensures told { IfOk result (λ s. s.items ≡ map told_of (sessions_over (by_entries (scheme_in deck.now)) deck.now (λ r. (tape_read tape.now).records))) }
     ensures few { IfOk result (λ s. length s.items ≤ 64) }
 {
     let mut sessions = Vec::new(alloc);

@@ -5,7 +5,7 @@
 
 ghost use Rattle.std.specs.Prelude.{◌≡◌, ◌<◌, ◌+◌, ◌*◌, ◌^◌, ◌++◌, ◌∷◌, [], None, IfOk, OnOk, get_or, length, take};
 ghost use Rattle.air_history.specs.Boards.{board_of};
-ghost use Rattle.air_history.specs.Histories.{EventFits, starts};
+ghost use Rattle.air_history.specs.Histories.{ItemsFit, starts};
 ghost use Rattle.air_model.specs.Decks.{disks_in, event_of, script_history, values_in};
 ghost use Rattle.air_cli.specs.Replays.{CountsParts, IsReplay, aired_bytes};
 
@@ -74,7 +74,7 @@ impl Replay {
     fn add(&mut self, deck: &Deck, program: &Program, event: Event) -> Result<(), NoMemory>
         requires planned { program.now ≡ disks_in deck.now }
         requires kept { IsReplay deck.now self.old }
-        requires fits { EventFits (length deck.now.items) event }
+        requires fits { ItemsFit (length deck.now.items) event }
         requires few { starts self.old.events.items + 1 < 2 ^ 32 }
         ensures kept { OnOk result (IsReplay deck.now self.new) }
         ensures added { OnOk result (self.new.events.items ≡ self.old.events.items ++ event ∷ []) }

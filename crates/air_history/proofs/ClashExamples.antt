@@ -8,7 +8,7 @@ use Rattle.air_history.specs.declared.histories.Event.TheVariants.{Start}
 use Rattle.air_history.specs.Places.{last_place, greatest}
 use Rattle.air_history.specs.Histories.{is_start, reads, writes, cycle_at, front, writer_before, writer}
 use Rattle.air_history.specs.Descents.{descends_in, descends}
-use Rattle.air_history.specs.Columns.{column_entry, vector_entry, aired_entries}
+use Rattle.air_history.specs.Columns.{column_entry, vector_entry, policy_entries}
 use Rattle.air_history.specs.Tables.{based, write_of, value_after, table}
 use Rattle.air_history.specs.Reads.{ReadAt, origin, stale, read_value}
 use Rattle.air_history.specs.Consistency.{descends_from, runs_alone, picked, alone, last_alone, consistent}
@@ -21,7 +21,7 @@ at i c = record { item = i; cycle = c }
 
 -- the read as a receiver hears it
 abbrev pub heard : Policy → List Event → ℕ → ℕ → Heard
-heard policy H i c = record { item = i; cycle = c; entries = aired_entries policy 2 H c i }
+heard policy H i c = record { item = i; cycle = c; entries = policy_entries policy 2 H c i }
 
 -- both items are written in cycle 1, by updates that read nothing
 abbrev pub apart : List Event

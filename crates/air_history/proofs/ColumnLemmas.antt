@@ -6,7 +6,7 @@ use Rattle.std.proofs.lemmas.List.FromFn.{fill_by_all, get_or-map-range_with_len
 use Rattle.air_history.specs.declared.histories.Event.{Event}
 use Rattle.air_history.specs.declared.histories.Event.TheVariants.{Commit, Start}
 use Rattle.air_history.specs.Places.{greatest, place_and}
-use Rattle.air_history.specs.Histories.{is_start, writes, writes_of, event_at, cycle_at, front, writer, EventFits}
+use Rattle.air_history.specs.Histories.{is_start, writes, writes_of, event_at, cycle_at, front, writer, ItemsFit}
 use Rattle.air_history.specs.Descents.{descends}
 use Rattle.air_history.specs.Columns.{column, column_entry}
 use Rattle.air_history.specs.Reads.{ReadAt, origin}
@@ -55,11 +55,11 @@ marked_more H marks p i e l is h =
     ∙ ap (λ b. cond b (cycle_at H p) (marked_entry H marks p i)) (written_by e i)
 
 -- the writes of a read event fit
-pub writes_fit : (H : List Event) (n p : ℕ) (e : Event) → All (EventFits n) H → p < length H → e ≡ get_or H p e → All (λ w. w.item < n) (writes_of e)
-unfolding EventFits writes_of
-writes_fit H n p e all l is = by e (subst (EventFits n) (sym is) (all p e l))
+pub writes_fit : (H : List Event) (n p : ℕ) (e : Event) → All (ItemsFit n) H → p < length H → e ≡ get_or H p e → All (λ w. w.item < n) (writes_of e)
+unfolding ItemsFit writes_of
+writes_fit H n p e all l is = by e (subst (ItemsFit n) (sym is) (all p e l))
   where
-    by : (e : Event) → EventFits n e → All (λ w. w.item < n) (writes_of e)
+    by : (e : Event) → ItemsFit n e → All (λ w. w.item < n) (writes_of e)
     by (Commit who seq u) h = h.writes
     by Start h = λ k d lt. absurd (omega arith)
 

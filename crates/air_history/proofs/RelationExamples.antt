@@ -10,10 +10,10 @@ use Rattle.air_history.specs.declared.histories.Event.TheVariants.{Start}
 use Rattle.air_history.specs.UpdateRules.{has_repeat, update_fault, KeepsRules, UpdateFits}
 use Rattle.air_history.specs.UpdateLists.{UpdateLists}
 use Rattle.air_history.specs.Places.{last_place, greatest, greatest_of}
-use Rattle.air_history.specs.Histories.{is_start, reads, writes, cycle_at, front, writer_before, writer, EventFits}
+use Rattle.air_history.specs.Histories.{is_start, reads, writes, cycle_at, front, writer_before, writer, ItemsFit}
 use Rattle.air_history.specs.Descents.{descends_in, descends}
 use Rattle.air_history.specs.DescentLaws.{ReadsFrom, IsClosed}
-use Rattle.air_history.specs.Columns.{column_entry, vector_entry, entry_at}
+use Rattle.air_history.specs.Columns.{column_entry, vector_entry, entry_at, scheme_of}
 use Rattle.air_history.specs.Tables.{BasesRead, WriteFits}
 use Rattle.air_history.specs.Reads.{ReadAt, IsRead, origin, stale}
 use Rattle.air_history.specs.Consistency.{descends_from, runs_alone, last_alone, consistent, IsConsistent}
@@ -49,11 +49,11 @@ pub record Updates : Type 0 where
   -- items 0 and 2 are below 3
   update_fits : UpdateFits 3 two_from_zero
   -- so are those of a commit of the update
-  event_fits : EventFits 3 (commit 1 (0 ∷ []) (add_to 2 0 1))
+  event_fits : ItemsFit 3 (commit 1 (0 ∷ []) (add_to 2 0 1))
   -- a start has no item
-  start_fits : EventFits 0 Start
+  start_fits : ItemsFit 0 Start
   -- item 2 isn't below 2
-  not_fits : EventFits 2 (commit 1 (0 ∷ []) (add_to 2 0 1)) → ⊥
+  not_fits : ItemsFit 2 (commit 1 (0 ∷ []) (add_to 2 0 1)) → ⊥
   -- the write's item 2 and its base 0 are below 3
   write_fits : WriteFits 3 (add_to 2 0 1)
   -- base 3 isn't below 3
@@ -70,7 +70,7 @@ two_fits = record {
 }
 
 pub updates : Updates
-unfolding update_fault has_repeat EventFits BasesRead
+unfolding update_fault has_repeat ItemsFit BasesRead
 updates = record {
   kept = refl;
   broken = λ e. cc;
@@ -188,9 +188,9 @@ held = record {
 
 pub record Accepted : Type 0 where
   -- under F-Matrix the column of item 1 comes with it
-  heard_column : IsHeard FMatrix 2 apart (record { item = 1; cycle = 2; entries = 0 ∷ 1 ∷ [] })
+  heard_column : IsHeard (scheme_of FMatrix) 2 apart (record { item = 1; cycle = 2; entries = 0 ∷ 1 ∷ [] })
   -- under R-Matrix the write vector does
-  heard_vector : IsHeard RMatrix 2 apart (record { item = 1; cycle = 2; entries = 1 ∷ 1 ∷ [] })
+  heard_vector : IsHeard (scheme_of RMatrix) 2 apart (record { item = 1; cycle = 2; entries = 1 ∷ 1 ∷ [] })
   -- under F-Matrix cycles may fall
   any_order : IsAllowed FMatrix (at 0 2 ∷ at 1 1 ∷ [])
   -- under R-Matrix they may rise

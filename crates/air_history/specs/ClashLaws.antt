@@ -7,17 +7,17 @@ use Rattle.air_base.specs.declared.verdicts.Policy.{Policy}
 use Rattle.air_base.specs.declared.verdicts.Policy.TheVariants.{FMatrix, Datacycle, RMatrix}
 use Rattle.air_history.specs.declared.histories.Event.{Event}
 use Rattle.air_history.specs.Places.{last_place}
-use Rattle.air_history.specs.Columns.{aired_entries}
+use Rattle.air_history.specs.Columns.{Scheme, aired_entries}
 use Rattle.air_history.specs.Reads.{ReadAt, stale, newest_cycle}
 use Rattle.air_history.specs.Consistency.{IsConsistent}
 use Rattle.air_history.specs.ConsistencyLaws.{SharesCycle}
 use Rattle.air_history.specs.Clashes.{Heard, is_late, clash_by_history}
 
--- the read has the entries that H airs with its item in its cycle, over n items
-pub record IsHeard (policy : Policy) (n : ℕ) (H : List Event) (r : Heard) : Type 0 where
+-- the read has the entries that H airs by the scheme with its item in its cycle, over n items
+pub record IsHeard (scheme : Scheme) (n : ℕ) (H : List Event) (r : Heard) : Type 0 where
   pub cycle : 1 ≤ r.cycle
   pub within : r.item < n
-  pub entries : r.entries ≡ aired_entries policy n H r.cycle r.item
+  pub entries : r.entries ≡ aired_entries scheme n H r.cycle r.item
 
 -- the policy allows reads in this order: under R-Matrix cycles never fall
 abbrev pub IsAllowed : Policy → List ReadAt → Type 0

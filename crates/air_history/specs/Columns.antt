@@ -30,8 +30,20 @@ vector n G = map (vector_entry G) (range_with_len 0 n)
 abbrev pub entry_at : List Event → ℕ → ℕ → ℕ → ℕ
 entry_at H c j i = column_entry (front H c) j i
 
--- the entries that are aired with item j in cycle c: its control column under F-Matrix, else the write vector
-abbrev pub aired_entries : Policy → ℕ → List Event → ℕ → ℕ → List ℕ
-aired_entries FMatrix n H c j = column n (front H c) j
-aired_entries Datacycle n H c j = vector n (front H c)
-aired_entries RMatrix n H c j = vector n (front H c)
+-- A scheme decides which entries are aired with an item: its policy does.
+pub record Scheme : Type 0 where
+  pub policy : Policy
+
+-- the scheme of a policy
+abbrev pub scheme_of : Policy → Scheme
+scheme_of policy = record { policy = policy }
+
+-- what a policy airs with item j in cycle c: its control column under F-Matrix, else the write vector
+abbrev pub policy_entries : Policy → ℕ → List Event → ℕ → ℕ → List ℕ
+policy_entries FMatrix n H c j = column n (front H c) j
+policy_entries Datacycle n H c j = vector n (front H c)
+policy_entries RMatrix n H c j = vector n (front H c)
+
+-- the entries that are aired with item j in cycle c
+abbrev pub aired_entries : Scheme → ℕ → List Event → ℕ → ℕ → List ℕ
+aired_entries scheme n H c j = policy_entries scheme.policy n H c j

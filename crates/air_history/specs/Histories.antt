@@ -1,6 +1,6 @@
 -- A history is a list of events, commits and cycle starts, and a place is an index into it from 0.
 -- Here: what an event reads and writes, the cycle of a place, the front of a cycle, the last writer.
-use Rattle.std.specs.Prelude.{ℕ, zero, suc, Bool, true, false, ◌==◌, List, [], ◌∷◌, length, get_or, take, count_by, Option}
+use Rattle.std.specs.Prelude.{ℕ, zero, suc, ◌<◌, Bool, true, false, ◌==◌, List, [], ◌∷◌, length, get_or, take, count_by, Option}
 use Rattle.std.specs.List.{list_any}
 use Rattle.air_history.specs.declared.histories.Event.{Event}
 use Rattle.air_history.specs.declared.histories.Event.TheVariants.{Commit, Start}
@@ -57,6 +57,11 @@ unfoldable pub writer : List Event → ℕ → Option ℕ
 writer G item = writer_before G (length G) item
 
 -- all items of the event's update are below n
-unfoldable pub EventFits : ℕ → Event → Type 0
-EventFits n (Commit by seq update) = UpdateFits n update
-EventFits n Start = Unit {0}
+unfoldable pub ItemsFit : ℕ → Event → Type 0
+ItemsFit n (Commit by seq update) = UpdateFits n update
+ItemsFit n Start = Unit {0}
+
+-- the event fits so many updaters and n items: its updater is below the number of updaters, and its items are below n
+unfoldable pub EventFits : ℕ → ℕ → Event → Type 0
+EventFits updaters n (Commit by seq update) = (by < updaters) × UpdateFits n update
+EventFits updaters n Start = Unit {0}

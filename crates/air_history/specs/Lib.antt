@@ -11,4 +11,5 @@ pub mod Consistency
 pub mod ConsistencyLaws
 pub mod Clashes
 pub mod ClashLaws
+pub mod HeldReads
 pub mod Boards

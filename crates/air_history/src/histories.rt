@@ -3,7 +3,7 @@
 //! A history is seen by contracts as the list of its events. Places count from 0, cycles from 1.
 
 ghost use Rattle.std.specs.Prelude.{◌≡◌, ◌↔◌, ◌<◌, ◌^◌, length, All, IsTrue};
-ghost use Rattle.air_history.specs.Histories.{is_start, writes, reads, writes_of, event_at, starts, EventFits};
+ghost use Rattle.air_history.specs.Histories.{is_start, writes, reads, writes_of, event_at, starts, ItemsFit};
 ghost use Rattle.air_history.specs.Tables.{BasesRead};
 
 use crate::updates::{Update, Write, writes_item};
@@ -52,9 +52,9 @@ impl Event {
     }
 
     /// Whether all items of its update are below `n`.
-    #[tactic(auto, unfolding(crate::specs::Histories::EventFits))]
+    #[tactic(auto, unfolding(crate::specs::Histories::ItemsFit))]
     pub fn fits(&self, n: u16) -> bool
-        ensures { IsTrue result ↔ EventFits n self.now }
+        ensures { IsTrue result ↔ ItemsFit n self.now }
     {
         match self {
             Event::Commit { update, .. } => update.fits(n),
@@ -137,7 +137,7 @@ impl History {
 
     /// Whether all items of its updates are below `n`.
     pub fn fits(&self, n: u16) -> bool
-        ensures { IsTrue result ↔ All (EventFits n) self.now }
+        ensures { IsTrue result ↔ All (ItemsFit n) self.now }
     {
         self.events.iter().all(|event| event.fits(n))
     }

@@ -5,7 +5,7 @@
 ghost use Rattle.std.specs.Prelude.{◌≡◌, ◌⊎◌, ◌==◌, ◌<◌, ◌≤◌, ◌^◌, ℕ, false, ◌&&◌, cond, All, length, map, get_or, IfOk, OnOk, OnErr, slice_index_or, IsTrue};
 ghost use Rattle.std.specs.List.{list_any, range_with_len};
 ghost use Rattle.air_history.specs.Places.{greatest};
-ghost use Rattle.air_history.specs.Histories.{writes, event_at, cycle_at, writer_before, writer, front, starts, EventFits};
+ghost use Rattle.air_history.specs.Histories.{writes, event_at, cycle_at, writer_before, writer, front, starts, ItemsFit};
 ghost use Rattle.air_history.specs.Columns.{column};
 ghost use Rattle.air_history.specs.Descents.{descends};
 ghost use Rattle.air_history.specs.DescentLaws.{ReadsFrom};
@@ -96,7 +96,7 @@ fn stamp(out: &mut [u32], writes: &[Write], cycle: u32)
 fn stamp_marked(events: &[Event], marks: &[bool], out: &mut [u32])
     requires sized { length marks.now ≡ length events.now }
     requires few { starts events.now < 2 ^ 32 }
-    requires fits { All (EventFits (length out.old)) events.now }
+    requires fits { All (ItemsFit (length out.old)) events.now }
     requires clear { (i : ℕ) → i < length out.old → slice_index_or out.old i 0 ≡ 0 }
     ensures { (i : ℕ) → i < length out.old →
         slice_index_or out.new i 0 ≡ greatest (length events.now)
@@ -121,7 +121,7 @@ pub fn column_scan(
     out: &mut [u32],
 ) -> Result<(), NoMemory>
     requires within { cycle ≤ starts h.now }
-    requires fits { All (EventFits (length out.old)) h.now }
+    requires fits { All (ItemsFit (length out.old)) h.now }
     ensures ok { OnOk result (out.new ≡ column (length out.old) (front h.now cycle) item) }
     ensures err { OnErr result (out.new ≡ out.old) }
 {

@@ -2,7 +2,7 @@
 
 ghost use Rattle.std.specs.Prelude.{◌≡◌, ◌==◌, ℕ, ◌<◌, ◌≤◌, length, take, find, All, IfSome, get_or, slice_index, slice_index_or, EachIndex};
 ghost use Rattle.air_history.specs.declared.updates.Write.{Write};
-ghost use Rattle.air_history.specs.Histories.{EventFits};
+ghost use Rattle.air_history.specs.Histories.{ItemsFit};
 ghost use Rattle.air_history.specs.UpdateRules.{UpdateFits};
 ghost use Rattle.air_history.specs.Tables.{put, written, values_of, WriteFits, value_after, table_list};
 
@@ -12,7 +12,7 @@ use crate::updates::{Update, Write};
 /// Runs the commits before place `upto` on the values.
 pub fn table_of(h: &History, upto: u64, values: &mut [u64])
     requires within { upto ≤ length h.now }
-    requires fits { All (EventFits (length values.old)) h.now }
+    requires fits { All (ItemsFit (length values.old)) h.now }
     ensures { values.new ≡ table_list values.old (take upto h.now) }
 {
     for event in &h.events()[..upto as usize] {
@@ -22,7 +22,7 @@ pub fn table_of(h: &History, upto: u64, values: &mut [u64])
 
 /// Runs one event on the values, without memory.
 pub fn run_event(event: &Event, values: &mut [u64])
-    requires { EventFits (length values.old) event.now }
+    requires { ItemsFit (length values.old) event.now }
     ensures { (i : ℕ) → slice_index_or values.new i 0 ≡ value_after (values_of values.old) event.now i }
 {
     match event {

@@ -9,7 +9,7 @@ use Rattle.air_base.specs.declared.verdicts.Policy.{Policy}
 use Rattle.air_base.specs.declared.verdicts.Policy.TheVariants.{FMatrix, Datacycle, RMatrix}
 use Rattle.air_history.specs.declared.histories.Event.{Event}
 use Rattle.air_history.specs.Histories.{starts}
-use Rattle.air_history.specs.Columns.{aired_entries}
+use Rattle.air_history.specs.Columns.{scheme_of, policy_entries}
 use Rattle.air_history.specs.Tables.{values_of}
 use Rattle.air_history.specs.Reads.{read_value}
 use Rattle.air_model.specs.Buckets.{Bucket}
@@ -87,7 +87,7 @@ own_to values air H c s one started within =
     flat_to (λ c. map (bucket_of values air H c) (range_with_len 0 (length air.slots))) (range_with_len 1 (starts H)) c (bucket_of values air H c s)
     (range_to 1 (starts H) c one (omega arith)) (map_to (bucket_of values air H c) (length air.slots) s within)
 
-pub entries_long : (p : Policy) (n : ℕ) (H : List Event) (c j : ℕ) → length (aired_entries p n H c j) ≡ n
+pub entries_long : (p : Policy) (n : ℕ) (H : List Event) (c j : ℕ) → length (policy_entries p n H c j) ≡ n
 entries_long FMatrix n H c j = length-map-range_with_len _ 0 n
 entries_long Datacycle n H c j = length-map-range_with_len _ 0 n
 entries_long RMatrix n H c j = length-map-range_with_len _ 0 n
@@ -95,18 +95,18 @@ entries_long RMatrix n H c j = length-map-range_with_len _ 0 n
 own_body_fits : (values : List ℕ) (air : Air) (H : List Event) (c : ℕ) (o : Option ℕ) → body_fits air o (body_of values air H c o) ≡ true
 unfolding body_fits body_of
 own_body_fits values air H c None = eq-eqb air.items air.items refl
-own_body_fits values air H c (Some i) = by air.policy
+own_body_fits values air H c (Some i) = by air.scheme.policy
   where
     v : ℕ
     v = read_value (values_of values) H (record { item = i; cycle = c })
 
     es : Policy → List ℕ
-    es p = aired_entries p air.items H c i
+    es p = policy_entries p air.items H c i
 
     fit : (p : Policy) → (length (es p) == air.items) ≡ true
     fit p = eq-eqb (length (es p)) air.items (entries_long p air.items H c i)
 
-    by : (p : Policy) → body_fits (record air { policy = p }) (Some i) (aired_as p i v (es p)) ≡ true
+    by : (p : Policy) → body_fits (record air { scheme = scheme_of p }) (Some i) (aired_as p i v (es p)) ≡ true
     by FMatrix = and_from _ _ (and_from (i == i) true (eq-eqb i i refl) refl) (fit FMatrix)
     by Datacycle = and_from _ _ (and_from (i == i) true (eq-eqb i i refl) refl) (fit Datacycle)
     by RMatrix = and_from _ _ (and_from (i == i) true (eq-eqb i i refl) refl) (fit RMatrix)

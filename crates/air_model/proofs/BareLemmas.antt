@@ -57,7 +57,12 @@ without_bare item R = filter_bare _ _ R (λ r. refl)
 
 with_copy_bare : (x : Read) (R : List Read) → with_copy (bare_read x) (map bare_read R) ≡ map bare_read (with_copy x R)
 unfolding with_copy bare_read
-with_copy_bare x R = ap (λ S. S ++ bare_read x ∷ []) (without_bare x.item R) ∙ sym (map-append bare_read (without x.item R) (x ∷ []))
+with_copy_bare x R =
+    let below : Read → Bool = λ r. nat_lt r.item x.item in
+    let above : Read → Bool = λ r. nat_lt x.item r.item in
+    ap (λ S. S ++ bare_read x ∷ filter above (map bare_read R)) (filter_bare below below R (λ r. refl))
+    ∙ ap (λ S. map bare_read (filter below R) ++ bare_read x ∷ S) (filter_bare above above R (λ r. refl))
+    ∙ sym (map-append bare_read (filter below R) (x ∷ filter above R))
 
 keep_bare : (room : ℕ) (pix : List ℕ) (R : List Read) → keep room pix (map bare_read R) ≡ map bare_read (keep room pix R)
 unfolding keep bare_read
@@ -100,13 +105,13 @@ wanted_bare reader s = ap (slice_get (query_of reader s)) (length-map s.held bar
 
 late_bare : (air : Air) (s : State) (x : Read) → comes_late air (bare_state s) (bare_read x) ≡ comes_late air s x
 unfolding bare_state bare_read
-late_bare air s x = ap (λ S. is_late air.policy S (place_of x)) (places_bare s.held)
+late_bare air s x = ap (λ S. is_late air.scheme.policy S (place_of x)) (places_bare s.held)
 
 body_bare : (air : Air) (o : Option ℕ) (y : Body) → body_fits air o (bare_body y) ≡ body_fits air o y
 unfolding body_fits
 body_bare air o (Idle count) = refl
-body_bare air o (Column item value entries) = ap (λ n. carries item o && airs_columns air.policy && (n == air.items)) (length-map entries (λ e. 0))
-body_bare air o (Vector item value entries) = ap (λ n. carries item o && not (airs_columns air.policy) && (n == air.items)) (length-map entries (λ e. 0))
+body_bare air o (Column item value entries) = ap (λ n. carries item o && airs_columns air.scheme.policy && (n == air.items)) (length-map entries (λ e. 0))
+body_bare air o (Vector item value entries) = ap (λ n. carries item o && not (airs_columns air.scheme.policy) && (n == air.items)) (length-map entries (λ e. 0))
 
 fits_bare : (air : Air) (b : Bucket) → fits air (bare b) ≡ fits air b
 unfolding fits
@@ -122,11 +127,11 @@ read_bare c (Vector item value entries) = refl
 
 module _ (V : List ℕ) (air : Air) (H : List Event) (reader : Reader) where
   abbrev judge : Judge
-  judge = by_history air.policy V H
+  judge = by_history air.scheme V H
 
   clash_bare : (R : List Read) (x : Read) → judge.clash (map bare_read R) (bare_read x) ≡ judge.clash R x
   unfolding by_history bare_read
-  clash_bare R x = ap (λ S. clash_by_history air.policy H S (place_of x)) (places_bare R)
+  clash_bare R x = ap (λ S. clash_by_history air.scheme.policy H S (place_of x)) (places_bare R)
 
   line_bare : (q a : ℕ) (kind : VerdictKind) (R : List Read) → line_of judge q a kind (map bare_read R) ≡ line_of judge q a kind R
   unfolding line_of by_history bare_read
@@ -240,8 +245,8 @@ module _ (V : List ℕ) (air : Air) (H : List Event) (reader : Reader) where
       ∙ iterate_bare (end_query judge air reader) end_query_bare (length reader.queries) (hear_all judge air reader heard start)
 
 pub bare_is : (values : List ℕ) (air : Air) (H : List Event) (reader : Reader) (heard : List (Option Bucket)) →
-    let s = session (by_history air.policy values H) air reader heard in
-    let t = session (by_history air.policy values H) air reader (map (option_map bare) heard) in
+    let s = session (by_history air.scheme values H) air reader heard in
+    let t = session (by_history air.scheme values H) air reader (map (option_map bare) heard) in
     (t.lines ≡ s.lines) × (t.counts ≡ s.counts)
 unfolding bare_state
 bare_is V air H reader heard =

@@ -12,18 +12,34 @@ abbrev pix : List ℕ
 pix = 40 ∷ 10 ∷ 40 ∷ 20 ∷ []
 
 placed : keep 2 pix (with_copy (copy 1 7) (copy 0 5 ∷ [])) ≡ copy 0 5 ∷ copy 1 7 ∷ []
-unfolding keep with_copy without
+unfolding keep with_copy
 placed = refl
 
-replaced : keep 2 pix (with_copy (copy 0 7) (copy 0 5 ∷ copy 1 6 ∷ [])) ≡ copy 1 6 ∷ copy 0 7 ∷ []
-unfolding keep with_copy without
+-- the new copy of an item stands where the old one stood
+replaced : keep 2 pix (with_copy (copy 0 7) (copy 0 5 ∷ copy 1 6 ∷ [])) ≡ copy 0 7 ∷ copy 1 6 ∷ []
+unfolding keep with_copy
 replaced = refl
 
-evicted : keep 2 pix (with_copy (copy 3 7) (copy 1 6 ∷ copy 0 5 ∷ [])) ≡ copy 0 5 ∷ copy 3 7 ∷ []
-unfolding keep with_copy without
+-- a copy of an item between two stands between theirs
+between : keep 3 pix (with_copy (copy 1 7) (copy 0 5 ∷ copy 3 6 ∷ [])) ≡ copy 0 5 ∷ copy 1 7 ∷ copy 3 6 ∷ []
+unfolding keep with_copy
+between = refl
+
+evicted : keep 2 pix (with_copy (copy 3 7) (copy 0 5 ∷ copy 1 6 ∷ [])) ≡ copy 0 5 ∷ copy 3 7 ∷ []
+unfolding keep with_copy
 evicted = refl
 
 -- of equal PIX numbers the greater item goes
-declined : (keep 2 pix (with_copy (copy 1 7) (copy 3 6 ∷ copy 0 5 ∷ [])) ≡ copy 3 6 ∷ copy 0 5 ∷ []) × (keep 1 pix (with_copy (copy 2 7) (copy 0 5 ∷ [])) ≡ copy 0 5 ∷ [])
-unfolding keep with_copy without
+declined : (keep 2 pix (with_copy (copy 1 7) (copy 0 5 ∷ copy 3 6 ∷ [])) ≡ copy 0 5 ∷ copy 3 6 ∷ []) × (keep 1 pix (with_copy (copy 2 7) (copy 0 5 ∷ [])) ≡ copy 0 5 ∷ [])
+unfolding keep with_copy
 declined = (refl, refl)
+
+-- nothing is kept without room
+no_room : keep 0 pix (with_copy (copy 1 7) []) ≡ []
+unfolding keep with_copy
+no_room = refl
+
+-- the copies of the other items stay where one is dropped
+dropped : without 1 (copy 0 5 ∷ copy 1 6 ∷ copy 3 6 ∷ []) ≡ copy 0 5 ∷ copy 3 6 ∷ []
+unfolding without
+dropped = refl

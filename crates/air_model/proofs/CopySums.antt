@@ -1,16 +1,16 @@
 -- How many copies stay, and that no choice of as many is worth more.
 -- The ranks of copies of different items differ, so one copy has each rank; and some number lies between the PIX numbers of
 -- the copies that stay and those of the others, which settles every sum (`keep_most`).
-use Rattle.std.proofs.Common.{◌≡◌, ◌≢◌, not, ℕ, zero, suc, ◌<◌, ◌≤◌, ◌+◌, ◌-◌, ◌*◌, Bool, true, false, cond, ◌==◌, ◌++◌, ◌⊎◌, inl, inr, nat_lt, List, [], ◌∷◌, length, get_or, All, refl, sym, ◌∙◌, ap, arith, IsPermutation}
-use Rattle.std.specs.Prelude.{min, max}
+use Rattle.std.proofs.Common.{◌≡◌, ◌≢◌, ℕ, zero, suc, ◌<◌, ◌≤◌, ◌+◌, ◌-◌, ◌*◌, Bool, true, false, cond, ◌==◌, ◌++◌, ◌⊎◌, inl, inr, nat_lt, List, [], ◌∷◌, length, get_or, All, refl, sym, ◌∙◌, ap, arith, IsPermutation}
+use Rattle.std.specs.Prelude.{min, max, AllPairs}
 use Rattle.std.specs.List.{filter, count_by, sum_by}
 use Rattle.std.proofs.Math.Nat.{min-le_left, min-le_right, le-min, le-max_left, le-max_right, max-le, mul-add, mul-le-mul_left, min-eq_left, min-eq_right}
-use Rattle.std.proofs.lemmas.Bool.{cases_eq, cases_lt, cases_order, eq-eqb, eqb-false, ltb-false, ne_eqb, eqb-true, false≢true, le-ltb, lt-ltb, ltb-true}
+use Rattle.std.proofs.lemmas.Bool.{cases_eq, cases_lt, cases_order, eq-eqb, ltb-false, ne_eqb, eqb-true, false≢true, le-ltb, lt-ltb, ltb-true}
 use Rattle.std.proofs.lemmas.List.Elements.{All-append, All-cons, All-head, All-tail}
 use Rattle.std.proofs.lemmas.List.Kept.{AllPairs-cons, AllPairs-filter}
 use Rattle.std.proofs.lemmas.List.Sorted.{All-permutation, IsPermutation-sym, sum_by-IsPermutation}
 use Rattle.std.proofs.lemmas.List.Sums.{length-filter, sum_by-append, sum_by-cons}
-use Rattle.air_model.specs.Copies.{HaveOwnItems, goes_before, keep, pix_of, with_copy, without}
+use Rattle.air_model.specs.Copies.{HaveOwnItems, goes_before, keep, pix_of, with_copy}
 use Rattle.air_model.specs.Reads.{Read}
 use Rattle.air_model.proofs.CopyOrders.{count_all, count_cons, count_missing, goes_to, itself, keep_all, one_goes, rank, rank_less}
 
@@ -78,7 +78,7 @@ count_start : (g : Read → ℕ) (R : List Read) → count_by (λ r. nat_lt (g r
 count_start g R = count_none (λ r. nat_lt (g r) 0) R (λ k d l. le-ltb (g (get_or R k d)) 0 (omega arith))
 
 -- copies of different items have different ranks
-ranks_differ : (pix : List ℕ) (copies : List Read) → HaveOwnItems copies → Differ (rank pix copies) copies
+ranks_differ : (pix : List ℕ) (copies : List Read) → AllPairs (λ a b. a.item ≢ b.item) copies → Differ (rank pix copies) copies
 ranks_differ pix copies own j k d l m e = by (cases_order j k)
   where
     ordered : (goes_before pix (get_or copies j d) (get_or copies k d) ≡ true) ⊎ (goes_before pix (get_or copies k d) (get_or copies j d) ≡ true) → ⊥
@@ -90,7 +90,7 @@ ranks_differ pix copies own j k d l m e = by (cases_order j k)
     by (inr (inl less)) = absurd (ordered (one_goes pix (get_or copies j d) (get_or copies k d) (own j k d less m)))
     by (inr (inr more)) = absurd (ordered (one_goes pix (get_or copies j d) (get_or copies k d) (λ same. own k j d more l (sym same))))
 
-pub keep_count : (room : ℕ) (pix : List ℕ) (copies : List Read) → HaveOwnItems copies → length (keep room pix copies) ≡ min room (length copies)
+pub keep_count : (room : ℕ) (pix : List ℕ) (copies : List Read) → AllPairs (λ a b. a.item ≢ b.item) copies → length (keep room pix copies) ≡ min room (length copies)
 unfolding keep
 keep_count room pix copies own = by (cases_lt room (length copies))
   where
@@ -115,28 +115,34 @@ keep_count room pix copies own = by (cases_lt room (length copies))
         ap length (keep_all room pix copies room_for) ∙ sym small
 
 -- ---- a newcomer
-others_differ : (item : ℕ) (copies : List Read) → All (λ r. r.item ≢ item) (without item copies)
-unfolding without
-others_differ item [] = λ k d l. absurd (omega arith)
-others_differ item (r ∷ copies) = by (r.item == item) refl (others_differ item copies)
+-- what a test leaves passes it
+passing : (f : Read → Bool) (R : List Read) → All (λ r. f r ≡ true) (filter f R)
+passing f [] = λ k d l. absurd (omega arith)
+passing f (r ∷ R) = by (f r) refl (passing f R)
   where
-    by : (b : Bool) → (r.item == item) ≡ b → All (λ r. r.item ≢ item) (filter (λ r. not (r.item == item)) copies)
-        → All (λ r. r.item ≢ item) (cond (not b) (r ∷ filter (λ r. not (r.item == item)) copies) (filter (λ r. not (r.item == item)) copies))
-    by true e h = h
-    by false e h = All-cons (λ r. r.item ≢ item) r _ (eqb-false r.item item e) h
+    by : (b : Bool) → f r ≡ b → All (λ r. f r ≡ true) (filter f R) → All (λ r. f r ≡ true) (cond b (r ∷ filter f R) (filter f R))
+    by true e h = All-cons (λ r. f r ≡ true) r (filter f R) e h
+    by false e h = h
 
-own_pushed : (R : List Read) (x : Read) → HaveOwnItems R → All (λ r. r.item ≢ x.item) R → HaveOwnItems (R ++ x ∷ [])
-own_pushed [] x own other = λ i j d l m. absurd (omega arith)
-own_pushed (r ∷ R) x own other =
-    AllPairs-cons (λ a b. a.item ≢ b.item) r (R ++ x ∷ [])
-    (All-append (λ b. r.item ≢ b.item) R (x ∷ []) (λ k d l. own 0 (suc k) d (omega arith) (omega arith)) (All-cons (λ b. r.item ≢ b.item) x [] (other 0 x (omega arith)) (λ k d l. absurd (omega arith))))
-    (own_pushed R x (λ i j d l m. own (suc i) (suc j) d (omega arith) (omega arith)) (All-tail (λ r. r.item ≢ x.item) r R other))
+-- copies of lesser items, one, and copies of greater items stand by rising item
+rising : (x : Read) (A B : List Read) → HaveOwnItems A → HaveOwnItems B → All (λ r. r.item < x.item) A → All (λ r. x.item < r.item) B → HaveOwnItems (A ++ x ∷ B)
+rising x [] B a b below above = AllPairs-cons (λ a b. a.item < b.item) x B above b
+rising x (r ∷ A) B a b below above =
+    let here : r.item < x.item = All-head (λ r. r.item < x.item) r A below in
+    AllPairs-cons (λ a b. a.item < b.item) r (A ++ x ∷ B)
+    (All-append (λ s. r.item < s.item) A (x ∷ B) (λ k d l. a 0 (suc k) d (omega arith) (omega arith))
+    (All-cons (λ s. r.item < s.item) x B here (λ k d l. let over = above k d l in omega arith)))
+    (rising x A B (λ i j d l m. a (suc i) (suc j) d (omega arith) (omega arith)) b (All-tail (λ r. r.item < x.item) r A below) above)
 
 pub keep_own : (room : ℕ) (pix : List ℕ) (copies : List Read) (x : Read) → HaveOwnItems copies → HaveOwnItems (keep room pix (with_copy x copies))
-unfolding keep with_copy without
+unfolding keep with_copy
 keep_own room pix copies x own =
-    AllPairs-filter (λ a b. a.item ≢ b.item) (λ a. nat_lt (rank pix (with_copy x copies) a) room) (with_copy x copies)
-    (own_pushed (without x.item copies) x (AllPairs-filter (λ a b. a.item ≢ b.item) (λ r. not (r.item == x.item)) copies own) (others_differ x.item copies))
+    AllPairs-filter (λ a b. a.item < b.item) (λ a. nat_lt (rank pix (with_copy x copies) a) room) (with_copy x copies)
+    (rising x (filter (λ r. nat_lt r.item x.item) copies) (filter (λ r. nat_lt x.item r.item) copies)
+    (AllPairs-filter (λ a b. a.item < b.item) (λ r. nat_lt r.item x.item) copies own)
+    (AllPairs-filter (λ a b. a.item < b.item) (λ r. nat_lt x.item r.item) copies own)
+    (λ k d l. ltb-true _ _ (passing (λ r. nat_lt r.item x.item) copies k d l))
+    (λ k d l. ltb-true _ _ (passing (λ r. nat_lt x.item r.item) copies k d l)))
 
 -- ---- sums
 sum_kept : (f : Read → ℕ) (p : Read → Bool) (R : List Read) → sum_by f (filter p R) ≡ sum_by (λ x. cond (p x) (f x) 0) R

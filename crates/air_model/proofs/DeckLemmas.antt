@@ -1,6 +1,6 @@
 -- What a well made deck brings: events of legal histories that fit and read their bases, slots with items of the catalog,
 -- and filled queries.
-use Rattle.std.proofs.Common.{◌≡◌, ℕ, zero, suc, ◌%◌, ◌<◌, Bool, true, false, Option, Some, List, [], ◌∷◌, length, take, drop, get_or, All, sym, subst, inl, inr, arith}
+use Rattle.std.proofs.Common.{ap, ◌≡◌, ℕ, zero, suc, ◌%◌, ◌<◌, Bool, true, false, Option, Some, List, [], ◌∷◌, length, take, drop, get_or, All, sym, subst, inl, inr, arith}
 use Rattle.std.specs.Prelude.{IfSome, fold, if◌then◌else◌}
 use Rattle.std.specs.List.{flat_map, range_with_len, slice_get}
 use Rattle.std.proofs.lemmas.Bool.{cases_lt}
@@ -11,7 +11,7 @@ use Rattle.std.proofs.lemmas.List.FromFn.{get_or-range_with_len, length-range_wi
 use Rattle.air_history.specs.declared.histories.Event.{Event}
 use Rattle.air_history.specs.declared.histories.Event.TheVariants.{Commit, Start}
 use Rattle.air_history.specs.UpdateLists.{UpdateLists}
-use Rattle.air_history.specs.Histories.{EventFits}
+use Rattle.air_history.specs.Histories.{EventFits, ItemsFit}
 use Rattle.air_history.specs.Tables.{BasesRead}
 use Rattle.air_model.specs.Disks.{Disk, DiskSpec, cut, is_hotter, order, order_with}
 use Rattle.air_model.specs.Programs.{chunk, minor_cycle, num_chunks, num_minors, program}
@@ -35,18 +35,33 @@ update_is deck is by seq u e =
     subst (IsUpdate (length deck.items)) (get_or_from_slice_get (updates_by deck by) seq u u e)
     (all_at (IsUpdate (length deck.items)) deck.updates is.updates by seq u (slice_get_within (updates_by deck by) seq u e))
 
-event_is : (deck : Deck) (H : List Event) → IsDeck deck → IsLegal deck H → (p : ℕ) (e : Event) → slice_get H p ≡ Some e → EventFits (length deck.items) e × BasesRead e
+-- an update is of an updater that the deck has
+updater_is : (deck : Deck) (by seq : ℕ) (u : UpdateLists) → slice_get (updates_by deck by) seq ≡ Some u → by < length deck.updates
+updater_is deck by seq u e = elim (cases_lt by (length deck.updates)) as (λ _. by < length deck.updates) [
+  | inl l ↦ l
+  | inr past ↦ absurd (let within = slice_get_within (updates_by deck by) seq u e in let none = ap length (get_or_past deck.updates by [] past) in omega (arith, within, none))
+]
+
+event_is : (deck : Deck) (H : List Event) → IsDeck deck → IsLegal deck H → (p : ℕ) (e : Event) → slice_get H p ≡ Some e →
+    EventFits (length deck.updates) (length deck.items) e × BasesRead e
 unfolding EventFits BasesRead
 event_is deck H is legal p Start s = (tt, tt)
 event_is deck H is legal p (Commit by seq u) s =
-    let update = update_is deck is by seq u ((legal p by seq u s).given) in
-    (update.fits, bases_read by seq u update.rules)
+    let given = (legal p by seq u s).given in
+    let update = update_is deck is by seq u given in
+    ((updater_is deck by seq u given, update.fits), bases_read by seq u update.rules)
 
-pub events : (deck : Deck) (H : List Event) → IsDeck deck → IsLegal deck H → All (EventFits (length deck.items)) H × All BasesRead H
+pub events : (deck : Deck) (H : List Event) → IsDeck deck → IsLegal deck H → All (EventFits (length deck.updates) (length deck.items)) H × All BasesRead H
 events deck H is legal = (
   λ p d l. (event_is deck H is legal p (get_or H p d) (slice_get-get_or H p d l)).0,
   λ p d l. (event_is deck H is legal p (get_or H p d) (slice_get-get_or H p d l)).1,
 )
+
+-- an event that fits has items that do
+pub items_fit : (updaters n : ℕ) (e : Event) → EventFits updaters n e → ItemsFit n e
+unfolding EventFits ItemsFit
+items_fit updaters n (Commit by seq u) h = h.1
+items_fit updaters n Start h = tt
 
 -- ---- slots of the program
 

@@ -1,7 +1,7 @@
 -- Four pushed buckets heard through ethers of each kind, and the first words of a generator.
 use Rattle.std.specs.Prelude.{◌≡◌, ℕ, List, [], ◌∷◌, refl}
 use Rattle.air_model.specs.Draws.{words_by, words_of}
-use Rattle.air_model.specs.Ethers.{due_at, due_number, heard, heard_by, heard_places, times_heard}
+use Rattle.air_model.specs.Ethers.{due_at, due_number, heard, heard_by, heard_places, places_due, times_heard}
 
 -- four buckets of one byte
 abbrev pushed : List (List ℕ)
@@ -12,27 +12,27 @@ abbrev words : List ℕ
 words = 0 ∷ 30 ∷ 99 ∷ 0 ∷ 99 ∷ 250 ∷ 99 ∷ 99 ∷ 50 ∷ 50 ∷ 99 ∷ 99 ∷ []
 
 all_lost : heard (record { loss = 100; again = 0; late = 0 }) words pushed ≡ []
-unfolding heard heard_places due_at due_number times_heard
+unfolding heard heard_places places_due due_at due_number times_heard
 all_lost = refl
 
 all_twice : heard (record { loss = 0; again = 100; late = 0 }) words pushed
     ≡ (10 ∷ []) ∷ (10 ∷ []) ∷ (11 ∷ []) ∷ (11 ∷ []) ∷ (12 ∷ []) ∷ (12 ∷ []) ∷ (13 ∷ []) ∷ (13 ∷ []) ∷ []
-unfolding heard heard_places due_at due_number times_heard
+unfolding heard heard_places places_due due_at due_number times_heard
 all_twice = refl
 
 -- push 1 is heard behind the pushes 2 and 3; of these, both due at 3, push 2 is first
 one_late : heard (record { loss = 0; again = 0; late = 51 }) words pushed ≡ (10 ∷ []) ∷ (12 ∷ []) ∷ (13 ∷ []) ∷ (11 ∷ []) ∷ []
-unfolding heard heard_places due_at due_number times_heard
+unfolding heard heard_places places_due due_at due_number times_heard
 one_late = refl
 
 -- the pushes 0, 1 and 3 have a first word below 51 of a hundred; a push that is lost is not heard again or late
 some_lost : heard (record { loss = 51; again = 100; late = 51 }) words pushed ≡ (12 ∷ []) ∷ (12 ∷ []) ∷ []
-unfolding heard heard_places due_at due_number times_heard
+unfolding heard heard_places places_due due_at due_number times_heard
 some_lost = refl
 
 -- by the words that the seed 3 gives to reader 3
 by_seed : heard_by 3 3 (record { loss = 30; again = 30; late = 60 }) pushed ≡ (11 ∷ []) ∷ (12 ∷ []) ∷ (10 ∷ []) ∷ (10 ∷ []) ∷ []
-unfolding heard_by words_by heard heard_places due_at due_number times_heard
+unfolding heard_by words_by heard heard_places places_due due_at due_number times_heard
 by_seed = refl
 
 -- the first three words of the reference generator

@@ -11,7 +11,7 @@ use Rattle.std.proofs.lemmas.List.Elements.{All-append, All-cons, All-map, Conta
 use Rattle.std.proofs.lemmas.List.FromFn.{get_or-map-range_with_len, length-map-range_with_len}
 use Rattle.std.proofs.lemmas.List.Kept.{AllPairs-cons}
 use Rattle.std.proofs.lemmas.List.Sums.{sum_by-append, sum_by-cons}
-use Rattle.air_model.specs.Ethers.{Odds, due_at, due_number, heard, heard_places, times_heard, word_of}
+use Rattle.air_model.specs.Ethers.{Odds, due_at, due_number, heard, heard_places, places_due, times_heard, word_of}
 
 -- ---- lists over a range
 range_join : (a n m : ℕ) → range_with_len a (n + m) ≡ range_with_len a n ++ range_with_len (a + n) m
@@ -143,7 +143,7 @@ module _ (odds : Odds) (words : List ℕ) where
       let t = push_tells number place k d l in (ap (due_number odds words) t.0 ∙ t.1, (let same = t.0 in omega arith)))
 
   places_below : (n : ℕ) → All (λ p. p < n) (heard_places odds words n)
-  unfolding heard_places
+  unfolding heard_places places_due
   places_below n = all_over (λ p. p < n) (due_at odds words n) 0 (n + 8) (λ number low high k d l. (due_tells n number k d l).1)
 
   -- once it is clear what is due at a number, further pushes change nothing there
@@ -179,7 +179,7 @@ module _ (odds : Odds) (words : List ℕ) where
       ∙ count_push number v v ∙ ap (λ (b : Bool). if b then (if due_number odds words v == number then times_heard odds words v else 0) else 0) (eq-eqb v v refl)
 
   pub times_are : (n v : ℕ) → v < n → count_by (λ p. p == v) (heard_places odds words n) ≡ times_heard odds words v
-  unfolding heard_places
+  unfolding heard_places places_due
   times_are n v within =
       count_only (λ p. p == v) (due_at odds words n) 0 (n + 8) (due_number odds words v)
       (λ number ne. count_due n number v within ∙ ap (λ (b : Bool). if b then times_heard odds words v else 0) (ne_eqb (due_number odds words v) number (λ same. ne (sym same))))
@@ -207,7 +207,7 @@ module _ (odds : Odds) (words : List ℕ) where
       inr (ap (due_number odds words) x ∙ s.1 ∙ sym (ap (due_number odds words) y ∙ t.1), omega arith))
 
   pub in_order : (n : ℕ) → AllPairs InOrder (heard_places odds words n)
-  unfolding heard_places
+  unfolding heard_places places_due
   in_order n = pairs_over InOrder (due_at odds words n) 0 (n + 8) (due_in_order n) (λ j k less i d l e c m.
       let s = (due_tells n j i d l).0 in
       let t = (due_tells n k e c m).0 in
@@ -259,7 +259,7 @@ unfolding due_at
 due_never words n number past = flat_none (of_push clear words number) 0 n (λ place low high. push_other words number place (λ same. absurd (omega arith)))
 
 places_clear : (words : List ℕ) (n : ℕ) → heard_places clear words n ≡ range_with_len 0 n
-unfolding heard_places
+unfolding heard_places places_due
 places_clear words n =
     ap (flat_map (due_at clear words n)) (range_join 0 n 8) ∙ flat_map-append (due_at clear words n) (range_with_len 0 n) (range_with_len (0 + n) 8)
     ∙ ap (λ l. flat_map (due_at clear words n) (range_with_len 0 n) ++ l) (flat_none (due_at clear words n) (0 + n) 8 (λ number low high. due_never words n number (omega arith)))

@@ -33,8 +33,8 @@ exact_from H query Unfinished R t =
       unfinished = (λ _. (t.0, missing), λ _. refl);
     }
 
-pub exact : (values : List ℕ) (air : Air) (H : List Event) (reader : Reader) (heard : List (Option Bucket)) → air.policy ≡ FMatrix → QueriesFilled reader → CyclesFromOne air heard →
-    All (IsExactLine H reader) (session (by_history air.policy values H) air reader heard).lines
+pub exact : (values : List ℕ) (air : Air) (H : List Event) (reader : Reader) (heard : List (Option Bucket)) → air.scheme.policy ≡ FMatrix → QueriesFilled reader → CyclesFromOne air heard →
+    All (IsExactLine H reader) (session (by_history air.scheme values H) air reader heard).lines
 exact V air H reader heard f filled cycles k d l =
-    let line = get_or (session (by_history air.policy V H) air reader heard).lines k d in
+    let line = get_or (session (by_history air.scheme V H) air reader heard).lines k d in
     exact_from H (get_or reader.queries line.verdict.query []) line.verdict.kind (reads_at line) (verdict V air H reader heard f filled cycles k d l)

@@ -6,7 +6,7 @@ use Rattle.air_base.specs.declared.verdicts.Policy.TheVariants.{FMatrix, Datacyc
 use Rattle.air_history.specs.declared.histories.Event.{Event}
 use Rattle.air_history.specs.declared.histories.Event.TheVariants.{Commit, Start}
 use Rattle.air_history.specs.Histories.{front, is_start, starts}
-use Rattle.air_history.specs.Columns.{aired_entries, column, vector}
+use Rattle.air_history.specs.Columns.{policy_entries, column, vector}
 use Rattle.air_history.specs.Tables.{table, values_of}
 use Rattle.air_history.specs.Reads.{read_value}
 use Rattle.air_model.specs.Buckets.{Body, Bucket}
@@ -39,7 +39,7 @@ body_by values air G item Datacycle = aired_as Datacycle item (table (values_of 
 body_by values air G item RMatrix = aired_as RMatrix item (table (values_of values) G item) (vector air.items G)
 
 body_is : (values : List ℕ) (air : Air) (H : List Event) (c item : ℕ) (p : Policy) →
-    aired_as p item (read_value (values_of values) H (record { item = item; cycle = c })) (aired_entries p air.items H c item) ≡ body_by values air (front H c) item p
+    aired_as p item (read_value (values_of values) H (record { item = item; cycle = c })) (policy_entries p air.items H c item) ≡ body_by values air (front H c) item p
 unfolding body_by
 body_is values air H c item FMatrix = refl
 body_is values air H c item Datacycle = refl
@@ -49,9 +49,9 @@ body_later : (values : List ℕ) (air : Air) (H later : List Event) (c : ℕ) (o
 unfolding body_of
 body_later values air H later c None l = refl
 body_later values air H later c (Some item) l =
-    body_is values air (H ++ later) c item air.policy
-    ∙ ap (λ G. body_by values air G item air.policy) (front_append H later c l)
-    ∙ sym (body_is values air H c item air.policy)
+    body_is values air (H ++ later) c item air.scheme.policy
+    ∙ ap (λ G. body_by values air G item air.scheme.policy) (front_append H later c l)
+    ∙ sym (body_is values air H c item air.scheme.policy)
 
 pub later : (values : List ℕ) (air : Air) (H later : List Event) (c s : ℕ) → c ≤ starts H →
     bucket_of values air (H ++ later) c s ≡ bucket_of values air H c s

@@ -35,3 +35,4 @@ pub mod SessionExamples
 pub mod OutputExamples
 pub mod RelationExamples
 pub mod LineExamples
+pub mod RowLemmas

@@ -5,7 +5,7 @@ use Rattle.std.proofs.lemmas.Bool.{false≢true}
 use Rattle.air_base.specs.declared.verdicts.Policy.TheVariants.{FMatrix}
 use Rattle.air_base.specs.declared.verdicts.VerdictKind.TheVariants.{Accept, Abort, Unfinished}
 use Rattle.air_history.specs.Clashes.{clash_by_entries, is_late, least}
-use Rattle.air_history.specs.Columns.{column_entry}
+use Rattle.air_history.specs.Columns.{scheme_of, column_entry}
 use Rattle.air_history.specs.Histories.{front, is_start, starts}
 use Rattle.air_history.specs.Places.{greatest}
 use Rattle.air_history.specs.Tables.{table}
@@ -40,12 +40,12 @@ true_session = receiver pair (script_history pair) 0 (all_of pair) pair_is_deck 
 abbrev accepted : Line
 accepted = line 0 1 Accept (read 0 1 10 ∷ read 1 1 20 ∷ [])
 
-one_line : (session_of (by_entries FMatrix) pair 0 (all_of pair)).lines ≡ accepted ∷ []
+one_line : (session_of (by_entries (scheme_of FMatrix)) pair 0 (all_of pair)).lines ≡ accepted ∷ []
 unfolding column_entry front greatest starts is_start table event_of script_history cut order order_with chunk chunk_len least_common_multiple minor_cycle num_chunks num_minors program chunks_of disk_number pix_number body_fits body_of bucket_of buckets_of fits by_entries clash_by_entries is_late least keep with_copy without abort accept_if_whole copy_of count_copied count_dozed count_foreign count_late count_opened count_refused decide drop_copy end end_query hear hear_all hear_read hold is_unusable line_of next_attempt next_query offer open_bucket query_of session settle turn turn_with wanted with_line
 one_line = refl
 
 -- What the session's lines keep, that line keeps: it is sound, the reader's own, and exact.
-kept : (P : Line → Type 0) → All P ((session_of (by_entries FMatrix) pair 0 (all_of pair)).lines) → P accepted
+kept : (P : Line → Type 0) → All P ((session_of (by_entries (scheme_of FMatrix)) pair 0 (all_of pair)).lines) → P accepted
 kept P h = subst (All P) one_line h 0 accepted (omega arith)
 
 pub sound_line : IsSoundLine (values_in pair) FMatrix (script_history pair) accepted
@@ -92,8 +92,8 @@ cycles_from_one = All-from_recursion (λ o. IfSome o (λ b. IsTrue (fits (air_of
     (λ _. omega arith, (tt, (λ f. absurd (false≢true f), tt)))
 
 -- Both judges name a held item; one that names item 7 whatever is held doesn't.
-pub name_held : NamesHeld (by_history FMatrix (values_in pair) (script_history pair)) × NamesHeld (by_entries FMatrix)
-name_held = names FMatrix (values_in pair) (script_history pair)
+pub name_held : NamesHeld (by_history (scheme_of FMatrix) (values_in pair) (script_history pair)) × NamesHeld (by_entries (scheme_of FMatrix))
+name_held = names (scheme_of FMatrix) (values_in pair) (script_history pair)
 
 abbrev names_seven : Judge
 names_seven = record { value = λ r. 0; clash = λ R x. Some (record { item = 7; cycle = 0 }) }

@@ -7,7 +7,7 @@ use Rattle.std.specs.Option.{is_some}
 use Rattle.std.specs.Fn.{iterate}
 use Rattle.std.proofs.lemmas.Bool.{eqb-true, ltb-true}
 use Rattle.std.proofs.lemmas.List.{length_push}
-use Rattle.std.proofs.lemmas.List.Elements.{All-head, All-tail, All-push, All-filter, All-nil}
+use Rattle.std.proofs.lemmas.List.Elements.{All-head, All-tail, All-push, All-filter, All-nil, All-append, All-cons}
 use Rattle.air_base.specs.declared.verdicts.Clash.{Clash}
 use Rattle.air_base.specs.declared.verdicts.VerdictKind.TheVariants.{Accept, Abort, Unfinished}
 use Rattle.air_history.specs.Clashes.{is_late}
@@ -25,7 +25,7 @@ item_after reader q R = slice_get (get_or reader.queries q []) (length R)
 -- the new read x is judged after the held reads R of query q
 pub record IsJudged (air : Air) (reader : Reader) (q : ℕ) (R : List Read) (x : Read) : Type 0 where
   pub wanted : item_after reader q R ≡ Some x.item
-  pub in_time : is_late air.policy (map place_of R) (place_of x) ≡ false
+  pub in_time : is_late air.scheme.policy (map place_of R) (place_of x) ≡ false
 
 -- Q of each read that was heard, K of the query, the attempt and its held reads, and L of each line stand at every moment
 pub record Keeps (judge : Judge) (air : Air) (reader : Reader) (Q : Read → Type 0) (K : ℕ → ℕ → List Read → Type 0) (L : Line → Type 0) : Type 0 where
@@ -136,8 +136,8 @@ module _ (judge : Judge) (air : Air) (reader : Reader) (Q : Read → Type 0) (K 
   decide_good x (Some i) s g qx w late e = abort_good x i s g qx w late e
 
   offer_good : (x : Read) (s : State) → Good reader Q K L s → Q x → Good reader Q K L (offer air reader x s)
-  unfolding offer keep with_copy without wanted query_of
-  offer_good x s g qx = record { held = g.held; copies = All-filter _ Q _ (All-push Q _ x (All-filter _ Q s.copies g.copies) qx); lines = g.lines; unread = g.unread }
+  unfolding offer keep with_copy wanted query_of
+  offer_good x s g qx = record { held = g.held; copies = All-filter _ Q _ (All-append Q _ (x ∷ _) (All-filter _ Q s.copies g.copies) (All-cons Q x _ qx (All-filter _ Q s.copies g.copies))); lines = g.lines; unread = g.unread }
 
   open_good : (x : Read) (s : State) → Good reader Q K L s → Q x → wanted reader s ≡ Some x.item → comes_late air s x ≡ false → Good reader Q K L (open_bucket judge air reader x s)
   unfolding open_bucket count_opened wanted query_of

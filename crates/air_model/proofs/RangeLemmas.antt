@@ -15,7 +15,7 @@ use Rattle.air_history.specs.declared.updates.Write.{Write}
 use Rattle.air_history.specs.declared.histories.Event.{Event}
 use Rattle.air_history.specs.declared.histories.Event.TheVariants.{Commit, Start}
 use Rattle.air_history.specs.Histories.{cycle_at, front, starts, writer, writes_of}
-use Rattle.air_history.specs.Columns.{aired_entries, column_entry, vector_entry}
+use Rattle.air_history.specs.Columns.{policy_entries, column_entry, vector_entry}
 use Rattle.history_laws.proofs.StaleLemmas.{cycle_of}
 use Rattle.air_history.specs.Tables.{based, put, table, value_after, values_of, write_of}
 use Rattle.air_history.specs.Reads.{read_value}
@@ -51,7 +51,7 @@ map_below f n c h k d l =
     let within : k < n = omega (arith, length-map-range_with_len f 0 n) in
     subst (λ e. e < c) (sym (get_or-map-range_with_len f 0 n k k d within (omega arith))) (h k)
 
-entries_below : (p : Policy) (n : ℕ) (H : List Event) (c j : ℕ) → 1 ≤ c → All (λ e. e < c) (aired_entries p n H c j)
+entries_below : (p : Policy) (n : ℕ) (H : List Event) (c j : ℕ) → 1 ≤ c → All (λ e. e < c) (policy_entries p n H c j)
 entries_below FMatrix n H c j one = map_below (column_entry (front H c) j) n c (λ i. column_below H c j i one)
 entries_below Datacycle n H c j one = map_below (vector_entry (front H c)) n c (λ i. vector_below H c i one)
 entries_below RMatrix n H c j one = map_below (vector_entry (front H c)) n c (λ i. vector_below H c i one)
@@ -129,7 +129,7 @@ body_in_range deck H can c one (Some i) h = by deck.settings.policy
     v = read_value (values_of (values_in deck)) H (record { item = i; cycle = c })
 
     es : Policy → List ℕ
-    es p = aired_entries p n H c i
+    es p = policy_entries p n H c i
 
     long : (p : Policy) → length (es p) ≡ n
     long p = entries_long p n H c i

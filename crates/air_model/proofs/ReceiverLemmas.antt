@@ -7,7 +7,7 @@ use Rattle.air_model.specs.Buckets.{Bucket, bucket_in, spelling}
 use Rattle.air_model.specs.Decks.{values_in, Deck, IsDeck}
 use Rattle.air_model.specs.Draws.{words_of}
 use Rattle.air_model.specs.Ethers.{heard_by}
-use Rattle.air_model.specs.Aired.{Air, IsAired, IsAiredBucket, air_of, buckets_of, fits}
+use Rattle.air_model.specs.Aired.{scheme_in, Air, IsAired, IsAiredBucket, air_of, buckets_of, fits}
 use Rattle.air_model.specs.Judges.{by_entries, by_history}
 use Rattle.air_model.specs.Sessions.{State, reader_of}
 use Rattle.air_model.specs.SessionLaws.{CyclesFromOne, IsExactLine, IsSoundLine, QueriesFilled}
@@ -42,7 +42,7 @@ receiver deck H r heard is l aired =
     record {
       same = same;
       sound = subst (λ (s : State). All (IsSoundLine (values_in deck) policy H) s.lines) (sym same) (sound (values_in deck) a H reader heard filled cycles);
-      own = of_reader (by_entries policy) a reader heard ((names policy (values_in deck) H).1) filled (is.tries r _ l);
+      own = of_reader (by_entries (scheme_in deck)) a reader heard ((names (scheme_in deck) (values_in deck) H).1) filled (is.tries r _ l);
       exact = λ f. subst (λ (s : State). All (IsExactLine H reader) s.lines) (sym same) (exact (values_in deck) a H reader heard f filled cycles);
     }
 
@@ -53,10 +53,10 @@ map_numbers f g a (suc n) h =
     ∙ ap (λ l. g a ∷ l) (map_numbers f g (a + 1) n (λ k low high. h k (omega arith) (omega arith)))
 
 pub true_sessions_are : (deck : Deck) (H : List Event) → CanAir deck H →
-    sessions_over (by_entries deck.settings.policy) deck (ether_of deck H) ≡ true_sessions deck H
+    sessions_over (by_entries (scheme_in deck)) deck (ether_of deck H) ≡ true_sessions deck H
 unfolding true_sessions heard_by
-true_sessions_are deck H can = map_numbers (λ r. session_of (by_entries deck.settings.policy) deck r (map bucket_in (ether_of deck H r)))
-    (λ r. session_of (by_history deck.settings.policy (values_in deck) H) deck r (map bucket_in (ether_of deck H r))) 0 (length deck.readers)
+true_sessions_are deck H can = map_numbers (λ r. session_of (by_entries (scheme_in deck)) deck r (map bucket_in (ether_of deck H r)))
+    (λ r. session_of (by_history (scheme_in deck) (values_in deck) H) deck r (map bucket_in (ether_of deck H r))) 0 (length deck.readers)
     (λ r low high.
     let records = map spelling (buckets_of (values_in deck) (air_of deck) H) in
     let heard = heard_was_pushed (odds_in deck) (words_of deck.settings.seed r (3 * length records)) records in

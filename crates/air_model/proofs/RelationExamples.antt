@@ -4,7 +4,7 @@ use Rattle.std.proofs.lemmas.List.Elements.{All-nil, All-from_recursion}
 use Rattle.std.proofs.lemmas.Bool.{false≢true}
 use Rattle.std.proofs.lemmas.List.Kept.{AllPairs-cons}
 use Rattle.air_base.specs.declared.verdicts.Policy.TheVariants.{FMatrix}
-use Rattle.air_history.specs.Columns.{column_entry}
+use Rattle.air_history.specs.Columns.{scheme_of, column_entry}
 use Rattle.air_history.specs.Histories.{front, starts, is_start}
 use Rattle.air_history.specs.Places.{greatest}
 use Rattle.air_history.specs.Tables.{table}
@@ -235,11 +235,11 @@ pub true_session : IsTrueSession pair (script_history pair) 0 (Some first ∷ No
 true_session = receiver pair (script_history pair) 0 (Some first ∷ None ∷ Some (record first { edition = 1; cycle = 9 }) ∷ []) pair_is_deck (omega arith) aired_list
 
 -- Of three slots each that has an item has one of the two.
-pub slots_fit : SlotsFit (record { policy = FMatrix; items = 2; slots = three_slots; pix = [] })
+pub slots_fit : SlotsFit (record { scheme = scheme_of FMatrix; items = 2; slots = three_slots; pix = [] })
 slots_fit = All-from_recursion (λ o. IfSome o (λ i. i < 2)) three_slots (omega arith, (omega arith, (tt, tt)))
 
 -- Of one item alone they don't.
-slots_of_more : SlotsFit (record { policy = FMatrix; items = 1; slots = three_slots; pix = [] }) → ⊥
+slots_of_more : SlotsFit (record { scheme = scheme_of FMatrix; items = 1; slots = three_slots; pix = [] }) → ⊥
 slots_of_more h = let low : 1 < 1 = h 1 None (omega arith) in omega arith
 
 -- What the history looks at of the bucket.
@@ -253,4 +253,8 @@ abbrev copy : ℕ → Read
 copy i = record { item = i; cycle = 1; value = 0; entries = [] }
 
 pub own_items : HaveOwnItems (copy 0 ∷ copy 1 ∷ [])
-own_items = AllPairs-cons (λ a b. a.item ≢ b.item) (copy 0) (copy 1 ∷ []) (All-from_recursion (λ b. 0 ≢ b.item) (copy 1 ∷ []) (λ e. omega (arith, e), tt)) (λ i j d less within. absurd (omega arith))
+own_items = AllPairs-cons (λ a b. a.item < b.item) (copy 0) (copy 1 ∷ []) (All-from_recursion (λ b. 0 < b.item) (copy 1 ∷ []) (omega arith, tt)) (λ i j d less within. absurd (omega arith))
+
+-- Copies in another order don't stand by rising item, nor do two copies of one item.
+no_own_items : (HaveOwnItems (copy 1 ∷ copy 0 ∷ []) → ⊥) × (HaveOwnItems (copy 1 ∷ copy 1 ∷ []) → ⊥)
+no_own_items = (λ h. let less = h 0 1 (copy 0) (omega arith) (omega arith) in omega arith, λ h. let less = h 0 1 (copy 0) (omega arith) (omega arith) in omega arith)

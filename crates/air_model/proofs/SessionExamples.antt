@@ -12,7 +12,7 @@ use Rattle.air_history.specs.UpdateLists.{UpdateLists}
 use Rattle.air_history.specs.Places.{last_place, greatest}
 use Rattle.air_history.specs.Histories.{cycle_at, front, starts, writer, writer_before, writes, reads, is_start}
 use Rattle.air_history.specs.Descents.{descends, descends_in}
-use Rattle.air_history.specs.Columns.{column_entry, vector_entry}
+use Rattle.air_history.specs.Columns.{scheme_of, column_entry, vector_entry}
 use Rattle.air_history.specs.Tables.{based, write_of, value_after, table}
 use Rattle.air_history.specs.Reads.{origin, stale}
 use Rattle.air_history.specs.Consistency.{descends_from, runs_alone, last_alone, consistent}
@@ -23,7 +23,7 @@ use Rattle.air_model.specs.Disks.{order, order_with, cut}
 use Rattle.air_model.specs.Programs.{program, least_common_multiple, num_minors, num_chunks, chunk_len, chunk, minor_cycle}
 use Rattle.air_model.specs.Airings.{disk_number, chunks_of, pix_number}
 use Rattle.air_model.specs.Decks.{Deck, Item, event_of, script_history, values_in}
-use Rattle.air_model.specs.Aired.{air_of, body_of, bucket_of, buckets_of, body_fits, fits}
+use Rattle.air_model.specs.Aired.{scheme_in, air_of, body_of, bucket_of, buckets_of, body_fits, fits}
 use Rattle.air_model.specs.Judges.{Judge, by_history, by_entries}
 use Rattle.air_model.specs.Sessions.{Line, State, reader_of, session, query_of, wanted, line_of, with_line, count_copied, count_opened, count_dozed, count_late, count_refused, count_foreign, next_query, next_attempt, accept_if_whole, hold, abort, is_unusable, drop_copy, copy_of, turn_with, turn, settle, decide, offer, open_bucket, hear_read, hear, hear_all, end_query, end}
 
@@ -107,7 +107,7 @@ over judge d heard = let t : State = session judge (air_of d) (reader_of d 0) he
 -- The session is this one, by the history and by the entries.
 abbrev by_both : Deck → List (Option Bucket) → List Line × Counts → Type 0
 by_both d heard result =
-    (over (by_history d.settings.policy (values_in d) (script_history d)) d heard ≡ result) × (over (by_entries d.settings.policy) d heard ≡ result)
+    (over (by_history (scheme_in d) (values_in d) (script_history d)) d heard ≡ result) × (over (by_entries (scheme_in d)) d heard ≡ result)
 
 -- A read of an item in a cycle, and its value.
 abbrev pub read : ℕ → ℕ → ℕ → ReadOf
@@ -156,13 +156,13 @@ pub record Sessions : Type 0 where
   refused_and_foreign : by_both pair (None ∷ None ∷ bucket 1 0 (Column 0 10 (0 ∷ 0 ∷ 0 ∷ [])) ∷ all_of pair)
       (line 0 1 Accept (read 0 1 10 ∷ read 1 1 20 ∷ []) ∷ [], record { opened = 2; dozed = 0; late = 0; refused = 2; foreign = 1; copied = 0 })
   -- Cycles may fall: under F-Matrix it is the entries that clash, and under R-Matrix the older read is late.
-  cycles_fall : over (by_entries FMatrix) pair (bucket 4 0 (Column 0 10 (0 ∷ 0 ∷ [])) ∷ bucket 2 1 (Column 1 20 (0 ∷ 0 ∷ [])) ∷ [])
+  cycles_fall : over (by_entries (scheme_of FMatrix)) pair (bucket 4 0 (Column 0 10 (0 ∷ 0 ∷ [])) ∷ bucket 2 1 (Column 1 20 (0 ∷ 0 ∷ [])) ∷ [])
       ≡ (line 0 1 Accept (read 0 4 10 ∷ read 1 2 20 ∷ []) ∷ [], counted 2 0 0)
-  held_column_clashes : over (by_entries FMatrix) pair (bucket 4 0 (Column 0 10 (3 ∷ 3 ∷ [])) ∷ bucket 2 1 (Column 1 20 (0 ∷ 0 ∷ [])) ∷ [])
+  held_column_clashes : over (by_entries (scheme_of FMatrix)) pair (bucket 4 0 (Column 0 10 (3 ∷ 3 ∷ [])) ∷ bucket 2 1 (Column 1 20 (0 ∷ 0 ∷ [])) ∷ [])
       ≡ (line 0 1 (Abort 1 2 0) (read 0 4 10 ∷ []) ∷ [], counted 2 0 0)
-  held_vector_clashes : over (by_entries Datacycle) (judged_by Datacycle pair) (bucket 4 0 (Vector 0 10 (3 ∷ 3 ∷ [])) ∷ bucket 2 1 (Vector 1 20 (3 ∷ 3 ∷ [])) ∷ [])
+  held_vector_clashes : over (by_entries (scheme_of Datacycle)) (judged_by Datacycle pair) (bucket 4 0 (Vector 0 10 (3 ∷ 3 ∷ [])) ∷ bucket 2 1 (Vector 1 20 (3 ∷ 3 ∷ [])) ∷ [])
       ≡ (line 0 1 (Abort 1 2 0) (read 0 4 10 ∷ []) ∷ [], counted 2 0 0)
-  comes_late : over (by_entries RMatrix) (judged_by RMatrix pair) (bucket 4 0 (Vector 0 10 (0 ∷ 0 ∷ [])) ∷ bucket 2 1 (Vector 1 20 (0 ∷ 0 ∷ [])) ∷ [])
+  comes_late : over (by_entries (scheme_of RMatrix)) (judged_by RMatrix pair) (bucket 4 0 (Vector 0 10 (0 ∷ 0 ∷ [])) ∷ bucket 2 1 (Vector 1 20 (0 ∷ 0 ∷ [])) ∷ [])
       ≡ (line 0 1 Unfinished (read 0 4 10 ∷ []) ∷ [], record { opened = 1; dozed = 0; late = 1; refused = 0; foreign = 0; copied = 0 })
 
 -- And they do.

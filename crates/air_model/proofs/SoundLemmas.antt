@@ -20,6 +20,7 @@ use Rattle.air_history.specs.Reads.{ReadAt, IsRead, read_value}
 use Rattle.air_history.specs.Consistency.{alone, IsConsistent}
 use Rattle.air_history.specs.Clashes.{is_late, clash_by_history}
 use Rattle.air_history.specs.ClashLaws.{Accepts, IsSound}
+use Rattle.air_history.specs.Columns.{Scheme}
 use Rattle.history_laws.proofs.AloneLemmas.{values}
 use Rattle.history_laws.proofs.PolicyLemmas.{stays_consistent}
 use Rattle.history_laws.proofs.AcceptedLemmas.{accepted, accepts_none, accepts_push}
@@ -69,13 +70,13 @@ line_reads : (J : Judge) (q a : ℕ) (kind : VerdictKind) (R : List Read) → re
 unfolding line_of
 line_reads J q a kind R = map-map _ _ R
 
-sound_line : (V : List ℕ) (p : Policy) (H : List Event) (q a : ℕ) (kind : VerdictKind) (R : List Read) → AreAccepted p H R → IsSoundLine V p H (line_of (by_history p V H) q a kind R)
+sound_line : (V : List ℕ) (p : Scheme) (H : List Event) (q a : ℕ) (kind : VerdictKind) (R : List Read) → AreAccepted p.policy H R → IsSoundLine V p.policy H (line_of (by_history p V H) q a kind R)
 unfolding line_of by_history
 sound_line V p H q a kind R k =
-    let sound : IsSound p H (map place_of R) = are_sound p H R k in
+    let sound : IsSound p.policy H (map place_of R) = are_sound p.policy H R k in
     let same : map place_of R ≡ reads_at (line_of (by_history p V H) q a kind R) = sym (line_reads (by_history p V H) q a kind R) in
     record {
-      reads = subst (IsSound p H) same sound;
+      reads = subst (IsSound p.policy H) same sound;
       replayed = λ bases. All-map (λ r. r.value ≡ table (values_of V) (alone H (reads_at (line_of (by_history p V H) q a kind R))) r.item)
           (λ r. record { item = r.item; cycle = r.cycle; value = read_value (values_of V) H (place_of r) }) R
           (λ i d l. sym (subst (λ S. table (values_of V) (alone H S) (get_or R i d).item ≡ read_value (values_of V) H (place_of (get_or R i d))) same
@@ -92,19 +93,19 @@ read_from_one air (Some b) h = λ t. by b.body (h t)
     by (Vector i v es) h = h
 
 pub sound : (values : List ℕ) (air : Air) (H : List Event) (reader : Reader) (heard : List (Option Bucket)) → QueriesFilled reader → CyclesFromOne air heard →
-    All (IsSoundLine values air.policy H) (session (by_history air.policy values H) air reader heard).lines
+    All (IsSoundLine values air.scheme.policy H) (session (by_history air.scheme values H) air reader heard).lines
 unfolding by_history
-sound V air H reader heard filled cycles = kept (by_history air.policy V H) air reader FromOne (λ q a R. AreAccepted air.policy H R) (IsSoundLine V air.policy H) filled rules heard
+sound V air H reader heard filled cycles = kept (by_history air.scheme V H) air reader FromOne (λ q a R. AreAccepted air.scheme.policy H R) (IsSoundLine V air.scheme.policy H) filled rules heard
     (λ k d l. read_from_one air (get_or heard k d) (cycles k d l))
   where
-    rules : Keeps (by_history air.policy V H) air reader FromOne (λ q a R. AreAccepted air.policy H R) (IsSoundLine V air.policy H)
+    rules : Keeps (by_history air.scheme V H) air reader FromOne (λ q a R. AreAccepted air.scheme.policy H R) (IsSoundLine V air.scheme.policy H)
     rules = record {
-      first = λ q. are_none air.policy H;
-      again = λ q a R k l. are_none air.policy H;
-      more = λ q a R x k pos judged none. are_more air.policy H R x k pos judged.in_time none;
-      accepted = λ q a R k l e. sound_line V air.policy H q a Accept R k;
-      aborted = λ q a R x c k pos judged e. sound_line V air.policy H q a (Abort x.item x.cycle c.item) R k;
-      unfinished = λ q a R k e. sound_line V air.policy H q a Unfinished R k;
+      first = λ q. are_none air.scheme.policy H;
+      again = λ q a R k l. are_none air.scheme.policy H;
+      more = λ q a R x k pos judged none. are_more air.scheme.policy H R x k pos judged.in_time none;
+      accepted = λ q a R k l e. sound_line V air.scheme H q a Accept R k;
+      aborted = λ q a R x c k pos judged e. sound_line V air.scheme H q a (Abort x.item x.cycle c.item) R k;
+      unfinished = λ q a R k e. sound_line V air.scheme H q a Unfinished R k;
     }
 
 -- ---- the reads follow the query
@@ -148,37 +149,37 @@ Tells H query Accept R = (map (λ r. r.item) R ≡ query) × IsConsistent H R
 Tells H query (Abort item cycle clash) R = IsConsistent H R × (IsConsistent H (R ++ record { item = item; cycle = cycle } ∷ []) → ⊥)
 Tells H query Unfinished R = IsConsistent H R × (length R < length query)
 
-pub verdict : (values : List ℕ) (air : Air) (H : List Event) (reader : Reader) (heard : List (Option Bucket)) → air.policy ≡ FMatrix → QueriesFilled reader → CyclesFromOne air heard →
-    All (λ l. Tells H (get_or reader.queries l.verdict.query []) l.verdict.kind (reads_at l)) (session (by_history air.policy values H) air reader heard).lines
+pub verdict : (values : List ℕ) (air : Air) (H : List Event) (reader : Reader) (heard : List (Option Bucket)) → air.scheme.policy ≡ FMatrix → QueriesFilled reader → CyclesFromOne air heard →
+    All (λ l. Tells H (get_or reader.queries l.verdict.query []) l.verdict.kind (reads_at l)) (session (by_history air.scheme values H) air reader heard).lines
 unfolding by_history Tells line_of
-verdict V air H reader heard f filled cycles = kept (by_history air.policy V H) air reader FromOne K L filled rules heard
+verdict V air H reader heard f filled cycles = kept (by_history air.scheme V H) air reader FromOne K L filled rules heard
     (λ k d l. read_from_one air (get_or heard k d) (cycles k d l))
   where
     query : ℕ → List ℕ
     query q = get_or reader.queries q []
 
     K : ℕ → ℕ → List Read → Type 0
-    K q a R = AreAccepted air.policy H R × InQuery reader q R
+    K q a R = AreAccepted air.scheme.policy H R × InQuery reader q R
 
     L : Line → Type 0
     L l = Tells H (get_or reader.queries l.verdict.query []) l.verdict.kind (reads_at l)
 
-    same : (q a : ℕ) (kind : VerdictKind) (R : List Read) → map place_of R ≡ reads_at (line_of (by_history air.policy V H) q a kind R)
-    same q a kind R = sym (line_reads (by_history air.policy V H) q a kind R)
+    same : (q a : ℕ) (kind : VerdictKind) (R : List Read) → map place_of R ≡ reads_at (line_of (by_history air.scheme V H) q a kind R)
+    same q a kind R = sym (line_reads (by_history air.scheme V H) q a kind R)
 
-    rules : Keeps (by_history air.policy V H) air reader FromOne K L
+    rules : Keeps (by_history air.scheme V H) air reader FromOne K L
     rules = record {
-      first = λ q. (are_none air.policy H, refl);
-      again = λ q a R k l. (are_none air.policy H, refl);
-      more = λ q a R x k pos judged none. (are_more air.policy H R x k.0 pos judged.in_time none, in_query_more reader q R x k.1 judged.wanted);
+      first = λ q. (are_none air.scheme.policy H, refl);
+      again = λ q a R k l. (are_none air.scheme.policy H, refl);
+      more = λ q a R x k pos judged none. (are_more air.scheme.policy H R x k.0 pos judged.in_time none, in_query_more reader q R x k.1 judged.wanted);
       accepted = λ q a R k l e. subst (λ S. (map (λ r. r.item) S ≡ query q) × IsConsistent H S) (same q a Accept R)
-          (map-map (λ r. r.item) place_of R ∙ k.1 ∙ take_all (length R) (query q) (whole_query (query q) (length R) e), (are_sound air.policy H R k.0).consistent);
+          (map-map (λ r. r.item) place_of R ∙ k.1 ∙ take_all (length R) (query q) (whole_query (query q) (length R) e), (are_sound air.scheme.policy H R k.0).consistent);
       aborted = λ q a R x c k pos judged e. subst (λ S. IsConsistent H S × (IsConsistent H (S ++ place_of x ∷ []) → ⊥)) (same q a (Abort x.item x.cycle c.item) R) (
-        (are_sound air.policy H R k.0).consistent,
-        refuses H R x c k.0.0 pos (are_sound air.policy H R k.0).consistent (subst (λ p. clash_by_history p H (map place_of R) (place_of x) ≡ Some c) f e),
+        (are_sound air.scheme.policy H R k.0).consistent,
+        refuses H R x c k.0.0 pos (are_sound air.scheme.policy H R k.0).consistent (subst (λ p. clash_by_history p H (map place_of R) (place_of x) ≡ Some c) f e),
       );
       unfinished = λ q a R k e. subst (λ S. IsConsistent H S × (length S < length (query q))) (same q a Unfinished R)
-          ((are_sound air.policy H R k.0).consistent, subst (λ n. n < length (query q)) (sym (length-map R place_of)) (part_of_query (query q) (length R) e));
+          ((are_sound air.scheme.policy H R k.0).consistent, subst (λ n. n < length (query q)) (sym (length-map R place_of)) (part_of_query (query q) (length R) e));
     }
 
 -- ---- every line is the reader's

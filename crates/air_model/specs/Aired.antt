@@ -6,7 +6,7 @@ use Rattle.air_base.specs.declared.verdicts.Policy.{Policy}
 use Rattle.air_base.specs.declared.verdicts.Policy.TheVariants.{FMatrix, Datacycle, RMatrix}
 use Rattle.air_history.specs.declared.histories.Event.{Event}
 use Rattle.air_history.specs.Histories.{starts}
-use Rattle.air_history.specs.Columns.{aired_entries}
+use Rattle.air_history.specs.Columns.{Scheme, aired_entries, scheme_of}
 use Rattle.air_history.specs.Tables.{values_of}
 use Rattle.air_history.specs.Reads.{read_value}
 use Rattle.air_model.specs.Buckets.{Bucket, Body, Idle, Column, Vector, spelling}
@@ -15,17 +15,21 @@ use Rattle.air_model.specs.Programs.{program}
 use Rattle.air_model.specs.Airings.{carries, pix_number}
 use Rattle.air_model.specs.Decks.{Deck, rates_in, disks_in}
 
--- All receivers know the policy, the number of items, the item of each slot, and the PIX number of each item.
+-- All receivers know the scheme of entries, the number of items, the item of each slot, and the PIX number of each item.
 pub record Air : Type 0 where
-  pub policy : Policy
+  pub scheme : Scheme
   pub items : ℕ
   pub slots : List (Option ℕ)
   pub pix : List ℕ
 
+-- The deck's scheme is that of its policy.
+abbrev pub scheme_in : Deck → Scheme
+scheme_in deck = scheme_of deck.settings.policy
+
 -- The deck's program and its items' rates give what receivers know.
 abbrev pub air_of : Deck → Air
 air_of deck = record {
-  policy = deck.settings.policy;
+  scheme = scheme_in deck;
   items = length deck.items;
   slots = program (disks_in deck);
   pix = map (λ p. pix_number (disks_in deck) p.0 p.1) (enumerate_from 0 (rates_in deck));
@@ -47,7 +51,7 @@ aired_as policy = if airs_columns policy then Column else Vector
 unfoldable pub body_of : List ℕ → Air → List Event → ℕ → Option ℕ → Body
 body_of values air H c None = Idle air.items
 body_of values air H c (Some item) =
-    aired_as air.policy item (read_value (values_of values) H (record { item = item; cycle = c })) (aired_entries air.policy air.items H c item)
+    aired_as air.scheme.policy item (read_value (values_of values) H (record { item = item; cycle = c })) (aired_entries air.scheme air.items H c item)
 
 -- The bucket of slot s in cycle c, where the catalog has these values.
 unfoldable pub bucket_of : List ℕ → Air → List Event → ℕ → ℕ → Bucket
@@ -66,8 +70,8 @@ history_tape values air H = tape_of (map spelling (buckets_of values air H))
 -- A body fits a slot with this item where the count, the item and the kind are the deck's.
 unfoldable pub body_fits : Air → Option ℕ → Body → Bool
 body_fits air item (Idle count) = is_none item && (count == air.items)
-body_fits air item (Column i value entries) = carries i item && airs_columns air.policy && (length entries == air.items)
-body_fits air item (Vector i value entries) = carries i item && not (airs_columns air.policy) && (length entries == air.items)
+body_fits air item (Column i value entries) = carries i item && airs_columns air.scheme.policy && (length entries == air.items)
+body_fits air item (Vector i value entries) = carries i item && not (airs_columns air.scheme.policy) && (length entries == air.items)
 
 -- A bucket fits the deck where its edition is 0, its slot is the program's, and its body fits that slot.
 unfoldable pub fits : Air → Bucket → Bool

@@ -1,7 +1,7 @@
 -- The copies that a receiver keeps: of those before and a newcomer the greatest by PIX number, as many as there is room for.
 -- A copy's place in the order is told by how many others go before it, so nothing is sorted.
 -- The laws are the contracts of `copies`.
-use Rattle.std.specs.Prelude.{◌≢◌, ℕ, Bool, not, ◌&&◌, ◌||◌, ◌==◌, nat_lt, List, [], ◌∷◌, ◌++◌, slice_index, filter, count_by, AllPairs}
+use Rattle.std.specs.Prelude.{◌<◌, ℕ, Bool, not, ◌&&◌, ◌||◌, ◌==◌, nat_lt, List, [], ◌∷◌, ◌++◌, slice_index, filter, count_by, AllPairs}
 use Rattle.air_model.specs.Reads.{Read}
 
 -- The PIX number of a copy's item.
@@ -20,10 +20,10 @@ keep room pix copies = filter (λ a. nat_lt (count_by (λ b. goes_before pix b a
 unfoldable pub without : ℕ → List Read → List Read
 without item copies = filter (λ r. not (r.item == item)) copies
 
--- The copies with a new one in place of that of the same item.
+-- The copies with a new one in place of that of the same item: they stand by rising item number.
 unfoldable pub with_copy : Read → List Read → List Read
-with_copy x copies = without x.item copies ++ x ∷ []
+with_copy x copies = filter (λ r. nat_lt r.item x.item) copies ++ x ∷ filter (λ r. nat_lt x.item r.item) copies
 
--- No two copies are of one item.
+-- Copies stand by rising item number, so no two are of one item.
 abbrev pub HaveOwnItems : List Read → Type 0
-HaveOwnItems copies = AllPairs (λ a b. a.item ≢ b.item) copies
+HaveOwnItems copies = AllPairs (λ a b. a.item < b.item) copies

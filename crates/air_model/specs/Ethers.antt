@@ -33,9 +33,13 @@ unfoldable pub due_at : Odds → List ℕ → ℕ → ℕ → List ℕ
 due_at odds words n number =
     flat_map (λ place. if due_number odds words place == number then replicate (times_heard odds words place) place else []) (range_with_len 0 n)
 
+-- The places of what is due of n pushes at the numbers below a bound, number by number.
+unfoldable pub places_due : Odds → List ℕ → ℕ → ℕ → List ℕ
+places_due odds words n bound = flat_map (due_at odds words n) (range_with_len 0 bound)
+
 -- The places of what is heard of n pushes, by due number; none is due above n + 7.
 unfoldable pub heard_places : Odds → List ℕ → ℕ → List ℕ
-heard_places odds words n = flat_map (due_at odds words n) (range_with_len 0 (n + 8))
+heard_places odds words n = places_due odds words n (n + 8)
 
 -- The heard list of a pushed list.
 unfoldable pub heard : Odds → List ℕ → List (List ℕ) → List (List ℕ)

@@ -1,9 +1,9 @@
 -- The two judges of a receiver's reads: the history, and the entries that were heard. The first sees of a read its
 -- item and its cycle alone, so no column, vector or heard value stands in it.
 use Rattle.std.specs.Prelude.{ℕ, List, map, Option}
-use Rattle.air_base.specs.declared.verdicts.Policy.{Policy}
 use Rattle.air_base.specs.declared.verdicts.Clash.{Clash}
 use Rattle.air_history.specs.declared.histories.Event.{Event}
+use Rattle.air_history.specs.Columns.{Scheme}
 use Rattle.air_history.specs.Reads.{ReadAt, read_value}
 use Rattle.air_history.specs.Tables.{values_of}
 use Rattle.air_history.specs.Clashes.{Heard, clash_by_history, clash_by_entries}
@@ -23,15 +23,15 @@ abbrev pub heard_of : Read → Heard
 heard_of r = record { item = r.item; cycle = r.cycle; entries = r.entries }
 
 -- The history judges by origins, and takes values from its tables.
-unfoldable pub by_history : Policy → List ℕ → List Event → Judge
-by_history policy values H = record {
+unfoldable pub by_history : Scheme → List ℕ → List Event → Judge
+by_history scheme values H = record {
   value = λ r. read_value (values_of values) H (place_of r);
-  clash = λ R x. clash_by_history policy H (map place_of R) (place_of x);
+  clash = λ R x. clash_by_history scheme.policy H (map place_of R) (place_of x);
 }
 
 -- The entries judge by the cycles in them, and take the heard values.
-unfoldable pub by_entries : Policy → Judge
-by_entries policy = record {
+unfoldable pub by_entries : Scheme → Judge
+by_entries scheme = record {
   value = λ r. r.value;
-  clash = λ R x. clash_by_entries policy (map heard_of R) (heard_of x);
+  clash = λ R x. clash_by_entries scheme.policy (map heard_of R) (heard_of x);
 }

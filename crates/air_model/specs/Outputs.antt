@@ -7,7 +7,7 @@ use Rattle.air_model.specs.Buckets.{bucket_in, spelling}
 use Rattle.air_model.specs.Ethers.{Odds, heard_by}
 use Rattle.air_model.specs.PlanTexts.{plan_text}
 use Rattle.air_model.specs.Decks.{Deck, rates_in, script_history, values_in}
-use Rattle.air_model.specs.Aired.{air_of, buckets_of, history_tape}
+use Rattle.air_model.specs.Aired.{scheme_in, air_of, buckets_of, history_tape}
 use Rattle.air_model.specs.Judges.{Judge, by_entries, by_history}
 use Rattle.air_model.specs.Sessions.{State}
 use Rattle.air_model.specs.ReceiverLaws.{session_of}
@@ -29,7 +29,7 @@ ether_of deck H r = heard_by deck.settings.seed r (odds_in deck) (map spelling (
 
 -- The sessions of all readers over a history, judged by it.
 unfoldable pub true_sessions : Deck → List Event → List State
-true_sessions deck H = sessions_over (by_history deck.settings.policy (values_in deck) H) deck (ether_of deck H)
+true_sessions deck H = sessions_over (by_history (scheme_in deck) (values_in deck) H) deck (ether_of deck H)
 
 -- ---- commands
 
@@ -48,7 +48,7 @@ script_tape deck = history_tape (values_in deck) (air_of deck) (script_history d
 -- What `tune` prints over the records of a tape, and `listen` over what it heard: each reader hears all of it, and
 -- judges by the entries.
 abbrev pub tune_output : Deck → List (List ℕ) → List ℕ
-tune_output deck records = tune_text (sessions_over (by_entries deck.settings.policy) deck (λ r. records))
+tune_output deck records = tune_text (sessions_over (by_entries (scheme_in deck)) deck (λ r. records))
 
 -- What `run` prints, where its threads made this history and its monitors saw these glances and looks.
 abbrev pub run_output : Deck → List Event → List Seen → List Seen → List ℕ

@@ -77,7 +77,7 @@ is_wanted (Some i) item = i == item
 
 -- The new read comes too late after the held ones.
 abbrev pub comes_late : Air → State → Read → Bool
-comes_late air s x = is_late air.policy (map place_of s.held) (place_of x)
+comes_late air s x = is_late air.scheme.policy (map place_of s.held) (place_of x)
 
 -- The next query begins at attempt 1 with nothing held.
 unfoldable pub next_query : State → State

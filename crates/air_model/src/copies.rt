@@ -2,11 +2,11 @@
 //!
 //! `specs/Copies.antt` has the words. The cache and the session of a receiver stand on them.
 
-ghost use Rattle.std.specs.Prelude.{◌≡◌, ℕ, ◌≤◌, min, List, ◌∷◌, ◌++◌, length, sum_by, All, IsTrue, IsPermutation};
+ghost use Rattle.std.specs.Prelude.{◌≡◌, ◌≢◌, ℕ, ◌≤◌, min, List, ◌∷◌, ◌++◌, length, sum_by, All, AllPairs, IsTrue, IsPermutation};
 ghost use Rattle.air_model.specs.Reads.{Read};
 ghost use Rattle.air_model.specs.Copies.{HaveOwnItems, goes_before, keep, pix_of, with_copy};
 
-/// Copies of their own items stay so when a new one comes.
+/// Copies stay by rising item number when a new one comes.
 pub fn keep_own_law()
     ensures { (room : ℕ) (pix : List ℕ) (copies : List Read) (x : Read) → HaveOwnItems copies →
         HaveOwnItems (keep room pix (with_copy x copies)) }
@@ -25,9 +25,9 @@ pub fn keep_one_law()
         keep room pix (front ++ least ∷ back) ≡ front ++ back }
 {}
 
-/// As many copies stay as there is room for, or all where these are fewer.
+/// Of copies of different items as many stay as there is room for, or all where these are fewer.
 pub fn keep_count_law()
-    ensures { (room : ℕ) (pix : List ℕ) (copies : List Read) → HaveOwnItems copies →
+    ensures { (room : ℕ) (pix : List ℕ) (copies : List Read) → AllPairs (λ a b. a.item ≢ b.item) copies →
         length (keep room pix copies) ≡ min room (length copies) }
 {}
 

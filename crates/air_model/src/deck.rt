@@ -3,12 +3,13 @@
 //! Plain data with public fields. The plain deck of `specs/Decks.antt` has them as they stand here. Each
 //! function's contract is one law of its histories; the bodies are empty.
 
-ghost use Rattle.std.specs.Prelude.{◌≡◌, ◌↔◌, ℕ, List, length, take, All};
+ghost use Rattle.std.specs.Prelude.{◌≡◌, ◌↔◌, ℕ, List, length, map, take, All};
 ghost use Rattle.air_history.specs.declared.histories.Event.{Event};
 ghost use Rattle.air_history.specs.Histories.{starts, EventFits};
 ghost use Rattle.air_history.specs.Tables.{BasesRead};
+ghost use Rattle.air_model.specs.Reports.{event_row};
 ghost use Rattle.air_model.specs.Decks.{Deck, IsDeck, IsLegal, IsWhole, ScriptFits, count_made, script_history, updates_by};
-ghost use Rattle.air_model.specs.DeckLaws.{commits_from, made_by};
+ghost use Rattle.air_model.specs.DeckLaws.{HasNumbers, commits_from, made_by};
 ghost use Rattle.air_model.specs.Aired.{SlotsFit, air_of};
 ghost use Rattle.air_model.specs.Sessions.{reader_of};
 ghost use Rattle.air_model.specs.SessionLaws.{QueriesFilled};
@@ -57,15 +58,21 @@ pub fn whole_law()
         (((by : ℕ) → made_by by H ≡ commits_from by 0 (updates_by deck by)) × (starts H ≡ deck.settings.cycles)) }
 {}
 
+/// The rows of legal histories tell them: of a deck whose numbers fit, two with equal rows are equal.
+pub fn one_rows_law()
+    ensures { (deck : Deck) (H G : List Event) → HasNumbers deck → IsLegal deck H → IsLegal deck G →
+        map event_row H ≡ map event_row G → H ≡ G }
+{}
+
 /// The history of a script that fits is legal.
 pub fn script_law()
     ensures { (deck : Deck) → ScriptFits deck → IsLegal deck (script_history deck) }
 {}
 
-/// A legal history of a well made deck has items of the catalog alone, and each base is read.
+/// A legal history of a well made deck has updaters of the deck and items of the catalog alone, and each base is read.
 pub fn events_law()
     ensures { (deck : Deck) (H : List Event) → IsDeck deck → IsLegal deck H →
-        All (EventFits (length deck.items)) H × All BasesRead H }
+        All (EventFits (length deck.updates) (length deck.items)) H × All BasesRead H }
 {}
 
 /// The slots of a well made deck have items of the catalog, and its queries are filled.

@@ -5,12 +5,12 @@
 
 ghost use Rattle.std.specs.Prelude.{◌≡◌, ℕ, ◌<◌, ◌≤◌, List, [], length, map, All, Option, None};
 ghost use Rattle.std.specs.Option.{option_map};
-ghost use Rattle.air_base.specs.declared.verdicts.Policy.{Policy};
 ghost use Rattle.air_base.specs.declared.verdicts.Policy.TheVariants.{FMatrix};
 ghost use Rattle.air_history.specs.declared.histories.Event.{Event};
+ghost use Rattle.air_history.specs.Columns.{Scheme};
 ghost use Rattle.air_model.specs.Buckets.{Bucket};
 ghost use Rattle.air_model.specs.Decks.{Deck, IsDeck, values_in};
-ghost use Rattle.air_model.specs.Aired.{Air, IsAired, SlotsFit, air_of};
+ghost use Rattle.air_model.specs.Aired.{scheme_in, Air, IsAired, SlotsFit, air_of};
 ghost use Rattle.air_model.specs.AiredLaws.{CanAir};
 ghost use Rattle.air_model.specs.Judges.{Judge, by_entries, by_history};
 ghost use Rattle.air_model.specs.Sessions.{Line, Reader, State, copy_of, end_query, hear, session, settle, turn, wanted};
@@ -22,14 +22,14 @@ ghost use Rattle.air_model.specs.Outputs.{ether_of, sessions_over, true_sessions
 pub fn judges_law()
     ensures { (values : List ℕ) (air : Air) (H : List Event) (reader : Reader) (heard : List (Option Bucket)) →
         SlotsFit air → QueriesFilled reader → IsAired values air H heard →
-        session (by_history air.policy values H) air reader heard ≡ session (by_entries air.policy) air reader heard }
+        session (by_history air.scheme values H) air reader heard ≡ session (by_entries air.scheme) air reader heard }
 {}
 
 /// By the history a session is the same over bare buckets: no column, no vector and no heard value is looked at.
 pub fn bare_law()
     ensures { (values : List ℕ) (air : Air) (H : List Event) (reader : Reader) (heard : List (Option Bucket)) →
-        let s = session (by_history air.policy values H) air reader heard in
-        let t = session (by_history air.policy values H) air reader (map (option_map bare) heard) in
+        let s = session (by_history air.scheme values H) air reader heard in
+        let t = session (by_history air.scheme values H) air reader (map (option_map bare) heard) in
         (t.lines ≡ s.lines) × (t.counts ≡ s.counts) }
 {}
 
@@ -38,21 +38,21 @@ pub fn bare_law()
 pub fn sound_law()
     ensures { (values : List ℕ) (air : Air) (H : List Event) (reader : Reader) (heard : List (Option Bucket)) →
         QueriesFilled reader → CyclesFromOne air heard →
-        All (IsSoundLine values air.policy H) (session (by_history air.policy values H) air reader heard).lines }
+        All (IsSoundLine values air.scheme.policy H) (session (by_history air.scheme values H) air reader heard).lines }
 {}
 
 /// Every verdict of the history under F-Matrix is exact, over every heard list: a query is accepted exactly if its reads
 /// are whole and consistent, and aborted exactly if they are not consistent.
 pub fn exact_law()
     ensures { (values : List ℕ) (air : Air) (H : List Event) (reader : Reader) (heard : List (Option Bucket)) →
-        air.policy ≡ FMatrix → QueriesFilled reader → CyclesFromOne air heard →
-        All (IsExactLine H reader) (session (by_history air.policy values H) air reader heard).lines }
+        air.scheme.policy ≡ FMatrix → QueriesFilled reader → CyclesFromOne air heard →
+        All (IsExactLine H reader) (session (by_history air.scheme values H) air reader heard).lines }
 {}
 
 /// Both judges name a held read where a new one clashes.
 pub fn names_law()
-    ensures { (policy : Policy) (values : List ℕ) (H : List Event) →
-        NamesHeld (by_history policy values H) × NamesHeld (by_entries policy) }
+    ensures { (scheme : Scheme) (values : List ℕ) (H : List Event) →
+        NamesHeld (by_history scheme values H) × NamesHeld (by_entries scheme) }
 {}
 
 /// Every line is the reader's, by each judge that names held reads and over every heard list: its query, its attempt and
@@ -96,5 +96,5 @@ pub fn receiver_law()
 /// Readers that hear a history through their ethers, and judge by the entries, have the sessions that it judges.
 pub fn true_sessions_law()
     ensures { (deck : Deck) (H : List Event) → CanAir deck H →
-        sessions_over (by_entries deck.settings.policy) deck (ether_of deck H) ≡ true_sessions deck H }
+        sessions_over (by_entries (scheme_in deck)) deck (ether_of deck H) ≡ true_sessions deck H }
 {}

@@ -78,7 +78,7 @@ last_is values air G by slots board is fit =
     let fits : SlotsFit air = subst (λ xs. All (λ o. IfSome o (λ i. i < air.items)) xs) (sym is.slots) (subst (λ n. All (λ o. IfSome o (λ i. i < n)) slots) sized fit) in
     ap (λ (b : Board). cycle_bytes by slots b) is.board
     ∙ ap (λ (p : Policy). cycle_bytes p slots (board_of values (G ++ Start ∷ []))) (sym is.policy)
-    ∙ ap (λ (xs : List (Option ℕ)). cycle_bytes air.policy xs (board_of values (G ++ Start ∷ []))) (sym is.slots)
+    ∙ ap (λ (xs : List (Option ℕ)). cycle_bytes air.scheme.policy xs (board_of values (G ++ Start ∷ []))) (sym is.slots)
     ∙ ap (map spelling) (own_cycle values air G is.items fits)
 
 pub last_bytes_are : (values : List ℕ) (air : Air) (G : List Event) (by : Policy) (slots : List (Option ℕ)) (board : Board) (n : ℕ) → IsLastBoard values air G by slots board

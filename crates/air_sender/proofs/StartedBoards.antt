@@ -11,8 +11,8 @@ use Rattle.air_base.specs.declared.verdicts.Policy.TheVariants.{FMatrix, Datacyc
 use Rattle.air_history.specs.UpdateLists.{UpdateLists}
 use Rattle.air_history.specs.declared.histories.Event.{Event}
 use Rattle.air_history.specs.declared.histories.Event.TheVariants.{Commit, Start}
-use Rattle.air_history.specs.Histories.{EventFits, cycle_at, front, is_start, starts, writer}
-use Rattle.air_history.specs.Columns.{aired_entries, column, column_entry, vector, vector_entry}
+use Rattle.air_history.specs.Histories.{ItemsFit, cycle_at, front, is_start, starts, writer}
+use Rattle.air_history.specs.Columns.{policy_entries, column, column_entry, vector, vector_entry}
 use Rattle.air_history.specs.Reads.{read_value}
 use Rattle.air_history.specs.Tables.{BasesRead, table, table_list, values_of}
 use Rattle.air_history.specs.Boards.{Board, board_of, columns}
@@ -56,7 +56,7 @@ abbrev pub next_cycle : List ℕ → List Event → Board
 next_cycle values G = record { cycle = starts G + 1; values = table_list values G; columns = columns (length values) G; vector = vector (length values) G }
 
 pub started : (values : List ℕ) (G : List Event) → board_of values (G ++ Start ∷ []) ≡ next_cycle values G
-unfolding EventFits BasesRead is_start
+unfolding ItemsFit BasesRead is_start
 started values G =
     let n = length values in
     let sized : length (table_list values G) ≡ n = length-map-range_with_len (table (values_of values) G) 0 n in
@@ -77,7 +77,7 @@ body_by Datacycle values n G item = aired_as Datacycle item (table (values_of va
 body_by RMatrix values n G item = aired_as RMatrix item (table (values_of values) G item) (vector n G)
 
 history_body : (p : Policy) (values : List ℕ) (n : ℕ) (H : List Event) (c item : ℕ) →
-    aired_as p item (read_value (values_of values) H (record { item = item; cycle = c })) (aired_entries p n H c item) ≡ body_by p values n (front H c) item
+    aired_as p item (read_value (values_of values) H (record { item = item; cycle = c })) (policy_entries p n H c item) ≡ body_by p values n (front H c) item
 unfolding body_by
 history_body FMatrix values n H c item = refl
 history_body Datacycle values n H c item = refl
@@ -94,17 +94,17 @@ board_body p values G item l = ap (λ v. aired_as p item v (entries_on p (next_c
     by RMatrix = refl
 
 slot_body : (values : List ℕ) (air : Air) (G : List Event) (o : Option ℕ) → air.items ≡ length values → IfSome o (λ i. i < air.items) →
-    body_on air.policy (next_cycle values G) o ≡ body_of values air (G ++ Start ∷ []) (starts G + 1) o
+    body_on air.scheme.policy (next_cycle values G) o ≡ body_of values air (G ++ Start ∷ []) (starts G + 1) o
 unfolding body_on body_of
 slot_body values air G None n h = ap (λ k. let y : Body = Rattle.air_model.specs.Buckets.Idle k in y) (length-map-range_with_len (table (values_of values) G) 0 (length values) ∙ sym n)
 slot_body values air G (Some item) n h =
-    board_body air.policy values G item (omega arith)
-    ∙ ap (λ k. body_by air.policy values k G item) (sym n)
-    ∙ ap (λ F. body_by air.policy values air.items F item) (sym (front_started G))
-    ∙ sym (history_body air.policy values air.items (G ++ Start ∷ []) (starts G + 1) item)
+    board_body air.scheme.policy values G item (omega arith)
+    ∙ ap (λ k. body_by air.scheme.policy values k G item) (sym n)
+    ∙ ap (λ F. body_by air.scheme.policy values air.items F item) (sym (front_started G))
+    ∙ sym (history_body air.scheme.policy values air.items (G ++ Start ∷ []) (starts G + 1) item)
 
 slot_bucket : (values : List ℕ) (air : Air) (G : List Event) (s : ℕ) → air.items ≡ length values → IfSome (get_or air.slots s None) (λ i. i < air.items) →
-    bucket_on air.policy air.slots (next_cycle values G) s ≡ bucket_of values air (G ++ Start ∷ []) (starts G + 1) s
+    bucket_on air.scheme.policy air.slots (next_cycle values G) s ≡ bucket_of values air (G ++ Start ∷ []) (starts G + 1) s
 unfolding bucket_on bucket_of
 slot_bucket values air G s n h =
     ap (λ y. let b : Bucket = record { edition = 0; cycle = starts G + 1; slot = s; body = y } in b) (slot_body values air G (get_or air.slots s None) n h)
@@ -112,11 +112,11 @@ slot_bucket values air G s n h =
 pub own_cycle : OwnCycleLaw
 own_cycle values air G n fit =
     let H = G ++ Start ∷ [] in
-    let buckets = map (bucket_on air.policy air.slots (next_cycle values G)) (range_with_len 0 (length air.slots)) in
-    ap (cycle_buckets air.policy air.slots) (started values G)
-    ∙ fill_by_all (bucket_of values air H (starts G + 1)) buckets (length air.slots) (bucket_on air.policy air.slots (next_cycle values G) 0)
-    (length-map-range_with_len (bucket_on air.policy air.slots (next_cycle values G)) 0 (length air.slots))
-    (λ s l. get_or-map-range_with_len (bucket_on air.policy air.slots (next_cycle values G)) 0 (length air.slots) s s _ l (omega arith) ∙ slot_bucket values air G s n (fit s None l))
+    let buckets = map (bucket_on air.scheme.policy air.slots (next_cycle values G)) (range_with_len 0 (length air.slots)) in
+    ap (cycle_buckets air.scheme.policy air.slots) (started values G)
+    ∙ fill_by_all (bucket_of values air H (starts G + 1)) buckets (length air.slots) (bucket_on air.scheme.policy air.slots (next_cycle values G) 0)
+    (length-map-range_with_len (bucket_on air.scheme.policy air.slots (next_cycle values G)) 0 (length air.slots))
+    (λ s l. get_or-map-range_with_len (bucket_on air.scheme.policy air.slots (next_cycle values G)) 0 (length air.slots) s s _ l (omega arith) ∙ slot_bucket values air G s n (fit s None l))
     ∙ ap (λ c. map (bucket_of values air H c) (range_with_len 0 (length air.slots))) (sym (starts_push values G))
 
 -- ---- its entries are below the cycle

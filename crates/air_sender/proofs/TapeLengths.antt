@@ -30,8 +30,8 @@ body_size : (values : List ℕ) (air : Air) (H : List Event) (c : ℕ) (o : Opti
 unfolding body_of entries_of
 body_size values air H c None = refl
 body_size values air H c (Some item) =
-    ap (λ es. 28 + 4 * length es) (aired_entries_are air.policy item _ _)
-    ∙ ap (λ n. 28 + 4 * n) (entries_long air.policy air.items H c item)
+    ap (λ es. 28 + 4 * length es) (aired_entries_are air.scheme.policy item _ _)
+    ∙ ap (λ n. 28 + 4 * n) (entries_long air.scheme.policy air.items H c item)
 
 slot_size : (values : List ℕ) (air : Air) (H : List Event) (c s : ℕ) → length (record_bytes (spelling (bucket_of values air H c s))) ≡ record_size air.items (get_or air.slots s None)
 unfolding bucket_of

@@ -50,13 +50,13 @@ last_bytes values air G = map spelling (last_cycle values air (G ++ Start ∷ []
 pub record IsLastBoard (values : List ℕ) (air : Air) (G : List Event) (by : Policy) (program : List (Option ℕ)) (b : Board) : Type 0 where
   pub board : b ≡ board_of values (G ++ Start ∷ [])
   pub items : air.items ≡ length values
-  pub policy : air.policy ≡ by
+  pub policy : air.scheme.policy ≡ by
   pub slots : air.slots ≡ program
 
 -- The board of a history that ends with a start airs the history's buckets of that cycle.
 abbrev pub OwnCycleLaw : Type 0
 OwnCycleLaw = (values : List ℕ) (air : Air) (G : List Event) → air.items ≡ length values → SlotsFit air →
-    cycle_buckets air.policy air.slots (board_of values (G ++ Start ∷ []))
+    cycle_buckets air.scheme.policy air.slots (board_of values (G ++ Start ∷ []))
     ≡ map (bucket_of values air (G ++ Start ∷ []) (starts (G ++ Start ∷ []))) (range_with_len 0 (length air.slots))
 
 -- And its entries are below that cycle.

@@ -8,6 +8,7 @@ use Rattle.air_history.specs.Reads.{ReadAt, IsRead, last_cycle}
 use Rattle.air_history.specs.Consistency.{IsConsistent}
 use Rattle.air_history.specs.Clashes.{Heard, read_at, heard_clash, clash_by_history, clash_by_entries}
 use Rattle.air_history.specs.ClashLaws.{IsHeard}
+use Rattle.air_history.specs.Columns.{scheme_of}
 use Rattle.history_laws.proofs.ClashLemmas.{clash}
 use Rattle.history_laws.proofs.PolicyLemmas.{stays_consistent}
 use Rattle.column_check.specs.declared.reads.HeldRead.{HeldRead}
@@ -37,12 +38,12 @@ unfolding clash_by_entries
 least_is R x = refl
 
 -- where the columns are a history's, the clash by the entries is the clash by the history
-pub told_by_history : (n : ℕ) (H : List Event) (R : List Heard) (x : Heard) → All (IsHeard FMatrix n H) R → IsHeard FMatrix n H x →
+pub told_by_history : (n : ℕ) (H : List Event) (R : List Heard) (x : Heard) → All (IsHeard (scheme_of FMatrix) n H) R → IsHeard (scheme_of FMatrix) n H x →
     clash_by_entries FMatrix R x ≡ clash_by_history FMatrix H (map read_at R) (read_at x)
-told_by_history n H R x held new = sym (clash FMatrix n H R x held new tt)
+told_by_history n H R x held new = sym (clash (scheme_of FMatrix) n H R x held new tt)
 
 -- and there is none exactly where the reads stay consistent
-pub none_told : (n : ℕ) (H : List Event) (R : List Heard) (x : Heard) → All (IsHeard FMatrix n H) R → IsHeard FMatrix n H x → IsConsistent H (map read_at R) →
+pub none_told : (n : ℕ) (H : List Event) (R : List Heard) (x : Heard) → All (IsHeard (scheme_of FMatrix) n H) R → IsHeard (scheme_of FMatrix) n H x → IsConsistent H (map read_at R) →
     (clash_by_entries FMatrix R x ≡ None) ↔ IsConsistent H (map read_at R ++ read_at x ∷ [])
 none_told n H R x held new consistent =
     let same = told_by_history n H R x held new in

@@ -5,7 +5,8 @@ use Rattle.air_base.specs.declared.verdicts.Clash.{Clash}
 use Rattle.air_history.specs.declared.histories.Event.{Event}
 use Rattle.air_history.specs.Clashes.{Heard, clash_by_entries}
 use Rattle.air_history.specs.ClashLaws.{IsHeard}
-use Rattle.column_check.specs.HeldReads.{HeldReads, IsNew}
+use Rattle.air_history.specs.Columns.{scheme_of}
+use Rattle.air_history.specs.HeldReads.{HeldReads, IsNew}
 use Rattle.column_check.specs.Searches.{clash_of, disagree}
 
 -- the clash is that of a read that disagrees with the new one, and no such read has a lesser item number
@@ -21,4 +22,4 @@ NamesLeastLaw = (R : List Heard) (x : Heard) →
 -- a read of an item that isn't held, with the column of a history at its cycle, is a new one
 abbrev pub AiredIsNewLaw : Type 0
 AiredIsNewLaw = (held : HeldReads) (H : List Event) (x : Heard) →
-    IsHeard FMatrix held.n H x → All (λ r. r.item ≢ x.item) held.reads → IsNew held x
+    IsHeard (scheme_of FMatrix) held.n H x → All (λ r. r.item ≢ x.item) held.reads → IsNew held x

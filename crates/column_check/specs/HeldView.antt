@@ -2,7 +2,7 @@
 use Rattle.std.specs.Prelude.{◌≡◌, ◌<◌, ◌≤◌, length, map, take, All}
 use Rattle.column_check.specs.declared.held.Held.TheInside.{Inside}
 use Rattle.column_check.specs.HeardReads.{heard_of}
-use Rattle.column_check.specs.HeldReads.{HeldReads}
+use Rattle.air_history.specs.HeldReads.{HeldReads}
 
 -- the reads of the places that hold one
 abbrev pub held_reads : Inside → HeldReads

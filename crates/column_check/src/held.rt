@@ -10,8 +10,9 @@ ghost use Rattle.air_history.specs.Reads.{last_cycle};
 ghost use Rattle.air_history.specs.Consistency.{IsConsistent};
 ghost use Rattle.air_history.specs.Clashes.{read_at, clash_by_history, clash_by_entries};
 ghost use Rattle.air_history.specs.ClashLaws.{IsHeard};
+ghost use Rattle.air_history.specs.Columns.{scheme_of};
 ghost use Rattle.column_check.specs.HeardReads.{heard};
-ghost use Rattle.column_check.specs.HeldReads.{IsNew};
+ghost use Rattle.air_history.specs.HeldReads.{IsNew};
 
 use crate::reads::{HeldRead, least_clash};
 use air_base::{Clash, NoMemory};
@@ -30,7 +31,7 @@ pub struct Held {
 }
 
 impl Model for Held {
-    ghost use Rattle.column_check.specs.HeldReads.{HeldReads};
+    ghost use Rattle.air_history.specs.HeldReads.{HeldReads};
 
     ghost Value = { HeldReads };
 
@@ -84,10 +85,10 @@ impl Held {
 
         // By each history that has these columns at their cycles.
         ensures history { let x = heard item cycle column.now in (H : List Event) →
-            All (IsHeard FMatrix self.now.n H) self.now.reads → IsHeard FMatrix self.now.n H x →
+            All (IsHeard (scheme_of FMatrix) self.now.n H) self.now.reads → IsHeard (scheme_of FMatrix) self.now.n H x →
             result ≡ clash_by_history FMatrix H (map read_at self.now.reads) (read_at x) }
         ensures consistent { let x = heard item cycle column.now in (H : List Event) →
-            All (IsHeard FMatrix self.now.n H) self.now.reads → IsHeard FMatrix self.now.n H x →
+            All (IsHeard (scheme_of FMatrix) self.now.n H) self.now.reads → IsHeard (scheme_of FMatrix) self.now.n H x →
             IsConsistent H (map read_at self.now.reads) →
             (result ≡ None) ↔ IsConsistent H (map read_at self.now.reads ++ read_at x ∷ []) }
     {

@@ -7,7 +7,7 @@ use Rattle.std.proofs.lemmas.List.FromFn.{fill_by_all, get_or-map-range_with_len
 use Rattle.std.proofs.lemmas.List.Sums.{sum_by-append, sum_by-cons}
 use Rattle.air_history.specs.declared.histories.Event.{Event}
 use Rattle.air_history.specs.Places.{greatest, greatest_of, last_place}
-use Rattle.air_history.specs.Histories.{is_start, writes, reads, starts, writer, writer_before, EventFits}
+use Rattle.air_history.specs.Histories.{is_start, writes, reads, starts, writer, writer_before, ItemsFit}
 use Rattle.air_history.specs.Columns.{column, column_entry, vector, vector_entry}
 use Rattle.air_history.specs.Tables.{table, table_list, values_of, value_after, BasesRead}
 use Rattle.air_history.specs.Boards.{Board, board_of, columns}
@@ -42,7 +42,7 @@ starts_push G e = elim (cases_Bool (is_start e)) as (λ _. cond (is_start e) (st
 -- ---- the values
 
 -- tables that agree on the items below n agree on them after a fitting event
-value_within : (n : ℕ) (V W : ℕ → ℕ) (e : Event) (i : ℕ) → EventFits n e → BasesRead e → ((k : ℕ) → k < n → V k ≡ W k) → i < n → value_after V e i ≡ value_after W e i
+value_within : (n : ℕ) (V W : ℕ → ℕ) (e : Event) (i : ℕ) → ItemsFit n e → BasesRead e → ((k : ℕ) → k < n → V k ≡ W k) → i < n → value_after V e i ≡ value_after W e i
 value_within n V W e i fits bases same l = elim (cases_Bool (writes e i)) as (λ _. value_after V e i ≡ value_after W e i) [
   | inl hit ↦ written_same V W e i bases hit (λ k lk. same (get_or (reads e) k 0) (reads_fit n e fits k 0 lk))
   | inr miss ↦ not_written V e i miss ∙ same i l ∙ sym (not_written W e i miss)
@@ -52,7 +52,7 @@ table_one : (V : ℕ → ℕ) (e : Event) (i : ℕ) → table V (e ∷ []) i ≡
 unfolding table
 table_one V e i = refl
 
-values_push : (values : List ℕ) (G : List Event) (e : Event) → EventFits (length values) e → BasesRead e → table_list (table_list values G) (e ∷ []) ≡ table_list values (G ++ e ∷ [])
+values_push : (values : List ℕ) (G : List Event) (e : Event) → ItemsFit (length values) e → BasesRead e → table_list (table_list values G) (e ∷ []) ≡ table_list values (G ++ e ∷ [])
 values_push values G e fits bases =
     let T = table_list values G in
     let sized : length T ≡ length values = length-map-range_with_len (table (values_of values) G) 0 (length values) in
@@ -70,7 +70,7 @@ entry_is n G j i lj li =
     ap (λ xs. get_or xs i 0) (get_or-map-range_with_len (column n G) 0 n j j [] lj (omega arith))
     ∙ get_or-map-range_with_len (column_entry G j) 0 n i i 0 li (omega arith)
 
-written_push : (n : ℕ) (G : List Event) (e : Event) (j i : ℕ) → EventFits n e → writes e j ≡ true → i < n → written_entry (starts G) (columns n G) e i ≡ column_entry (G ++ e ∷ []) j i
+written_push : (n : ℕ) (G : List Event) (e : Event) (j i : ℕ) → ItemsFit n e → writes e j ≡ true → i < n → written_entry (starts G) (columns n G) e i ≡ column_entry (G ++ e ∷ []) j i
 written_push n G e j i fits hit l = sym (
     step G e j i ∙ cond-true (writes e j) _ _ hit
     ∙ ap (λ c. cond (writes e i) c (greatest_of (λ r. column_entry G r i) (reads e))) (cycle_all G (length G) (omega arith))
@@ -80,7 +80,7 @@ kept_push : (n : ℕ) (G : List Event) (e : Event) (j : ℕ) → writes e j ≡ 
 kept_push n G e j miss = fill_by_all (column_entry (G ++ e ∷ []) j) (column n G j) n 0 (length-map-range_with_len (column_entry G j) 0 n)
     (λ k l. get_or-map-range_with_len (column_entry G j) 0 n k k 0 l (omega arith) ∙ sym (step G e j k ∙ cond-false (writes e j) _ _ miss))
 
-column_push : (n : ℕ) (G : List Event) (e : Event) (j : ℕ) → EventFits n e → j < n → next_column n (starts G) (columns n G) e j ≡ column n (G ++ e ∷ []) j
+column_push : (n : ℕ) (G : List Event) (e : Event) (j : ℕ) → ItemsFit n e → j < n → next_column n (starts G) (columns n G) e j ≡ column n (G ++ e ∷ []) j
 column_push n G e j fits l = elim (cases_Bool (writes e j)) as (λ _. next_column n (starts G) (columns n G) e j ≡ column n (G ++ e ∷ []) j) [
   | inl hit ↦ cond-true (writes e j) _ _ hit
       ∙ fill_by_all (column_entry (G ++ e ∷ []) j) (map (written_entry (starts G) (columns n G) e) (range_with_len 0 n)) n 0 (length-map-range_with_len (written_entry (starts G) (columns n G) e) 0 n)
@@ -89,7 +89,7 @@ column_push n G e j fits l = elim (cases_Bool (writes e j)) as (λ _. next_colum
       ∙ get_or-map-range_with_len (column n G) 0 n j j [] l (omega arith) ∙ kept_push n G e j miss
 ]
 
-columns_push : (n : ℕ) (G : List Event) (e : Event) → EventFits n e → next_columns n (starts G) (columns n G) e ≡ columns n (G ++ e ∷ [])
+columns_push : (n : ℕ) (G : List Event) (e : Event) → ItemsFit n e → next_columns n (starts G) (columns n G) e ≡ columns n (G ++ e ∷ [])
 columns_push n G e fits = fill_by_all (column n (G ++ e ∷ [])) (next_columns n (starts G) (columns n G) e) n [] (length-map-range_with_len (next_column n (starts G) (columns n G) e) 0 n)
     (λ j l. get_or-map-range_with_len (next_column n (starts G) (columns n G) e) 0 n j j [] l (omega arith) ∙ column_push n G e j fits l)
 
@@ -174,11 +174,11 @@ commit_board b next e commit cycle sized values columns wide vector =
     (fill_by_all (λ i. cond (writes e i) b.cycle (get_or b.vector i 0)) next.vector n 0 wide vector)
 
 -- a board that was stepped follows every list of events that the old one was of
-pub board_followed : (old next : Board) (e : Event) → EventFits (length old.values) e → BasesRead e → next ≡ step_board old e →
+pub board_followed : (old next : Board) (e : Event) → ItemsFit (length old.values) e → BasesRead e → next ≡ step_board old e →
     (values : List ℕ) (G : List Event) → old ≡ board_of values G → next ≡ board_of values (G ++ e ∷ [])
 board_followed old next e fits bases stepped values G is =
     let sized : length old.values ≡ length values = ap (λ b. length b.values) is ∙ length-map-range_with_len (table (values_of values) G) 0 (length values) in
-    stepped ∙ ap (λ b. step_board b e) is ∙ board_push values G e (subst (λ n. EventFits n e) sized fits) bases
+    stepped ∙ ap (λ b. step_board b e) is ∙ board_push values G e (subst (λ n. ItemsFit n e) sized fits) bases
 
 -- ---- a board's parts, where it is that of a list of events
 

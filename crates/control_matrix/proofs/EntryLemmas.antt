@@ -7,7 +7,7 @@ use Rattle.std.proofs.lemmas.List.Elements.{All-head, All-tail}
 use Rattle.air_history.specs.declared.histories.Event.{Event}
 use Rattle.air_history.specs.declared.histories.Event.TheVariants.{Commit, Start}
 use Rattle.air_history.specs.Places.{greatest_of}
-use Rattle.air_history.specs.Histories.{writes, writes_of, reads, EventFits}
+use Rattle.air_history.specs.Histories.{writes, writes_of, reads, ItemsFit}
 use Rattle.control_matrix.specs.Columns.{column_in, columns_in, entry_in, written_entry, next_column, next_columns}
 
 greatest_of_push : {X : Type 0} (f : X → ℕ) (xs : List X) (x : X) → greatest_of f (xs ++ x ∷ []) ≡ max (greatest_of f xs) (f x)
@@ -32,14 +32,14 @@ greatest_of_within n f g (x ∷ xs) h same =
     cc
 
 -- the items that a fitting event reads are below n
-pub reads_fit : (n : ℕ) (e : Event) → EventFits n e → All (λ r. r < n) (reads e)
-unfolding EventFits reads
+pub reads_fit : (n : ℕ) (e : Event) → ItemsFit n e → All (λ r. r < n) (reads e)
+unfolding ItemsFit reads
 reads_fit n (Commit by seq u) h = h.reads
 reads_fit n Start h = λ k d l. absurd (omega arith)
 
 -- the items that a fitting event writes are below n
-pub writes_fit : (n : ℕ) (e : Event) → EventFits n e → All (λ w. w.item < n) (writes_of e)
-unfolding EventFits writes_of
+pub writes_fit : (n : ℕ) (e : Event) → ItemsFit n e → All (λ w. w.item < n) (writes_of e)
+unfolding ItemsFit writes_of
 writes_fit n (Commit by seq u) h = h.writes
 writes_fit n Start h = λ k d l. absurd (omega arith)
 
@@ -48,7 +48,7 @@ pub column_at : (n : ℕ) (entries : List ℕ) (j : ℕ) → j < n → get_or (c
 column_at n entries j l = get_or-map-range_with_len (column_in n entries) 0 n j j [] l (omega arith)
 
 -- the written column, from the greatest entries of the columns that are read
-spare_is : (n cycle : ℕ) (old spare : List ℕ) (e : Event) → EventFits n e → length spare ≡ n →
+spare_is : (n cycle : ℕ) (old spare : List ℕ) (e : Event) → ItemsFit n e → length spare ≡ n →
     ((i : ℕ) → i < n → get_or spare i 0 ≡ cond (writes e i) cycle (greatest_of (λ r. get_or (column_in n old r) i 0) (reads e))) →
     spare ≡ map (written_entry cycle (columns_in n old) e) (range_with_len 0 n)
 spare_is n cycle old spare e fits sized merged = fill_by_all (written_entry cycle (columns_in n old) e) spare n 0 sized
@@ -56,7 +56,7 @@ spare_is n cycle old spare e fits sized merged = fill_by_all (written_entry cycl
     (greatest_of_within n (λ r. get_or (column_in n old r) i 0) (λ r. entry_in (columns_in n old) r i) (reads e) (reads_fit n e fits) (λ r lr. ap (λ xs. get_or xs i 0) (sym (column_at n old r lr)))))
 
 -- the written column put at each item that is written gives the next columns
-pub columns_stepped : (n cycle : ℕ) (old new spare : List ℕ) (e : Event) → EventFits n e → length spare ≡ n →
+pub columns_stepped : (n cycle : ℕ) (old new spare : List ℕ) (e : Event) → ItemsFit n e → length spare ≡ n →
     ((i : ℕ) → i < n → get_or spare i 0 ≡ cond (writes e i) cycle (greatest_of (λ r. get_or (column_in n old r) i 0) (reads e))) →
     ((j : ℕ) → j < n → column_in n new j ≡ cond (writes e j) spare (column_in n old j)) →
     columns_in n new ≡ next_columns n cycle (columns_in n old) e

@@ -2,7 +2,7 @@
 use Rattle.std.specs.Prelude.{◌≡◌, ℕ, ◌+◌, cond, List, [], ◌∷◌, ◌++◌, length, get_or, map}
 use Rattle.std.specs.List.{range_with_len}
 use Rattle.air_history.specs.declared.histories.Event.{Event}
-use Rattle.air_history.specs.Histories.{is_start, writes, EventFits}
+use Rattle.air_history.specs.Histories.{is_start, writes, ItemsFit}
 use Rattle.air_history.specs.Tables.{table_list, BasesRead}
 use Rattle.air_history.specs.Boards.{Board, board_of}
 use Rattle.control_matrix.specs.Columns.{next_columns}
@@ -24,5 +24,5 @@ step_board b e = record {
 -- where the event's items are below the number of values and its bases are read, the step of the board of a list
 -- of events is the board of the list with the event added
 abbrev pub StepLaw : Type 0
-StepLaw = (values : List ℕ) (G : List Event) (e : Event) → EventFits (length values) e → BasesRead e →
+StepLaw = (values : List ℕ) (G : List Event) (e : Event) → ItemsFit (length values) e → BasesRead e →
     step_board (board_of values G) e ≡ board_of values (G ++ e ∷ [])

@@ -5,7 +5,7 @@
 
 ghost use Rattle.std.specs.Prelude.{◌≡◌, ℕ, ◌+◌, ◌<◌, ◌≤◌, ◌^◌, List, [], ◌∷◌, ◌++◌, length, get_or, slice_index, replicate, IfOk};
 ghost use Rattle.air_history.specs.declared.histories.Event.{Event};
-ghost use Rattle.air_history.specs.Histories.{starts, EventFits};
+ghost use Rattle.air_history.specs.Histories.{starts, ItemsFit};
 ghost use Rattle.air_history.specs.Columns.{column, vector};
 ghost use Rattle.air_history.specs.Tables.{table, values_of};
 ghost use Rattle.air_history.specs.Boards.{board_of};
@@ -66,7 +66,7 @@ impl Board {
     /// Changes the board to that of the history with the event added, whatever the history was. It takes no memory,
     /// and time for n entries at each item that the event reads or writes. `Event::fits` is the test for `fits`.
     pub fn apply(&mut self, event: &Event)
-        requires fits { EventFits (length self.old.values) event.now }
+        requires fits { ItemsFit (length self.old.values) event.now }
         requires room { self.old.cycle + 1 < 2 ^ 32 }
         ensures stepped { self.new ≡ step_board self.old event.now }
         ensures followed { (values : List ℕ) (G : List Event) → self.old ≡ board_of values G →

@@ -5,7 +5,7 @@
 ghost use Rattle.std.specs.Prelude.{◌≡◌, ◌==◌, ◌<◌, ◌*◌, ℕ, cond, length, get_or, All, EachIndex, slice_index};
 ghost use Rattle.std.specs.List.{list_any};
 ghost use Rattle.air_history.specs.Places.{greatest_of};
-ghost use Rattle.air_history.specs.Histories.{writes, reads, EventFits};
+ghost use Rattle.air_history.specs.Histories.{writes, reads, ItemsFit};
 ghost use Rattle.control_matrix.specs.Columns.{column_in, columns_in, next_columns};
 
 use crate::kernels::{max_into, stamp};
@@ -63,7 +63,7 @@ fn store(entries: &mut [u32], writes: &[Write], column: &[u32])
 /// Steps the columns by a commit in the given cycle; `spare` is room for one column.
 pub fn step_columns(entries: &mut [u32], spare: &mut [u32], event: &Event, cycle: u32)
     requires square { length entries.old ≡ length spare.old * length spare.old }
-    requires fits { EventFits (length spare.old) event.now }
+    requires fits { ItemsFit (length spare.old) event.now }
     ensures { columns_in (length spare.old) entries.new ≡
         next_columns (length spare.old) cycle (columns_in (length spare.old) entries.old) event.now }
 {

@@ -14,7 +14,7 @@ ghost use Rattle.air_history.specs.Places.{greatest_of};
 ghost use Rattle.air_history.specs.Histories.{writes, reads, cycle_at};
 ghost use Rattle.air_history.specs.Descents.{descends};
 ghost use Rattle.air_history.specs.DescentLaws.{IsClosed};
-ghost use Rattle.air_history.specs.Columns.{column_entry, vector_entry, entry_at};
+ghost use Rattle.air_history.specs.Columns.{Scheme, column_entry, vector_entry, entry_at};
 ghost use Rattle.air_history.specs.Tables.{table, BasesRead};
 ghost use Rattle.air_history.specs.Reads.{ReadAt, IsRead, read_value};
 ghost use Rattle.air_history.specs.Consistency.{alone, IsConsistent};
@@ -92,10 +92,10 @@ pub fn one_cycle_law()
 
 /// Wherever the entries are the history's, the clash by the entries is the clash by the history.
 pub fn clash_law()
-    ensures { (policy : Policy) (n : ℕ) (H : List Event) (R : List Heard) (x : Heard) →
-        All (IsHeard policy n H) R → IsHeard policy n H x →
-        IsAllowed policy (map read_at R ++ read_at x ∷ []) →
-        clash_by_history policy H (map read_at R) (read_at x) ≡ clash_by_entries policy R x }
+    ensures { (scheme : Scheme) (n : ℕ) (H : List Event) (R : List Heard) (x : Heard) →
+        All (IsHeard scheme n H) R → IsHeard scheme n H x →
+        IsAllowed scheme.policy (map read_at R ++ read_at x ∷ []) →
+        clash_by_history scheme.policy H (map read_at R) (read_at x) ≡ clash_by_entries scheme.policy R x }
 {}
 
 /// After consistent reads, F-Matrix has no clash exactly where the reads stay consistent.

@@ -4,10 +4,11 @@ use Rattle.std.proofs.lemmas.List.{length_push, map-append}
 use Rattle.air_base.specs.declared.verdicts.ReadOf.{ReadOf}
 use Rattle.air_base.specs.declared.verdicts.Policy.TheVariants.{FMatrix}
 use Rattle.air_history.specs.Clashes.{Heard, clash_by_entries}
+use Rattle.air_history.specs.Columns.{scheme_of}
 use Rattle.air_model.specs.Buckets.{Body, Bucket, Idle, Column, Vector, count_of, entries_of, item_of, kind_of, value_of}
 use Rattle.air_model.specs.Judges.{by_entries, heard_of}
 use Rattle.air_model.specs.Reads.{Read}
-use Rattle.column_check.specs.HeldReads.{HeldReads, IsNew}
+use Rattle.air_history.specs.HeldReads.{HeldReads, IsNew}
 use Rattle.receiver_core.specs.Attempts.{HeldValues, columns_of, read_of, shown_of}
 use Rattle.receiver_core.specs.AttemptView.{KeepsBoth, held_values, with_values}
 use Rattle.receiver_core.specs.declared.attempts.Attempt.TheInside.{Inside}
@@ -64,7 +65,7 @@ new_at a v b item cycle entries k is new i c e =
 -- the clash by the columns is the clash by the entries
 pub clash_at : (a : Inside) (v : HeldValues) (b : Bucket) (item cycle : ℕ) (entries : List ℕ) → KeepsBoth a → held_values a ≡ v →
     item ≡ item_of b.body → cycle ≡ b.cycle → entries ≡ entries_of b.body →
-    clash_by_entries FMatrix a.held.reads (record { item = item; cycle = cycle; entries = entries }) ≡ (by_entries FMatrix).clash v.reads (read_of b)
+    clash_by_entries FMatrix a.held.reads (record { item = item; cycle = cycle; entries = entries }) ≡ (by_entries (scheme_of FMatrix)).clash v.reads (read_of b)
 unfolding by_entries
 clash_at a v b item cycle entries k is i c e =
     ap (clash_by_entries FMatrix a.held.reads) (sym (heard_parts b item cycle entries i c e))

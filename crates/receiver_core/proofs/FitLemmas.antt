@@ -18,7 +18,7 @@ and_false : (b : Bool) → (b && false) ≡ false
 and_false true = refl
 and_false false = refl
 
-body_is : (air : Air) (slot : Option ℕ) (body : Body) → air.policy ≡ FMatrix →
+body_is : (air : Air) (slot : Option ℕ) (body : Body) → air.scheme.policy ≡ FMatrix →
     body_fits air slot body ≡ (kind_fits slot (kind_of body) (item_of body) && (count_of body == air.items))
 unfolding body_fits kind_fits kind_of item_of count_of
 body_is air slot (Idle count) p = refl
@@ -28,7 +28,7 @@ body_is air slot (Vector item value entries) p =
     ap (λ c. carries item slot && c && (length entries == air.items)) (ap (λ q. not (airs_columns q)) p) ∙ ap (λ c. c && (length entries == air.items)) (and_false (carries item slot))
 
 -- in the deck's edition and within the program the body decides
-fits_in_slot : (air : Air) (b : Bucket) → air.policy ≡ FMatrix → b.edition ≡ 0 → b.slot < length air.slots →
+fits_in_slot : (air : Air) (b : Bucket) → air.scheme.policy ≡ FMatrix → b.edition ≡ 0 → b.slot < length air.slots →
     fits air b ≡ (kind_fits (get_or air.slots b.slot None) (kind_of b.body) (item_of b.body) && (count_of b.body == air.items))
 unfolding fits
 fits_in_slot air b p e l =

@@ -3,6 +3,7 @@ use Rattle.std.proofs.Common.{◌≡◌, ◌≢◌, ℕ, ◌+◌, arith, max, tr
 use Rattle.std.proofs.lemmas.Bool.{and_parts, cond-false, cond-true, eqb-true}
 use Rattle.air_base.specs.declared.verdicts.Policy.TheVariants.{FMatrix}
 use Rattle.air_history.specs.Clashes.{is_late}
+use Rattle.air_history.specs.Columns.{scheme_of}
 use Rattle.air_model.specs.Aired.{Air, airs_columns, body_fits, fits}
 use Rattle.air_model.specs.Airings.{carries}
 use Rattle.air_model.specs.Buckets.{Body, Bucket, Idle, Column, Vector, count_of, entries_of, item_of, kind_of, value_of}
@@ -17,7 +18,7 @@ use Rattle.receiver_core.specs.Receivings.{Receiving}
 use Rattle.receiver_core.specs.declared.receivers.Fed.TheVariants as fed
 
 abbrev J : Judge
-J = by_entries FMatrix
+J = by_entries (scheme_of FMatrix)
 
 -- ---- bodies
 
@@ -55,8 +56,8 @@ wanted_read o b w = by b.body w
 fitting_count : (air : Air) (slot : Option ℕ) (body : Body) → body_fits air slot body ≡ true → count_of body ≡ air.items
 unfolding body_fits count_of
 fitting_count air slot (Idle count) f = eqb-true count air.items (and_parts (is_none slot) (count == air.items) f).1
-fitting_count air slot (Column item value entries) f = eqb-true (length entries) air.items (and_parts (carries item slot && airs_columns air.policy) (length entries == air.items) f).1
-fitting_count air slot (Vector item value entries) f = eqb-true (length entries) air.items (and_parts (carries item slot && not (airs_columns air.policy)) (length entries == air.items) f).1
+fitting_count air slot (Column item value entries) f = eqb-true (length entries) air.items (and_parts (carries item slot && airs_columns air.scheme.policy) (length entries == air.items) f).1
+fitting_count air slot (Vector item value entries) f = eqb-true (length entries) air.items (and_parts (carries item slot && not (airs_columns air.scheme.policy)) (length entries == air.items) f).1
 
 -- a bucket that fits has the deck's number of items
 pub fits_counted : (air : Air) (b : Bucket) → fits air b ≡ true → count_of b.body ≡ air.items
@@ -77,11 +78,11 @@ fed_dozed r b f w = sym (cond-true (fits r.air b) _ _ f ∙ by (read_in b.cycle 
     by None w = refl
     by (Some x) w = cond-false (is_wanted (wanted r.reader r.state) x.item) _ _ w
 
-in_time : (air : Air) (s : State) (x : Read) → air.policy ≡ FMatrix → comes_late air s x ≡ false
+in_time : (air : Air) (s : State) (x : Read) → air.scheme.policy ≡ FMatrix → comes_late air s x ≡ false
 unfolding is_late
 in_time air s x p = ap (λ q. is_late q (map place_of s.held) (place_of x)) p
 
-pub fed_opened : (r : Receiving) (b : Bucket) → r.air.policy ≡ FMatrix → fits r.air b ≡ true → is_read_wanted (wanted r.reader r.state) (read_in b.cycle b.body) ≡ true → fed.Opened ≡ fed_of r (Some b)
+pub fed_opened : (r : Receiving) (b : Bucket) → r.air.scheme.policy ≡ FMatrix → fits r.air b ≡ true → is_read_wanted (wanted r.reader r.state) (read_in b.cycle b.body) ≡ true → fed.Opened ≡ fed_of r (Some b)
 unfolding fed_of fed_read
 fed_opened r b p f w = sym (cond-true (fits r.air b) _ _ f ∙ by (read_in b.cycle b.body) w)
   where
@@ -108,7 +109,7 @@ hear_dozed air reader b m s e f w = sym (cond-true (fits air b) _ _ f ∙ ap (λ
     by None w = refl
     by (Some x) w = cond-false (is_wanted (wanted reader s) x.item) _ _ w
 
-pub hear_opened : (air : Air) (reader : Reader) (b : Bucket) (m : ℕ) (s : State) → m ≡ max s.now b.cycle → air.policy ≡ FMatrix → fits air b ≡ true →
+pub hear_opened : (air : Air) (reader : Reader) (b : Bucket) (m : ℕ) (s : State) → m ≡ max s.now b.cycle → air.scheme.policy ≡ FMatrix → fits air b ≡ true →
     is_read_wanted (wanted reader s) (read_in b.cycle b.body) ≡ true → open_bucket J air reader (read_of b) (at_cycle m s) ≡ hear J air reader (Some b) s
 unfolding hear hear_read wanted query_of
 hear_opened air reader b m s e p f w =
@@ -124,21 +125,21 @@ pub quiet : (v : Receiving) (s : State) → s.lines ≡ [] → (let t : Receivin
 unfolding last_reads
 quiet v s e = ap (λ L. let t : Receiving = record v { state = s; last = last_reads L v.last } in t) (sym e)
 
-module _ (v : Receiving) (b : Bucket) (p : v.air.policy ≡ FMatrix) where
+module _ (v : Receiving) (b : Bucket) (p : v.air.scheme.policy ≡ FMatrix) where
   -- by the policy's entries as by F-Matrix
-  by_policy : in_state v (hear J v.air v.reader (Some b) v.state) ≡ in_state v (hear (by_entries v.air.policy) v.air v.reader (Some b) v.state)
-  by_policy = ap (λ q. in_state v (hear (by_entries q) v.air v.reader (Some b) v.state)) (sym p)
+  by_policy : in_state v (hear J v.air v.reader (Some b) v.state) ≡ in_state v (hear (by_entries v.air.scheme) v.air v.reader (Some b) v.state)
+  by_policy = ap (λ q. in_state v (hear (by_entries (scheme_of q)) v.air v.reader (Some b) v.state)) (sym p)
 
   pub foreign_heard : v.state.lines ≡ [] → fits v.air b ≡ false →
-      (let t : Receiving = record v { state = count_foreign v.state } in t) ≡ in_state v (hear (by_entries v.air.policy) v.air v.reader (Some b) v.state)
+      (let t : Receiving = record v { state = count_foreign v.state } in t) ≡ in_state v (hear (by_entries v.air.scheme) v.air v.reader (Some b) v.state)
   unfolding count_foreign
   foreign_heard free f = quiet v (count_foreign v.state) free ∙ ap (in_state v) (hear_foreign v.air v.reader b v.state f) ∙ by_policy
 
   pub dozed_heard : (m : ℕ) → v.state.lines ≡ [] → m ≡ max v.state.now b.cycle → fits v.air b ≡ true → is_read_wanted (wanted v.reader v.state) (read_in b.cycle b.body) ≡ false →
-      (let t : Receiving = record v { state = count_dozed (at_cycle m v.state) } in t) ≡ in_state v (hear (by_entries v.air.policy) v.air v.reader (Some b) v.state)
+      (let t : Receiving = record v { state = count_dozed (at_cycle m v.state) } in t) ≡ in_state v (hear (by_entries v.air.scheme) v.air v.reader (Some b) v.state)
   unfolding count_dozed
   dozed_heard m free e f w = quiet v (count_dozed (at_cycle m v.state)) free ∙ ap (in_state v) (hear_dozed v.air v.reader b m v.state e f w) ∙ by_policy
 
   pub opened_heard : (m : ℕ) → m ≡ max v.state.now b.cycle → fits v.air b ≡ true → is_read_wanted (wanted v.reader v.state) (read_in b.cycle b.body) ≡ true →
-      in_state v (open_bucket J v.air v.reader (read_of b) (at_cycle m v.state)) ≡ in_state v (hear (by_entries v.air.policy) v.air v.reader (Some b) v.state)
+      in_state v (open_bucket J v.air v.reader (read_of b) (at_cycle m v.state)) ≡ in_state v (hear (by_entries v.air.scheme) v.air v.reader (Some b) v.state)
   opened_heard m e f w = ap (in_state v) (hear_opened v.air v.reader b m v.state e p f w) ∙ by_policy

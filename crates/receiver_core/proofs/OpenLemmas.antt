@@ -8,12 +8,13 @@ use Rattle.std.proofs.lemmas.Option.{get_or_from_slice_get, slice_get_within}
 use Rattle.air_base.specs.declared.verdicts.Clash.{Clash}
 use Rattle.air_base.specs.declared.verdicts.Policy.TheVariants.{FMatrix}
 use Rattle.air_history.specs.UpdateRules.{has_repeat}
+use Rattle.air_history.specs.Columns.{scheme_of}
 use Rattle.air_model.specs.Buckets.{Bucket, IsInRange, count_of, item_of, kind_of}
 use Rattle.air_model.specs.Judges.{by_entries, heard_of}
 use Rattle.air_model.specs.Reads.{Read}
 use Rattle.air_model.specs.Sessions.{abort, accept_if_whole, count_opened, open_bucket, query_of, wanted}
 use Rattle.air_model.proofs.MomentLemmas.{or_false}
-use Rattle.column_check.specs.HeldReads.{IsNew}
+use Rattle.air_history.specs.HeldReads.{IsNew}
 use Rattle.receiver_core.specs.Attempts.{HeldValues, columns_of, read_of}
 use Rattle.receiver_core.specs.LastReads.{in_state}
 use Rattle.receiver_core.specs.ReceiverView.{IsReceiver, receiver_in}
@@ -93,18 +94,18 @@ abbrev pub opened_with : Inside → HeldValues → Inside
 opened_with r held = record r { counts = record r.counts { opened = r.counts.opened + 1 }; held = held }
 
 pub opened_clear : (r : Inside) (held : HeldValues) (x : Read) → IsReceiver r → held ≡ record r.held { reads = r.held.reads ++ x ∷ [] } →
-    (by_entries FMatrix).clash r.held.reads x ≡ None →
-    in_state (receiver_in (opened_with r held)) (accept_if_whole (by_entries FMatrix) r.air r.reader (receiver_in (opened_with r held)).state)
-    ≡ in_state (receiver_in r) (open_bucket (by_entries FMatrix) r.air r.reader x (receiver_in r).state)
+    (by_entries (scheme_of FMatrix)).clash r.held.reads x ≡ None →
+    in_state (receiver_in (opened_with r held)) (accept_if_whole (by_entries (scheme_of FMatrix)) r.air r.reader (receiver_in (opened_with r held)).state)
+    ≡ in_state (receiver_in r) (open_bucket (by_entries (scheme_of FMatrix)) r.air r.reader x (receiver_in r).state)
 unfolding count_opened
 opened_clear r held x k e none =
-    ap (λ h. in_state (receiver_in (opened_with r h)) (accept_if_whole (by_entries FMatrix) r.air r.reader (receiver_in (opened_with r h)).state)) e
+    ap (λ h. in_state (receiver_in (opened_with r h)) (accept_if_whole (by_entries (scheme_of FMatrix)) r.air r.reader (receiver_in (opened_with r h)).state)) e
     ∙ ap (in_state (receiver_in r)) (open_clear r.air r.reader x (receiver_in r).state k.room refl none)
 
-pub opened_clash : (r : Inside) (held : HeldValues) (x : Read) (c : Clash) → IsReceiver r → held ≡ r.held → (by_entries FMatrix).clash r.held.reads x ≡ Some c →
-    in_state (receiver_in (opened_with r held)) (abort (by_entries FMatrix) r.air r.reader x c.item (receiver_in (opened_with r held)).state)
-    ≡ in_state (receiver_in r) (open_bucket (by_entries FMatrix) r.air r.reader x (receiver_in r).state)
+pub opened_clash : (r : Inside) (held : HeldValues) (x : Read) (c : Clash) → IsReceiver r → held ≡ r.held → (by_entries (scheme_of FMatrix)).clash r.held.reads x ≡ Some c →
+    in_state (receiver_in (opened_with r held)) (abort (by_entries (scheme_of FMatrix)) r.air r.reader x c.item (receiver_in (opened_with r held)).state)
+    ≡ in_state (receiver_in r) (open_bucket (by_entries (scheme_of FMatrix)) r.air r.reader x (receiver_in r).state)
 unfolding count_opened
 opened_clash r held x c k e some =
-    ap (λ h. in_state (receiver_in (opened_with r h)) (abort (by_entries FMatrix) r.air r.reader x c.item (receiver_in (opened_with r h)).state)) e
+    ap (λ h. in_state (receiver_in (opened_with r h)) (abort (by_entries (scheme_of FMatrix)) r.air r.reader x c.item (receiver_in (opened_with r h)).state)) e
     ∙ ap (in_state (receiver_in r)) (open_clash r.air r.reader x c (receiver_in r).state k.room refl some)

@@ -4,6 +4,7 @@ use Rattle.std.specs.List.{slice_get}
 use Rattle.std.specs.Option.{is_some}
 use Rattle.std.proofs.lemmas.Bool.{cases_lt, cond-false, cond-true}
 use Rattle.std.proofs.lemmas.List.{get_or_past}
+use Rattle.air_history.specs.Columns.{scheme_of}
 use Rattle.air_base.specs.declared.verdicts.Policy.TheVariants.{FMatrix}
 use Rattle.air_base.specs.declared.verdicts.ReadOf.{ReadOf}
 use Rattle.air_base.specs.declared.verdicts.Verdict.{Verdict}
@@ -22,7 +23,7 @@ use Rattle.receiver_core.specs.declared.receivers.Receiver.TheInside.{Inside}
 use Rattle.receiver_core.proofs.WordLemmas.{copy_none}
 
 abbrev J : Judge
-J = by_entries FMatrix
+J = by_entries (scheme_of FMatrix)
 
 -- with no line waiting the receiver is in its own state
 pub in_own_state : (r : Receiving) → r.state.lines ≡ [] → r ≡ in_state r r.state

@@ -1,6 +1,7 @@
 -- What a step and an end hand out, at the fields.
 use Rattle.std.proofs.Common.{◌≡◌, ℕ, ◌<◌, ◌≤◌, Bool, false, IsTrue, inl, inr, nat_lt, List, [], ◌∷◌, ◌++◌, length, Option, Some, None, refl, sym, ◌∙◌, ap, arith}
 use Rattle.std.proofs.lemmas.Bool.{both_ways, cases_lt}
+use Rattle.air_history.specs.Columns.{scheme_of}
 use Rattle.air_base.specs.declared.verdicts.Policy.TheVariants.{FMatrix}
 use Rattle.air_base.specs.declared.verdicts.ReadOf.{ReadOf}
 use Rattle.air_base.specs.declared.verdicts.Verdict.{Verdict}
@@ -26,7 +27,7 @@ pub stepped_is : (r : Inside) (s : Step) → lines_given s r.last ≡ lines_of r
 stepped_is r s e =
     let v = receiver_in r in
     ap (λ L. let t : State = record v.state { lines = L } in t) e
-    ∙ cond_keeps (λ t. v.state ≡ t) (nat_lt 0 (length v.state.lines)) _ _ (λ _. refl) (λ _. step_none (by_entries r.air.policy) r.air r.reader v.state refl)
+    ∙ cond_keeps (λ t. v.state ≡ t) (nat_lt 0 (length v.state.lines)) _ _ (λ _. refl) (λ _. step_none (by_entries r.air.scheme) r.air r.reader v.state refl)
 
 -- nothing waits
 pub idle_settled : (r : Inside) → r.waiting ≡ None → IsSettled (receiver_in r)
@@ -56,26 +57,26 @@ last_ended None last before same = same refl
 last_ended (Some v) last before same = refl
 
 pub ended_past : (old : Receiving) → IsSettled old → old.state.copies ≡ [] → length old.reader.queries ≤ old.state.query →
-    (let t : State = record old.state { lines = [] } in t) ≡ end_query (by_entries old.air.policy) old.air old.reader old.state
+    (let t : State = record old.state { lines = [] } in t) ≡ end_query (by_entries old.air.scheme) old.air old.reader old.state
 ended_past old settled free past =
-    ap (λ L. let t : State = record old.state { lines = L } in t) (sym settled.given) ∙ end_past (by_entries old.air.policy) old.air old.reader old.state free past
+    ap (λ L. let t : State = record old.state { lines = L } in t) (sym settled.given) ∙ end_past (by_entries old.air.scheme) old.air old.reader old.state free past
 
 -- the receiver after the last verdict of a query at the end
-pub ended : (old given now : Receiving) → given ≡ in_state old (with_line (by_entries FMatrix) Unfinished old.state) → now ≡ record given { state = next_query given.state } →
-    now ≡ in_state old (next_query (with_line (by_entries FMatrix) Unfinished old.state))
-ended old given now g n = goes_on old given now (λ reader s. next_query s) (with_line (by_entries FMatrix) Unfinished old.state) _ g n (next_query_lines (with_line (by_entries FMatrix) Unfinished old.state)) refl
+pub ended : (old given now : Receiving) → given ≡ in_state old (with_line (by_entries (scheme_of FMatrix)) Unfinished old.state) → now ≡ record given { state = next_query given.state } →
+    now ≡ in_state old (next_query (with_line (by_entries (scheme_of FMatrix)) Unfinished old.state))
+ended old given now g n = goes_on old given now (λ reader s. next_query s) (with_line (by_entries (scheme_of FMatrix)) Unfinished old.state) _ g n (next_query_lines (with_line (by_entries (scheme_of FMatrix)) Unfinished old.state)) refl
 
-pub ended_left : (old now : Receiving) → now ≡ in_state old (next_query (with_line (by_entries FMatrix) Unfinished old.state)) → old.air.policy ≡ FMatrix → old.state.copies ≡ [] →
-    old.state.query < length old.reader.queries → now.state ≡ end_query (by_entries old.air.policy) old.air old.reader old.state
+pub ended_left : (old now : Receiving) → now ≡ in_state old (next_query (with_line (by_entries (scheme_of FMatrix)) Unfinished old.state)) → old.air.scheme.policy ≡ FMatrix → old.state.copies ≡ [] →
+    old.state.query < length old.reader.queries → now.state ≡ end_query (by_entries old.air.scheme) old.air old.reader old.state
 ended_left old now e p free here =
-    ap (λ (r : Receiving). r.state) e ∙ ap (λ q. next_query (with_line (by_entries q) Unfinished old.state)) (sym p) ∙ end_left (by_entries old.air.policy) old.air old.reader old.state free here
+    ap (λ (r : Receiving). r.state) e ∙ ap (λ q. next_query (with_line (by_entries (scheme_of q)) Unfinished old.state)) (sym p) ∙ end_left (by_entries old.air.scheme) old.air old.reader old.state free here
 
 no_line_pushed : (L : List Line) (l : Line) → [] ≡ L ++ l ∷ [] → ⊥
 no_line_pushed [] l e = cc
 no_line_pushed (k ∷ L) l e = cc
 
 -- that verdict waits
-pub ended_waits : (old : Receiving) (r : Inside) → receiver_in r ≡ in_state old (next_query (with_line (by_entries FMatrix) Unfinished old.state)) → r.waiting ≡ None → ⊥
+pub ended_waits : (old : Receiving) (r : Inside) → receiver_in r ≡ in_state old (next_query (with_line (by_entries (scheme_of FMatrix)) Unfinished old.state)) → r.waiting ≡ None → ⊥
 unfolding next_query with_line
 ended_waits old r e none = no_line_pushed old.state.lines _ (sym (ap (λ o. lines_of o r.last) none) ∙ ap (λ (t : Receiving). t.state.lines) e)
 

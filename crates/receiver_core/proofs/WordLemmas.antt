@@ -4,6 +4,7 @@ use Rattle.std.specs.Prelude.{sum_by}
 use Rattle.std.specs.List.{filter, count_by, find}
 use Rattle.std.specs.Option.{is_some}
 use Rattle.std.proofs.lemmas.Bool.{cond-true, cond-false, le-ltb, lt-ltb}
+use Rattle.air_history.specs.Columns.{scheme_of}
 use Rattle.air_base.specs.declared.verdicts.Clash.{Clash}
 use Rattle.air_base.specs.declared.verdicts.Policy.TheVariants.{FMatrix}
 use Rattle.air_base.specs.declared.verdicts.VerdictKind.TheVariants.{Abort, Unfinished}
@@ -16,7 +17,7 @@ use Rattle.receiver_core.specs.Steps.{step, turn_to_line}
 use Rattle.air_model.proofs.MomentLemmas.{cond_keeps}
 
 abbrev J : Judge
-J = by_entries FMatrix
+J = by_entries (scheme_of FMatrix)
 
 -- No copy is kept.
 abbrev pub NoCopies : State → Type 0

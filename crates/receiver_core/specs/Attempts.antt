@@ -5,7 +5,7 @@ use Rattle.air_model.specs.Buckets.{Bucket, item_of, value_of, entries_of}
 use Rattle.air_model.specs.Judges.{heard_of}
 use Rattle.air_model.specs.Reads.{Read}
 use Rattle.air_model.specs.Sessions.{is_wanted}
-use Rattle.column_check.specs.HeldReads.{HeldReads}
+use Rattle.air_history.specs.HeldReads.{HeldReads}
 
 -- The held reads over so many items, each with its value and the entries that came with it.
 pub record HeldValues : Type 0 where

@@ -26,7 +26,7 @@ receiver_in r = record {
 -- It judges by F-Matrix and has room for no copy; its queries are short, and none has an item twice; the held reads are
 -- over the deck's items, and are those of the first items of the query at hand.
 pub record IsReceiver (r : Inside) : Type 0 where
-  pub policy : r.air.policy ≡ FMatrix
+  pub policy : r.air.scheme.policy ≡ FMatrix
   pub room : r.reader.plan.room ≡ 0
   pub short : IsShort r.reader
   pub distinct : AreDistinct r.reader

@@ -4,10 +4,11 @@
 //! entries of one bucket are filled into one place that is made once. Contracts see the held reads in order.
 
 ghost use Rattle.std.specs.Prelude.{◌≡◌, ◌≢◌, ◌<◌, [], ◌∷◌, ◌++◌, length, map, IfOk, MatchOption};
+ghost use Rattle.air_history.specs.Columns.{scheme_of};
 ghost use Rattle.air_base.specs.declared.verdicts.Policy.TheVariants.{FMatrix};
 ghost use Rattle.air_model.specs.Buckets.{kind_of};
 ghost use Rattle.air_model.specs.Judges.{by_entries, heard_of};
-ghost use Rattle.column_check.specs.HeldReads.{IsNew};
+ghost use Rattle.air_history.specs.HeldReads.{IsNew};
 ghost use Rattle.receiver_core.specs.Attempts.{columns_of, read_of, shown_of};
 
 use crate::reads::ReadList;
@@ -68,7 +69,7 @@ impl Attempt {
         requires room { length self.old.reads < ROOM }
         requires busy { kind_of bucket.now.body ≢ 0 }
         requires new { IsNew (columns_of self.old) (heard_of (read_of bucket.now)) }
-        ensures clash { result ≡ (by_entries FMatrix).clash self.old.reads (read_of bucket.now) }
+        ensures clash { result ≡ (by_entries (scheme_of FMatrix)).clash self.old.reads (read_of bucket.now) }
         ensures held { MatchOption result (self.new ≡ record self.old { reads = self.old.reads ++ read_of bucket.now ∷ [] }) (λ _. self.new ≡ self.old) }
     {
         let entries = self.entries.as_mut_slice();

@@ -127,7 +127,7 @@ impl Receiver {
     pub fn feed(&mut self, bytes: &[u8]) -> Fed
         requires settled { IsSettled self.old }
         requires counts { heard_count self.old.state.counts + 1 < 2 ^ 64 }
-        ensures state { self.new.state ≡ hear (by_entries self.old.air.policy) self.old.air self.old.reader (bucket_in bytes.now) self.old.state }
+        ensures state { self.new.state ≡ hear (by_entries self.old.air.scheme) self.old.air self.old.reader (bucket_in bytes.now) self.old.state }
         ensures air { self.new.air ≡ self.old.air }
         ensures reader { self.new.reader ≡ self.old.reader }
         ensures last { self.new.last ≡ last_reads self.new.state.lines self.old.last }
@@ -147,7 +147,7 @@ impl Receiver {
         requires settled { IsSettled self.old }
         requires counts { heard_count self.old.state.counts + 1 < 2 ^ 64 }
         requires range { IfOk heard.now IsInRange }
-        ensures state { self.new.state ≡ hear (by_entries self.old.air.policy) self.old.air self.old.reader (result_ok heard.now) self.old.state }
+        ensures state { self.new.state ≡ hear (by_entries self.old.air.scheme) self.old.air self.old.reader (result_ok heard.now) self.old.state }
         ensures air { self.new.air ≡ self.old.air }
         ensures reader { self.new.reader ≡ self.old.reader }
         ensures last { self.new.last ≡ last_reads self.new.state.lines self.old.last }
@@ -187,7 +187,7 @@ impl Receiver {
     /// The query at hand stays unfinished, and the next one begins; all copies are dropped.
     pub fn end(&mut self) -> Option<Verdict>
         requires settled { IsSettled self.old }
-        ensures state { record self.new.state { lines = lines_of result self.new.last } ≡ end_query (by_entries self.old.air.policy) self.old.air self.old.reader self.old.state }
+        ensures state { record self.new.state { lines = lines_of result self.new.last } ≡ end_query (by_entries self.old.air.scheme) self.old.air self.old.reader self.old.state }
         ensures given { self.new.state.lines ≡ [] }
         ensures none { IsNone result ↔ (length self.old.reader.queries ≤ self.old.state.query) }
         ensures settled { IsSettled self.new }

@@ -4,6 +4,7 @@
 //! room for none.
 
 ghost use Rattle.std.specs.Prelude.{◌≡◌, ◌≢◌, ◌<◌, ◌+◌, ◌^◌, [], length, Some};
+ghost use Rattle.air_history.specs.Columns.{scheme_of};
 ghost use Rattle.air_base.specs.declared.verdicts.Policy.TheVariants.{FMatrix};
 ghost use Rattle.air_model.specs.Buckets.{IsInRange, count_of, item_of, kind_of};
 ghost use Rattle.air_model.specs.Judges.{by_entries};
@@ -24,7 +25,7 @@ impl Receiver {
         requires counts { heard_count self.old.state.counts + 1 < 2 ^ 64 }
         requires range { IsInRange bucket.now }
         ensures fed { result ≡ fed_of self.old (Some bucket.now) }
-        ensures heard { self.new ≡ in_state self.old (hear (by_entries self.old.air.policy) self.old.air self.old.reader (Some bucket.now) self.old.state) }
+        ensures heard { self.new ≡ in_state self.old (hear (by_entries self.old.air.scheme) self.old.air self.old.reader (Some bucket.now) self.old.state) }
     {
         if !self.air.fits(bucket) {
             self.counts.foreign += 1;
@@ -60,7 +61,7 @@ impl Receiver {
         requires busy { kind_of bucket.now.body ≢ 0 }
         requires counted { count_of bucket.now.body ≡ self.old.air.items }
         requires wanted { wanted self.old.reader self.old.state ≡ Some (item_of bucket.now.body) }
-        ensures { self.new ≡ in_state self.old (open_bucket (by_entries FMatrix) self.old.air self.old.reader (read_of bucket.now) self.old.state) }
+        ensures { self.new ≡ in_state self.old (open_bucket (by_entries (scheme_of FMatrix)) self.old.air self.old.reader (read_of bucket.now) self.old.state) }
     {
         self.counts.opened += 1;
         match self.held.try_hold(bucket) {
@@ -73,7 +74,7 @@ impl Receiver {
     pub(super) fn accept_if_whole(&mut self)
         requires given { self.old.state.lines ≡ [] }
         requires left { self.old.state.query < length self.old.reader.queries }
-        ensures { self.new ≡ in_state self.old (accept_if_whole (by_entries FMatrix) self.old.air self.old.reader self.old.state) }
+        ensures { self.new ≡ in_state self.old (accept_if_whole (by_entries (scheme_of FMatrix)) self.old.air self.old.reader self.old.state) }
     {
         if self.wanted().is_none() {
             self.give(VerdictKind::Accept);
@@ -86,7 +87,7 @@ impl Receiver {
         requires given { self.old.state.lines ≡ [] }
         requires copies { self.old.state.copies ≡ [] }
         requires left { self.old.state.query < length self.old.reader.queries }
-        ensures { self.new ≡ in_state self.old (abort (by_entries FMatrix) self.old.air self.old.reader (read_of bucket.now) clash self.old.state) }
+        ensures { self.new ≡ in_state self.old (abort (by_entries (scheme_of FMatrix)) self.old.air self.old.reader (read_of bucket.now) clash self.old.state) }
     {
         self.give(VerdictKind::Abort {
             item: bucket.item(),
@@ -99,7 +100,7 @@ impl Receiver {
     /// The attempt at hand has this verdict, which waits from now on.
     pub(super) fn give(&mut self, kind: VerdictKind)
         requires given { self.old.state.lines ≡ [] }
-        ensures { self.new ≡ in_state self.old (with_line (by_entries FMatrix) kind self.old.state) }
+        ensures { self.new ≡ in_state self.old (with_line (by_entries (scheme_of FMatrix)) kind self.old.state) }
     {
         self.last.set(self.held.shown());
         self.waiting = Some(Verdict {

@@ -1,7 +1,7 @@
 use Rattle.std.proofs.Common.{rules, ◌∙◌, ◌≤◌, length, map, arith, ap}
 use Rattle.air_history.specs.Reads.{last_cycle}
 use Rattle.air_history.specs.Clashes.{read_at}
-use Rattle.column_check.specs.HeldReads.{HeldReads}
+use Rattle.air_history.specs.HeldReads.{HeldReads}
 use Rattle.column_check.proofs.HeldLemmas.{last_held}
 use Rattle.column_check.proofs.held.Held.last.Goals as goal
 

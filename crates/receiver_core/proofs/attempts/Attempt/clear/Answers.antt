@@ -1,5 +1,5 @@
 use Rattle.std.proofs.Common.{[], ◌∙◌, ap, sym}
-use Rattle.column_check.specs.HeldReads.{HeldReads}
+use Rattle.air_history.specs.HeldReads.{HeldReads}
 use Rattle.receiver_core.specs.Attempts.{HeldValues}
 use Rattle.receiver_core.proofs.AttemptLemmas.{empty_is, empty_keeps}
 use Rattle.receiver_core.proofs.attempts.Attempt.clear.Goals as goal

@@ -1,5 +1,5 @@
 use Rattle.std.proofs.Common.{rules, ◌≡◌, ◌∙◌, ap, sym, length}
-use Rattle.column_check.specs.HeldReads.{HeldReads}
+use Rattle.air_history.specs.HeldReads.{HeldReads}
 use Rattle.receiver_core.proofs.AttemptLemmas.{empty_is, empty_keeps}
 use Rattle.receiver_core.proofs.attempts.Attempt.new.Goals as goal
 

@@ -1,4 +1,5 @@
 use Rattle.std.proofs.Common.{◌∙◌, ap}
+use Rattle.air_history.specs.Columns.{scheme_of}
 use Rattle.air_base.specs.declared.verdicts.Policy.TheVariants.{FMatrix}
 use Rattle.air_model.specs.Judges.{by_entries}
 use Rattle.air_model.specs.Sessions.{with_line}
@@ -10,4 +11,4 @@ use Rattle.receiver_core.proofs.receivers.Receiver.give.Goals as goal
 pub returns : goal.returns
 returns c =
     give_is c.self.inside c.set.new.self c.args.kind (ap (λ (r : Receiving). r.state.lines) c.self.view_is ∙ c.requires.given) (c.set.ensures ∙ c.shown.ensures)
-    ∙ ap (λ (r : Receiving). in_state r (with_line (by_entries FMatrix) c.args.kind r.state)) c.self.view_is
+    ∙ ap (λ (r : Receiving). in_state r (with_line (by_entries (scheme_of FMatrix)) c.args.kind r.state)) c.self.view_is

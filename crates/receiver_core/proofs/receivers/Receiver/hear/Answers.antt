@@ -13,7 +13,7 @@ unfolding hear count_refused
 returns-in-Err-clause-state c =
     let old = c.args.self.now in
     ap (λ (t : Receiving). count_refused t.state) c.self.view_is
-    ∙ ap (λ o. hear (by_entries old.air.policy) old.air old.reader o old.state) (sym (ap result_ok c.in-Err.is))
+    ∙ ap (λ o. hear (by_entries old.air.scheme) old.air old.reader o old.state) (sym (ap result_ok c.in-Err.is))
 
 pub returns-in-Err-clause-last : goal.returns-in-Err-clause-last
 unfolding last_reads
@@ -32,11 +32,11 @@ returns-in-Ok-clause-refused c =
 pub returns-in-Ok-clause-counted : goal.returns-in-Ok-clause-counted
 returns-in-Ok-clause-counted c =
     let old = c.args.self.now in
-    ap (λ (t : Receiving). t.state.counts) c.hear_bucket.ensures.heard ∙ hear_counts (by_entries old.air.policy) old (Some c.in-Ok.bucket)
+    ap (λ (t : Receiving). t.state.counts) c.hear_bucket.ensures.heard ∙ hear_counts (by_entries old.air.scheme) old (Some c.in-Ok.bucket)
     ∙ ap (λ f. counted f old.state.counts) (sym c.hear_bucket.ensures.fed)
 
 pub returns-in-Ok-clause-alone : goal.returns-in-Ok-clause-alone
 returns-in-Ok-clause-alone c =
     let old = c.args.self.now in
     subst (λ f. ChangesItsCountAlone f old c.hear_bucket.new.self) (sym c.hear_bucket.ensures.fed)
-    (subst (ChangesItsCountAlone (fed_of old (Some c.in-Ok.bucket)) old) (sym c.hear_bucket.ensures.heard) (alone (by_entries old.air.policy) old (Some c.in-Ok.bucket) c.requires.settled.given))
+    (subst (ChangesItsCountAlone (fed_of old (Some c.in-Ok.bucket)) old) (sym c.hear_bucket.ensures.heard) (alone (by_entries old.air.scheme) old (Some c.in-Ok.bucket) c.requires.settled.given))

@@ -16,7 +16,7 @@ pub returns-then-not-fits-clause-heard : goal.returns-then-not-fits-clause-heard
 unfolding count_foreign
 returns-then-not-fits-clause-heard c =
     foreign_heard (receiver_in c.self.inside) c.args.bucket.now c.self.invariant.policy (ap (λ (r : Receiving). r.state.lines) c.self.view_is ∙ c.requires.given) (sym c.fits.ensures ∙ c.if-not-fits.true)
-    ∙ ap (λ (r : Receiving). in_state r (hear (by_entries r.air.policy) r.air r.reader (Some c.args.bucket.now) r.state)) c.self.view_is
+    ∙ ap (λ (r : Receiving). in_state r (hear (by_entries r.air.scheme) r.air r.reader (Some c.args.bucket.now) r.state)) c.self.view_is
 
 pub returns-then-not-wants-clause-fed : goal.returns-then-not-wants-clause-fed
 unfolding wanted query_of
@@ -28,7 +28,7 @@ unfolding count_dozed wanted query_of
 returns-then-not-wants-clause-heard c =
     dozed_heard (receiver_in c.self.inside) c.args.bucket.now c.self.invariant.policy c.max-self-inside.result (ap (λ (r : Receiving). r.state.lines) c.self.view_is ∙ c.requires.given)
     (c.max-self-inside.ensures ∙ ap (max c.self.inside.latest) c.cycle.ensures) (sym c.fits.ensures ∙ c.if-not-fits.false) (sym c.wants.ensures ∙ c.if-not-wants.true)
-    ∙ ap (λ (r : Receiving). in_state r (hear (by_entries r.air.policy) r.air r.reader (Some c.args.bucket.now) r.state)) c.self.view_is
+    ∙ ap (λ (r : Receiving). in_state r (hear (by_entries r.air.scheme) r.air r.reader (Some c.args.bucket.now) r.state)) c.self.view_is
 
 pub open-requires-clause-busy : goal.open-requires-clause-busy
 open-requires-clause-busy c = (wanted_read _ c.args.bucket.now (sym c.wants.ensures ∙ c.if-not-wants.false)).busy
@@ -50,4 +50,4 @@ unfolding wanted query_of
 returns-clause-heard c =
     c.open.ensures ∙ opened_heard (receiver_in c.self.inside) c.args.bucket.now c.self.invariant.policy c.max-self-inside.result (c.max-self-inside.ensures ∙ ap (max c.self.inside.latest) c.cycle.ensures)
     (sym c.fits.ensures ∙ c.if-not-fits.false) (sym c.wants.ensures ∙ c.if-not-wants.false)
-    ∙ ap (λ (r : Receiving). in_state r (hear (by_entries r.air.policy) r.air r.reader (Some c.args.bucket.now) r.state)) c.self.view_is
+    ∙ ap (λ (r : Receiving). in_state r (hear (by_entries r.air.scheme) r.air r.reader (Some c.args.bucket.now) r.state)) c.self.view_is

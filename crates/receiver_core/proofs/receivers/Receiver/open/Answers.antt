@@ -1,4 +1,5 @@
 use Rattle.std.proofs.Common.{◌∙◌, ap, sym}
+use Rattle.air_history.specs.Columns.{scheme_of}
 use Rattle.air_base.specs.declared.verdicts.Policy.TheVariants.{FMatrix}
 use Rattle.air_model.specs.Buckets.{item_of}
 use Rattle.air_model.specs.Judges.{by_entries}
@@ -46,10 +47,10 @@ pub returns-in-None : goal.returns-in-None
 returns-in-None c =
     let x = read_of c.args.bucket.now in
     c.accept_if_whole.ensures ∙ opened_clear c.self.inside c.try_hold.new.self x c.self.invariant c.in-None.ensures.held (sym c.try_hold.ensures.clash ∙ c.in-None.is)
-    ∙ ap (λ (r : Receiving). in_state r (open_bucket (by_entries FMatrix) r.air r.reader x r.state)) c.self.view_is
+    ∙ ap (λ (r : Receiving). in_state r (open_bucket (by_entries (scheme_of FMatrix)) r.air r.reader x r.state)) c.self.view_is
 
 pub returns-in-Some : goal.returns-in-Some
 returns-in-Some c =
     let x = read_of c.args.bucket.now in
     c.abort.ensures ∙ opened_clash c.self.inside c.try_hold.new.self x c.in-Some.clash c.self.invariant c.in-Some.ensures.held (sym c.try_hold.ensures.clash ∙ c.in-Some.is)
-    ∙ ap (λ (r : Receiving). in_state r (open_bucket (by_entries FMatrix) r.air r.reader x r.state)) c.self.view_is
+    ∙ ap (λ (r : Receiving). in_state r (open_bucket (by_entries (scheme_of FMatrix)) r.air r.reader x r.state)) c.self.view_is
