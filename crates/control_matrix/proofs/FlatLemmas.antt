@@ -1,7 +1,7 @@
 -- Columns in a flat list: where they begin and end, and one of them overwritten.
-use Rattle.std.proofs.Common.{◌≡◌, ℕ, ◌+◌, ◌*◌, ◌-◌, ◌<◌, ◌≤◌, ◌==◌, cond, List, [], length, take, drop, replicate, sym, ◌∙◌, ap, inl, inr, arith}
+use Rattle.std.proofs.Common.{◌≡◌, ℕ, ◌+◌, ◌*◌, ◌-◌, ◌<◌, ◌≤◌, ◌==◌, cond, List, [], length, length-drop, take, drop, replicate, sym, ◌∙◌, ap, inl, inr, arith}
 use Rattle.std.proofs.lemmas.Bool.{cases_eq, cases_lt, cond-true, cond-false, eq-eqb, ne_eqb}
-use Rattle.std.proofs.lemmas.List.{drop-take, drop-replicate, take-replicate, get_or-replicate, length-replicate}
+use Rattle.std.proofs.lemmas.List.{drop-take, drop-replicate, length-take-le, take-replicate, get_or-replicate, length-replicate}
 use Rattle.std.proofs.lemmas.List.FromFn.{fill_by_all}
 use Rattle.std.proofs.lemmas.Slice.{take-put_mid_below, between-put_mid, drop-put_mid}
 use borrow.Rule.Slice.PartMut.{put_mid}
@@ -18,6 +18,13 @@ column_ends j n l = column_before j n n l
 -- the column of an item below n begins within n columns
 pub column_begins : (j n : ℕ) → j < n → j * n ≤ n * n
 column_begins j n l = let e = column_ends j n l in omega arith
+
+-- a column has an entry for each item
+pub column_len : (n : ℕ) (entries : List ℕ) (j : ℕ) → length entries ≡ n * n → j < n → length (column_in n entries j) ≡ n
+column_len n entries j square l =
+    let ends = column_ends j n l in
+    let left = length-drop (j * n) entries in
+    length-take-le n (drop (j * n) entries) (omega arith)
 
 -- a column put in the place of an item's changes that one alone
 pub column_put : (m n : ℕ) (entries column : List ℕ) (k j : ℕ) → k ≡ n → length entries ≡ n * n → length column ≡ n → m < n → j < n →

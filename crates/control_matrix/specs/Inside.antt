@@ -13,10 +13,11 @@ board_in b = record {
   vector = b.vector.items;
 }
 
--- there are 1 to 1,024 values, as many columns of as many entries, and as many vector entries
+-- there are 1 to 1,024 values, as many columns of as many entries, as many vector entries, and room for a column and marks
 pub record IsBoard (b : Inside) : Type 0 where
   pub some : 1 ≤ length b.values.items
   pub few : length b.values.items ≤ 1024
   pub columns : length b.columns.items ≡ length b.values.items * length b.values.items
   pub vector : length b.vector.items ≡ length b.values.items
   pub spare : length b.spare.items ≡ length b.values.items
+  pub marks : length b.marks.items ≡ length b.values.items

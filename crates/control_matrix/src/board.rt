@@ -1,7 +1,8 @@
 //! The board: what the server airs, kept beside a history that it never sees.
 //!
 //! The columns stand in one flat list, n entries each; values and vector beside it. `spare` is room for the column
-//! that a commit writes, so that a step takes no memory. Contracts see a board as the definition's record.
+//! that a commit writes and `marks` for the items that it writes, so that a step takes no memory. Contracts see a board as
+//! the definition's record.
 
 ghost use Rattle.std.specs.Prelude.{◌≡◌, ℕ, ◌+◌, ◌<◌, ◌≤◌, ◌^◌, List, [], ◌∷◌, ◌++◌, length, get_or, slice_index, replicate, IfOk};
 ghost use Rattle.air_history.specs.declared.histories.Event.{Event};
@@ -12,9 +13,10 @@ ghost use Rattle.air_history.specs.Boards.{board_of};
 ghost use Rattle.control_matrix.specs.Steps.{step_board};
 
 use crate::columns::{column_of, step_columns};
-use crate::kernels::stamp;
+use crate::marks::mark;
 use air_base::NoMemory;
 use air_history::{Event, run_event};
+use air_lanes::stamp;
 use std::alloc::Global;
 use std::marker::Model;
 
@@ -26,6 +28,7 @@ pub struct Board {
     columns: Vec<u32>,
     vector: Vec<u32>,
     spare: Vec<u32>,
+    marks: Vec<u32>,
 }
 
 impl Model for Board {
@@ -60,6 +63,7 @@ impl Board {
             columns: vec![in alloc; 0; n * n]?,
             vector: vec![in alloc; 0; n]?,
             spare: vec![in alloc; 0; n]?,
+            marks: vec![in alloc; 0; n]?,
         })
     }
 
@@ -77,8 +81,15 @@ impl Board {
             self.cycle += 1;
             return;
         }
-        step_columns(&mut self.columns, &mut self.spare, event, self.cycle);
-        stamp(&mut self.vector, event.writes(), self.cycle);
+        mark(&mut self.marks, event);
+        step_columns(
+            &mut self.columns,
+            &mut self.spare,
+            &self.marks,
+            event,
+            self.cycle,
+        );
+        stamp(&mut self.vector, &self.marks, self.cycle);
         run_event(event, &mut self.values);
     }
 

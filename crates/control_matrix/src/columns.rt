@@ -8,8 +8,8 @@ ghost use Rattle.air_history.specs.Places.{greatest_of};
 ghost use Rattle.air_history.specs.Histories.{writes, reads, ItemsFit};
 ghost use Rattle.control_matrix.specs.Columns.{column_in, columns_in, next_columns};
 
-use crate::kernels::{max_into, stamp};
 use air_history::{Event, Write};
+use air_lanes::{max_into, stamp};
 
 /// The column of an item.
 #[tactic(auto, using(crate::proofs::FlatLemmas::column_ends, crate::proofs::FlatLemmas::column_begins))]
@@ -60,14 +60,23 @@ fn store(entries: &mut [u32], writes: &[Write], column: &[u32])
     }
 }
 
-/// Steps the columns by a commit in the given cycle; `spare` is room for one column.
-pub fn step_columns(entries: &mut [u32], spare: &mut [u32], event: &Event, cycle: u32)
+/// Steps the columns by a commit in the given cycle; `spare` is room for one column, and `marks` has the items that the
+/// commit writes.
+pub fn step_columns(
+    entries: &mut [u32],
+    spare: &mut [u32],
+    marks: &[u32],
+    event: &Event,
+    cycle: u32,
+)
     requires square { length entries.old ≡ length spare.old * length spare.old }
     requires fits { ItemsFit (length spare.old) event.now }
+    requires long { length marks.now ≡ length spare.old }
+    requires marked { EachIndex marks.now (λ k. slice_index marks.now k ≡ cond (writes event.now k) 1 0) }
     ensures { columns_in (length spare.old) entries.new ≡
         next_columns (length spare.old) cycle (columns_in (length spare.old) entries.old) event.now }
 {
     merge(entries, event.reads(), spare);
-    stamp(spare, event.writes(), cycle);
+    stamp(spare, marks, cycle);
     store(entries, event.writes(), spare);
 }

@@ -6,7 +6,7 @@
 
 pub mod board;
 mod columns;
-mod kernels;
 pub mod laws;
+mod marks;
 
 pub use board::Board;

@@ -1,7 +1,9 @@
 use Rattle.std.proofs.Common.{rules, arith, sym, ap, ◌∙◌, ◌≡◌, ◌<◌, List, ℕ, get_or, length, replicate}
 use Rattle.std.proofs.lemmas.List.{get_or-replicate}
+use Rattle.air_lanes.proofs.PlaceLemmas.{greater_at}
 use Rattle.control_matrix.specs.Columns.{column_in}
 use Rattle.control_matrix.proofs.EntryLemmas.{greatest_of_more, greatest_of_none}
+use Rattle.control_matrix.proofs.FlatLemmas.{column_len}
 use Rattle.control_matrix.proofs.columns.merge.Goals as goal
 
 pub loop-item-init : goal.loop-item-init
@@ -18,6 +20,9 @@ loop-item-preserved c = λ k l.
     let more = greatest_of_more (λ r. get_or (column_in n c.args.entries.now r) k 0) c.args.reads.now c.loop-item.item-index c.loop-item-test.true in
     let column : get_or c.column_of.result.now k 0 ≡ get_or (column_in n c.args.entries.now read) k 0 =
     ap (λ (xs : List ℕ). get_or xs k 0) (c.column_of.ensures ∙ ap (λ m. column_in m c.args.entries.now read) sized) in
-    let was = c.loop-item.invariant k (let lt : k < length c.loop-item.out = omega (arith, c.max_into.auto.out) in lt) in
-    let step = c.max_into.ensures k l in
+    let within : k < length c.loop-item.out = omega (arith, c.max_into.auto.dst) in
+    let was = c.loop-item.invariant k within in
+    let long : length c.column_of.result.now ≡ length c.loop-item.out =
+    ap length (c.column_of.ensures ∙ ap (λ m. column_in m c.args.entries.now read) sized) ∙ column_len n c.args.entries.now read c.requires.square (c.requires.within c.loop-item.item-index 0 c.loop-item-test.true) ∙ sym sized in
+    let step = ap (λ xs. get_or xs k 0) c.max_into.ensures ∙ greater_at c.loop-item.out c.column_of.result.now k long within in
     omega arith

@@ -1,6 +1,0 @@
-use Rattle.std.proofs.Common.{◌≡◌, ◌==◌, ℕ, ◌<◌, cond, get_or, length, take}
-use Rattle.std.specs.List.{list_any}
-use Rattle.control_matrix.proofs.kernels.stamp.Given as goal
-
-abbrev pub invariant-loop-write : goal.invariant-loop-write
-invariant-loop-write l = (k : ℕ) → k < length l.out → get_or l.out k 0 ≡ cond (list_any (λ w. w.item == k) (take l.write-index l.writes)) l.cycle (get_or l.initial.out k 0)
