@@ -30,7 +30,7 @@ lesser_some r (Some d) e = by (nat_le r.item d.item) e
     by true e = cc
     by false e = cc
 
-none_passes : (test : Heard → Bool) (R : List Heard) → heard_clash test R ≡ None → All (λ r. test r ≡ false) R
+pub none_passes : (test : Heard → Bool) (R : List Heard) → heard_clash test R ≡ None → All (λ r. test r ≡ false) R
 unfolding least
 none_passes test [] e = λ k d l. absurd (omega arith)
 none_passes test (r ∷ R) e = by (test r) refl e (none_passes test R)

@@ -1,7 +1,8 @@
 //! The reads that an attempt holds under F-Matrix, each with its control column.
 //!
 //! Contracts see the number of items and the held reads in order. `clashes` is the clash by the entries, and by
-//! every history that aired these columns; a receiver's attempts stand on it. All memory is taken by `new`.
+//! every history that aired these columns; a receiver's attempts stand on it. All memory is taken by `new`. Beside the
+//! reads stands an array of their cycles, by which one search tests a new column against all of them.
 
 ghost use Rattle.std.specs.Prelude.{◌≡◌, ◌↔◌, ◌<◌, ◌≤◌, [], ◌∷◌, ◌++◌, List, length, map, All, IsNone, IfSome, IfOk, None};
 ghost use Rattle.air_base.specs.declared.verdicts.Policy.TheVariants.{FMatrix};
@@ -13,7 +14,9 @@ ghost use Rattle.air_history.specs.ClashLaws.{IsHeard};
 ghost use Rattle.air_history.specs.Columns.{scheme_of};
 ghost use Rattle.column_check.specs.HeardReads.{heard};
 ghost use Rattle.air_history.specs.HeldReads.{IsNew};
+ghost use Rattle.column_check.specs.HeldCycles.{cycles_of};
 
+use crate::cycles::{first_clash, lesser_of_two};
 use crate::reads::{HeldRead, least_clash};
 use air_base::{Clash, NoMemory};
 use std::alloc::Global;
@@ -27,6 +30,7 @@ pub const ROOM: usize = 16;
 pub struct Held {
     n: u16,
     len: usize,
+    cycles: Vec<u32>,
     places: Vec<HeldRead>,
 }
 
@@ -35,11 +39,12 @@ impl Model for Held {
 
     ghost Value = { HeldReads };
 
-    ghost use Rattle.column_check.specs.HeldView.{held_reads, KeepsRoom};
+    ghost use Rattle.column_check.specs.HeldView.{held_reads};
+    ghost use Rattle.column_check.specs.HeldCycles.{KeepsCycles};
 
     ghost view = { held_reads };
 
-    ghost invariant = { KeepsRoom };
+    ghost invariant = { KeepsCycles };
 }
 
 impl Held {
@@ -47,6 +52,7 @@ impl Held {
     pub fn new(alloc: Global, n: u16) -> Result<Held, NoMemory>
         ensures { IfOk result (λ h. h ≡ record { n = n; reads = [] }) }
     {
+        let cycles = vec![in alloc; u32::MAX; n as usize]?;
         let mut places = Vec::new(alloc);
         for _ in 0..ROOM {
             let place = HeldRead::blank(alloc, n)?;
@@ -54,7 +60,12 @@ impl Held {
                 return Err(NoMemory);
             };
         }
-        Ok(Held { n, len: 0, places })
+        Ok(Held {
+            n,
+            len: 0,
+            cycles,
+            places,
+        })
     }
 
     /// The number of held reads, never above the room.
@@ -76,6 +87,13 @@ impl Held {
         Some(self.places[self.len - 1].cycle)
     }
 
+    /// The cycle in which each of the `n` items is held, and the greatest `u32` where it isn't.
+    pub fn cycles(&self) -> &[u32]
+        ensures { result.now ≡ cycles_of self.now }
+    {
+        &self.cycles
+    }
+
     /// The held read of least item number that clashes with the new one.
     pub fn clashes(&self, item: u16, cycle: u32, column: &[u32]) -> Option<Clash>
         requires { IsNew self.now (heard item cycle column.now) }
@@ -92,7 +110,8 @@ impl Held {
             IsConsistent H (map read_at self.now.reads) →
             (result ≡ None) ↔ IsConsistent H (map read_at self.now.reads ++ read_at x ∷ []) }
     {
-        least_clash(&self.places[..self.len], item, cycle, column)
+        let clash = first_clash(column, &self.cycles, self.n);
+        lesser_of_two(clash, least_clash(&self.places[..self.len], item, cycle))
     }
 
     /// Holds the new read too, after those before it.
@@ -106,6 +125,7 @@ impl Held {
         place.item = item;
         place.cycle = cycle;
         place.column.copy_from_slice(column);
+        self.cycles[item as usize] = cycle;
         self.len += 1;
     }
 
@@ -113,6 +133,7 @@ impl Held {
     pub fn clear(&mut self)
         ensures { self.new ≡ record self.old { reads = [] } }
     {
+        self.cycles.fill(u32::MAX);
         self.len = 0;
     }
 }

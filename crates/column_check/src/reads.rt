@@ -1,12 +1,13 @@
-//! One held read, and the search for a clash among several.
+//! One held read, and the search for a clash by the columns of several.
 //!
-//! The reads are tested one by one, in both directions; the clash of least item number is the answer.
-//! `held` stands on it.
+//! The reads are tested one by one: whether their columns have the new item at the new cycle or later. The clash of least
+//! item number is the answer. The other direction is one search, in `cycles`; `held` stands on both.
 
 ghost use Rattle.std.specs.Prelude.{◌≡◌, ◌<◌, length, map, All, IfOk};
 ghost use Rattle.air_history.specs.Clashes.{heard_clash};
-ghost use Rattle.column_check.specs.Searches.{clash_of, disagree, lesser_of};
-ghost use Rattle.column_check.specs.HeardReads.{heard_of, heard};
+ghost use Rattle.column_check.specs.Searches.{clash_of, lesser_of};
+ghost use Rattle.column_check.specs.HeardReads.{heard_of};
+ghost use Rattle.column_check.specs.HeldCycles.{held_has};
 
 use air_base::{Clash, NoMemory};
 use std::alloc::Global;
@@ -41,18 +42,17 @@ impl HeldRead {
         }
     }
 
-    /// Whether this read's column or the new one has the other's item at its cycle or later.
-    fn disagrees(&self, item: u16, cycle: u32, column: &[u32]) -> bool
-        requires new { self.now.item < length column.now }
-        requires held { item < length self.now.column.items }
-        ensures { result ≡ disagree (heard item cycle column.now) (heard_of self.now) }
+    /// Whether this read's column has the item at the cycle or later.
+    fn has(&self, item: u16, cycle: u32) -> bool
+        requires { item < length self.now.column.items }
+        ensures { result ≡ held_has item cycle (heard_of self.now) }
     {
-        column[self.item as usize] >= self.cycle || self.column[item as usize] >= cycle
+        self.column[item as usize] >= cycle
     }
 }
 
 /// Of a clash, where there is one, and a further one, that of lesser item number.
-fn lesser_clash(best: Option<Clash>, clash: Clash) -> Clash
+pub fn lesser_clash(best: Option<Clash>, clash: Clash) -> Clash
     ensures { result ≡ lesser_of best clash }
 {
     match best {
@@ -61,15 +61,14 @@ fn lesser_clash(best: Option<Clash>, clash: Clash) -> Clash
     }
 }
 
-/// The held read of least item number that clashes with the new read.
-pub fn least_clash(reads: &[HeldRead], item: u16, cycle: u32, column: &[u32]) -> Option<Clash>
-    requires new { All (λ r. r.item < length column.now) reads.now }
-    requires held { All (λ r. item < length r.column.items) reads.now }
-    ensures { result ≡ heard_clash (disagree (heard item cycle column.now)) (map heard_of reads.now) }
+/// The held read of least item number whose column has the item at the cycle or later.
+pub fn least_clash(reads: &[HeldRead], item: u16, cycle: u32) -> Option<Clash>
+    requires { All (λ r. item < length r.column.items) reads.now }
+    ensures { result ≡ heard_clash (held_has item cycle) (map heard_of reads.now) }
 {
     let mut best = None;
     for read in reads {
-        if read.disagrees(item, cycle, column) {
+        if read.has(item, cycle) {
             best = Some(lesser_clash(best, read.clash()));
         }
     }
