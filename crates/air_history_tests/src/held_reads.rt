@@ -6,7 +6,7 @@
 
 ghost use Rattle.std.specs.Prelude.{◌↔◌, ◌≢◌, ◌<◌, All, IsTrue};
 ghost use Rattle.column_check.specs.HeardReads.{heard};
-ghost use Rattle.column_check.specs.HeldReads.{IsNew};
+ghost use Rattle.air_history.specs.HeldReads.{IsNew};
 
 use air_base::{Clash, NoMemory};
 use column_check::{Held, ROOM};
@@ -51,7 +51,7 @@ struct Attempt {
 
 impl Model for Attempt {
     ghost use Rattle.std.specs.Prelude.{◌≡◌, map};
-    ghost use Rattle.column_check.specs.HeldReads.{HeldReads};
+    ghost use Rattle.air_history.specs.HeldReads.{HeldReads};
 
     ghost Value = { HeldReads };
 

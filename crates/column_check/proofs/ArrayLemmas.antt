@@ -9,7 +9,7 @@ use Rattle.std.proofs.lemmas.List.Elements.{All-head, All-tail, All-append, All-
 use Rattle.air_history.specs.Clashes.{Heard}
 use Rattle.column_check.specs.declared.reads.HeldRead.{HeldRead}
 use Rattle.column_check.specs.HeardReads.{heard_of}
-use Rattle.column_check.specs.HeldReads.{HeldReads}
+use Rattle.air_history.specs.HeldReads.{HeldReads}
 use Rattle.column_check.specs.HeldCycles.{held_cycle, cycles_of}
 
 -- the entry of an item

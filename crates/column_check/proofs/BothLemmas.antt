@@ -5,7 +5,7 @@ use Rattle.std.specs.Prelude.{Any, MatchOption}
 use Rattle.std.proofs.lemmas.Bool.{cases_lt, leb-true, leb-false, both_ways}
 use Rattle.air_base.specs.declared.verdicts.Clash.{Clash}
 use Rattle.air_history.specs.Clashes.{Heard, heard_clash}
-use Rattle.column_check.specs.HeldReads.{HeldReads}
+use Rattle.air_history.specs.HeldReads.{HeldReads}
 use Rattle.column_check.specs.Searches.{clash_of, disagree, lesser_of}
 use Rattle.column_check.specs.HeldCycles.{held_cycle, cycles_of, new_has, held_has, lesser_of_both, NamesFirst, IsFirstClash}
 use Rattle.column_check.proofs.LeastFacts.{none_passes, some_passes, IsLeastOf}

@@ -5,7 +5,7 @@ use Rattle.air_base.specs.declared.verdicts.Clash.{Clash}
 use Rattle.air_history.specs.Clashes.{Heard, entry_of}
 use Rattle.air_lanes.specs.Kernels.{IsFirstNotBelow}
 use Rattle.column_check.specs.declared.held.Held.TheInside.{Inside}
-use Rattle.column_check.specs.HeldReads.{HeldReads}
+use Rattle.air_history.specs.HeldReads.{HeldReads}
 use Rattle.column_check.specs.HeldView.{held_reads, KeepsRoom}
 use Rattle.column_check.specs.Searches.{lesser_of}
 

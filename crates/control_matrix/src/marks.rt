@@ -3,13 +3,13 @@
 //! By one row of marks the written column and the write vector are stamped with the commit's cycle.
 
 ghost use Rattle.std.specs.Prelude.{◌≡◌, cond, length, EachIndex, slice_index};
-ghost use Rattle.air_history.specs.Histories.{writes, EventFits};
+ghost use Rattle.air_history.specs.Histories.{writes, ItemsFit};
 
 use air_history::Event;
 
 /// Marks the items that the event writes, and no other.
 pub fn mark(marks: &mut [u32], event: &Event)
-    requires { EventFits (length marks.old) event.now }
+    requires { ItemsFit (length marks.old) event.now }
     ensures { EachIndex marks.new (λ k. slice_index marks.new k ≡ cond (writes event.now k) 1 0) }
 {
     let written = event.writes();

@@ -2,7 +2,7 @@ use Rattle.std.proofs.Common.{rules, ◌≡◌, ◌∙◌, ◌<◌, ◌≤◌, l
 use Rattle.std.proofs.lemmas.List.Elements.{All-map}
 use Rattle.air_history.specs.Clashes.{Heard, heard_clash}
 use Rattle.column_check.specs.HeardReads.{heard_of}
-use Rattle.column_check.specs.HeldReads.{HeldReads}
+use Rattle.air_history.specs.HeldReads.{HeldReads}
 use Rattle.column_check.specs.HeldView.{held_reads}
 use Rattle.column_check.specs.HeldCycles.{cycles_of, held_has, IsFirstClash}
 use Rattle.column_check.specs.Searches.{disagree}

@@ -4,7 +4,7 @@ use Rattle.std.proofs.lemmas.List.Elements.{All-set}
 use Rattle.air_history.specs.Clashes.{Heard}
 use Rattle.column_check.specs.declared.reads.HeldRead.{HeldRead}
 use Rattle.column_check.specs.HeardReads.{heard_of}
-use Rattle.column_check.specs.HeldReads.{HeldReads}
+use Rattle.air_history.specs.HeldReads.{HeldReads}
 use Rattle.column_check.specs.HeldView.{held_reads}
 use Rattle.column_check.specs.HeldCycles.{cycles_of, held_cycle}
 use Rattle.column_check.proofs.ArrayLemmas.{cycles_len, cycles_put, items_put, once_more, places_put}
