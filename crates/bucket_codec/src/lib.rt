@@ -13,10 +13,3 @@ pub use air_model::bucket::BucketFault;
 pub use encoding::{Body, Bucket, encode, size_of};
 pub use tape::{TapeFault, TapeReader, tape_record};
 pub use view::{BucketView, ViewKind, decode};
-
-#[cfg(test)]
-mod fault_tests;
-#[cfg(test)]
-mod tape_tests;
-#[cfg(test)]
-mod tests;

@@ -1,4 +1,4 @@
-use Rattle.std.proofs.Common.{◌≡◌, ◌&&◌, ◌∙◌, nat_lt, sym, ap}
+use Rattle.std.proofs.Common.{◌&&◌, ◌∙◌, nat_lt, sym, ap}
 use Rattle.std.specs.List.{list_all}
 use Rattle.air_model.specs.Buckets.{entries_at}
 use Rattle.bucket_codec.proofs.EntryFacts.{below_more, below_none}
