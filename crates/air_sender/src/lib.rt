@@ -11,8 +11,3 @@ pub mod tape_mast;
 
 pub use airing::{AirFault, air_cycle, tape_bytes};
 pub use tape_mast::TapeMast;
-
-#[cfg(test)]
-mod program_tests;
-#[cfg(test)]
-mod tests;

@@ -1,8 +1,0 @@
-use Rattle.std.proofs.Common.{sym, subst}
-use Rattle.air_sender.specs.BoardBuckets.{EntriesBelow}
-use Rattle.air_sender.proofs.tests.second_cycle.Goals as goal
-
-pub returns-clause-below : goal.returns-clause-below
-returns-clause-below g c =
-    let G = c.loop-event.invariant.0 in
-    subst EntriesBelow (sym (c.apply-2.ensures c.args.values.now G c.loop-event.invariant.1)) (c.below_law.ensures c.args.values.now G)
