@@ -16,8 +16,3 @@ pub mod programs;
 pub use cuts::Cut;
 pub use cutting::cut;
 pub use programs::{PlanFault, Program};
-
-#[cfg(test)]
-mod deck_tests;
-#[cfg(test)]
-mod tests;
