@@ -116,7 +116,13 @@ fn sent_buckets_are_a_tape(rt: HostRuntime) -> Result<(), Fail> {
         sent: b"\0\0\0\x02ab\0\0\0\x01c",
         ended: true,
     };
-    let two_unaimed = Case {
+    assert_eq!(rt; first_other_case(rt.alloc(), &[at_first, one, two])?, None);
+    Ok(())
+}
+
+#[test]
+fn a_mast_that_was_not_aimed_sends_too(rt: HostRuntime) -> Result<(), Fail> {
+    let case = Case {
         room: 11,
         fail: &[],
         aim: None,
@@ -128,10 +134,7 @@ fn sent_buckets_are_a_tape(rt: HostRuntime) -> Result<(), Fail> {
         sent: b"\0\0\0\x02ab\0\0\0\x01c",
         ended: true,
     };
-    assert_eq!(rt;
-        first_other_case(rt.alloc(), &[at_first, one, two, two_unaimed])?,
-        None
-    );
+    assert_eq!(rt; other_in(rt.alloc(), &case)?, None);
     Ok(())
 }
 
