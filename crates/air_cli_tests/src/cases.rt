@@ -18,6 +18,8 @@ pub enum Part<'a> {
     Front(usize, &'a [u8]),
     /// These bytes, the one at this place with its highest bit changed.
     Flipped(usize, &'a [u8]),
+    /// So many digits 0.
+    Zeros(usize),
     /// This text so many times.
     Times(u32, &'a str),
     /// So many rows of these texts, with the row's number, from 0, between each two.
@@ -26,6 +28,11 @@ pub enum Part<'a> {
 
 /// The parts of a file or of a text.
 pub type Parts<'a> = &'a [Part<'a>];
+
+/// A file of three texts.
+pub fn joined<'a>(first: &'a str, second: &'a str, third: &'a str) -> [Part<'a>; 3] {
+    [Part::Text(first), Part::Text(second), Part::Text(third)]
+}
 
 /// The words over the file `deck`, a file and an output that are both named `tape`, and this room for the printed
 /// text and for the output; the listed calls fail. Then what is wanted.
@@ -96,6 +103,7 @@ fn bytes_of(alloc: Global, parts: Parts<'_>) -> Result<Vec<u8>, Fail> {
             Part::Bytes(more) => bytes.extend_from_slice(more)?,
             Part::Front(count, more) => bytes.extend_from_slice(&more[..count.min(more.len())])?,
             Part::Flipped(at, more) => add_flipped(&mut bytes, at, more)?,
+            Part::Zeros(count) => bytes.extend_from_slice(&vec![in alloc; b'0'; count]?)?,
             Part::Times(times, text) => add_times(&mut bytes, times, text)?,
             Part::Rows(rows, texts) => add_rows(alloc, &mut bytes, rows, texts)?,
         }
@@ -130,7 +138,7 @@ fn words_of(alloc: Global, words: &[&str]) -> Result<Vec<String>, Fail> {
 }
 
 /// In what the run of a case differs from what is wanted, if it does.
-fn difference<R: Threads + Sync>(
+pub fn difference<R: Threads + Sync>(
     rt: &R,
     alloc: Global,
     case: &Case<'_>,

@@ -1,6 +1,6 @@
 //! Refusals, each before those that come later in their order; none writes to the output.
 
-use crate::cases::{Case, Other, Part, Parts, first_other};
+use crate::cases::{Case, Other, Part, Parts, difference, first_other, joined};
 use crate::first::{FIRST, FIRST_CASE, PLAN, SCRIPT, SCRIPT_TAPE, TUNE};
 use air_cli::Status;
 use std::alloc::Global;
@@ -74,25 +74,45 @@ fn a_fault_of_the_deck_is_told_before_all_else(rt: HostRuntime) -> Result<(), Fa
     Ok(())
 }
 
-/// The first of these decks of one item that isn't planned, or that `script` or `tune` don't refuse for its form.
+/// In what these words over a deck of one item and these further records differ from this status and text.
+fn difference_with<R: Threads + Sync>(
+    rt: &R,
+    alloc: Global,
+    words: &[&str],
+    more: &str,
+    status: Status,
+    text: &str,
+) -> Result<Option<Other>, Fail> {
+    let deck = joined("item,0,10,1\ndisk,1,1\n", more, "");
+    let printed = [Part::Text(text)];
+    let case = refused("one item", words, &deck, status, &printed);
+    difference(rt, alloc, &case)
+}
+
+/// In what a deck of one item and these records differs from one that is planned, and that neither `script` nor
+/// `tune` does for its form.
+fn difference_of_form<R: Threads + Sync>(
+    rt: &R,
+    alloc: Global,
+    more: &str,
+) -> Result<Option<Other>, Fail> {
+    let form = Status::Deck { row: 0, kind: 12 };
+    let line = "fault,2,0,12\n";
+    let script = difference_with(rt, alloc, SCRIPT, more, form, line)?;
+    let tune = difference_with(rt, alloc, TUNE_NONE, more, form, line)?;
+    let text = "program,1,1,1\ndisk,0,1,1,1\nminor,0,0\nitem,0,0,1,1,0,1\n";
+    let plan = difference_with(rt, alloc, PLAN, more, Status::Ok, text)?;
+    Ok(script.or(tune).or(plan))
+}
+
+/// The first of these kinds of records by which a deck isn't of another form, and what is other there.
 fn first_done<'a, R: Threads + Sync>(
     rt: &R,
     alloc: Global,
-    decks: &[(&'a str, &'a str)],
+    forms: &[(&'a str, &'a str)],
 ) -> Result<Option<(&'a str, Other)>, Fail> {
-    let form = Status::Deck { row: 0, kind: 12 };
-    let line: Parts<'_> = &[Part::Text("fault,2,0,12\n")];
-    let plan: Parts<'_> = &[Part::Text(
-        "program,1,1,1\ndisk,0,1,1,1\nminor,0,0\nitem,0,0,1,1,0,1\n",
-    )];
-    for (shows, more) in decks {
-        let deck = [Part::Text("item,0,10,1\ndisk,1,1\n"), Part::Text(more)];
-        let cases = [
-            refused(shows, SCRIPT, &deck, form, line),
-            refused(shows, TUNE_NONE, &deck, form, line),
-            refused(shows, PLAN, &deck, Status::Ok, plan),
-        ];
-        if let Some((_, other)) = first_other(rt, alloc, &cases)? {
+    for (shows, more) in forms {
+        if let Some(other) = difference_of_form(rt, alloc, more)? {
             return Ok(Some((*shows, other)));
         }
     }
@@ -113,19 +133,30 @@ fn decks_of_another_form_are_planned_and_not_done(rt: HostRuntime) -> Result<(),
     Ok(())
 }
 
+/// The first of these settings with which a deck of one item isn't done, and what is other there.
+fn first_undone<'a, R: Threads + Sync>(
+    rt: &R,
+    alloc: Global,
+    settings: &[&'a str],
+) -> Result<Option<(&'a str, Other)>, Fail> {
+    for setting in settings {
+        let other = difference_with(rt, alloc, SCRIPT, setting, Status::Ok, "")?;
+        if let Some(other) = other {
+            return Ok(Some((*setting, other)));
+        }
+    }
+    Ok(None)
+}
+
 #[test]
 fn settings_that_no_reader_sees_are_done(rt: HostRuntime) -> Result<(), Fail> {
-    let cycles: Parts<'_> = &[Part::Text("item,0,10,1\ndisk,1,1\nset,cycles,5\n")];
-    let seed: Parts<'_> = &[Part::Text("item,0,10,1\ndisk,1,1\nset,seed,3\n")];
-    let monitors: Parts<'_> = &[Part::Text("item,0,10,1\ndisk,1,1\nset,monitors,1\n")];
-    let hears: Parts<'_> = &[Part::Text("item,0,10,1\ndisk,1,1\nset,hears,5\n")];
-    let cases = [
-        refused("cycles", SCRIPT, cycles, Status::Ok, &[]),
-        refused("seed", SCRIPT, seed, Status::Ok, &[]),
-        refused("monitors", SCRIPT, monitors, Status::Ok, &[]),
-        refused("hears", SCRIPT, hears, Status::Ok, &[]),
+    let settings = [
+        "set,cycles,5\n",
+        "set,seed,3\n",
+        "set,monitors,1\n",
+        "set,hears,5\n",
     ];
-    assert_eq!(rt; first_other(&rt, rt.alloc(), &cases)?, None);
+    assert_eq!(rt; first_undone(&rt, rt.alloc(), &settings)?, None);
     Ok(())
 }
 

@@ -1,6 +1,6 @@
 //! Failing devices: what is printed and written then. A shelf's calls are numbered from 1.
 
-use crate::cases::{Case, Other, Part, Parts, first_other};
+use crate::cases::{Case, Other, Part, Parts, difference, first_other};
 use crate::first::{FIRST_CASE, FIRST_REPORT, FIRST_TAPE, PLAN, SCRIPT, SCRIPT_TAPE, TUNE};
 use air_cli::Status;
 use std::alloc::Global;
@@ -8,7 +8,7 @@ use std::test::Fail;
 use std::thread::Threads;
 
 /// A deck of one byte more than a deck may have.
-const LARGE: Parts<'static> = &[Part::Times(8_388_608, "00000000"), Part::Text("0")];
+const LARGE: Parts<'static> = &[Part::Zeros(67_108_865)];
 
 /// The first deck and its tape with room enough, where the listed calls fail, leave this.
 fn fails<'a>(
@@ -102,7 +102,7 @@ fn first_other_room<R: Threads + Sync>(
             room: *room,
             ..full
         };
-        if let Some((_, other)) = first_other(rt, alloc, &[case])? {
+        if let Some(other) = difference(rt, alloc, &case)? {
             return Ok(Some((*room, other)));
         }
     }

@@ -1,6 +1,6 @@
 //! The command `tune` over tapes that are whole, cut or changed in a byte.
 
-use crate::cases::{Case, Other, Part, Parts, first_other};
+use crate::cases::{Case, Other, Part, Parts, difference, first_other, joined};
 use crate::first::{FIRST_CASE, FIRST_TAPE, TUNE};
 use air_cli::Status;
 use std::alloc::Global;
@@ -58,7 +58,7 @@ fn first_other_length<R: Threads + Sync>(
     for (length, status, printed) in lengths {
         let front = [Part::Front(*length, tape)];
         let case = tuned(&front, *status, printed);
-        if let Some((_, other)) = first_other(rt, alloc, &[case])? {
+        if let Some(other) = difference(rt, alloc, &case)? {
             return Ok(Some((*length, other)));
         }
     }
@@ -126,7 +126,7 @@ fn first_other_place<R: Threads + Sync>(
         for place in *places {
             let tape = [Part::Flipped(*place, &FIRST_TAPE)];
             let case = tuned(&tape, *status, printed);
-            if let Some((_, other)) = first_other(rt, alloc, &[case])? {
+            if let Some(other) = difference(rt, alloc, &case)? {
                 return Ok(Some((*place, other)));
             }
         }
@@ -149,6 +149,11 @@ fn a_changed_byte_of_length_or_head_cuts_refuses_or_makes_foreign(
     Ok(())
 }
 
+/// What stands before and behind the first read of the first tape's report.
+const FRONT: &str = "accept,0,0,1,";
+
+const BACK: &str = " 1@1=20\ncounts,0,2,0,0,0,0,0\n";
+
 /// The first place at which a change of the highest bit in the first tape has its first read told by another text,
 /// and in what that differs.
 fn first_other_read<R: Threads + Sync>(
@@ -157,14 +162,10 @@ fn first_other_read<R: Threads + Sync>(
     reads: &[(usize, &str)],
 ) -> Result<Option<(usize, Other)>, Fail> {
     for (place, read) in reads {
-        let printed = [
-            Part::Text("accept,0,0,1,"),
-            Part::Text(read),
-            Part::Text(" 1@1=20\ncounts,0,2,0,0,0,0,0\n"),
-        ];
+        let printed = joined(FRONT, read, BACK);
         let tape = [Part::Flipped(*place, &FIRST_TAPE)];
         let case = tuned(&tape, Status::Ok, &printed);
-        if let Some((_, other)) = first_other(rt, alloc, &[case])? {
+        if let Some(other) = difference(rt, alloc, &case)? {
             return Ok(Some((*place, other)));
         }
     }
