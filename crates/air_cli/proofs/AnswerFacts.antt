@@ -10,7 +10,8 @@ use Rattle.air_model.specs.Tapes.{tape_read}
 use Rattle.air_cli.specs.declared.status.Status.{Status}
 use Rattle.air_cli.specs.declared.status.Status.TheVariants as status
 use Rattle.air_cli.specs.Words.{Asked, AsksPlan, AsksScript, AsksTune, IsInput, output_of}
-use Rattle.air_cli.specs.Outcomes.{Given, IsGiven, IsGivenInPart, OutputHolds, OutputHoldsPart, Shelved}
+use Rattle.air_cli.specs.Outcomes.{Given, IsGiven, IsGivenInPart, OutputHolds, OutputHoldsPart}
+use Rattle.air_devices.specs.Shelves.{Shelved}
 use Rattle.air_cli.specs.Readings.{Reads}
 use Rattle.air_cli.specs.Causes.{IsDoable, IsShort, OfDeck, deck_limit, tape_limit}
 use Rattle.air_cli.specs.Truths.{IsTrueScript, IsTrueTape}

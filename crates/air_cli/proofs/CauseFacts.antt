@@ -7,7 +7,7 @@ use Rattle.air_model.specs.Decks.{Deck, disks_in}
 use Rattle.air_cli.specs.declared.status.Status.{Status}
 use Rattle.air_cli.specs.declared.status.Status.TheVariants as status
 use Rattle.air_cli.specs.Forms.{CanRun}
-use Rattle.air_cli.specs.Outcomes.{Shelved}
+use Rattle.air_devices.specs.Shelves.{Shelved}
 use Rattle.air_cli.specs.Causes.{IsDoable, DeckCause, UndoableCause, OfDeck, PlanCause, ScriptCause, TuneCause, UnreadCause, deck_limit, tape_limit}
 use Rattle.air_cli.specs.Readings.{LengthCause, SpellsDeck}
 

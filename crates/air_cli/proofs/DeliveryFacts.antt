@@ -5,7 +5,8 @@ use Rattle.std.specs.Io.KnownBytes.{Appends}
 use Rattle.air_devices.specs.Counts.{KeepsCounts, Rose}
 use Rattle.air_devices.specs.Known.{AppendsPart, Becomes}
 use Rattle.air_cli.specs.declared.status.Status.TheVariants as status
-use Rattle.air_cli.specs.Outcomes.{Given, KeepsOutputs, OutputHolds, Shelved}
+use Rattle.air_cli.specs.Outcomes.{Given, KeepsOutputs, OutputHolds}
+use Rattle.air_devices.specs.Shelves.{Shelved}
 use Rattle.air_cli.specs.Deliveries.{Delivers, OutputFails}
 use Rattle.air_cli.proofs.ReadFacts.{kept_twice}
 

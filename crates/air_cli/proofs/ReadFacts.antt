@@ -9,7 +9,7 @@ use Rattle.air_devices.specs.Known.{KnownIs, WhereKnown}
 use Rattle.air_cli.specs.declared.status.Status.{Status}
 use Rattle.air_cli.specs.declared.status.Status.TheVariants as status
 use Rattle.air_cli.specs.Words.{AsksPlan, AsksScript, AsksTune}
-use Rattle.air_cli.specs.Outcomes.{Shelved}
+use Rattle.air_devices.specs.Shelves.{Shelved}
 use Rattle.air_cli.specs.Readings.{Reads}
 use Rattle.air_model.specs.Tapes.{tape_read}
 use Rattle.air_cli.specs.Causes.{IsCutAt, UnreadCause, tape_limit}

@@ -9,7 +9,8 @@ use Rattle.air_cli.specs.declared.status.Status.{Status}
 use Rattle.air_cli.specs.declared.status.Status.TheVariants as status
 use Rattle.air_cli.specs.Words.{Asked, AsksPlan, AsksScript, AsksTune}
 use Rattle.air_cli.specs.Printing.{PrintsUnlessFailed}
-use Rattle.air_cli.specs.Outcomes.{IsRefusal, Leaves, Shelved}
+use Rattle.air_cli.specs.Outcomes.{IsRefusal, Leaves}
+use Rattle.air_devices.specs.Shelves.{Shelved}
 use Rattle.air_cli.specs.Readings.{Reads}
 use Rattle.air_cli.specs.Causes.{DeckCause, UndoableCause, IsFaulty, IsOfOtherForm, PlanCause, ScriptCause, TuneCause, UnreadCause, deck_limit, tape_limit}
 use Rattle.air_cli.specs.Deliveries.{Refuses}

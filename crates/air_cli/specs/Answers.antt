@@ -12,7 +12,8 @@ use Rattle.air_model.specs.Tapes.{tape_read}
 use Rattle.air_cli.specs.declared.status.Status.{Status}
 use Rattle.air_cli.specs.declared.status.Status.TheVariants as status
 use Rattle.air_cli.specs.Words.{Asked, AsksPlan, AsksScript, AsksTune, IsInput, output_of}
-use Rattle.air_cli.specs.Outcomes.{Given, IsGiven, IsGivenInPart, IsRefusal, IsUntouched, OutputHoldsPart, Shelved}
+use Rattle.air_cli.specs.Outcomes.{Given, IsGiven, IsGivenInPart, IsRefusal, IsUntouched, OutputHoldsPart}
+use Rattle.air_devices.specs.Shelves.{Shelved}
 use Rattle.air_cli.specs.Causes.{IsDoable, IsShort, OfDeck, PlanCause, ScriptCause, TuneCause, tape_limit}
 use Rattle.air_cli.specs.Truths.{IsTrueScript, IsTrueTape}
 

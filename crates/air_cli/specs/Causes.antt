@@ -14,7 +14,7 @@ use Rattle.air_model.specs.Tapes.{tape_read}
 use Rattle.air_cli.specs.declared.status.Status.{Status}
 use Rattle.air_cli.specs.declared.status.Status.TheVariants as status
 use Rattle.air_cli.specs.Forms.{CanRun}
-use Rattle.air_cli.specs.Outcomes.{Shelved}
+use Rattle.air_devices.specs.Shelves.{Shelved}
 
 -- A deck has at most so many bytes.
 abbrev pub deck_limit : ℕ

@@ -6,7 +6,8 @@ use Rattle.air_cli.specs.declared.status.Status.{Status}
 use Rattle.air_cli.specs.declared.status.Status.TheVariants as status
 use Rattle.air_cli.specs.Statuses.{line_of}
 use Rattle.air_cli.specs.Printing.{PrintsUnlessFailed}
-use Rattle.air_cli.specs.Outcomes.{Given, IsGiven, IsGivenInPart, OutputHoldsPart, Shelved}
+use Rattle.air_cli.specs.Outcomes.{Given, IsGiven, IsGivenInPart, OutputHoldsPart}
+use Rattle.air_devices.specs.Shelves.{Shelved}
 
 -- The line of a status was printed, but for what a failing print left out.
 abbrev pub PrintsLine : Status → Shelved → Shelved → Type 0

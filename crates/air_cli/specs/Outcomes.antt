@@ -2,18 +2,13 @@
 -- Facts about bytes are said where the shelf tells them; over real files nothing is told.
 use Rattle.std.specs.Prelude.{◌≡◌, ℕ, ◌⊎◌, List, Option, Some, None, take, ⊤}
 use Rattle.std.specs.Io.KnownBytes.{Appends}
-use Rattle.air_devices.specs.Contents.{Contents}
-use Rattle.air_devices.specs.Counts.{Faults, NoCountFalls}
+use Rattle.air_devices.specs.Counts.{NoCountFalls}
 use Rattle.air_devices.specs.Known.{AppendsPart, Becomes}
+use Rattle.air_devices.specs.Shelves.{Shelved}
 use Rattle.air_cli.specs.declared.status.Status.{Status}
 use Rattle.air_cli.specs.Words.{Asked, IsInput, output_of}
 use Rattle.air_cli.specs.Statuses.{line_of}
 use Rattle.air_cli.specs.Printing.{PrintsUnlessFailed}
-
--- A shelf, as a call finds or leaves it: what it tells, and how often its calls failed.
-pub record Shelved : Type 0 where
-  pub told : Contents
-  pub faults : Faults
 
 -- Every output is as it was.
 abbrev pub KeepsOutputs : Shelved → Shelved → Type 0

@@ -8,7 +8,8 @@ use Rattle.air_model.specs.Decks.{Deck, disks_in}
 use Rattle.air_cli.specs.declared.status.Status.{Status}
 use Rattle.air_cli.specs.declared.status.Status.TheVariants as status
 use Rattle.air_cli.specs.Words.{Asked, IsInput}
-use Rattle.air_cli.specs.Outcomes.{KeepsOutputs, Shelved}
+use Rattle.air_cli.specs.Outcomes.{KeepsOutputs}
+use Rattle.air_devices.specs.Shelves.{Shelved}
 use Rattle.air_cli.specs.Causes.{deck_limit}
 
 -- Reading changes what is left of the named inputs alone; no count of faults falls.

@@ -20,13 +20,12 @@ use std::alloc::Global;
 /// The deck of a named file.
 #[tactic(auto, using(crate::proofs::CauseFacts::unread_deck), unfolding(crate::specs::Causes::DeckCause, crate::specs::Causes::UnreadCause))]
 pub(crate) fn deck_of<S: Shelf>(alloc: Global, shelf: &mut S, name: &str) -> Result<Deck, Status>
-    ensures deck { IfOk result (SpellsDeck name.now (record { told = S.told shelf.old; faults = S.faults shelf.old })) }
-    ensures end { OnOk result (IsAtEnd ((S.told shelf.new).left name.now)) }
-    ensures calm { OnOk result (KeepsCounts (S.faults shelf.old) (S.faults shelf.new)) }
-    ensures refused { IfErr result (DeckCause name.now
-        (record { told = S.told shelf.old; faults = S.faults shelf.old }) (record { told = S.told shelf.new; faults = S.faults shelf.new })) }
-    ensures rest { KeepsButLeft name.now (S.told shelf.old) (S.told shelf.new) }
-    ensures later { NoCountFalls (S.faults shelf.old) (S.faults shelf.new) }
+    ensures deck { IfOk result (SpellsDeck name.now (S.state shelf.old)) }
+    ensures end { OnOk result (IsAtEnd ((S.state shelf.new).told.left name.now)) }
+    ensures calm { OnOk result (KeepsCounts (S.state shelf.old).faults (S.state shelf.new).faults) }
+    ensures refused { IfErr result (DeckCause name.now (S.state shelf.old) (S.state shelf.new)) }
+    ensures rest { KeepsButLeft name.now (S.state shelf.old).told (S.state shelf.new).told }
+    ensures later { NoCountFalls (S.state shelf.old).faults (S.state shelf.new).faults }
 {
     let bytes = bytes_of(alloc, shelf, name, DECK_LIMIT)?;
     match read_deck(alloc, &bytes) {
@@ -62,15 +61,14 @@ pub(crate) fn doable<S: Shelf>(
     shelf: &mut S,
     name: &str,
 ) -> Result<(Deck, Program), Status>
-    ensures deck { IfOk result (λ p. SpellsDeck name.now (record { told = S.told shelf.old; faults = S.faults shelf.old }) p.0) }
+    ensures deck { IfOk result (λ p. SpellsDeck name.now (S.state shelf.old) p.0) }
     ensures program { IfOk result (λ p. p.1 ≡ disks_in p.0) }
     ensures done { IfOk result (λ p. IsDoable p.0) }
-    ensures end { OnOk result (IsAtEnd ((S.told shelf.new).left name.now)) }
-    ensures calm { OnOk result (KeepsCounts (S.faults shelf.old) (S.faults shelf.new)) }
-    ensures refused { IfErr result (UndoableCause name.now
-        (record { told = S.told shelf.old; faults = S.faults shelf.old }) (record { told = S.told shelf.new; faults = S.faults shelf.new })) }
-    ensures rest { KeepsButLeft name.now (S.told shelf.old) (S.told shelf.new) }
-    ensures later { NoCountFalls (S.faults shelf.old) (S.faults shelf.new) }
+    ensures end { OnOk result (IsAtEnd ((S.state shelf.new).told.left name.now)) }
+    ensures calm { OnOk result (KeepsCounts (S.state shelf.old).faults (S.state shelf.new).faults) }
+    ensures refused { IfErr result (UndoableCause name.now (S.state shelf.old) (S.state shelf.new)) }
+    ensures rest { KeepsButLeft name.now (S.state shelf.old).told (S.state shelf.new).told }
+    ensures later { NoCountFalls (S.state shelf.old).faults (S.state shelf.new).faults }
 {
     let deck = deck_of(alloc, shelf, name)?;
     if !can_run(&deck) {

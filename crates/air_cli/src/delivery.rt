@@ -15,10 +15,9 @@ use std::alloc::Global;
 
 /// Prints the status's line, and answers the status, or want of memory for the line.
 pub(crate) fn refused<S: Shelf>(alloc: Global, shelf: &mut S, status: Status) -> Status
-    ensures gives { Refuses status
-        (record { told = S.told shelf.old; faults = S.faults shelf.old }) (record { told = S.told shelf.new; faults = S.faults shelf.new }) result }
-    ensures rest { KeepsButPrinted (S.told shelf.old) (S.told shelf.new) }
-    ensures counts { NoCountFalls (S.faults shelf.old) (S.faults shelf.new) }
+    ensures gives { Refuses status (S.state shelf.old) (S.state shelf.new) result }
+    ensures rest { KeepsButPrinted (S.state shelf.old).told (S.state shelf.new).told }
+    ensures counts { NoCountFalls (S.state shelf.old).faults (S.state shelf.new).faults }
 {
     match print_line(alloc, shelf, &status) {
         Ok(()) => status,
@@ -29,11 +28,10 @@ pub(crate) fn refused<S: Shelf>(alloc: Global, shelf: &mut S, status: Status) ->
 /// Prints the line of a status; a print that fails leaves out the rest of it.
 fn print_line<S: Shelf>(alloc: Global, shelf: &mut S, status: &Status) -> Result<(), NoMemory>
     ensures line { OnOk result
-        (PrintsLine status.now
-        (record { told = S.told shelf.old; faults = S.faults shelf.old }) (record { told = S.told shelf.new; faults = S.faults shelf.new })) }
-    ensures none { OnErr result ((S.told shelf.new).printed ≡ (S.told shelf.old).printed) }
-    ensures rest { KeepsButPrinted (S.told shelf.old) (S.told shelf.new) }
-    ensures counts { NoCountFalls (S.faults shelf.old) (S.faults shelf.new) }
+        (PrintsLine status.now (S.state shelf.old) (S.state shelf.new)) }
+    ensures none { OnErr result ((S.state shelf.new).told.printed ≡ (S.state shelf.old).told.printed) }
+    ensures rest { KeepsButPrinted (S.state shelf.old).told (S.state shelf.new).told }
+    ensures counts { NoCountFalls (S.state shelf.old).faults (S.state shelf.new).faults }
 {
     let text = line(alloc, status)?;
     let _ = shelf.print(&text);
@@ -42,10 +40,9 @@ fn print_line<S: Shelf>(alloc: Global, shelf: &mut S, status: &Status) -> Result
 
 /// Writes the tape to the output of this name, if one is named, and then prints the text.
 pub(crate) fn delivered<S: Shelf>(shelf: &mut S, output: Option<&str>, work: &Work) -> Status
-    ensures gives { Delivers (option_map (λ name. name.now) output.entry) work.now
-        (record { told = S.told shelf.old; faults = S.faults shelf.old }) (record { told = S.told shelf.new; faults = S.faults shelf.new }) result }
-    ensures rest { DeliverKeeps (option_map (λ name. name.now) output.entry) (S.told shelf.old) (S.told shelf.new) }
-    ensures counts { NoCountFalls (S.faults shelf.old) (S.faults shelf.new) }
+    ensures gives { Delivers (option_map (λ name. name.now) output.entry) work.now (S.state shelf.old) (S.state shelf.new) result }
+    ensures rest { DeliverKeeps (option_map (λ name. name.now) output.entry) (S.state shelf.old).told (S.state shelf.new).told }
+    ensures counts { NoCountFalls (S.state shelf.old).faults (S.state shelf.new).faults }
 {
     match write_tape(shelf, output, work.tape()) {
         Ok(()) => match shelf.print(work.text()) {
@@ -58,14 +55,12 @@ pub(crate) fn delivered<S: Shelf>(shelf: &mut S, output: Option<&str>, work: &Wo
 
 /// Writes the tape to the output of this name, if one is named.
 fn write_tape<S: Shelf>(shelf: &mut S, output: Option<&str>, tape: &[u8]) -> Result<(), Failed>
-    ensures whole { OnOk result (OutputHolds (option_map (λ name. name.now) output.entry) tape.now
-        (record { told = S.told shelf.old; faults = S.faults shelf.old }) (record { told = S.told shelf.new; faults = S.faults shelf.new })) }
-    ensures calm { OnOk result (KeepsCounts (S.faults shelf.old) (S.faults shelf.new)) }
-    ensures part { OnErr result (OutputFails (option_map (λ name. name.now) output.entry) tape.now
-        (record { told = S.told shelf.old; faults = S.faults shelf.old }) (record { told = S.told shelf.new; faults = S.faults shelf.new })) }
-    ensures printed { (S.told shelf.new).printed ≡ (S.told shelf.old).printed }
-    ensures rest { DeliverKeeps (option_map (λ name. name.now) output.entry) (S.told shelf.old) (S.told shelf.new) }
-    ensures counts { NoCountFalls (S.faults shelf.old) (S.faults shelf.new) }
+    ensures whole { OnOk result (OutputHolds (option_map (λ name. name.now) output.entry) tape.now (S.state shelf.old) (S.state shelf.new)) }
+    ensures calm { OnOk result (KeepsCounts (S.state shelf.old).faults (S.state shelf.new).faults) }
+    ensures part { OnErr result (OutputFails (option_map (λ name. name.now) output.entry) tape.now (S.state shelf.old) (S.state shelf.new)) }
+    ensures printed { (S.state shelf.new).told.printed ≡ (S.state shelf.old).told.printed }
+    ensures rest { DeliverKeeps (option_map (λ name. name.now) output.entry) (S.state shelf.old).told (S.state shelf.new).told }
+    ensures counts { NoCountFalls (S.state shelf.old).faults (S.state shelf.new).faults }
 {
     match output {
         Some(name) => write_output(shelf, name, tape),
@@ -75,11 +70,10 @@ fn write_tape<S: Shelf>(shelf: &mut S, output: Option<&str>, tape: &[u8]) -> Res
 
 /// Makes the output of this name hold just these bytes.
 fn write_output<S: Shelf>(shelf: &mut S, name: &str, bytes: &[u8]) -> Result<(), Failed>
-    ensures whole { OnOk result (Becomes ((S.told shelf.old).output name.now) ((S.told shelf.new).output name.now) bytes.now) }
-    ensures part { OnErr result (OutputHoldsPart name.now bytes.now
-        (record { told = S.told shelf.old; faults = S.faults shelf.old }) (record { told = S.told shelf.new; faults = S.faults shelf.new })) }
-    ensures rest { KeepsButOutput name.now (S.told shelf.old) (S.told shelf.new) }
-    ensures cause { HasCause (writing_of name.now) (S.faults shelf.old) (S.faults shelf.new) result }
+    ensures whole { OnOk result (Becomes ((S.state shelf.old).told.output name.now) ((S.state shelf.new).told.output name.now) bytes.now) }
+    ensures part { OnErr result (OutputHoldsPart name.now bytes.now (S.state shelf.old) (S.state shelf.new)) }
+    ensures rest { KeepsButOutput name.now (S.state shelf.old).told (S.state shelf.new).told }
+    ensures cause { HasCause (writing_of name.now) (S.state shelf.old).faults (S.state shelf.new).faults result }
 {
     shelf.create(name)?;
     shelf.append(name, bytes)?;

@@ -25,14 +25,13 @@ pub(crate) fn bytes_of<S: Shelf>(
     name: &str,
     limit: usize,
 ) -> Result<Vec<u8>, Status>
-    ensures bytes { IfOk result (λ v. KnownIs ((S.told shelf.old).file name.now) v.items) }
+    ensures bytes { IfOk result (λ v. KnownIs ((S.state shelf.old).told.file name.now) v.items) }
     ensures fits { IfOk result (λ v. length v.items ≤ limit) }
-    ensures end { OnOk result (IsAtEnd ((S.told shelf.new).left name.now)) }
-    ensures calm { OnOk result (KeepsCounts (S.faults shelf.old) (S.faults shelf.new)) }
-    ensures refused { IfErr result (UnreadCause name.now limit
-        (record { told = S.told shelf.old; faults = S.faults shelf.old }) (record { told = S.told shelf.new; faults = S.faults shelf.new })) }
-    ensures rest { KeepsButLeft name.now (S.told shelf.old) (S.told shelf.new) }
-    ensures later { NoCountFalls (S.faults shelf.old) (S.faults shelf.new) }
+    ensures end { OnOk result (IsAtEnd ((S.state shelf.new).told.left name.now)) }
+    ensures calm { OnOk result (KeepsCounts (S.state shelf.old).faults (S.state shelf.new).faults) }
+    ensures refused { IfErr result (UnreadCause name.now limit (S.state shelf.old) (S.state shelf.new)) }
+    ensures rest { KeepsButLeft name.now (S.state shelf.old).told (S.state shelf.new).told }
+    ensures later { NoCountFalls (S.state shelf.old).faults (S.state shelf.new).faults }
 {
     match read_file(alloc, shelf, name, limit) {
         Ok(bytes) => Ok(bytes),

@@ -16,14 +16,13 @@ use std::alloc::Global;
 
 /// The text of the named deck's plan.
 pub(crate) fn plan_of<S: Shelf>(alloc: Global, shelf: &mut S, name: &str) -> Result<Work, Status>
-    ensures given { IfOk result (λ work. OfDeck name.now (record { told = S.told shelf.old; faults = S.faults shelf.old })
+    ensures given { IfOk result (λ work. OfDeck name.now (S.state shelf.old)
         (λ d. IsShort d × (work ≡ plan_given d))) }
-    ensures end { OnOk result (IsAtEnd ((S.told shelf.new).left name.now)) }
-    ensures calm { OnOk result (KeepsCounts (S.faults shelf.old) (S.faults shelf.new)) }
-    ensures refused { IfErr result (PlanCause name.now
-        (record { told = S.told shelf.old; faults = S.faults shelf.old }) (record { told = S.told shelf.new; faults = S.faults shelf.new })) }
-    ensures rest { KeepsButLeft name.now (S.told shelf.old) (S.told shelf.new) }
-    ensures later { NoCountFalls (S.faults shelf.old) (S.faults shelf.new) }
+    ensures end { OnOk result (IsAtEnd ((S.state shelf.new).told.left name.now)) }
+    ensures calm { OnOk result (KeepsCounts (S.state shelf.old).faults (S.state shelf.new).faults) }
+    ensures refused { IfErr result (PlanCause name.now (S.state shelf.old) (S.state shelf.new)) }
+    ensures rest { KeepsButLeft name.now (S.state shelf.old).told (S.state shelf.new).told }
+    ensures later { NoCountFalls (S.state shelf.old).faults (S.state shelf.new).faults }
 {
     let deck = deck_of(alloc, shelf, name)?;
     let (cut, program) = planned(alloc, &deck)?;

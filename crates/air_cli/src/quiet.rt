@@ -30,10 +30,8 @@ pub fn air_quiet<T: Threads + Sync, S: Shelf>(
     words: &[String],
     shelf: &mut S,
 ) -> Status
-    ensures answers { QuietAnswers (asked_of (map (λ w. string_bytes w) words.now))
-        (record { told = S.told shelf.old; faults = S.faults shelf.old }) (record { told = S.told shelf.new; faults = S.faults shelf.new }) result }
-    ensures leaves { Leaves (asked_of (map (λ w. string_bytes w) words.now))
-        (record { told = S.told shelf.old; faults = S.faults shelf.old }) (record { told = S.told shelf.new; faults = S.faults shelf.new }) }
+    ensures answers { QuietAnswers (asked_of (map (λ w. string_bytes w) words.now)) (S.state shelf.old) (S.state shelf.new) result }
+    ensures leaves { Leaves (asked_of (map (λ w. string_bytes w) words.now)) (S.state shelf.old) (S.state shelf.new) }
 {
     match command_of(words) {
         Some(command) => done(alloc, shelf, &command),
@@ -43,10 +41,8 @@ pub fn air_quiet<T: Threads + Sync, S: Shelf>(
 
 /// Does a command.
 fn done<S: Shelf>(alloc: Global, shelf: &mut S, command: &Command) -> Status
-    ensures answers { QuietAnswers (Some (asked_by command.now))
-        (record { told = S.told shelf.old; faults = S.faults shelf.old }) (record { told = S.told shelf.new; faults = S.faults shelf.new }) result }
-    ensures leaves { Leaves (Some (asked_by command.now))
-        (record { told = S.told shelf.old; faults = S.faults shelf.old }) (record { told = S.told shelf.new; faults = S.faults shelf.new }) }
+    ensures answers { QuietAnswers (Some (asked_by command.now)) (S.state shelf.old) (S.state shelf.new) result }
+    ensures leaves { Leaves (Some (asked_by command.now)) (S.state shelf.old) (S.state shelf.new) }
 {
     match work_of(alloc, shelf, command) {
         Ok(work) => delivered(shelf, command.output(), &work),
@@ -60,13 +56,11 @@ fn done<S: Shelf>(alloc: Global, shelf: &mut S, command: &Command) -> Status
 /// What a command gives; nothing is printed or written yet.
 #[tactic(auto, unfolding(crate::specs::Answers::Cause, crate::specs::Answers::Gives))]
 fn work_of<S: Shelf>(alloc: Global, shelf: &mut S, command: &Command) -> Result<Work, Status>
-    ensures given { IfOk result (λ work. Gives (Some (asked_by command.now)) (record { told = S.told shelf.old; faults = S.faults shelf.old }) (λ g. work ≡ g)) }
-    ensures read { OnOk result ((name : List ℕ) → IsInput (Some (asked_by command.now)) name → IsAtEnd ((S.told shelf.new).left name)) }
-    ensures calm { OnOk result (KeepsCounts (S.faults shelf.old) (S.faults shelf.new)) }
-    ensures refused { IfErr result (Cause (Some (asked_by command.now))
-        (record { told = S.told shelf.old; faults = S.faults shelf.old }) (record { told = S.told shelf.new; faults = S.faults shelf.new })) }
-    ensures rest { Reads (Some (asked_by command.now))
-        (record { told = S.told shelf.old; faults = S.faults shelf.old }) (record { told = S.told shelf.new; faults = S.faults shelf.new }) }
+    ensures given { IfOk result (λ work. Gives (Some (asked_by command.now)) (S.state shelf.old) (λ g. work ≡ g)) }
+    ensures read { OnOk result ((name : List ℕ) → IsInput (Some (asked_by command.now)) name → IsAtEnd ((S.state shelf.new).told.left name)) }
+    ensures calm { OnOk result (KeepsCounts (S.state shelf.old).faults (S.state shelf.new).faults) }
+    ensures refused { IfErr result (Cause (Some (asked_by command.now)) (S.state shelf.old) (S.state shelf.new)) }
+    ensures rest { Reads (Some (asked_by command.now)) (S.state shelf.old) (S.state shelf.new) }
 {
     match command {
         Command::Plan { deck } => plan_of(alloc, shelf, deck),

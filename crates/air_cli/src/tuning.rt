@@ -25,15 +25,13 @@ pub(crate) fn tuning_of<S: Shelf>(
     name: &str,
     tape: &str,
 ) -> Result<Work, Status>
-    ensures given { IfOk result (λ work. OfDeck name.now (record { told = S.told shelf.old; faults = S.faults shelf.old })
-        (λ d. IsDoable d × OfTape tape.now (record { told = S.told shelf.old; faults = S.faults shelf.old }) (λ records. IsTrueTape d records × (work ≡ tune_given d records)))) }
-    ensures end { OnOk result (IsAtEnd ((S.told shelf.new).left name.now)) }
-    ensures tape_end { OnOk result (IsAtEnd ((S.told shelf.new).left tape.now)) }
-    ensures calm { OnOk result (KeepsCounts (S.faults shelf.old) (S.faults shelf.new)) }
-    ensures refused { IfErr result (TuneCause name.now tape.now
-        (record { told = S.told shelf.old; faults = S.faults shelf.old }) (record { told = S.told shelf.new; faults = S.faults shelf.new })) }
-    ensures rest { Reads (Some (AsksTune name.now tape.now))
-        (record { told = S.told shelf.old; faults = S.faults shelf.old }) (record { told = S.told shelf.new; faults = S.faults shelf.new }) }
+    ensures given { IfOk result (λ work. OfDeck name.now (S.state shelf.old)
+        (λ d. IsDoable d × OfTape tape.now (S.state shelf.old) (λ records. IsTrueTape d records × (work ≡ tune_given d records)))) }
+    ensures end { OnOk result (IsAtEnd ((S.state shelf.new).told.left name.now)) }
+    ensures tape_end { OnOk result (IsAtEnd ((S.state shelf.new).told.left tape.now)) }
+    ensures calm { OnOk result (KeepsCounts (S.state shelf.old).faults (S.state shelf.new).faults) }
+    ensures refused { IfErr result (TuneCause name.now tape.now (S.state shelf.old) (S.state shelf.new)) }
+    ensures rest { Reads (Some (AsksTune name.now tape.now)) (S.state shelf.old) (S.state shelf.new) }
 {
     let (deck, program) = doable(alloc, shelf, name)?;
     let bytes = bytes_of(alloc, shelf, tape, TAPE_LIMIT)?;

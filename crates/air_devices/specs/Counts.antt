@@ -1,4 +1,4 @@
--- How often the calls of a shelf failed. A caller that is told of a failure knows that the count of its call rose.
+-- How often the calls of a device failed. A caller that is told of a failure knows that the count of its call rose.
 use Rattle.std.specs.Prelude.{◌≡◌, ◌<◌, ◌≤◌, ◌⊎◌, ◌-◌, ◌^◌, ℕ, List, Result, OnErr, OnOk}
 
 -- how often reading and writing by each name failed, and how often printing did
@@ -44,3 +44,9 @@ pub record HasCause {T E : Type 0} (own : Faults → ℕ) (before now : Faults) 
   pub rose : OnErr result (Rose (own before) (own now))
   pub later : NoCountFalls before now
   pub calm : OnOk result (KeepsCounts before now)
+
+-- the same of a device with one count
+pub record HasDeviceCause {T E : Type 0} (before now : ℕ) (result : Result T E) : Type 0 where
+  pub rose : OnErr result (Rose before now)
+  pub later : before ≤ now
+  pub calm : OnOk result (now ≡ before)

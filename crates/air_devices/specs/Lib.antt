@@ -1,5 +1,6 @@
 pub mod Contents
 pub mod Counts
+pub mod Shelves
 pub mod Frames
 pub mod Known
 pub mod Memory

@@ -1,11 +1,17 @@
--- What a mast tells of what it sent, and when its calls fail. What a form doesn't tell is None.
-use Rattle.std.specs.Prelude.{◌≡◌, ℕ, ◌≤◌, List, [], ◌++◌, length, Option, Some, None, unwrap_or, Result, OnErr, OnOk, ⊤}
-use Rattle.air_devices.specs.Counts.{Rose}
+-- A mast, as a call finds or leaves it. The trait `Mast` has this as its one ghost member, and every clause on a mast
+-- goes by it. What a form doesn't tell is None.
+use Rattle.std.specs.Prelude.{◌≡◌, ℕ, List, [], ◌++◌, length, Option, Some, None, unwrap_or, ⊤}
 
 -- the buckets that were sent, and where the end was sent, how many buckets had been sent at the first end
 pub record Sent : Type 0 where
   pub buckets : List (List ℕ)
   pub ended : Option ℕ
+
+-- what a mast tells of what it sent, how often its calls failed, and the port that it was aimed at, if it was
+pub record Masted : Type 0 where
+  pub told : Option Sent
+  pub faults : ℕ
+  pub port : Option ℕ
 
 -- nothing was sent
 abbrev pub nothing_sent : Sent
@@ -28,9 +34,3 @@ WhereTold (Some s) P = P s
 abbrev pub Changes : (Sent → Sent) → Option Sent → Option Sent → Type 0
 Changes change None now = ⊤
 Changes change (Some s) now = now ≡ Some (change s)
-
--- a call fails only where the count of failures rose, and else leaves it; it never falls
-pub record HasMastCause {T E : Type 0} (before now : ℕ) (result : Result T E) : Type 0 where
-  pub rose : OnErr result (Rose before now)
-  pub later : before ≤ now
-  pub calm : OnOk result (now ≡ before)

@@ -7,6 +7,7 @@ use Rattle.std.specs.List.{find, list_any}
 use Rattle.air_devices.specs.Written.{Written}
 use Rattle.air_devices.specs.Contents.{Contents}
 use Rattle.air_devices.specs.Counts.{Faults, one_count}
+use Rattle.air_devices.specs.Shelves.{Shelved}
 use Rattle.air_devices.specs.declared.memory_shelf.MemFile.{MemFile}
 use Rattle.air_devices.specs.declared.memory_shelf.MemOutput.{MemOutput}
 use Rattle.air_devices.specs.declared.memory_shelf.MemShelf.{MemShelf}
@@ -71,6 +72,10 @@ empty_output room name = record { name = name; written = record { bytes = []; ro
 -- how often the calls of a shelf in memory failed
 abbrev pub faults_of : MemShelf → Faults
 faults_of s = one_count s.faults
+
+-- a shelf in memory, as a call finds or leaves it
+abbrev pub shelved_of : MemShelf → Shelved
+shelved_of s = record { told = contents_of s; faults = faults_of s }
 
 -- the file of this name on a shelf
 abbrev pub file_in : List ℕ → MemShelf → Option MemFile

@@ -1,7 +1,7 @@
 -- What a mast in memory tells: everything that it sent.
-use Rattle.std.specs.Prelude.{◌≡◌, ◌==◌, ◌||◌, ◌+◌, ◌-◌, ◌^◌, ℕ, List, Bool, None, min}
+use Rattle.std.specs.Prelude.{◌≡◌, ◌==◌, ◌||◌, ◌+◌, ◌-◌, ◌^◌, ℕ, List, Bool, Some, None, min}
 use Rattle.std.specs.List.{list_any}
-use Rattle.air_devices.specs.Masts.{Sent, nothing_sent}
+use Rattle.air_devices.specs.Masts.{Masted, Sent, nothing_sent}
 use Rattle.air_devices.specs.Recordings.{overflows_record}
 use Rattle.air_devices.specs.declared.memory_mast.MemMast.{MemMast}
 
@@ -9,13 +9,17 @@ use Rattle.air_devices.specs.declared.memory_mast.MemMast.{MemMast}
 abbrev pub sent_of : MemMast → Sent
 sent_of m = record { buckets = m.tape.records; ended = m.ended }
 
+-- a mast in memory, as a call finds or leaves it
+abbrev pub masted_of : MemMast → Masted
+masted_of m = record { told = Some (sent_of m); faults = m.faults; port = m.port }
+
 -- a mast has just been made, with this room and these numbers of calls that fail
 pub record IsNewMast (size : ℕ) (listed : List ℕ) (m : MemMast) : Type 0 where
   pub sent : sent_of m ≡ nothing_sent
   pub room : m.tape.room ≡ size
   pub fail : m.fail.items ≡ listed
   pub calls : m.calls ≡ 0
-  pub failures : m.failures ≡ 0
+  pub faults : m.faults ≡ 0
   pub port : m.port ≡ None
 
 -- the number of the next call

@@ -5,8 +5,8 @@
 //! append opens the named output again and writes behind what it holds, so the output must have been created.
 
 ghost use Rattle.std.specs.Prelude.{◌≡◌, ◌≤◌, None};
-ghost use Rattle.air_devices.specs.Contents.{untold};
-ghost use Rattle.air_devices.specs.Counts.{Rose, one_count};
+ghost use Rattle.air_devices.specs.Counts.{Rose};
+ghost use Rattle.air_devices.specs.Shelves.{untold_with};
 
 use crate::shelves::{Failed, Shelf};
 use std::fs::{self, OpenOptions};
@@ -45,9 +45,7 @@ impl<R: Files + Print + Drop> FileShelf<R> {
 }
 
 impl<R: Files + Print + Drop> Shelf for FileShelf<R> {
-    ghost told = { λ _. untold };
-
-    ghost faults = { λ shelf. one_count shelf.faults };
+    ghost state = { λ shelf. untold_with shelf.faults };
 
     fn pick(&mut self, name: &str) -> Result<(), Failed> {
         match fs::open(&self.rt, name) {

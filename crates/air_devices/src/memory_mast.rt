@@ -6,9 +6,9 @@
 ghost use Rattle.std.specs.Prelude.{◌≡◌, ◌≤◌, ◌<◌, ◌^◌, ◌↔◌, [], ◌∷◌, Some, length, IfOk, IsErr, IsTrue, OnErr, OnOk};
 ghost use Rattle.std.specs.Option.{is_some};
 ghost use Rattle.air_model.specs.Tapes.{tape_of};
-ghost use Rattle.air_devices.specs.Counts.{Rose};
-ghost use Rattle.air_devices.specs.Masts.{Changes, HasMastCause, with_buckets, with_end};
-ghost use Rattle.air_devices.specs.MemoryMasts.{IsNewMast, IsNextCall, is_next_listed, is_send_refused, next_call, sent_of};
+ghost use Rattle.air_devices.specs.Counts.{HasDeviceCause, Rose};
+ghost use Rattle.air_devices.specs.Masts.{Changes, with_buckets, with_end};
+ghost use Rattle.air_devices.specs.MemoryMasts.{IsNewMast, IsNextCall, is_next_listed, is_send_refused, masted_of, next_call, sent_of};
 
 use crate::masts::Mast;
 use crate::shelves::Failed;
@@ -24,7 +24,7 @@ pub struct MemMast {
     port: Option<u16>,
     fail: Vec<u64>,
     calls: u64,
-    failures: u64,
+    faults: u64,
 }
 
 impl MemMast {
@@ -39,7 +39,7 @@ impl MemMast {
             port: None,
             fail,
             calls: 0,
-            failures: 0,
+            faults: 0,
         })
     }
 
@@ -69,28 +69,24 @@ impl MemMast {
 
     /// Counts a failure.
     fn fault(&mut self) -> Failed
-        ensures rose { Rose self.old.failures self.new.failures }
-        ensures later { self.old.failures ≤ self.new.failures }
-        ensures rest { self.new ≡ record self.old { failures = self.new.failures } }
+        ensures rose { Rose self.old.faults self.new.faults }
+        ensures later { self.old.faults ≤ self.new.faults }
+        ensures rest { self.new ≡ record self.old { faults = self.new.faults } }
     {
-        self.failures = self.failures.saturating_add(1);
+        self.faults = self.faults.saturating_add(1);
         Failed
     }
 }
 
 impl Mast for MemMast {
-    ghost sent = { λ m. Some (sent_of m) };
-
-    ghost failures = { λ m. m.failures };
-
-    ghost aimed_at = { λ m. m.port };
+    ghost state = { masted_of };
 
     fn aim(&mut self, port: u16) -> Result<(), Failed>
         ensures fails { IsErr result ↔ IsTrue (is_next_listed self.old) }
         ensures call { IsNextCall self.old self.new }
         ensures aimed { self.new.port ≡ Some port }
         ensures kept { sent_of self.new ≡ sent_of self.old }
-        ensures cause { HasMastCause self.old.failures self.new.failures result }
+        ensures cause { HasDeviceCause self.old.faults self.new.faults result }
     {
         self.port = Some(port);
         if self.is_to_fail() {
@@ -106,7 +102,7 @@ impl Mast for MemMast {
         ensures added { OnOk result (Changes (with_buckets (bytes.now ∷ [])) (Some (sent_of self.old)) (Some (sent_of self.new))) }
         ensures refused { OnErr result (sent_of self.new ≡ sent_of self.old) }
         ensures port { self.new.port ≡ self.old.port }
-        ensures cause { HasMastCause self.old.failures self.new.failures result }
+        ensures cause { HasDeviceCause self.old.faults self.new.faults result }
     {
         if self.is_to_fail() || !self.tape.add(bytes) {
             return Err(self.fault());
@@ -120,7 +116,7 @@ impl Mast for MemMast {
         ensures ended { OnOk result (Changes with_end (Some (sent_of self.old)) (Some (sent_of self.new))) }
         ensures refused { OnErr result (sent_of self.new ≡ sent_of self.old) }
         ensures port { self.new.port ≡ self.old.port }
-        ensures cause { HasMastCause self.old.failures self.new.failures result }
+        ensures cause { HasDeviceCause self.old.faults self.new.faults result }
     {
         if self.is_to_fail() {
             return Err(self.fault());

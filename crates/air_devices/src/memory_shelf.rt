@@ -11,7 +11,7 @@ ghost use Rattle.std.specs.Option.{is_none, option_map};
 ghost use Rattle.air_devices.specs.Counts.{HasCause, Rose, printing_of, reading_of, writing_of};
 ghost use Rattle.air_devices.specs.Frames.{KeepsButLeft, KeepsButOutput, KeepsButPrinted};
 ghost use Rattle.air_devices.specs.Known.{AppendsPart, Becomes};
-ghost use Rattle.air_devices.specs.Memory.{IsNewShelf, IsNextCall, contents_of, empty_output, faults_of, file_in, given_bytes, given_named, is_next_listed, next_call, output_in, overflows_output, overflows_print, spells, unpicked};
+ghost use Rattle.air_devices.specs.Memory.{IsNewShelf, IsNextCall, contents_of, empty_output, faults_of, file_in, given_bytes, given_named, is_next_listed, next_call, output_in, overflows_output, overflows_print, shelved_of, spells, unpicked};
 
 use crate::fixed_bytes::FixedBytes;
 use crate::shelves::{Failed, Shelf};
@@ -123,9 +123,7 @@ impl MemShelf {
 }
 
 impl Shelf for MemShelf {
-    ghost told = { contents_of };
-
-    ghost faults = { faults_of };
+    ghost state = { shelved_of };
 
     fn pick(&mut self, name: &str) -> Result<(), Failed>
         ensures fails { IsErr result ↔ IsTrue (is_next_listed self.old || is_none (file_in name.now self.old)) }

@@ -47,14 +47,14 @@ pub fn read_file<S: Shelf>(
     name: &str,
     limit: usize,
 ) -> Result<Vec<u8>, ReadFileError>
-    ensures bytes { IfOk result (λ v. KnownIs ((S.told shelf.old).file name.now) v.items) }
+    ensures bytes { IfOk result (λ v. KnownIs ((S.state shelf.old).told.file name.now) v.items) }
     ensures fits { IfOk result (λ v. length v.items ≤ limit) }
-    ensures end { OnOk result (IsAtEnd ((S.told shelf.new).left name.now)) }
-    ensures large { result ≡ Err ReadFileError.TooLarge → WhereKnown ((S.told shelf.old).file name.now) (λ xs. limit < length xs) }
-    ensures cause { result ≡ Err ReadFileError.Failed → Rose ((S.faults shelf.old).reading name.now) ((S.faults shelf.new).reading name.now) }
-    ensures rest { KeepsButLeft name.now (S.told shelf.old) (S.told shelf.new) }
-    ensures later { NoCountFalls (S.faults shelf.old) (S.faults shelf.new) }
-    ensures calm { result ≢ Err ReadFileError.Failed → KeepsCounts (S.faults shelf.old) (S.faults shelf.new) }
+    ensures end { OnOk result (IsAtEnd ((S.state shelf.new).told.left name.now)) }
+    ensures large { result ≡ Err ReadFileError.TooLarge → WhereKnown ((S.state shelf.old).told.file name.now) (λ xs. limit < length xs) }
+    ensures cause { result ≡ Err ReadFileError.Failed → Rose ((S.state shelf.old).faults.reading name.now) ((S.state shelf.new).faults.reading name.now) }
+    ensures rest { KeepsButLeft name.now (S.state shelf.old).told (S.state shelf.new).told }
+    ensures later { NoCountFalls (S.state shelf.old).faults (S.state shelf.new).faults }
+    ensures calm { result ≢ Err ReadFileError.Failed → KeepsCounts (S.state shelf.old).faults (S.state shelf.new).faults }
 {
     if shelf.pick(name).is_err() {
         return Err(ReadFileError::Failed);

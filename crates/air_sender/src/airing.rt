@@ -10,7 +10,8 @@ ghost use Rattle.air_model.specs.Disks.{all_items};
 ghost use Rattle.air_model.specs.Programs.{program as slots_of};
 ghost use Rattle.air_model.specs.Buckets.{spelling};
 ghost use Rattle.air_model.specs.Aired.{Air};
-ghost use Rattle.air_devices.specs.Masts.{Changes, HasMastCause, with_buckets};
+ghost use Rattle.air_devices.specs.Counts.{HasDeviceCause};
+ghost use Rattle.air_devices.specs.Masts.{Changes, with_buckets};
 ghost use Rattle.air_sender.specs.BoardBuckets.{EntriesBelow, IsLastBoard, bucket_on, cycle_bytes, last_bytes};
 ghost use Rattle.air_sender.specs.AirFaults.{IsAirAnswer, SendsUpToFault};
 ghost use Rattle.air_sender.specs.TapeSizes.{cycle_size};
@@ -41,12 +42,12 @@ pub fn air_cycle<M: Mast>(
     requires below { EntriesBelow board.now }
     requires items { length (all_items program.now) ≡ length board.now.values }
     requires room { 24 + 4 * length board.now.values ≤ length buf.old }
-    ensures aired { OnOk result (Changes (with_buckets (cycle_bytes policy (slots_of program.now) board.now)) (M.sent mast.old) (M.sent mast.new)) }
+    ensures aired { OnOk result (Changes (with_buckets (cycle_bytes policy (slots_of program.now) board.now)) (M.state mast.old).told (M.state mast.new).told) }
     ensures history { (values : List ℕ) (air : Air) (G : List Event) → IsLastBoard values air G policy (slots_of program.now) board.now →
-        SendsUpToFault (last_bytes values air G) result (M.sent mast.old) (M.sent mast.new) }
-    ensures calm { OnOk result (M.failures mast.new ≡ M.failures mast.old) }
-    ensures fault { IfErr result (IsAirAnswer (cycle_bytes policy (slots_of program.now) board.now) (M.sent mast.old) (M.sent mast.new) (M.failures mast.old) (M.failures mast.new)) }
-    ensures port { M.aimed_at mast.new ≡ M.aimed_at mast.old }
+        SendsUpToFault (last_bytes values air G) result (M.state mast.old).told (M.state mast.new).told }
+    ensures calm { OnOk result ((M.state mast.new).faults ≡ (M.state mast.old).faults) }
+    ensures fault { IfErr result (IsAirAnswer (cycle_bytes policy (slots_of program.now) board.now) (M.state mast.old) (M.state mast.new)) }
+    ensures port { (M.state mast.new).port ≡ (M.state mast.old).port }
     ensures buffer { length buf.new ≡ length buf.old }
 {
     program.well_made();
@@ -74,10 +75,10 @@ fn air_slot<M: Mast>(
     requires below { EntriesBelow board.now }
     requires items { length (all_items program.now) ≡ length board.now.values }
     requires room { 24 + 4 * length board.now.values ≤ length buf.old }
-    ensures sent { OnOk result (Changes (with_buckets (spelling (bucket_on policy (slots_of program.now) board.now slot) ∷ [])) (M.sent mast.old) (M.sent mast.new)) }
-    ensures refused { OnErr result (M.sent mast.new ≡ M.sent mast.old) }
-    ensures port { M.aimed_at mast.new ≡ M.aimed_at mast.old }
-    ensures cause { HasMastCause (M.failures mast.old) (M.failures mast.new) result }
+    ensures sent { OnOk result (Changes (with_buckets (spelling (bucket_on policy (slots_of program.now) board.now slot) ∷ [])) (M.state mast.old).told (M.state mast.new).told) }
+    ensures refused { OnErr result ((M.state mast.new).told ≡ (M.state mast.old).told) }
+    ensures port { (M.state mast.new).port ≡ (M.state mast.old).port }
+    ensures cause { HasDeviceCause (M.state mast.old).faults (M.state mast.new).faults result }
 {
     let bucket = slot_bucket(board, policy, slot, program.slot_item(slot));
     let len = encode(&bucket, buf);

@@ -4,8 +4,9 @@
 
 ghost use Rattle.std.specs.Prelude.{◌≡◌, ◌<◌, ◌^◌, ◌↔◌, [], ◌∷◌, length, Some, IfOk, IsErr, IsOk, IsTrue, OnErr, OnOk};
 ghost use Rattle.air_model.specs.Tapes.{tape_of};
-ghost use Rattle.air_devices.specs.Masts.{Changes, HasMastCause, with_buckets, with_end};
-ghost use Rattle.air_sender.specs.Tapings.{new_taping, overflows};
+ghost use Rattle.air_devices.specs.Counts.{HasDeviceCause};
+ghost use Rattle.air_devices.specs.Masts.{Changes, with_buckets, with_end};
+ghost use Rattle.air_sender.specs.Tapings.{masted_of, new_taping, overflows};
 
 use air_base::NoMemory;
 use air_devices::{Failed, Mast, TapeRoom};
@@ -17,7 +18,7 @@ use std::marker::Model;
 pub struct TapeMast {
     tape: TapeRoom,
     ended: Option<usize>,
-    failures: u64,
+    faults: u64,
     port: Option<u16>,
 }
 
@@ -38,7 +39,7 @@ impl TapeMast {
         Ok(TapeMast {
             tape,
             ended: None,
-            failures: 0,
+            faults: 0,
             port: None,
         })
     }
@@ -52,17 +53,13 @@ impl TapeMast {
 }
 
 impl Mast for TapeMast {
-    ghost sent = { λ t. Some t.sent };
-
-    ghost failures = { λ t. t.failures };
-
-    ghost aimed_at = { λ t. t.aimed_at };
+    ghost state = { masted_of };
 
     fn aim(&mut self, port: u16) -> Result<(), Failed>
         ensures done { IsOk result }
-        ensures aimed { self.new.aimed_at ≡ Some port }
-        ensures kept { self.new ≡ record self.old { aimed_at = self.new.aimed_at } }
-        ensures cause { HasMastCause self.old.failures self.new.failures result }
+        ensures aimed { self.new.port ≡ Some port }
+        ensures kept { self.new ≡ record self.old { port = self.new.port } }
+        ensures cause { HasDeviceCause self.old.faults self.new.faults result }
     {
         self.port = Some(port);
         Ok(())
@@ -74,11 +71,11 @@ impl Mast for TapeMast {
         ensures room { self.new.room ≡ self.old.room }
         ensures added { OnOk result (Changes (with_buckets (bytes.now ∷ [])) (Some self.old.sent) (Some self.new.sent)) }
         ensures refused { OnErr result (self.new.sent ≡ self.old.sent) }
-        ensures port { self.new.aimed_at ≡ self.old.aimed_at }
-        ensures cause { HasMastCause self.old.failures self.new.failures result }
+        ensures port { self.new.port ≡ self.old.port }
+        ensures cause { HasDeviceCause self.old.faults self.new.faults result }
     {
         if !self.tape.add(bytes) {
-            self.failures = self.failures.saturating_add(1);
+            self.faults = self.faults.saturating_add(1);
             return Err(Failed);
         }
         Ok(())
@@ -87,7 +84,7 @@ impl Mast for TapeMast {
     fn finish(&mut self) -> Result<(), Failed>
         ensures done { IsOk result }
         ensures ended { self.new ≡ record self.old { sent = with_end self.old.sent } }
-        ensures cause { HasMastCause self.old.failures self.new.failures result }
+        ensures cause { HasDeviceCause self.old.faults self.new.faults result }
     {
         let sent = self.tape.count();
         self.ended = Some(self.ended.unwrap_or(sent));

@@ -1,5 +1,4 @@
 use Rattle.std.proofs.Common.{refl, inr, rules}
-use Rattle.air_cli.specs.Outcomes.{Shelved}
 use Rattle.air_cli.specs.Forms.{CanRun}
 use Rattle.air_cli.specs.Causes.{UndoableCause}
 use Rattle.air_cli.proofs.CauseFacts.{length_done, of_deck}
@@ -11,7 +10,7 @@ returns-then-not-can_run-clause-refused g c =
     let S = g.S.Shelf in
     inr (record {
       read = c.in_ok-deck.ensures.end;
-      form = of_deck c.args.name.now (record { told = S.told c.args.shelf.now; faults = S.faults c.args.shelf.now }) c.in_ok-deck.deck (λ d. CanRun d → ⊥)
+      form = of_deck c.args.name.now (S.state c.args.shelf.now) c.in_ok-deck.deck (λ d. CanRun d → ⊥)
           c.in_ok-deck.ensures.deck (λ form. cc (c.if-not-can_run.true, c.can_run.ensures.1 form));
       as_row = refl;
       as_kind = refl;
@@ -21,7 +20,7 @@ pub returns-in_err-_cut-clause-refused : goal.returns-in_err-_cut-clause-refused
 returns-in_err-_cut-clause-refused g c =
     let S = g.S.Shelf in
     let form : CanRun c.in_ok-deck.deck = c.can_run.ensures.0 c.if-not-can_run.false in
-    let before : Shelved = record { told = S.told c.args.shelf.now; faults = S.faults c.args.shelf.now } in
-    let now : Shelved = record { told = S.told c.deck_of.new.shelf; faults = S.faults c.deck_of.new.shelf } in
+    let before = S.state c.args.shelf.now in
+    let now = S.state c.deck_of.new.shelf in
     let h = length_done c.args.name.now before now c.in_ok-deck.deck c.in_err-_cut.field-0.0 c.in_ok-deck.ensures.deck form c.in_err-_cut.ensures.refused in
     search (rules, h)

@@ -1,6 +1,5 @@
 use Rattle.std.proofs.Common.{None, subst}
 use Rattle.air_cli.specs.declared.status.Status.TheVariants as status
-use Rattle.air_cli.specs.Outcomes.{Shelved}
 use Rattle.air_cli.specs.Answers.{QuietAnswers}
 use Rattle.air_cli.proofs.RefusalFacts.{answers_refused, reads_nothing, words_refused}
 use Rattle.air_cli.proofs.quiet.air_quiet.Goals as goal
@@ -8,7 +7,7 @@ use Rattle.air_cli.proofs.quiet.air_quiet.Goals as goal
 pub returns-in-None-clause-answers : goal.returns-in-None-clause-answers
 returns-in-None-clause-answers g c =
     let S = g.S.Shelf in
-    let before : Shelved = record { told = S.told c.args.shelf.now; faults = S.faults c.args.shelf.now } in
-    let now : Shelved = record { told = S.told c.refused.new.shelf; faults = S.faults c.refused.new.shelf } in
+    let before = S.state c.args.shelf.now in
+    let now = S.state c.refused.new.shelf in
     subst (λ asked. QuietAnswers asked before now c.refused.result) c.in-None.ensures
     (answers_refused None before before now status.Words c.refused.result (λ e. cc) (reads_nothing before) (words_refused before) c.refused.ensures.gives c.refused.ensures.rest c.refused.ensures.counts)

@@ -1,6 +1,6 @@
 use Rattle.std.proofs.Common.{◌≡◌, ℕ, List, [], ap, rules}
 use Rattle.air_model.specs.Tapes.{tape_read}
-use Rattle.air_cli.specs.Outcomes.{Given, Shelved}
+use Rattle.air_cli.specs.Outcomes.{Given}
 use Rattle.air_cli.specs.Causes.{IsDoable, TuneCause}
 use Rattle.air_cli.specs.Truths.{IsTrueTape}
 use Rattle.air_cli.specs.Answers.{OfTape, tune_given}
@@ -15,8 +15,8 @@ given_by text = record { text = text; tape = [] }
 pub returns-in_err-deck-clause-refused : goal.returns-in_err-deck-clause-refused
 returns-in_err-deck-clause-refused g c =
     let S = g.S.Shelf in
-    let before : Shelved = record { told = S.told c.args.shelf.now; faults = S.faults c.args.shelf.now } in
-    let now : Shelved = record { told = S.told c.doable.new.shelf; faults = S.faults c.doable.new.shelf } in
+    let before = S.state c.args.shelf.now in
+    let now = S.state c.doable.new.shelf in
     let h = done_tune c.args.name.now c.args.tape.now before now c.in_err-deck.field-0.0 c.in_err-deck.ensures.refused in
     search (rules, h)
 
@@ -24,9 +24,9 @@ pub returns-in_err-bytes-clause-refused : goal.returns-in_err-bytes-clause-refus
 returns-in_err-bytes-clause-refused g c =
     let S = g.S.Shelf in
     let tape = c.args.tape.now in
-    let before : Shelved = record { told = S.told c.args.shelf.now; faults = S.faults c.args.shelf.now } in
-    let mid : Shelved = record { told = S.told c.doable.new.shelf; faults = S.faults c.doable.new.shelf } in
-    let now : Shelved = record { told = S.told c.bytes_of.new.shelf; faults = S.faults c.bytes_of.new.shelf } in
+    let before = S.state c.args.shelf.now in
+    let mid = S.state c.doable.new.shelf in
+    let now = S.state c.bytes_of.new.shelf in
     let can = of_deck c.args.name.now before c.in_ok-deck.deck IsDoable c.in_ok-deck.ensures.deck c.in_ok-deck.ensures.done in
     let unread = unread_since tape 1073741824 before mid now c.in_err-bytes.field-0.0 (c.doable.ensures.rest.files tape) c.in_ok-deck.ensures.calm c.in_err-bytes.ensures.refused in
     let h = unread_tune c.args.name.now tape before now c.in_err-bytes.field-0.0 can unread in
@@ -36,8 +36,8 @@ pub returns-in-Ok-clause-given : goal.returns-in-Ok-clause-given
 returns-in-Ok-clause-given g c =
     let S = g.S.Shelf in
     let tape = c.args.tape.now in
-    let before : Shelved = record { told = S.told c.args.shelf.now; faults = S.faults c.args.shelf.now } in
-    let mid : Shelved = record { told = S.told c.doable.new.shelf; faults = S.faults c.doable.new.shelf } in
+    let before = S.state c.args.shelf.now in
+    let mid = S.state c.doable.new.shelf in
     let deck = c.in_ok-deck.deck in
     let read = c.deref.result.now in
     let work : Given = record { text = c.in-Ok.text.items; tape = [] } in
@@ -50,8 +50,8 @@ returns-in-Ok-clause-given g c =
 pub returns-in-Ok-clause-end : goal.returns-in-Ok-clause-end
 returns-in-Ok-clause-end g c =
     let S = g.S.Shelf in
-    let mid : Shelved = record { told = S.told c.doable.new.shelf; faults = S.faults c.doable.new.shelf } in
-    let now : Shelved = record { told = S.told c.bytes_of.new.shelf; faults = S.faults c.bytes_of.new.shelf } in
+    let mid = S.state c.doable.new.shelf in
+    let now = S.state c.bytes_of.new.shelf in
     end_still c.args.name.now c.args.tape.now mid now c.bytes_of.ensures.rest c.in_ok-deck.ensures.end c.in_ok-bytes.ensures.end
 
 pub returns-in-Err-Cut-clause-refused : goal.returns-in-Err-Cut-clause-refused
@@ -59,8 +59,8 @@ unfolding TuneCause
 returns-in-Err-Cut-clause-refused g c =
     let S = g.S.Shelf in
     let tape = c.args.tape.now in
-    let before : Shelved = record { told = S.told c.args.shelf.now; faults = S.faults c.args.shelf.now } in
-    let mid : Shelved = record { told = S.told c.doable.new.shelf; faults = S.faults c.doable.new.shelf } in (
+    let before = S.state c.args.shelf.now in
+    let mid = S.state c.doable.new.shelf in (
       of_deck c.args.name.now before c.in_ok-deck.deck IsDoable c.in_ok-deck.ensures.deck c.in_ok-deck.ensures.done,
       of_cut tape before mid c.in_ok-bytes.bytes.items c.deref.result.now c.in-Err-Cut.at c.in_ok-bytes.ensures.bytes (c.doable.ensures.rest.files tape) c.deref.ensures.value
           c.in_ok-bytes.ensures.fits (rw c.in-Err-Cut.field-0-is at c.in-Err-Cut.ensures.fault),
@@ -69,5 +69,5 @@ returns-in-Err-Cut-clause-refused g c =
 pub returns-clause-refused : goal.returns-clause-refused
 returns-clause-refused g c =
     let S = g.S.Shelf in
-    wanting_tune c.args.name.now c.args.tape.now (record { told = S.told c.args.shelf.now; faults = S.faults c.args.shelf.now })
-    (record { told = S.told c.bytes_of.new.shelf; faults = S.faults c.bytes_of.new.shelf })
+    wanting_tune c.args.name.now c.args.tape.now (S.state c.args.shelf.now)
+    (S.state c.bytes_of.new.shelf)

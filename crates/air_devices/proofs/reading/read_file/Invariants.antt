@@ -8,9 +8,9 @@ abbrev pub invariant-loop-buf : goal.invariant-loop-buf
 invariant-loop-buf g l =
     let S = g.S.Shelf in
     record {
-      read : Keeps ((S.told l.fn.shelf).file l.name) (prepend_known l.bytes.items ((S.told l.shelf).left l.name));
-      rest : KeepsButLeft l.name (S.told l.fn.shelf) (S.told l.shelf);
-      calm : KeepsCounts (S.faults l.fn.shelf) (S.faults l.shelf);
+      read : Keeps ((S.state l.fn.shelf).told.file l.name) (prepend_known l.bytes.items ((S.state l.shelf).told.left l.name));
+      rest : KeepsButLeft l.name (S.state l.fn.shelf).told (S.state l.shelf).told;
+      calm : KeepsCounts (S.state l.fn.shelf).faults (S.state l.shelf).faults;
     }
 
 abbrev pub decreases-loop-buf : goal.decreases-loop-buf

@@ -41,13 +41,13 @@ returns-clause-aired g c =
 
 pub returns-clause-history : goal.returns-clause-history
 returns-clause-history g c values air G is =
-    subst (λ bs. Changes (with_buckets bs) (g.M.Mast.sent c.args.mast.now) (g.M.Mast.sent c.loop-slot.mast))
+    subst (λ bs. Changes (with_buckets bs) (g.M.Mast.state c.args.mast.now).told (g.M.Mast.state c.loop-slot.mast).told)
     (last_bytes_are values air G c.args.policy (slots_of c.args.program.now) c.args.board.now (length (all_items c.args.program.now)) is c.requires.items c.well_made.ensures.slots)
     (returns-clause-aired g c)
 
 pub returns-then-is_err-clause-history : goal.returns-then-is_err-clause-history
 returns-then-is_err-clause-history g c values air G is =
     let sent = (returns-then-is_err-clause-fault g c).sent in
-    subst (λ bs. Changes (with_buckets (take c.loop-slot.slot bs)) (g.M.Mast.sent c.args.mast.now) (g.M.Mast.sent c.air_slot.new.mast))
+    subst (λ bs. Changes (with_buckets (take c.loop-slot.slot bs)) (g.M.Mast.state c.args.mast.now).told (g.M.Mast.state c.air_slot.new.mast).told)
     (last_bytes_are values air G c.args.policy (slots_of c.args.program.now) c.args.board.now (length (all_items c.args.program.now)) is c.requires.items c.well_made.ensures.slots)
     sent

@@ -12,4 +12,4 @@ returns-clause-sent g c =
     let b = said c.slot_bucket-bucket.result in
     let bytes = front_is b c.encode-len.result c.encode-len.new.out _ c.encode-len.ensures.len c.encode-len.ensures.bytes in
     let is = bucket_is c.args.policy (slots_of c.args.program.now) c.args.board.now c.args.slot c.slot_item.result b c.slot_item.ensures.carried c.slot_bucket-bucket.ensures.bucket in
-    subst (λ (l : List ℕ). OnOk c.send.result (Changes (with_buckets (l ∷ [])) (g.M.Mast.sent c.args.mast.now) (g.M.Mast.sent c.send.new.self))) (bytes ∙ ap spelling is) c.send.ensures.added
+    subst (λ (l : List ℕ). OnOk c.send.result (Changes (with_buckets (l ∷ [])) (g.M.Mast.state c.args.mast.now).told (g.M.Mast.state c.send.new.self).told)) (bytes ∙ ap spelling is) c.send.ensures.added
