@@ -1,10 +1,11 @@
 -- What a shelf in memory tells: everything. Where several files or outputs have one name, the first is meant; of a
 -- name that none has, the shelf tells that there are no bytes.
-use Rattle.std.specs.Prelude.{◌≡◌, ◌==◌, length, map, true, nat_lt, ◌+◌, ◌-◌, ◌^◌, ℕ, List, [], Bool, Option, Some, None, Vec, String, drop, min, nat_eq, string_bytes, vec_len}
+use Rattle.std.specs.Prelude.{◌≡◌, length, map, true, nat_lt, ◌+◌, ℕ, List, [], Bool, Option, Some, None, Vec, String, drop, nat_eq, string_bytes, vec_len}
 use Rattle.std.specs.Cmp.Lexicographic.{pointwise}
 use Rattle.std.specs.Global.{Global}
-use Rattle.std.specs.List.{find, list_any}
+use Rattle.std.specs.List.{find}
 use Rattle.air_devices.specs.Written.{Written}
+use Rattle.air_devices.specs.Calls.{AreNew, IsNextCall}
 use Rattle.air_devices.specs.Contents.{Contents}
 use Rattle.air_devices.specs.Counts.{Faults, one_count}
 use Rattle.air_devices.specs.Shelves.{Shelved}
@@ -71,7 +72,7 @@ empty_output room name = record { name = name; written = record { bytes = []; ro
 
 -- how often the calls of a shelf in memory failed
 abbrev pub faults_of : MemShelf → Faults
-faults_of s = one_count s.faults
+faults_of s = one_count s.calls.faults
 
 -- a shelf in memory, as a call finds or leaves it
 abbrev pub shelved_of : MemShelf → Shelved
@@ -90,17 +91,7 @@ pub record IsNewShelf (given : List (String Global × Vec ℕ Global)) (named : 
   pub files : s.files.items ≡ map unpicked given
   pub outputs : s.outputs.items ≡ map (empty_output room) named
   pub printed : s.printed ≡ record { bytes = []; room = room }
-  pub fail : s.fail.items ≡ listed
-  pub calls : s.calls ≡ 0
-  pub faults : s.faults ≡ 0
-
--- the number of the next call
-abbrev pub next_call : MemShelf → ℕ
-next_call s = min (s.calls + 1) (2 ^ 64 - 1)
-
--- whether the number of the next call is listed, so that it fails
-abbrev pub is_next_listed : MemShelf → Bool
-is_next_listed s = list_any (λ number. number == next_call s) s.fail.items
+  pub calls : AreNew listed s.calls
 
 -- whether there is no room for all of the bytes behind those that were written
 abbrev pub overflows : Written → List ℕ → Bool
@@ -127,10 +118,9 @@ output_names s = map (λ o. string_bytes o.name) s.outputs.items
 abbrev pub output_rooms : MemShelf → List ℕ
 output_rooms s = map (λ o. o.written.room) s.outputs.items
 
--- one call was numbered; the numbers that fail, the names and the rooms are as they were
-pub record IsNextCall (before now : MemShelf) : Type 0 where
-  pub calls : now.calls ≡ next_call before
-  pub fail : now.fail ≡ before.fail
+-- one call was made; the names and the rooms are as they were
+pub record MadeCall (before now : MemShelf) : Type 0 where
+  pub calls : IsNextCall before.calls now.calls
   pub files : file_names now ≡ file_names before
   pub outputs : output_names now ≡ output_names before
   pub rooms : output_rooms now ≡ output_rooms before

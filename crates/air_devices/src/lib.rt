@@ -2,11 +2,12 @@
 //!
 //! `shelves` has the trait of a device with files and outputs, and the one refusal; `masts` that of a device that sends
 //! buckets. A call that fails says which count rose, so that a caller can name the cause of its own answer.
-//! `memory_shelf` and `memory_mast` are forms in memory, which tell all that they hold and fail where they are told to;
-//! `file_shelf` is a shelf over real files and standard output. `reading` reads a whole file through any shelf.
+//! `memory_shelf` and `memory_mast` are forms in memory, which tell all that they hold and fail where they are told to
+//! (`calls`); `file_shelf` is a shelf over real files and standard output. `reading` reads a whole file through any shelf.
 //! `tape_room` is a tape that grows in memory that was taken at once.
 #![tactic(auto)]
 
+mod calls;
 pub mod file_shelf;
 mod fixed_bytes;
 pub mod masts;

@@ -6,10 +6,12 @@
 ghost use Rattle.std.specs.Prelude.{◌≡◌, ◌≤◌, ◌<◌, ◌^◌, ◌↔◌, [], ◌∷◌, Some, length, IfOk, IsErr, IsTrue, OnErr, OnOk};
 ghost use Rattle.std.specs.Option.{is_some};
 ghost use Rattle.air_model.specs.Tapes.{tape_of};
-ghost use Rattle.air_devices.specs.Counts.{HasDeviceCause, Rose};
+ghost use Rattle.air_devices.specs.Calls.{is_next_listed};
+ghost use Rattle.air_devices.specs.Counts.{HasDeviceCause};
 ghost use Rattle.air_devices.specs.Masts.{Changes, with_buckets, with_end};
-ghost use Rattle.air_devices.specs.MemoryMasts.{IsNewMast, IsNextCall, is_next_listed, is_send_refused, masted_of, next_call, sent_of};
+ghost use Rattle.air_devices.specs.MemoryMasts.{IsNewMast, MadeCall, is_send_refused, masted_of, sent_of};
 
+use crate::calls::Calls;
 use crate::masts::Mast;
 use crate::shelves::Failed;
 use crate::tape_room::TapeRoom;
@@ -22,9 +24,7 @@ pub struct MemMast {
     tape: TapeRoom,
     ended: Option<usize>,
     port: Option<u16>,
-    fail: Vec<u64>,
-    calls: u64,
-    faults: u64,
+    calls: Calls,
 }
 
 impl MemMast {
@@ -37,9 +37,7 @@ impl MemMast {
             tape,
             ended: None,
             port: None,
-            fail,
-            calls: 0,
-            faults: 0,
+            calls: Calls::new(fail),
         })
     }
 
@@ -56,41 +54,21 @@ impl MemMast {
     {
         self.ended.is_some()
     }
-
-    /// Numbers a call, and tells whether its number is listed, so that it is to fail.
-    fn is_to_fail(&mut self) -> bool
-        ensures numbered { self.new ≡ record self.old { calls = next_call self.old } }
-        ensures listed { result ≡ is_next_listed self.old }
-    {
-        self.calls = self.calls.saturating_add(1);
-        let number = self.calls;
-        self.fail.iter().any(|listed| *listed == number)
-    }
-
-    /// Counts a failure.
-    fn fault(&mut self) -> Failed
-        ensures rose { Rose self.old.faults self.new.faults }
-        ensures later { self.old.faults ≤ self.new.faults }
-        ensures rest { self.new ≡ record self.old { faults = self.new.faults } }
-    {
-        self.faults = self.faults.saturating_add(1);
-        Failed
-    }
 }
 
 impl Mast for MemMast {
     ghost state = { masted_of };
 
     fn aim(&mut self, port: u16) -> Result<(), Failed>
-        ensures fails { IsErr result ↔ IsTrue (is_next_listed self.old) }
-        ensures call { IsNextCall self.old self.new }
+        ensures fails { IsErr result ↔ IsTrue (is_next_listed self.old.calls) }
+        ensures call { MadeCall self.old self.new }
         ensures aimed { self.new.port ≡ Some port }
         ensures kept { sent_of self.new ≡ sent_of self.old }
-        ensures cause { HasDeviceCause self.old.faults self.new.faults result }
+        ensures cause { HasDeviceCause self.old.calls.faults self.new.calls.faults result }
     {
         self.port = Some(port);
-        if self.is_to_fail() {
-            return Err(self.fault());
+        if self.calls.is_to_fail() {
+            return Err(self.calls.fault());
         }
         Ok(())
     }
@@ -98,28 +76,28 @@ impl Mast for MemMast {
     fn send(&mut self, bytes: &[u8]) -> Result<(), Failed>
         requires { length bytes.now < 2 ^ 32 }
         ensures fails { IsErr result ↔ IsTrue (is_send_refused self.old bytes.now) }
-        ensures call { IsNextCall self.old self.new }
+        ensures call { MadeCall self.old self.new }
         ensures added { OnOk result (Changes (with_buckets (bytes.now ∷ [])) (Some (sent_of self.old)) (Some (sent_of self.new))) }
         ensures refused { OnErr result (sent_of self.new ≡ sent_of self.old) }
         ensures port { self.new.port ≡ self.old.port }
-        ensures cause { HasDeviceCause self.old.faults self.new.faults result }
+        ensures cause { HasDeviceCause self.old.calls.faults self.new.calls.faults result }
     {
-        if self.is_to_fail() || !self.tape.add(bytes) {
-            return Err(self.fault());
+        if self.calls.is_to_fail() || !self.tape.add(bytes) {
+            return Err(self.calls.fault());
         }
         Ok(())
     }
 
     fn finish(&mut self) -> Result<(), Failed>
-        ensures fails { IsErr result ↔ IsTrue (is_next_listed self.old) }
-        ensures call { IsNextCall self.old self.new }
+        ensures fails { IsErr result ↔ IsTrue (is_next_listed self.old.calls) }
+        ensures call { MadeCall self.old self.new }
         ensures ended { OnOk result (Changes with_end (Some (sent_of self.old)) (Some (sent_of self.new))) }
         ensures refused { OnErr result (sent_of self.new ≡ sent_of self.old) }
         ensures port { self.new.port ≡ self.old.port }
-        ensures cause { HasDeviceCause self.old.faults self.new.faults result }
+        ensures cause { HasDeviceCause self.old.calls.faults self.new.calls.faults result }
     {
-        if self.is_to_fail() {
-            return Err(self.fault());
+        if self.calls.is_to_fail() {
+            return Err(self.calls.fault());
         }
         let sent = self.tape.count();
         self.ended = Some(self.ended.unwrap_or(sent));

@@ -8,11 +8,13 @@ ghost use Rattle.std.specs.Prelude.{◌≡◌, ◌≤◌, ◌<◌, ◌+◌, ◌-
 ghost use Rattle.std.specs.Io.{ReadsAtMost};
 ghost use Rattle.std.specs.Io.KnownBytes.{Appends, ReadConsumes};
 ghost use Rattle.std.specs.Option.{is_none, option_map};
-ghost use Rattle.air_devices.specs.Counts.{HasCause, Rose, printing_of, reading_of, writing_of};
+ghost use Rattle.air_devices.specs.Calls.{is_next_listed};
+ghost use Rattle.air_devices.specs.Counts.{HasCause, printing_of, reading_of, writing_of};
 ghost use Rattle.air_devices.specs.Frames.{KeepsButLeft, KeepsButOutput, KeepsButPrinted};
 ghost use Rattle.air_devices.specs.Known.{AppendsPart, Becomes};
-ghost use Rattle.air_devices.specs.Memory.{IsNewShelf, IsNextCall, contents_of, empty_output, faults_of, file_in, given_bytes, given_named, is_next_listed, next_call, output_in, overflows_output, overflows_print, shelved_of, spells, unpicked};
+ghost use Rattle.air_devices.specs.Memory.{IsNewShelf, MadeCall, contents_of, empty_output, faults_of, file_in, given_bytes, given_named, output_in, overflows_output, overflows_print, shelved_of, spells, unpicked};
 
+use crate::calls::Calls;
 use crate::fixed_bytes::FixedBytes;
 use crate::shelves::{Failed, Shelf};
 use air_base::NoMemory;
@@ -39,9 +41,7 @@ pub struct MemShelf {
     files: Vec<MemFile>,
     outputs: Vec<MemOutput>,
     printed: FixedBytes,
-    fail: Vec<u64>,
-    calls: u64,
-    faults: u64,
+    calls: Calls,
 }
 
 impl MemShelf {
@@ -66,9 +66,7 @@ impl MemShelf {
             files,
             outputs,
             printed,
-            fail,
-            calls: 0,
-            faults: 0,
+            calls: Calls::new(fail),
         })
     }
 
@@ -100,60 +98,40 @@ impl MemShelf {
     {
         self.outputs.iter().position(|o| o.name.as_str() == name)
     }
-
-    /// Numbers a call, and tells whether its number is listed, so that it is to fail.
-    fn is_to_fail(&mut self) -> bool
-        ensures numbered { self.new ≡ record self.old { calls = next_call self.old } }
-        ensures listed { result ≡ is_next_listed self.old }
-    {
-        self.calls = self.calls.saturating_add(1);
-        let number = self.calls;
-        self.fail.iter().any(|listed| *listed == number)
-    }
-
-    /// Counts a failure.
-    fn fault(&mut self) -> Failed
-        ensures rose { Rose self.old.faults self.new.faults }
-        ensures later { self.old.faults ≤ self.new.faults }
-        ensures rest { self.new ≡ record self.old { faults = self.new.faults } }
-    {
-        self.faults = self.faults.saturating_add(1);
-        Failed
-    }
 }
 
 impl Shelf for MemShelf {
     ghost state = { shelved_of };
 
     fn pick(&mut self, name: &str) -> Result<(), Failed>
-        ensures fails { IsErr result ↔ IsTrue (is_next_listed self.old || is_none (file_in name.now self.old)) }
-        ensures call { IsNextCall self.old self.new }
+        ensures fails { IsErr result ↔ IsTrue (is_next_listed self.old.calls || is_none (file_in name.now self.old)) }
+        ensures call { MadeCall self.old self.new }
         ensures picked { OnOk result ((contents_of self.new).left name.now ≡ (contents_of self.old).file name.now) }
         ensures refused { OnErr result ((contents_of self.new).left name.now ≡ (contents_of self.old).left name.now) }
         ensures rest { KeepsButLeft name.now (contents_of self.old) (contents_of self.new) }
         ensures cause { HasCause (reading_of name.now) (faults_of self.old) (faults_of self.new) result }
     {
-        if self.is_to_fail() {
-            return Err(self.fault());
+        if self.calls.is_to_fail() {
+            return Err(self.calls.fault());
         }
         let Some(place) = self.file_place(name) else {
-            return Err(self.fault());
+            return Err(self.calls.fault());
         };
         self.files[place].at = 0;
         Ok(())
     }
 
     fn read(&mut self, name: &str, buf: &mut [u8]) -> Result<usize, Failed>
-        ensures fails { IsErr result ↔ IsTrue (is_next_listed self.old) }
-        ensures call { IsNextCall self.old self.new }
+        ensures fails { IsErr result ↔ IsTrue (is_next_listed self.old.calls) }
+        ensures call { MadeCall self.old self.new }
         ensures bound { ReadsAtMost result buf.new }
         ensures moved { ReadConsumes ((contents_of self.old).left name.now) ((contents_of self.new).left name.now) result buf.new }
         ensures refused { OnErr result ((contents_of self.new).left name.now ≡ (contents_of self.old).left name.now) }
         ensures rest { KeepsButLeft name.now (contents_of self.old) (contents_of self.new) }
         ensures cause { HasCause (reading_of name.now) (faults_of self.old) (faults_of self.new) result }
     {
-        if self.is_to_fail() {
-            return Err(self.fault());
+        if self.calls.is_to_fail() {
+            return Err(self.calls.fault());
         }
         let Some(place) = self.file_place(name) else {
             return Ok(0);
@@ -165,53 +143,53 @@ impl Shelf for MemShelf {
     }
 
     fn create(&mut self, name: &str) -> Result<(), Failed>
-        ensures fails { IsErr result ↔ IsTrue (is_next_listed self.old || is_none (output_in name.now self.old)) }
-        ensures call { IsNextCall self.old self.new }
+        ensures fails { IsErr result ↔ IsTrue (is_next_listed self.old.calls || is_none (output_in name.now self.old)) }
+        ensures call { MadeCall self.old self.new }
         ensures emptied { OnOk result (Becomes ((contents_of self.old).output name.now) ((contents_of self.new).output name.now) []) }
         ensures refused { OnErr result ((contents_of self.new).output name.now ≡ (contents_of self.old).output name.now) }
         ensures rest { KeepsButOutput name.now (contents_of self.old) (contents_of self.new) }
         ensures cause { HasCause (writing_of name.now) (faults_of self.old) (faults_of self.new) result }
     {
-        if self.is_to_fail() {
-            return Err(self.fault());
+        if self.calls.is_to_fail() {
+            return Err(self.calls.fault());
         }
         let Some(place) = self.output_place(name) else {
-            return Err(self.fault());
+            return Err(self.calls.fault());
         };
         self.outputs[place].written.clear();
         Ok(())
     }
 
     fn append(&mut self, name: &str, bytes: &[u8]) -> Result<(), Failed>
-        ensures fails { IsErr result ↔ IsTrue (is_next_listed self.old || overflows_output (output_in name.now self.old) bytes.now) }
-        ensures call { IsNextCall self.old self.new }
+        ensures fails { IsErr result ↔ IsTrue (is_next_listed self.old.calls || overflows_output (output_in name.now self.old) bytes.now) }
+        ensures call { MadeCall self.old self.new }
         ensures all { OnOk result (Appends ((contents_of self.old).output name.now) ((contents_of self.new).output name.now) bytes.now) }
         ensures part { OnErr result (AppendsPart ((contents_of self.old).output name.now) ((contents_of self.new).output name.now) bytes.now) }
         ensures rest { KeepsButOutput name.now (contents_of self.old) (contents_of self.new) }
         ensures cause { HasCause (writing_of name.now) (faults_of self.old) (faults_of self.new) result }
     {
-        if self.is_to_fail() {
-            return Err(self.fault());
+        if self.calls.is_to_fail() {
+            return Err(self.calls.fault());
         }
         let Some(place) = self.output_place(name) else {
-            return Err(self.fault());
+            return Err(self.calls.fault());
         };
         if !self.outputs[place].written.add(bytes) {
-            return Err(self.fault());
+            return Err(self.calls.fault());
         }
         Ok(())
     }
 
     fn print(&mut self, bytes: &[u8]) -> Result<(), Failed>
-        ensures fails { IsErr result ↔ IsTrue (is_next_listed self.old || overflows_print self.old bytes.now) }
-        ensures call { IsNextCall self.old self.new }
+        ensures fails { IsErr result ↔ IsTrue (is_next_listed self.old.calls || overflows_print self.old bytes.now) }
+        ensures call { MadeCall self.old self.new }
         ensures all { OnOk result (Appends (contents_of self.old).printed (contents_of self.new).printed bytes.now) }
         ensures part { OnErr result (AppendsPart (contents_of self.old).printed (contents_of self.new).printed bytes.now) }
         ensures rest { KeepsButPrinted (contents_of self.old) (contents_of self.new) }
         ensures cause { HasCause printing_of (faults_of self.old) (faults_of self.new) result }
     {
-        if self.is_to_fail() || !self.printed.add(bytes) {
-            return Err(self.fault());
+        if self.calls.is_to_fail() || !self.printed.add(bytes) {
+            return Err(self.calls.fault());
         }
         Ok(())
     }
