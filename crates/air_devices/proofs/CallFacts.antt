@@ -1,9 +1,10 @@
 -- What a call of a shelf in memory leaves, said once for all calls: the shelf s makes a call, and t is the shelf at its
 -- end.
-use Rattle.std.proofs.Common.{◌≡◌, ◌≢◌, ◌∙◌, ℕ, List, Some, refl, ap}
-use Rattle.air_devices.specs.Calls.{IsNextCall, next_call}
+use Rattle.std.proofs.Common.{◌≡◌, ◌≢◌, ◌∙◌, ◌-◌, ◌++◌, ℕ, List, Option, Some, false, length, take, refl, sym, ap, subst}
+use Rattle.std.specs.Prelude.{IfSome}
+use Rattle.air_devices.specs.Calls.{IsNextCall, is_next_listed, next_call}
 use Rattle.air_devices.specs.Frames.{KeepsButLeft, KeepsButOutput}
-use Rattle.air_devices.specs.Memory.{contents_of, told_of, file_bytes, file_named, left_bytes, output_bytes, output_named}
+use Rattle.air_devices.specs.Memory.{added, contents_of, told_of, file_bytes, file_named, left_bytes, output_bytes, output_named}
 use Rattle.air_devices.specs.declared.calls.Calls.{Calls}
 use Rattle.air_devices.specs.declared.memory_shelf.MemFile.{MemFile}
 use Rattle.air_devices.specs.declared.memory_shelf.MemOutput.{MemOutput}
@@ -46,3 +47,11 @@ keeps_but_output s outputs n others = record {
   other_outputs = λ m other. ap (λ b. Some b) (others m other);
   printed = refl;
 }
+
+-- what an output holds once a call added to it what fits
+pub output_added : (before : Option MemOutput) (d : MemOutput) (now : Option (List ℕ)) (calls : Calls) (bytes : List ℕ) → before ≡ Some d → is_next_listed calls ≡ false
+    → now ≡ Some (d.written.bytes ++ take (d.written.room - length d.written.bytes) bytes)
+    → IfSome before (λ o. now ≡ Some (o.written.bytes ++ added calls o.written bytes))
+output_added before d now calls bytes here calm is =
+    let fits : added calls d.written bytes ≡ take (d.written.room - length d.written.bytes) bytes = rw calm refl in
+    subst (λ before. IfSome before (λ o. now ≡ Some (o.written.bytes ++ added calls o.written bytes))) (sym here) (is ∙ ap (λ l. Some (d.written.bytes ++ l)) (sym fits))

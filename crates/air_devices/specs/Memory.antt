@@ -1,14 +1,15 @@
 -- What a shelf in memory tells: everything. Where several files or outputs have one name, the first is meant; of a
 -- name that none has, the shelf tells that there are no bytes.
-use Rattle.std.specs.Prelude.{◌≡◌, length, map, true, nat_lt, ◌+◌, ℕ, List, [], Bool, Option, Some, None, Vec, String, drop, nat_eq, string_bytes, vec_len}
+use Rattle.std.specs.Prelude.{◌≡◌, length, map, true, nat_lt, ◌+◌, ◌-◌, if◌then◌else◌, take, ℕ, List, [], Bool, Option, Some, None, Vec, String, drop, nat_eq, string_bytes, vec_len}
 use Rattle.std.specs.Cmp.Lexicographic.{pointwise}
 use Rattle.std.specs.Global.{Global}
 use Rattle.std.specs.List.{find}
 use Rattle.air_devices.specs.Written.{Written}
-use Rattle.air_devices.specs.Calls.{AreNew, IsNextCall}
+use Rattle.air_devices.specs.Calls.{AreNew, IsNextCall, is_next_listed}
 use Rattle.air_devices.specs.Contents.{Contents}
 use Rattle.air_devices.specs.Counts.{Faults, one_count}
 use Rattle.air_devices.specs.Shelves.{Shelved}
+use Rattle.air_devices.specs.declared.calls.Calls.{Calls}
 use Rattle.air_devices.specs.declared.memory_shelf.MemFile.{MemFile}
 use Rattle.air_devices.specs.declared.memory_shelf.MemOutput.{MemOutput}
 use Rattle.air_devices.specs.declared.memory_shelf.MemShelf.{MemShelf}
@@ -96,6 +97,10 @@ pub record IsNewShelf (given : List (String Global × Vec ℕ Global)) (named : 
 -- whether there is no room for all of the bytes behind those that were written
 abbrev pub overflows : Written → List ℕ → Bool
 overflows written bytes = nat_lt written.room (length written.bytes + length bytes)
+
+-- what a call adds of these bytes to those that were written: nothing where it is listed, and else what fits
+abbrev pub added : Calls → Written → List ℕ → List ℕ
+added calls written bytes = if is_next_listed calls then [] else take (written.room - length written.bytes) bytes
 
 -- whether there is no output, or it has no room for all of the bytes
 abbrev pub overflows_output : Option MemOutput → List ℕ → Bool

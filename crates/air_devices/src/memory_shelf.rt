@@ -4,7 +4,7 @@
 //! fails. So does a pick of a name that is no file's, a create or an append of a name that is no output's, and a
 //! write past the room, of which what fits is added.
 
-ghost use Rattle.std.specs.Prelude.{◌≡◌, ◌≤◌, ◌<◌, ◌+◌, ◌-◌, ◌^◌, ◌||◌, ◌↔◌, ℕ, List, [], Some, drop, length, map, min, position, take, IfOk, IsErr, IsTrue, OnErr, OnOk};
+ghost use Rattle.std.specs.Prelude.{◌≡◌, ◌≤◌, ◌<◌, ◌+◌, ◌-◌, ◌^◌, ◌++◌, ◌||◌, ◌↔◌, ℕ, List, [], Some, drop, length, map, min, position, take, IfOk, IfSome, IsErr, IsTrue, OnErr, OnOk};
 ghost use Rattle.std.specs.Io.{ReadsAtMost};
 ghost use Rattle.std.specs.Io.KnownBytes.{Appends, ReadConsumes};
 ghost use Rattle.std.specs.Option.{is_none, option_map};
@@ -12,7 +12,7 @@ ghost use Rattle.air_devices.specs.Calls.{is_next_listed};
 ghost use Rattle.air_devices.specs.Counts.{HasCause, printing_of, reading_of, writing_of};
 ghost use Rattle.air_devices.specs.Frames.{KeepsButLeft, KeepsButOutput, KeepsButPrinted};
 ghost use Rattle.air_devices.specs.Known.{AppendsPart, Becomes};
-ghost use Rattle.air_devices.specs.Memory.{IsNewShelf, MadeCall, contents_of, empty_output, faults_of, file_in, given_bytes, given_named, output_in, overflows_output, overflows_print, shelved_of, spells, unpicked};
+ghost use Rattle.air_devices.specs.Memory.{IsNewShelf, MadeCall, added, contents_of, empty_output, faults_of, file_in, given_bytes, given_named, output_in, overflows_output, overflows_print, shelved_of, spells, unpicked};
 
 use crate::calls::Calls;
 use crate::fixed_bytes::FixedBytes;
@@ -163,6 +163,7 @@ impl Shelf for MemShelf {
     fn append(&mut self, name: &str, bytes: &[u8]) -> Result<(), Failed>
         ensures fails { IsErr result ↔ IsTrue (is_next_listed self.old.calls || overflows_output (output_in name.now self.old) bytes.now) }
         ensures call { MadeCall self.old self.new }
+        ensures fitting { IfSome (output_in name.now self.old) (λ o. (contents_of self.new).output name.now ≡ Some (o.written.bytes ++ added self.old.calls o.written bytes.now)) }
         ensures all { OnOk result (Appends ((contents_of self.old).output name.now) ((contents_of self.new).output name.now) bytes.now) }
         ensures part { OnErr result (AppendsPart ((contents_of self.old).output name.now) ((contents_of self.new).output name.now) bytes.now) }
         ensures rest { KeepsButOutput name.now (contents_of self.old) (contents_of self.new) }
@@ -183,6 +184,7 @@ impl Shelf for MemShelf {
     fn print(&mut self, bytes: &[u8]) -> Result<(), Failed>
         ensures fails { IsErr result ↔ IsTrue (is_next_listed self.old.calls || overflows_print self.old bytes.now) }
         ensures call { MadeCall self.old self.new }
+        ensures fitting { (contents_of self.new).printed ≡ Some (self.old.printed.bytes ++ added self.old.calls self.old.printed bytes.now) }
         ensures all { OnOk result (Appends (contents_of self.old).printed (contents_of self.new).printed bytes.now) }
         ensures part { OnErr result (AppendsPart (contents_of self.old).printed (contents_of self.new).printed bytes.now) }
         ensures rest { KeepsButPrinted (contents_of self.old) (contents_of self.new) }

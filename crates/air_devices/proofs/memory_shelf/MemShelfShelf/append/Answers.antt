@@ -1,8 +1,8 @@
-use Rattle.std.proofs.Common.{◌≡◌, ◌≤◌, ◌∙◌, ◌+◌, ◌-◌, ◌++◌, true, false, length, take, refl, sym, ap, arith, rules}
+use Rattle.std.proofs.Common.{◌≡◌, ◌≤◌, ◌∙◌, ◌+◌, ◌-◌, ◌++◌, Some, true, false, length, take, refl, sym, ap, arith, rules}
 use Rattle.std.proofs.lemmas.List.{take_all}
 use Rattle.air_devices.specs.Calls.{is_next_listed}
 use Rattle.air_devices.specs.Memory.{output_bytes, output_named, overflows, overflows_output}
-use Rattle.air_devices.proofs.CallFacts.{is_failed_call, is_next_call, keeps_but_output}
+use Rattle.air_devices.proofs.CallFacts.{is_failed_call, is_next_call, keeps_but_output, output_added}
 use Rattle.air_devices.proofs.MemoryFacts.{output_absent, output_written, past_room}
 use Rattle.air_devices.proofs.NamedLemmas.{fails_never, fails_then}
 use Rattle.air_devices.proofs.memory_shelf.MemShelfShelf.append.Goals as goal
@@ -75,3 +75,20 @@ pub returns-clause-rest : goal.returns-clause-rest
 returns-clause-rest c =
     let written = output_written c.args.self.now.outputs.items c.in-Some.place c.add.new.self c.index_mut.result.now c.args.name.now (sym c.output_place.ensures ∙ c.in-Some.is) c.index_mut.ensures.value in
     keeps_but_output c.args.self.now _ c.args.name.now written.others
+
+pub returns-in_default-clause-fitting : goal.returns-in_default-clause-fitting
+returns-in_default-clause-fitting c = rw (output_absent c.args.self.now.outputs.items c.args.name.now (sym c.output_place.ensures ∙ c.in_default.is)) tt
+
+pub returns-then-not-add-clause-fitting : goal.returns-then-not-add-clause-fitting
+returns-then-not-add-clause-fitting c =
+    let d = c.index_mut.result.now in
+    let written = output_written c.args.self.now.outputs.items c.in-Some.place c.add.new.self d c.args.name.now (sym c.output_place.ensures ∙ c.in-Some.is) c.index_mut.ensures.value in
+    output_added _ d _ c.args.self.now.calls c.args.bytes.now written.there (sym c.is_to_fail.ensures.listed ∙ c.if-is_to_fail.false)
+    (ap (λ b. Some b) (written.now ∙ ap (λ w. w.bytes) c.add.ensures.added))
+
+pub returns-clause-fitting : goal.returns-clause-fitting
+returns-clause-fitting c =
+    let d = c.index_mut.result.now in
+    let written = output_written c.args.self.now.outputs.items c.in-Some.place c.add.new.self d c.args.name.now (sym c.output_place.ensures ∙ c.in-Some.is) c.index_mut.ensures.value in
+    output_added _ d _ c.args.self.now.calls c.args.bytes.now written.there (sym c.is_to_fail.ensures.listed ∙ c.if-is_to_fail.false)
+    (ap (λ b. Some b) (written.now ∙ ap (λ w. w.bytes) c.add.ensures.added))
