@@ -1,19 +1,24 @@
 -- When a cycle isn't aired.
-use Rattle.std.specs.Prelude.{Result, MatchResult, ℕ, ◌<◌, List, length, take, Option}
+use Rattle.std.specs.Prelude.{◌≡◌, Result, MatchResult, ℕ, ◌<◌, List, length, take, Option}
 use Rattle.air_devices.specs.Counts.{Rose}
 use Rattle.air_devices.specs.Masts.{Changes, Masted, Sent, with_buckets}
 use Rattle.air_sender.specs.declared.airing.AirFault.{AirFault}
 use Rattle.air_sender.specs.declared.airing.AirFault.TheVariants as fault
 
--- The mast failed at a slot of the cycle: its count rose, and the buckets of the slots before were sent.
-pub record FailedAt (slot : ℕ) (buckets : List (List ℕ)) (before now : Masted) : Type 0 where
+-- The mast failed at a slot of the cycle. Just before that send the buckets of the slots before had been sent, its count
+-- and its port were as at first; then the count rose, and what it tells stayed.
+pub record FailedAt {M : Type 0} (state : M → Masted) (slot : ℕ) (buckets : List (List ℕ)) (before now : M) : Type 0 where
   pub within : slot < length buckets
-  pub rose : Rose before.faults now.faults
-  pub sent : Changes (with_buckets (take slot buckets)) before.told now.told
+  pub just_before : M
+  pub sent : Changes (with_buckets (take slot buckets)) (state before).told (state just_before).told
+  pub calm : (state just_before).faults ≡ (state before).faults
+  pub port : (state just_before).port ≡ (state before).port
+  pub rose : Rose (state just_before).faults (state now).faults
+  pub kept : (state now).told ≡ (state just_before).told
 
 -- What the fault says.
-abbrev pub IsAirAnswer : List (List ℕ) → Masted → Masted → AirFault → Type 0
-IsAirAnswer buckets before now (fault.Mast slot) = FailedAt slot buckets before now
+abbrev pub IsAirAnswer : {M : Type 0} → (M → Masted) → List (List ℕ) → M → M → AirFault → Type 0
+IsAirAnswer state buckets before now (fault.Mast slot) = FailedAt state slot buckets before now
 
 -- The slot of the fault.
 abbrev pub failed_slot : AirFault → ℕ

@@ -26,7 +26,7 @@ use control_matrix::Board;
 /// Why a cycle wasn't aired whole.
 #[derive(Clone, Copy, Debug, PartialEq, Eq)]
 pub enum AirFault {
-    /// The mast failed at this slot; the slots before it were sent.
+    /// The mast failed at the send of this slot; the slots before it were sent, and no other call failed.
     Mast { slot: u32 },
 }
 
@@ -46,7 +46,7 @@ pub fn air_cycle<M: Mast>(
     ensures history { (values : List ℕ) (air : Air) (G : List Event) → IsLastBoard values air G policy (slots_of program.now) board.now →
         SendsUpToFault (last_bytes values air G) result (M.state mast.old).told (M.state mast.new).told }
     ensures calm { OnOk result ((M.state mast.new).faults ≡ (M.state mast.old).faults) }
-    ensures fault { IfErr result (IsAirAnswer (cycle_bytes policy (slots_of program.now) board.now) (M.state mast.old) (M.state mast.new)) }
+    ensures fault { IfErr result (IsAirAnswer M.state (cycle_bytes policy (slots_of program.now) board.now) mast.old mast.new) }
     ensures port { (M.state mast.new).port ≡ (M.state mast.old).port }
     ensures buffer { length buf.new ≡ length buf.old }
 {

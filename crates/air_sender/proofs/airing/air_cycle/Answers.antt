@@ -1,4 +1,4 @@
-use Rattle.std.proofs.Common.{◌<◌, ◌∙◌, length, take, subst, arith}
+use Rattle.std.proofs.Common.{◌<◌, ◌∙◌, length, take, subst, sym, arith}
 use Rattle.air_model.specs.Disks.{all_items}
 use Rattle.air_model.specs.Programs.{program as slots_of}
 use Rattle.air_model.specs.Buckets.{spelling}
@@ -8,15 +8,15 @@ use Rattle.air_sender.proofs.SendFacts.{last_bytes_are, length_cycle, refused, s
 use Rattle.air_sender.proofs.airing.air_cycle.Goals as goal
 
 pub returns-then-is_err-clause-fault : goal.returns-then-is_err-clause-fault
-returns-then-is_err-clause-fault g c =
-    let bs = cycle_bytes c.args.policy (slots_of c.args.program.now) c.args.board.now in
-    let kept = refused c.air_slot.result c.is_err.result c.is_err.ensures.value c.if-is_err.true c.air_slot.ensures.refused in
-    let rose = refused c.air_slot.result c.is_err.result c.is_err.ensures.value c.if-is_err.true c.air_slot.ensures.cause.rose in
-    record {
-      within = omega (arith, length_cycle c.args.policy (slots_of c.args.program.now) c.args.board.now, c.slots-slot-end.ensures.counted);
-      rose = rw c.loop-slot.invariant.calm at rose;
-      sent = rw kept c.loop-slot.invariant.sent;
-    }
+returns-then-is_err-clause-fault g c = record {
+  within = omega (arith, length_cycle c.args.policy (slots_of c.args.program.now) c.args.board.now, c.slots-slot-end.ensures.counted);
+  just_before = c.loop-slot.mast;
+  sent = c.loop-slot.invariant.sent;
+  calm = c.loop-slot.invariant.calm;
+  port = c.loop-slot.invariant.port;
+  rose = refused c.air_slot.result c.is_err.result c.is_err.ensures.value c.if-is_err.true c.air_slot.ensures.cause.rose;
+  kept = refused c.air_slot.result c.is_err.result c.is_err.ensures.value c.if-is_err.true c.air_slot.ensures.refused;
+}
 
 pub loop-slot-preserved : goal.loop-slot-preserved
 loop-slot-preserved g c =
@@ -47,7 +47,10 @@ returns-clause-history g c values air G is =
 
 pub returns-then-is_err-clause-history : goal.returns-then-is_err-clause-history
 returns-then-is_err-clause-history g c values air G is =
-    let sent = (returns-then-is_err-clause-fault g c).sent in
-    subst (λ bs. Changes (with_buckets (take c.loop-slot.slot bs)) (g.M.Mast.state c.args.mast.now).told (g.M.Mast.state c.air_slot.new.mast).told)
+    let failed = returns-then-is_err-clause-fault g c in
+    let before = (g.M.Mast.state c.args.mast.now).told in
+    let bs = cycle_bytes c.args.policy (slots_of c.args.program.now) c.args.board.now in
+    let sent = subst (λ told. Changes (with_buckets (take c.loop-slot.slot bs)) before told) (sym failed.kept) failed.sent in
+    subst (λ bs. Changes (with_buckets (take c.loop-slot.slot bs)) before (g.M.Mast.state c.air_slot.new.mast).told)
     (last_bytes_are values air G c.args.policy (slots_of c.args.program.now) c.args.board.now (length (all_items c.args.program.now)) is c.requires.items c.well_made.ensures.slots)
     sent
