@@ -1,5 +1,5 @@
 -- What reading one named file, or two, leaves, and what it tells of an earlier moment.
-use Rattle.std.proofs.Common.{◌≡◌, ◌≢◌, ℕ, ◌≤◌, Bool, true, false, List, length, Option, Some, None, refl, sym, ◌∙◌, subst, inl, inr, arith}
+use Rattle.std.proofs.Common.{◌≡◌, ◌≢◌, ℕ, ◌≤◌, ◌+◌, Bool, true, false, List, length, drop, Option, Some, None, refl, sym, ◌∙◌, subst, inl, inr, arith}
 use Rattle.std.specs.Prelude.{◌<◌, ◌⊎◌, nat_eq}
 use Rattle.std.specs.Cmp.Lexicographic.{bytes_decides, pointwise}
 use Rattle.std.specs.Io.KnownBytes.{IsAtEnd}
@@ -82,7 +82,7 @@ pub unread_since : (tape : List ℕ) (most : ℕ) (before mid now : Shelved) (s 
     → UnreadCause tape most mid now s → UnreadCause tape most before now s
 unfolding UnreadCause
 unread_since tape most before mid now status.ReadFault same calm h = subst (λ n. Rose n (now.faults.reading tape)) (calm.reading tape) h
-unread_since tape most before mid now (status.TooLarge limit) same calm h = (h.0, subst (λ file. WhereKnown file (λ bytes. most < length bytes)) same h.1)
+unread_since tape most before mid now (status.TooLarge limit) same calm h = (h.0, subst (λ file. WhereKnown file (λ bytes. (most < length bytes) × (now.told.left tape ≡ Some (drop (most + 1) bytes)))) same h.1)
 unread_since tape most before mid now s same calm h = h
 
 -- what is so of the whole tape that was read is so of the named tape

@@ -1,10 +1,11 @@
 -- From a cause and a printed line to what a refusal's status says.
-use Rattle.std.proofs.Common.{◌≡◌, ◌≢◌, ℕ, ◌≤◌, List, Option, Some, None, refl, sym, ◌∙◌, subst, inl, inr, arith}
+use Rattle.std.proofs.Common.{◌≡◌, ◌≢◌, ℕ, ◌≤◌, ◌+◌, List, length, drop, Option, Some, None, refl, sym, ◌∙◌, subst, inl, inr, arith}
+use Rattle.std.specs.Prelude.{◌<◌}
 use Rattle.std.specs.Io.KnownBytes.{Appends, IsAtEnd}
 use Rattle.std.proofs.lemmas.Bool.{cases_lt}
 use Rattle.air_devices.specs.Counts.{NoCountFalls, Rose}
 use Rattle.air_devices.specs.Frames.{KeepsButPrinted}
-use Rattle.air_devices.specs.Known.{AppendsPart}
+use Rattle.air_devices.specs.Known.{AppendsPart, WhereKnown}
 use Rattle.air_cli.specs.declared.status.Status.{Status}
 use Rattle.air_cli.specs.declared.status.Status.TheVariants as status
 use Rattle.air_cli.specs.Words.{Asked, AsksPlan, AsksScript, AsksTune}
@@ -27,10 +28,16 @@ rose_still before mid now le (inr last) = let top = last.0 in let stays = last.1
   | inr same ↦ inr (omega arith, omega arith)
 ]
 
-unread_still : (name : List ℕ) (most : ℕ) (before mid now : Shelved) (s : Status) → NoCountFalls mid.faults now.faults → UnreadCause name most before mid s → UnreadCause name most before now s
+-- what is left of a file that was too large stays left
+large_still : (file : Option (List ℕ)) (most : ℕ) (mid now : Option (List ℕ)) → now ≡ mid
+    → WhereKnown file (λ bytes. (most < length bytes) × (mid ≡ Some (drop (most + 1) bytes))) → WhereKnown file (λ bytes. (most < length bytes) × (now ≡ Some (drop (most + 1) bytes)))
+large_still file most mid now same h = subst (λ left. WhereKnown file (λ bytes. (most < length bytes) × (left ≡ Some (drop (most + 1) bytes)))) (sym same) h
+
+unread_still : (name : List ℕ) (most : ℕ) (before mid now : Shelved) (s : Status) → KeepsButPrinted mid.told now.told → NoCountFalls mid.faults now.faults → UnreadCause name most before mid s → UnreadCause name most before now s
 unfolding UnreadCause
-unread_still name most before mid now status.ReadFault counts h = rose_still (before.faults.reading name) (mid.faults.reading name) (now.faults.reading name) (counts.reading name) h
-unread_still name most before mid now s counts h = h
+unread_still name most before mid now status.ReadFault rest counts h = rose_still (before.faults.reading name) (mid.faults.reading name) (now.faults.reading name) (counts.reading name) h
+unread_still name most before mid now (status.TooLarge limit) rest counts h = (h.0, large_still (before.told.file name) most (mid.told.left name) (now.told.left name) (rest.left name) h.1)
+unread_still name most before mid now s rest counts h = h
 
 faulty_still : (name : List ℕ) (row kind : ℕ) (before mid now : Shelved) → KeepsButPrinted mid.told now.told → IsFaulty name row kind before mid → IsFaulty name row kind before now
 faulty_still name row kind before mid now rest h = record { read = subst IsAtEnd (sym (rest.left name)) h.read; fault = h.fault }
@@ -41,7 +48,7 @@ form_still name row kind before mid now rest h = record { read = subst IsAtEnd (
 deck_still : (name : List ℕ) (before mid now : Shelved) (s : Status) → KeepsButPrinted mid.told now.told → NoCountFalls mid.faults now.faults → DeckCause name before mid s → DeckCause name before now s
 unfolding DeckCause
 deck_still name before mid now (status.Deck row kind) rest counts h = faulty_still name row kind before mid now rest h
-deck_still name before mid now s rest counts h = unread_still name deck_limit before mid now s counts h
+deck_still name before mid now s rest counts h = unread_still name deck_limit before mid now s rest counts h
 
 plan_still : (name : List ℕ) (before mid now : Shelved) (s : Status) → KeepsButPrinted mid.told now.told → NoCountFalls mid.faults now.faults → PlanCause name before mid s → PlanCause name before now s
 unfolding PlanCause
@@ -64,7 +71,7 @@ tune_still : (deck tape : List ℕ) (before mid now : Shelved) (s : Status) → 
 unfolding TuneCause
 tune_still deck tape before mid now (status.TapeCut at) rest counts h = h
 tune_still deck tape before mid now s rest counts (inl h) = inl (done_still deck before mid now s rest counts h)
-tune_still deck tape before mid now s rest counts (inr h) = inr (h.0, unread_still tape tape_limit before mid now s counts h.1)
+tune_still deck tape before mid now s rest counts (inr h) = inr (h.0, unread_still tape tape_limit before mid now s rest counts h.1)
 
 cause_still : (asked : Option Asked) (before mid now : Shelved) (s : Status) → KeepsButPrinted mid.told now.told → NoCountFalls mid.faults now.faults → Cause asked before mid s → Cause asked before now s
 unfolding Cause

@@ -7,6 +7,7 @@ use Rattle.item_catalog.specs.Grammar.{HasFault, Spells}
 use Rattle.chunk_program.specs.Plans.{IsTooLong, most_slots}
 use Rattle.air_devices.specs.Counts.{Rose}
 use Rattle.air_devices.specs.Known.{WhereKnown}
+use Rattle.air_devices.specs.Reading.{IsTooLarge}
 use Rattle.air_model.specs.Decks.{Deck, disks_in}
 use Rattle.air_model.specs.Programs.{program}
 use Rattle.air_model.specs.Outputs.{script_tape}
@@ -30,10 +31,11 @@ tape_limit = 1073741824
 abbrev pub OfDeck : List ℕ → Shelved → (Deck → Type 0) → Type 0
 OfDeck name before P = WhereKnown (before.told.file name) (λ bytes. (length bytes ≤ deck_limit) × ((d : Deck) × Spells bytes d × P d))
 
--- Why the named file could not be read: reading it failed, or it has more bytes than the limit.
+-- Why the named file could not be read: reading it failed, or it has more bytes than the limit, and was read up to one
+-- byte more.
 unfoldable pub UnreadCause : List ℕ → ℕ → Shelved → Shelved → Status → Type 0
 UnreadCause name most before now status.ReadFault = Rose (before.faults.reading name) (now.faults.reading name)
-UnreadCause name most before now (status.TooLarge limit) = (limit ≡ most) × WhereKnown (before.told.file name) (λ bytes. most < length bytes)
+UnreadCause name most before now (status.TooLarge limit) = (limit ≡ most) × IsTooLarge most name before.told now.told
 UnreadCause name most before now status.NoMemory = ⊤
 UnreadCause name most before now other = ⊥
 

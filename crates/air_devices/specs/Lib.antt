@@ -3,6 +3,7 @@ pub mod Counts
 pub mod Shelves
 pub mod Frames
 pub mod Known
+pub mod Reading
 pub mod Calls
 pub mod Memory
 pub mod Written

@@ -3,11 +3,12 @@
 //! The loop ends by itself: each turn takes at least one byte or returns, and none goes past the limit by more
 //! than one byte. The answer for a file that can't be read names the count of faults that rose.
 
-ghost use Rattle.std.specs.Prelude.{◌≡◌, ◌≢◌, ◌≤◌, ◌<◌, Err, length, IfOk, OnOk};
+ghost use Rattle.std.specs.Prelude.{◌≡◌, ◌≢◌, ◌≤◌, Err, length, IfOk, OnOk};
 ghost use Rattle.std.specs.Io.KnownBytes.{IsAtEnd};
 ghost use Rattle.air_devices.specs.Counts.{KeepsCounts, NoCountFalls, Rose};
 ghost use Rattle.air_devices.specs.Frames.{KeepsButLeft};
-ghost use Rattle.air_devices.specs.Known.{KnownIs, WhereKnown};
+ghost use Rattle.air_devices.specs.Known.{KnownIs};
+ghost use Rattle.air_devices.specs.Reading.{IsTooLarge};
 
 use crate::shelves::Shelf;
 use std::alloc::Global;
@@ -19,7 +20,7 @@ use std::fmt;
 pub enum ReadFileError {
     /// The shelf failed.
     Failed,
-    /// The file has more bytes than the limit.
+    /// The file has more bytes than the limit; just one more than the limit were taken from its front.
     TooLarge,
     /// There was no memory for the bytes.
     NoMemory,
@@ -50,7 +51,7 @@ pub fn read_file<S: Shelf>(
     ensures bytes { IfOk result (λ v. KnownIs ((S.state shelf.old).told.file name.now) v.items) }
     ensures fits { IfOk result (λ v. length v.items ≤ limit) }
     ensures end { OnOk result (IsAtEnd ((S.state shelf.new).told.left name.now)) }
-    ensures large { result ≡ Err ReadFileError.TooLarge → WhereKnown ((S.state shelf.old).told.file name.now) (λ xs. limit < length xs) }
+    ensures large { result ≡ Err ReadFileError.TooLarge → IsTooLarge limit name.now (S.state shelf.old).told (S.state shelf.new).told }
     ensures cause { result ≡ Err ReadFileError.Failed → Rose ((S.state shelf.old).faults.reading name.now) ((S.state shelf.new).faults.reading name.now) }
     ensures rest { KeepsButLeft name.now (S.state shelf.old).told (S.state shelf.new).told }
     ensures later { NoCountFalls (S.state shelf.old).faults (S.state shelf.new).faults }
