@@ -1,11 +1,12 @@
 -- From what a call wrote, and what it then printed, to what was delivered.
 use Rattle.std.proofs.Common.{◌≡◌, ℕ, ◌≤◌, List, Option, Some, None, sym, subst, inl, inr, arith}
 use Rattle.std.proofs.lemmas.Bool.{cases_lt}
+use Rattle.std.specs.Prelude.{Result, Ok, Err, OnErr, OnOk}
 use Rattle.std.specs.Io.KnownBytes.{Appends}
 use Rattle.air_devices.specs.Counts.{KeepsCounts, Rose}
 use Rattle.air_devices.specs.Known.{AppendsPart, Becomes}
 use Rattle.air_cli.specs.declared.status.Status.TheVariants as status
-use Rattle.air_cli.specs.Outcomes.{Given, KeepsOutputs, OutputHolds}
+use Rattle.air_cli.specs.Outcomes.{Given, IsSteady, KeepsOutputs, OutputHolds}
 use Rattle.air_devices.specs.Shelves.{Shelved}
 use Rattle.air_cli.specs.Deliveries.{Delivers, OutputFails}
 use Rattle.air_cli.proofs.ReadFacts.{kept_twice}
@@ -54,3 +55,9 @@ pub delivers_none : (output : Option (List ℕ)) (given : Given) (tape : List �
     → now.told.printed ≡ before.told.printed → Delivers output given before now status.WriteFault
 unfolding Delivers
 delivers_none output given tape before now is_tape fails same = inl (subst (λ bytes. OutputFails output bytes before now) is_tape fails, same)
+
+-- a print leaves every count, or fails
+pub print_steady : {T E : Type 0} (printed : Result T E) (before now : Shelved) → OnErr printed (Rose before.faults.printing now.faults.printing)
+    → OnOk printed (KeepsCounts before.faults now.faults) → IsSteady before now
+print_steady (Ok x) before now rose calm = inl calm
+print_steady (Err e) before now rose calm = inr rose

@@ -1,22 +1,22 @@
 -- From a cause and a printed line to what a refusal's status says.
 use Rattle.std.proofs.Common.{◌≡◌, ◌≢◌, ℕ, ◌≤◌, ◌+◌, List, length, drop, Option, Some, None, refl, sym, ◌∙◌, subst, inl, inr, arith}
-use Rattle.std.specs.Prelude.{◌<◌}
+use Rattle.std.specs.Prelude.{◌<◌, ◌⊎◌}
 use Rattle.std.specs.Io.KnownBytes.{Appends, IsAtEnd}
 use Rattle.std.proofs.lemmas.Bool.{cases_lt}
-use Rattle.air_devices.specs.Counts.{NoCountFalls, Rose}
+use Rattle.air_devices.specs.Counts.{KeepsCounts, NoCountFalls, Rose}
 use Rattle.air_devices.specs.Frames.{KeepsButPrinted}
 use Rattle.air_devices.specs.Known.{AppendsPart, WhereKnown}
 use Rattle.air_cli.specs.declared.status.Status.{Status}
 use Rattle.air_cli.specs.declared.status.Status.TheVariants as status
 use Rattle.air_cli.specs.Words.{Asked, AsksPlan, AsksScript, AsksTune}
 use Rattle.air_cli.specs.Printing.{PrintsUnlessFailed}
-use Rattle.air_cli.specs.Outcomes.{IsRefusal, Leaves}
+use Rattle.air_cli.specs.Outcomes.{IsRefusal, IsSteady, Leaves}
 use Rattle.air_devices.specs.Shelves.{Shelved}
 use Rattle.air_cli.specs.Readings.{Reads}
 use Rattle.air_cli.specs.Causes.{DeckCause, UndoableCause, IsFaulty, IsOfOtherForm, PlanCause, ScriptCause, TuneCause, UnreadCause, deck_limit, tape_limit}
 use Rattle.air_cli.specs.Deliveries.{Refuses}
-use Rattle.air_cli.specs.Answers.{Cause, QuietAnswers, WordsCause}
-use Rattle.air_cli.proofs.ReadFacts.{falls_twice}
+use Rattle.air_cli.specs.Answers.{Cause, InputFailed, QuietAnswers, WordsCause}
+use Rattle.air_cli.proofs.ReadFacts.{falls_twice, kept_twice}
 use Rattle.air_cli.proofs.DeliveryFacts.{rose_since}
 
 -- ---- a cause that was found stays one while a line is printed
@@ -100,18 +100,42 @@ no_refusal_failed (Some (AsksTune deck tape)) before now (inl h) = h
 no_refusal_failed (Some (AsksTune deck tape)) before now (inr h) = h.1
 
 -- a refusal with its cause
-refusal_says : (asked : Option Asked) (before now : Shelved) (s : Status) → s ≢ status.NoMemory → Cause asked before now s → IsRefusal s before now → QuietAnswers asked before now s
+refusal_says : (asked : Option Asked) (before now : Shelved) (s : Status) → s ≢ status.NoMemory → Cause asked before now s → IsRefusal s before now
+    → (s ≢ status.ReadFault → IsSteady before now) → QuietAnswers asked before now s
 unfolding QuietAnswers
-refusal_says asked before now status.Ok some h line = absurd (no_refusal_done asked before now h)
-refusal_says asked before now status.WriteFault some h line = absurd (no_refusal_failed asked before now h)
-refusal_says asked before now status.NoMemory some h line = absurd (some refl)
-refusal_says asked before now s some h line = (h, line)
+refusal_says asked before now status.Ok some h line steady = absurd (no_refusal_done asked before now h)
+refusal_says asked before now status.WriteFault some h line steady = absurd (no_refusal_failed asked before now h)
+refusal_says asked before now status.NoMemory some h line steady = absurd (some refl)
+refusal_says asked before now status.ReadFault some h line steady = (h, line)
+refusal_says asked before now s some h line steady = (h, line, steady (λ e. cc))
 
 -- nothing but what was read is touched
 pub untouched : (asked : Option Asked) (before now : Shelved) → now.told.printed ≡ before.told.printed → ((name : List ℕ) → now.told.output name ≡ before.told.output name)
-    → QuietAnswers asked before now status.NoMemory
+    → KeepsCounts before.faults now.faults ⊎ InputFailed asked before now → QuietAnswers asked before now status.NoMemory
 unfolding QuietAnswers
-untouched asked before now printed outputs = record { printed = printed; outputs = outputs }
+untouched asked before now printed outputs counts = record { untouched = record { printed = printed; outputs = outputs }; counts = counts }
+
+-- where reading failed, it was that of a named input
+input_failed : (asked : Option Asked) (before now : Shelved) → Cause asked before now status.ReadFault → InputFailed asked before now
+unfolding Cause WordsCause PlanCause ScriptCause TuneCause UndoableCause DeckCause UnreadCause
+input_failed None before now h = absurd h
+input_failed (Some (AsksPlan deck)) before now h = record { name = deck; named = refl; rose = h }
+input_failed (Some (AsksScript deck tape)) before now h = record { name = deck; named = refl; rose = h }
+input_failed (Some (AsksTune deck tape)) before now (inl h) = record { name = deck; named = inl refl; rose = h }
+input_failed (Some (AsksTune deck tape)) before now (inr h) = record { name = tape; named = inr refl; rose = h.1 }
+
+-- the counts where there was no memory for a refusal's line: as they were, or reading an input had failed before
+counts_wanting : (asked : Option Asked) (before mid now : Shelved) (s : Status) → (s ≢ status.ReadFault → KeepsCounts before.faults mid.faults) → Cause asked before mid s
+    → KeepsCounts mid.faults now.faults → KeepsCounts before.faults now.faults ⊎ InputFailed asked before now
+counts_wanting asked before mid now status.ReadFault kept cause calm =
+    let failed = input_failed asked before mid cause in
+    inr (record { name = failed.name; named = failed.named; rose = subst (λ n. Rose (before.faults.reading failed.name) n) (sym (calm.reading failed.name)) failed.rose })
+counts_wanting asked before mid now s kept cause calm = inl (kept_twice before.faults mid.faults now.faults (kept (λ e. cc)) calm)
+
+-- the counts since a moment at which they were as at first
+steady_since : (before mid now : Shelved) → KeepsCounts before.faults mid.faults → IsSteady mid now → IsSteady before now
+steady_since before mid now kept (inl calm) = inl (kept_twice before.faults mid.faults now.faults kept calm)
+steady_since before mid now kept (inr rose) = inr (subst (λ n. Rose n now.faults.printing) kept.printing rose)
 
 -- what was printed since a moment at which nothing was printed yet
 prints_since : (text : List ℕ) (before mid now : Shelved) → mid.told.printed ≡ before.told.printed → before.faults.printing ≤ mid.faults.printing →
@@ -123,13 +147,15 @@ prints_since text before mid now same le p = record {
 
 -- a refusal after reading
 pub answers_refused : (asked : Option Asked) (before mid now : Shelved) (s answer : Status) → s ≢ status.NoMemory → Reads asked before mid → Cause asked before mid s
-    → Refuses s mid now answer → KeepsButPrinted mid.told now.told → NoCountFalls mid.faults now.faults → QuietAnswers asked before now answer
-answers_refused asked before mid now s answer some reads cause refuses rest counts = elim refuses [
+    → (s ≢ status.ReadFault → KeepsCounts before.faults mid.faults) → Refuses s mid now answer → KeepsButPrinted mid.told now.told → NoCountFalls mid.faults now.faults
+    → QuietAnswers asked before now answer
+answers_refused asked before mid now s answer some reads cause kept refuses rest counts = elim refuses [
   | inl told ↦ subst (QuietAnswers asked before now) (sym told.0) (refusal_says asked before now s some (cause_still asked before mid now s rest counts cause) (record {
     line = prints_since _ before mid now reads.printed reads.counts.printing told.1;
     outputs = λ name. rest.outputs name ∙ reads.outputs name;
-  }))
-  | inr none ↦ subst (QuietAnswers asked before now) (sym none.0) (untouched asked before now (none.1 ∙ reads.printed) (λ name. rest.outputs name ∙ reads.outputs name))
+  }) (λ read. steady_since before mid now (kept read) told.2))
+  | inr none ↦ subst (QuietAnswers asked before now) (sym none.0) (untouched asked before now (none.1 ∙ reads.printed) (λ name. rest.outputs name ∙ reads.outputs name)
+      (counts_wanting asked before mid now s kept cause none.2))
 ]
 
 -- words of no form read nothing
@@ -141,6 +167,9 @@ reads_nothing before = record {
   printed = refl;
   counts = record { reading = λ n. omega arith; writing = λ n. omega arith; printing = omega arith };
 }
+
+pub keeps_all : (before : Shelved) → KeepsCounts before.faults before.faults
+keeps_all before = record { reading = λ n. refl; writing = λ n. refl; printing = refl }
 
 pub words_refused : (before : Shelved) → Cause None before before status.Words
 unfolding Cause WordsCause

@@ -12,7 +12,7 @@ use Rattle.air_model.specs.Tapes.{tape_read}
 use Rattle.air_cli.specs.declared.status.Status.{Status}
 use Rattle.air_cli.specs.declared.status.Status.TheVariants as status
 use Rattle.air_cli.specs.Words.{Asked, AsksPlan, AsksScript, AsksTune, IsInput, output_of}
-use Rattle.air_cli.specs.Outcomes.{Given, IsGiven, IsGivenInPart, IsRefusal, IsUntouched, OutputHoldsPart}
+use Rattle.air_cli.specs.Outcomes.{Given, IsGiven, IsGivenInPart, IsRefusal, IsSteady, IsUntouched, OutputHoldsPart}
 use Rattle.air_devices.specs.Shelves.{Shelved}
 use Rattle.air_cli.specs.Causes.{IsDoable, IsShort, OfDeck, PlanCause, ScriptCause, TuneCause, tape_limit}
 use Rattle.air_cli.specs.Truths.{IsTrueScript, IsTrueTape}
@@ -69,9 +69,22 @@ pub record PrintFailed (asked : Option Asked) (before now : Shelved) : Type 0 wh
   pub rose : Rose before.faults.printing now.faults.printing
   pub given : Gives asked before (λ g. IsGivenInPart (output_of asked) g before now)
 
--- What each status says. A refusal has its cause, and printed its line alone.
+-- Reading one of the named inputs failed.
+pub record InputFailed (asked : Option Asked) (before now : Shelved) : Type 0 where
+  pub name : List ℕ
+  pub named : IsInput asked name
+  pub rose : Rose (before.faults.reading name) (now.faults.reading name)
+
+-- There was no memory: nothing was printed or written, and no call failed but of reading an input.
+pub record IsWanting (asked : Option Asked) (before now : Shelved) : Type 0 where
+  pub untouched : IsUntouched before now
+  pub counts : KeepsCounts before.faults now.faults ⊎ InputFailed asked before now
+
+-- What each status says. A refusal has its cause, and printed its line alone; but where reading an input failed, no call
+-- failed unless it was the print of that line.
 unfoldable pub QuietAnswers : Option Asked → Shelved → Shelved → Status → Type 0
 QuietAnswers asked before now status.Ok = IsDone asked before now
 QuietAnswers asked before now status.WriteFault = OutputFailed asked before now ⊎ PrintFailed asked before now
-QuietAnswers asked before now status.NoMemory = IsUntouched before now
-QuietAnswers asked before now s = Cause asked before now s × IsRefusal s before now
+QuietAnswers asked before now status.NoMemory = IsWanting asked before now
+QuietAnswers asked before now status.ReadFault = Cause asked before now status.ReadFault × IsRefusal status.ReadFault before now
+QuietAnswers asked before now s = Cause asked before now s × IsRefusal s before now × IsSteady before now

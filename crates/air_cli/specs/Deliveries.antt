@@ -6,17 +6,19 @@ use Rattle.air_cli.specs.declared.status.Status.{Status}
 use Rattle.air_cli.specs.declared.status.Status.TheVariants as status
 use Rattle.air_cli.specs.Statuses.{line_of}
 use Rattle.air_cli.specs.Printing.{PrintsUnlessFailed}
-use Rattle.air_cli.specs.Outcomes.{Given, IsGiven, IsGivenInPart, OutputHoldsPart}
+use Rattle.air_cli.specs.Outcomes.{Given, IsGiven, IsGivenInPart, IsSteady, OutputHoldsPart}
 use Rattle.air_devices.specs.Shelves.{Shelved}
 
 -- The line of a status was printed, but for what a failing print left out.
 abbrev pub PrintsLine : Status → Shelved → Shelved → Type 0
 PrintsLine s before now = PrintsUnlessFailed (line_of s) before.told now.told before.faults now.faults
 
--- The status is answered and its line printed; or there was no memory for the line, and nothing was printed.
+-- The status is answered and its line printed, and no call failed but of that print; or there was no memory for the
+-- line, and nothing was done.
 abbrev pub Refuses : Status → Shelved → Shelved → Status → Type 0
 Refuses s before now answer =
-    ((answer ≡ s) × PrintsLine s before now) ⊎ ((answer ≡ status.NoMemory) × (now.told.printed ≡ before.told.printed))
+    ((answer ≡ s) × PrintsLine s before now × IsSteady before now)
+    ⊎ ((answer ≡ status.NoMemory) × (now.told.printed ≡ before.told.printed) × KeepsCounts before.faults now.faults)
 
 -- Writing the named output failed: it is as it was, or holds the first of these bytes.
 pub record OutputFails (output : Option (List ℕ)) (bytes : List ℕ) (before now : Shelved) : Type 0 where

@@ -2,7 +2,7 @@
 -- Facts about bytes are said where the shelf tells them; over real files nothing is told.
 use Rattle.std.specs.Prelude.{◌≡◌, ℕ, ◌⊎◌, List, Option, Some, None, take, ⊤}
 use Rattle.std.specs.Io.KnownBytes.{Appends}
-use Rattle.air_devices.specs.Counts.{NoCountFalls}
+use Rattle.air_devices.specs.Counts.{KeepsCounts, NoCountFalls, Rose}
 use Rattle.air_devices.specs.Known.{AppendsPart, Becomes}
 use Rattle.air_devices.specs.Shelves.{Shelved}
 use Rattle.air_cli.specs.declared.status.Status.{Status}
@@ -21,6 +21,10 @@ pub record Leaves (asked : Option Asked) (before now : Shelved) : Type 0 where
   pub left : (name : List ℕ) → (IsInput asked name → ⊥) → now.told.left name ≡ before.told.left name
   pub outputs : (name : List ℕ) → (output_of asked ≡ Some name → ⊥) → now.told.output name ≡ before.told.output name
   pub counts : NoCountFalls before.faults now.faults
+
+-- Every count is as it was, or a print failed.
+abbrev pub IsSteady : Shelved → Shelved → Type 0
+IsSteady before now = KeepsCounts before.faults now.faults ⊎ Rose before.faults.printing now.faults.printing
 
 -- Nothing was printed, and no output was written.
 pub record IsUntouched (before now : Shelved) : Type 0 where

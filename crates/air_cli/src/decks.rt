@@ -1,6 +1,6 @@
 //! Decks from named files, and their programs, or the status that refuses them.
 
-ghost use Rattle.std.specs.Prelude.{◌≡◌, ◌↔◌, All, IfErr, IfOk, IsTrue, OnOk};
+ghost use Rattle.std.specs.Prelude.{◌≡◌, ◌≢◌, ◌↔◌, All, IfErr, IfOk, IsTrue, OnOk};
 ghost use Rattle.std.specs.Io.KnownBytes.{IsAtEnd};
 ghost use Rattle.air_devices.specs.Counts.{KeepsCounts, NoCountFalls};
 ghost use Rattle.air_devices.specs.Frames.{KeepsButLeft};
@@ -23,6 +23,7 @@ pub(crate) fn deck_of<S: Shelf>(alloc: Global, shelf: &mut S, name: &str) -> Res
     ensures deck { IfOk result (SpellsDeck name.now (S.state shelf.old)) }
     ensures end { OnOk result (IsAtEnd ((S.state shelf.new).told.left name.now)) }
     ensures calm { OnOk result (KeepsCounts (S.state shelf.old).faults (S.state shelf.new).faults) }
+    ensures kept { IfErr result (λ s. s ≢ Status.ReadFault → KeepsCounts (S.state shelf.old).faults (S.state shelf.new).faults) }
     ensures refused { IfErr result (DeckCause name.now (S.state shelf.old) (S.state shelf.new)) }
     ensures rest { KeepsButLeft name.now (S.state shelf.old).told (S.state shelf.new).told }
     ensures later { NoCountFalls (S.state shelf.old).faults (S.state shelf.new).faults }
@@ -66,6 +67,7 @@ pub(crate) fn doable<S: Shelf>(
     ensures done { IfOk result (λ p. IsDoable p.0) }
     ensures end { OnOk result (IsAtEnd ((S.state shelf.new).told.left name.now)) }
     ensures calm { OnOk result (KeepsCounts (S.state shelf.old).faults (S.state shelf.new).faults) }
+    ensures kept { IfErr result (λ s. s ≢ Status.ReadFault → KeepsCounts (S.state shelf.old).faults (S.state shelf.new).faults) }
     ensures refused { IfErr result (UndoableCause name.now (S.state shelf.old) (S.state shelf.new)) }
     ensures rest { KeepsButLeft name.now (S.state shelf.old).told (S.state shelf.new).told }
     ensures later { NoCountFalls (S.state shelf.old).faults (S.state shelf.new).faults }

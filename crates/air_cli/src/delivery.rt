@@ -4,7 +4,7 @@ ghost use Rattle.std.specs.Prelude.{◌≡◌, OnErr, OnOk, option_map};
 ghost use Rattle.air_devices.specs.Counts.{HasCause, KeepsCounts, NoCountFalls, writing_of};
 ghost use Rattle.air_devices.specs.Frames.{KeepsButOutput, KeepsButPrinted};
 ghost use Rattle.air_devices.specs.Known.{Becomes};
-ghost use Rattle.air_cli.specs.Outcomes.{OutputHolds, OutputHoldsPart};
+ghost use Rattle.air_cli.specs.Outcomes.{IsSteady, OutputHolds, OutputHoldsPart};
 ghost use Rattle.air_cli.specs.Deliveries.{DeliverKeeps, Delivers, OutputFails, PrintsLine, Refuses};
 
 use crate::status::{Status, line};
@@ -26,10 +26,13 @@ pub(crate) fn refused<S: Shelf>(alloc: Global, shelf: &mut S, status: Status) ->
 }
 
 /// Prints the line of a status; a print that fails leaves out the rest of it.
+#[tactic(auto, using(crate::proofs::DeliveryFacts::print_steady))]
 fn print_line<S: Shelf>(alloc: Global, shelf: &mut S, status: &Status) -> Result<(), NoMemory>
     ensures line { OnOk result
         (PrintsLine status.now (S.state shelf.old) (S.state shelf.new)) }
+    ensures steady { OnOk result (IsSteady (S.state shelf.old) (S.state shelf.new)) }
     ensures none { OnErr result ((S.state shelf.new).told.printed ≡ (S.state shelf.old).told.printed) }
+    ensures calm { OnErr result (KeepsCounts (S.state shelf.old).faults (S.state shelf.new).faults) }
     ensures rest { KeepsButPrinted (S.state shelf.old).told (S.state shelf.new).told }
     ensures counts { NoCountFalls (S.state shelf.old).faults (S.state shelf.new).faults }
 {

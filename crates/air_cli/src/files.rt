@@ -1,6 +1,6 @@
 //! Named files, read whole or refused with the status that says why.
 
-ghost use Rattle.std.specs.Prelude.{◌≤◌, length, IfErr, IfOk, OnOk};
+ghost use Rattle.std.specs.Prelude.{◌≢◌, ◌≤◌, length, IfErr, IfOk, OnOk};
 ghost use Rattle.std.specs.Io.KnownBytes.{IsAtEnd};
 ghost use Rattle.air_devices.specs.Counts.{KeepsCounts, NoCountFalls};
 ghost use Rattle.air_devices.specs.Frames.{KeepsButLeft};
@@ -29,6 +29,7 @@ pub(crate) fn bytes_of<S: Shelf>(
     ensures fits { IfOk result (λ v. length v.items ≤ limit) }
     ensures end { OnOk result (IsAtEnd ((S.state shelf.new).told.left name.now)) }
     ensures calm { OnOk result (KeepsCounts (S.state shelf.old).faults (S.state shelf.new).faults) }
+    ensures kept { IfErr result (λ s. s ≢ Status.ReadFault → KeepsCounts (S.state shelf.old).faults (S.state shelf.new).faults) }
     ensures refused { IfErr result (UnreadCause name.now limit (S.state shelf.old) (S.state shelf.new)) }
     ensures rest { KeepsButLeft name.now (S.state shelf.old).told (S.state shelf.new).told }
     ensures later { NoCountFalls (S.state shelf.old).faults (S.state shelf.new).faults }

@@ -1,6 +1,6 @@
 //! The command `plan`: what the plan of a named deck gives.
 
-ghost use Rattle.std.specs.Prelude.{◌≡◌, IfErr, IfOk, OnOk};
+ghost use Rattle.std.specs.Prelude.{◌≡◌, ◌≢◌, IfErr, IfOk, OnOk};
 ghost use Rattle.std.specs.Io.KnownBytes.{IsAtEnd};
 ghost use Rattle.air_devices.specs.Counts.{KeepsCounts, NoCountFalls};
 ghost use Rattle.air_devices.specs.Frames.{KeepsButLeft};
@@ -20,6 +20,7 @@ pub(crate) fn plan_of<S: Shelf>(alloc: Global, shelf: &mut S, name: &str) -> Res
         (λ d. IsShort d × (work ≡ plan_given d))) }
     ensures end { OnOk result (IsAtEnd ((S.state shelf.new).told.left name.now)) }
     ensures calm { OnOk result (KeepsCounts (S.state shelf.old).faults (S.state shelf.new).faults) }
+    ensures kept { IfErr result (λ s. s ≢ Status.ReadFault → KeepsCounts (S.state shelf.old).faults (S.state shelf.new).faults) }
     ensures refused { IfErr result (PlanCause name.now (S.state shelf.old) (S.state shelf.new)) }
     ensures rest { KeepsButLeft name.now (S.state shelf.old).told (S.state shelf.new).told }
     ensures later { NoCountFalls (S.state shelf.old).faults (S.state shelf.new).faults }

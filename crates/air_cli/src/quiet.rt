@@ -3,7 +3,7 @@
 //! Whatever a command prints and writes is made before anything is printed or written. The contract is one
 //! definition by cases of the status: its cause, what was printed and written, and what is left.
 
-ghost use Rattle.std.specs.Prelude.{◌≡◌, ℕ, List, Some, map, string_bytes, IfErr, IfOk, OnOk};
+ghost use Rattle.std.specs.Prelude.{◌≡◌, ◌≢◌, ℕ, List, Some, map, string_bytes, IfErr, IfOk, OnOk};
 ghost use Rattle.std.specs.Io.KnownBytes.{IsAtEnd};
 ghost use Rattle.air_devices.specs.Counts.{KeepsCounts};
 ghost use Rattle.air_cli.specs.Words.{IsInput, asked_of};
@@ -59,6 +59,7 @@ fn work_of<S: Shelf>(alloc: Global, shelf: &mut S, command: &Command) -> Result<
     ensures given { IfOk result (λ work. Gives (Some (asked_by command.now)) (S.state shelf.old) (λ g. work ≡ g)) }
     ensures read { OnOk result ((name : List ℕ) → IsInput (Some (asked_by command.now)) name → IsAtEnd ((S.state shelf.new).told.left name)) }
     ensures calm { OnOk result (KeepsCounts (S.state shelf.old).faults (S.state shelf.new).faults) }
+    ensures kept { IfErr result (λ s. s ≢ Status.ReadFault → KeepsCounts (S.state shelf.old).faults (S.state shelf.new).faults) }
     ensures refused { IfErr result (Cause (Some (asked_by command.now)) (S.state shelf.old) (S.state shelf.new)) }
     ensures rest { Reads (Some (asked_by command.now)) (S.state shelf.old) (S.state shelf.new) }
 {

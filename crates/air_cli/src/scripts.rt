@@ -1,6 +1,6 @@
 //! The command `script`: what the script of a named deck gives.
 
-ghost use Rattle.std.specs.Prelude.{◌≡◌, ◌≤◌, length, IfErr, IfOk, OnOk};
+ghost use Rattle.std.specs.Prelude.{◌≡◌, ◌≢◌, ◌≤◌, length, IfErr, IfOk, OnOk};
 ghost use Rattle.std.specs.Io.KnownBytes.{IsAtEnd};
 ghost use Rattle.air_devices.specs.Counts.{KeepsCounts, NoCountFalls};
 ghost use Rattle.air_devices.specs.Frames.{KeepsButLeft};
@@ -29,6 +29,7 @@ pub(crate) fn script_of<S: Shelf>(alloc: Global, shelf: &mut S, name: &str) -> R
         (λ d. IsDoable d × (length (script_tape d) ≤ tape_limit) × IsTrueScript d × (work ≡ script_given d))) }
     ensures end { OnOk result (IsAtEnd ((S.state shelf.new).told.left name.now)) }
     ensures calm { OnOk result (KeepsCounts (S.state shelf.old).faults (S.state shelf.new).faults) }
+    ensures kept { IfErr result (λ s. s ≢ Status.ReadFault → KeepsCounts (S.state shelf.old).faults (S.state shelf.new).faults) }
     ensures refused { IfErr result (ScriptCause name.now (S.state shelf.old) (S.state shelf.new)) }
     ensures rest { KeepsButLeft name.now (S.state shelf.old).told (S.state shelf.new).told }
     ensures later { NoCountFalls (S.state shelf.old).faults (S.state shelf.new).faults }

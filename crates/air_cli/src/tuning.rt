@@ -1,6 +1,6 @@
 //! The command `tune`: what a named deck's readers hear of a named tape.
 
-ghost use Rattle.std.specs.Prelude.{◌≡◌, IfErr, IfOk, OnOk, Some};
+ghost use Rattle.std.specs.Prelude.{◌≡◌, ◌≢◌, IfErr, IfOk, OnOk, Some};
 ghost use Rattle.std.specs.Io.KnownBytes.{IsAtEnd};
 ghost use Rattle.air_devices.specs.Counts.{KeepsCounts};
 ghost use Rattle.air_cli.specs.Words.{AsksTune};
@@ -30,6 +30,7 @@ pub(crate) fn tuning_of<S: Shelf>(
     ensures end { OnOk result (IsAtEnd ((S.state shelf.new).told.left name.now)) }
     ensures tape_end { OnOk result (IsAtEnd ((S.state shelf.new).told.left tape.now)) }
     ensures calm { OnOk result (KeepsCounts (S.state shelf.old).faults (S.state shelf.new).faults) }
+    ensures kept { IfErr result (λ s. s ≢ Status.ReadFault → KeepsCounts (S.state shelf.old).faults (S.state shelf.new).faults) }
     ensures refused { IfErr result (TuneCause name.now tape.now (S.state shelf.old) (S.state shelf.new)) }
     ensures rest { Reads (Some (AsksTune name.now tape.now)) (S.state shelf.old) (S.state shelf.new) }
 {

@@ -1,4 +1,4 @@
-use Rattle.std.proofs.Common.{Some, subst}
+use Rattle.std.proofs.Common.{Some, inl, subst}
 use Rattle.air_cli.specs.Commands.{asked_by}
 use Rattle.air_cli.specs.Deliveries.{DeliverKeeps, Delivers}
 use Rattle.air_cli.proofs.AnswerFacts.{answers_made}
@@ -21,6 +21,7 @@ returns-in-NoMemory-clause-answers g c =
     let S = g.S.Shelf in
     untouched (Some (asked_by c.args.command.now)) (S.state c.args.shelf.now)
     (S.state c.work_of.new.shelf) c.work_of.ensures.rest.printed c.work_of.ensures.rest.outputs
+    (inl (c.in-Err.ensures.kept (λ e. cc (c.in-NoMemory.is, e))))
 
 pub returns-in_default : goal.returns-in_default
 returns-in_default g c =
@@ -31,6 +32,6 @@ returns-in_default g c =
     let now = S.state c.refused.new.shelf in
     record {
       answers = answers_refused asked before mid now c.in-Err.status c.refused.result c.in_default.not-NoMemory c.work_of.ensures.rest c.in-Err.ensures.refused
-          c.refused.ensures.gives c.refused.ensures.rest c.refused.ensures.counts;
+          c.in-Err.ensures.kept c.refused.ensures.gives c.refused.ensures.rest c.refused.ensures.counts;
       leaves = leaves_refused asked before mid now c.work_of.ensures.rest c.refused.ensures.rest c.refused.ensures.counts;
     }

@@ -1,11 +1,13 @@
-use Rattle.std.proofs.Common.{◌≡◌, ℕ, List, [], ap, rules}
+use Rattle.std.proofs.Common.{◌≡◌, ◌≢◌, ℕ, List, [], ap, rules}
+use Rattle.air_devices.specs.Counts.{KeepsCounts}
 use Rattle.air_model.specs.Tapes.{tape_read}
+use Rattle.air_cli.specs.declared.status.Status.TheVariants as status
 use Rattle.air_cli.specs.Outcomes.{Given}
 use Rattle.air_cli.specs.Causes.{IsDoable, TuneCause}
 use Rattle.air_cli.specs.Truths.{IsTrueTape}
 use Rattle.air_cli.specs.Answers.{OfTape, tune_given}
 use Rattle.air_cli.proofs.CauseFacts.{of_deck, done_tune, unread_tune, wanting_tune}
-use Rattle.air_cli.proofs.ReadFacts.{end_still, of_cut, of_tape, unread_since}
+use Rattle.air_cli.proofs.ReadFacts.{end_still, kept_twice, of_cut, of_tape, unread_since}
 use Rattle.air_cli.proofs.tuning.tuning_of.Goals as goal
 
 -- what a command with this text alone gives
@@ -30,6 +32,15 @@ returns-in_err-bytes-clause-refused g c =
     let can = of_deck c.args.name.now before c.in_ok-deck.deck IsDoable c.in_ok-deck.ensures.deck c.in_ok-deck.ensures.done in
     let unread = unread_since tape 1073741824 before mid now c.in_err-bytes.field-0.0 (c.doable.ensures.rest.files tape) c.in_ok-deck.ensures.calm c.in_err-bytes.ensures.refused in
     let h = unread_tune c.args.name.now tape before now c.in_err-bytes.field-0.0 can unread in
+    search (rules, h)
+
+pub returns-in_err-bytes-clause-kept : goal.returns-in_err-bytes-clause-kept
+returns-in_err-bytes-clause-kept g c =
+    let S = g.S.Shelf in
+    let before = (S.state c.args.shelf.now).faults in
+    let now = (S.state c.bytes_of.new.shelf).faults in
+    let h : c.in_err-bytes.field-0.0 ≢ status.ReadFault → KeepsCounts before now =
+    λ read. kept_twice before (S.state c.doable.new.shelf).faults now c.in_ok-deck.ensures.calm (c.in_err-bytes.ensures.kept read) in
     search (rules, h)
 
 pub returns-in-Ok-clause-given : goal.returns-in-Ok-clause-given
