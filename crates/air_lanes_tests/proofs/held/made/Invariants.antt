@@ -1,0 +1,8 @@
+use Rattle.std.proofs.Common.{◌≡◌, ◌<◌, All, length}
+use Rattle.air_lanes_tests.proofs.held.made.Given as goal
+
+abbrev pub invariant-loop : goal.invariant-loop
+invariant-loop l = record {
+  long : length l.column.items ≡ l.counter;
+  below : All (λ entry. entry < l.cycle) l.column.items;
+}
