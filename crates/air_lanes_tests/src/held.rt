@@ -5,7 +5,7 @@
 
 ghost use Rattle.std.specs.Prelude.{◌≡◌, ◌≢◌, ◌<◌, [], ◌∷◌, ◌++◌, All, IfOk, IsTrue, length};
 ghost use Rattle.column_check.specs.HeardReads.{heard};
-ghost use Rattle.column_check.specs.HeldReads.{IsNew};
+ghost use Rattle.air_history.specs.HeldReads.{IsNew};
 
 use air_base::{Clash, NoMemory};
 use column_check::{Held, ROOM};

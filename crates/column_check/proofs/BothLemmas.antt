@@ -6,10 +6,10 @@ use Rattle.std.proofs.lemmas.Bool.{cases_lt, leb-true, leb-false, both_ways}
 use Rattle.air_base.specs.declared.verdicts.Clash.{Clash}
 use Rattle.air_history.specs.Clashes.{Heard, heard_clash}
 use Rattle.air_history.specs.HeldReads.{HeldReads}
-use Rattle.column_check.specs.Searches.{clash_of, disagree, lesser_of}
-use Rattle.column_check.specs.HeldCycles.{held_cycle, cycles_of, new_has, held_has, lesser_of_both, NamesFirst, IsFirstClash}
+use Rattle.column_check.specs.Searches.{clash_of, disagree}
+use Rattle.column_check.specs.HeldCycles.{held_cycle, cycles_of, new_has, held_has, lesser_of_both, IsFirstClash}
 use Rattle.column_check.proofs.LeastFacts.{none_passes, some_passes, IsLeastOf}
-use Rattle.column_check.proofs.ArrayLemmas.{cycle_at, cycles_len, is_held}
+use Rattle.column_check.proofs.ArrayLemmas.{cycle_at, is_held}
 
 -- the clash of the least of the reads that pass, and None where none passes
 abbrev pub NamesLeastOf : (Heard → Bool) → List Heard → Option Clash → Type 0

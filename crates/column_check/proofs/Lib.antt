@@ -4,3 +4,4 @@ pub mod NewLemmas
 pub mod LeastFacts
 pub mod ArrayLemmas
 pub mod BothLemmas
+pub mod CycleExamples

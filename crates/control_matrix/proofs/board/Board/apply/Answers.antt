@@ -1,10 +1,8 @@
-use Rattle.std.proofs.Common.{arith, sym, ap, ◌∙◌, ◌≡◌, ◌<◌, ◌==◌, length, get_or, cond, subst, All, refl}
-use Rattle.std.specs.List.{list_any}
+use Rattle.std.proofs.Common.{arith, sym, ap, ◌∙◌, ◌≡◌, length, get_or, cond, refl}
 use Rattle.std.proofs.lemmas.List.{with_items_is}
 use Rattle.std.proofs.lemmas.List.FromFn.{length-map-range_with_len}
-use Rattle.air_history.specs.Histories.{writes, writes_of}
+use Rattle.air_history.specs.Histories.{writes}
 use Rattle.air_history.specs.Tables.{value_after, values_of}
-use Rattle.air_history.proofs.ColumnLemmas.{written_by}
 use Rattle.air_lanes.specs.Kernels.{stamped}
 use Rattle.control_matrix.specs.Columns.{column_in}
 use Rattle.control_matrix.specs.Steps.{step_board}
