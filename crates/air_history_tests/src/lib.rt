@@ -1,13 +1,18 @@
 //! Tests of the three small libraries about histories: updates and the slow programs, the board, held reads.
 //!
 //! A case is a row of a table: the events of a history as data, and what is asked of it with the answer. The checker
-//! of a table walks its rows and gives the place of the first that is answered otherwise, and in what.
+//! of a table walks its rows and gives the place of the first that is answered otherwise, and in what. The board and the held
+//! reads are also compared with plain programs, at lengths around a block of eight and at larger ones.
 #![tactic(auto)]
 
+#[cfg(test)]
+mod board_lengths;
 #[cfg(test)]
 mod boards;
 #[cfg(test)]
 mod generated;
+#[cfg(test)]
+mod held_lengths;
 #[cfg(test)]
 mod held_reads;
 #[cfg(test)]

@@ -1,5 +1,5 @@
 use Rattle.std.proofs.Common.{◌≡◌, ◌<◌, All, length}
-use Rattle.air_lanes_tests.proofs.held.made.Given as goal
+use Rattle.air_history_tests.proofs.held_lengths.made.Given as goal
 
 abbrev pub invariant-loop : goal.invariant-loop
 invariant-loop l = record {
