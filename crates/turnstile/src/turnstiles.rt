@@ -116,15 +116,11 @@ impl<K: Chronicle> Turnstile<K> {
         requires list { IfSome pass.old.turn (λ given. Lengthens pass.old.numbers given (K.entries turn.value)) }
         ensures pass { pass.new ≡ returned pass.old (K.entries turn.value) }
     {
+        let shared = &self.table.shared;
         let Turn { value } = turn;
-        let away = self
-            .table
-            .shared
-            .exchange(&mut pass.seat, SLOT, Some(value));
+        let away = shared.exchange(&mut pass.seat, SLOT, Some(value));
         let None = away else { unreachable!() };
-        self.table
-            .shared
-            .fetch_add::<Leave>(&mut pass.seat, SERVING, 1);
+        shared.fetch_add::<Leave>(&mut pass.seat, SERVING, 1);
     }
 
     /// The pass stands for the numbers of both from now on, and has seen the longer of the two lists. It goes on from either
@@ -136,9 +132,10 @@ impl<K: Chronicle> Turnstile<K> {
         ensures mine { Continues pass.old.numbers pass.old.seen pass.new.seen }
         ensures other { Continues other.numbers other.seen pass.new.seen }
     {
+        let shared = &self.table.shared;
         let Pass { seat } = other;
-        self.table.shared.join_seat::<Unite>(&mut pass.seat, seat);
-        self.table.shared.load::<Compare>(&mut pass.seat, TICKETS);
+        shared.join_seat::<Unite>(&mut pass.seat, seat);
+        shared.load::<Compare>(&mut pass.seat, TICKETS);
     }
 
     /// Gives the value for a pass that stands for all numbers. Its list is the one that the pass has seen.
@@ -152,7 +149,7 @@ impl<K: Chronicle> Turnstile<K> {
         let Turnstile { table } = self;
         let Pass { seat } = pass;
         let mut closed = table.close_with(seat);
-        let Some(value) = closed.take(0) else {
+        let Some(value) = closed.take(SLOT) else {
             unreachable!()
         };
         closed.free();

@@ -60,6 +60,26 @@ pub fn work_all<R: Threads + Wait + Sync>(
     );
 }
 
+/// Lets each worker go through so many times and add nothing, by so many threads.
+pub fn pass_all<R: Threads + Wait + Sync>(
+    rt: &R,
+    gate: &Turnstile<Pairs>,
+    passes: u32,
+    mark: u64,
+    workers: &mut [Worker],
+    threads: usize,
+    turns: u64,
+)
+    requires some { 0 < threads }
+    requires ready { All (λ w. IsReady gate.now passes mark w) workers.old }
+    ensures ready { All (λ w. IsReady gate.now passes mark w) workers.new }
+    ensures same { (k : ℕ) (d : _) → k < length workers.old → (slice_index_or workers.new k d).by ≡ (slice_index_or workers.old k d).by }
+{
+    thread::for_each_mut(rt, workers, threads, &|_, w| {
+        w.pass_by(rt, gate, passes, mark, turns)
+    });
+}
+
 /// Joins all passes, the last one first, and gives the list.
 pub fn finish(gate: Turnstile<Pairs>, mut workers: Vec<Worker>, passes: u32, mark: u64) -> Pairs
     requires some { 0 < passes }

@@ -55,6 +55,23 @@ pub fn fill<R: Wait>(
     Ok(())
 }
 
+/// So many turns that add nothing.
+pub fn go_through<R: Wait>(
+    wait: &R,
+    gate: &Turnstile<Pairs>,
+    pass: &mut Pass<Pairs>,
+    turns: u64,
+)
+    requires own { pass.old.gate ≡ gate.now }
+    requires outside { pass.old.turn ≡ None }
+    ensures pass { IsSamePass pass.old pass.new }
+{
+    for _ in 0..turns {
+        let turn = gate.enter(wait, pass);
+        gate.leave(pass, turn);
+    }
+}
+
 impl Worker {
     /// Makes all its turns.
     pub fn work<R: Wait>(
@@ -70,5 +87,21 @@ impl Worker {
         ensures by { self.new.by ≡ self.old.by }
     {
         self.done = fill(wait, gate, &mut self.pass, self.by, turns).is_ok();
+    }
+
+    /// Goes through so many times, and adds nothing.
+    pub fn pass_by<R: Wait>(
+        &mut self,
+        wait: &R,
+        gate: &Turnstile<Pairs>,
+        passes: u32,
+        mark: u64,
+        turns: u64,
+    )
+        requires ready { IsReady gate.now passes mark self.old }
+        ensures ready { IsReady gate.now passes mark self.new }
+        ensures by { self.new.by ≡ self.old.by }
+    {
+        go_through(wait, gate, &mut self.pass, turns);
     }
 }
