@@ -10,3 +10,4 @@ pub mod Written
 pub mod Masts
 pub mod Recordings
 pub mod MemoryMasts
+pub mod ReadFiles

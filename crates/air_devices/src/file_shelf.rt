@@ -1,15 +1,21 @@
 //! A shelf over real files and standard output.
 //!
 //! It tells nothing of what it holds, since no contract can say what a file keeps. One number stands for all of
-//! its counts, and rises at each failure. It reads on in the file that was picked last, whatever the name; an
-//! append opens the named output again and writes behind what it holds, so the output must have been created.
+//! its counts, and rises at each failure; what the system said of the last one is kept. It reads on in the file that
+//! was picked last, and of another name it reads nothing. It changes no file that it has read, whatever the name: such
+//! an output is refused before it is touched. No call takes memory.
 
-ghost use Rattle.std.specs.Prelude.{◌≡◌, ◌≤◌, None};
+ghost use Rattle.std.specs.Prelude.{◌≡◌, ◌≢◌, ◌≤◌, ◌<◌, None, Some, length, IsErr, IsSome, OnErr, OnOk};
+ghost use Rattle.std.specs.Io.{ReadsAtMost};
+ghost use Rattle.std.specs.Option.{option_map};
 ghost use Rattle.air_devices.specs.Counts.{Rose};
 ghost use Rattle.air_devices.specs.Shelves.{untold_with};
 
+use crate::file_failures::{FileCall, FileFailure, NAME_ROOM};
+use crate::read_files::{FileId, ReadFiles};
 use crate::shelves::{Failed, Shelf};
-use std::fs::{self, OpenOptions};
+use arrayvec::ArrayString;
+use std::fs::{self, OpenFile, OpenOptions};
 use std::io::{self, Read, Write};
 use std::rt::Files;
 
@@ -18,7 +24,10 @@ use std::rt::Files;
 pub struct FileShelf<R: Files + Print + Drop> {
     rt: R,
     picked: Option<R::File>,
+    name: ArrayString<NAME_ROOM>,
+    read: ReadFiles,
     faults: u64,
+    last: Option<FileFailure>,
 }
 
 impl<R: Files + Print + Drop> FileShelf<R> {
@@ -26,21 +35,91 @@ impl<R: Files + Print + Drop> FileShelf<R> {
     pub fn new(rt: R) -> Self
         ensures counts { result.faults ≡ 0 }
         ensures picked { result.picked ≡ None }
+        ensures last { result.last ≡ None }
     {
         FileShelf {
             rt,
             picked: None,
+            name: ArrayString::new(),
+            read: ReadFiles::new(),
             faults: 0,
+            last: None,
         }
     }
 
-    /// Counts a failure.
-    fn fault(&mut self) -> Failed
+    /// What the system said of the last call that failed; None where none did.
+    pub fn last_failure(&self) -> Option<&FileFailure>
+        ensures { option_map (λ failure. failure.now) result ≡ self.now.last }
+    {
+        self.last.as_ref()
+    }
+
+    /// Counts a failure, and keeps what the system said.
+    fn fault(&mut self, call: FileCall, name: &str, error: io::Error) -> Failed
         ensures rose { Rose self.old.faults self.new.faults }
         ensures later { self.old.faults ≤ self.new.faults }
+        ensures last { option_map (λ failure. failure.call) self.new.last ≡ Some call }
+        ensures error { option_map (λ failure. failure.error) self.new.last ≡ Some error }
     {
         self.faults = self.faults.saturating_add(1);
+        self.last = Some(FileFailure::new(call, name, error));
         Failed
+    }
+
+    /// Opens a file, and remembers which file it is and its name.
+    fn open_to_read(&mut self, name: &str) -> io::Result<R::File>
+        ensures named { OnOk result (self.new.name.bytes ≡ name.now) }
+        ensures kept { OnErr result (self.new.name ≡ self.old.name) }
+        ensures rest { self.new ≡ record self.old { name = self.new.name; read = self.new.read } }
+    {
+        let file = fs::open(&self.rt, name)?;
+        if name.len() > NAME_ROOM {
+            return Err(io::Error::from(io::ErrorKind::InvalidFilename));
+        }
+        self.read.add(FileId::of(&file)?)?;
+        self.name.clear();
+        self.name.push_str(name);
+        Ok(file)
+    }
+
+    /// Reads on in the file that was picked last, where it has this name; nothing before any was picked.
+    fn read_picked(&mut self, name: &str, buf: &mut [u8]) -> io::Result<usize>
+        requires { 0 < length buf.old }
+        ensures bound { ReadsAtMost result buf.new }
+        ensures other { IsSome self.old.picked → self.old.name.bytes ≢ name.now → IsErr result }
+        ensures rest { self.new ≡ record self.old { picked = self.new.picked } }
+    {
+        let Some(file) = &mut self.picked else {
+            return Ok(0);
+        };
+        if self.name.as_str() != name {
+            return Err(io::Error::other("another file was opened last"));
+        }
+        file.read(buf)
+    }
+
+    /// Opens an output, which must be no file that was read. It is as it was, or new.
+    fn open_to_write(&self, how: &OpenOptions, name: &str) -> io::Result<R::File> {
+        let file = how.open(&self.rt, name)?;
+        if self.read.has(FileId::of(&file)?) {
+            return Err(io::Error::other("it is a file that was read"));
+        }
+        Ok(file)
+    }
+
+    /// Makes an output empty. What is no plain file, as a pipe or a device, holds nothing.
+    fn empty_output(&self, name: &str) -> io::Result<()> {
+        let file = self.open_to_write(OpenOptions::new().write(true).create(true), name)?;
+        if file.metadata()?.is_file() {
+            file.set_len(0)?;
+        }
+        Ok(())
+    }
+
+    /// Writes behind what an output holds.
+    fn add_to_output(&self, name: &str, bytes: &[u8]) -> io::Result<()> {
+        let mut file = self.open_to_write(OpenOptions::new().append(true), name)?;
+        file.write_all(bytes)
     }
 }
 
@@ -48,46 +127,40 @@ impl<R: Files + Print + Drop> Shelf for FileShelf<R> {
     ghost state = { λ shelf. untold_with shelf.faults };
 
     fn pick(&mut self, name: &str) -> Result<(), Failed> {
-        match fs::open(&self.rt, name) {
+        match self.open_to_read(name) {
             Ok(file) => {
                 self.picked = Some(file);
                 Ok(())
             }
-            Err(_) => Err(self.fault()),
+            Err(error) => Err(self.fault(FileCall::Pick, name, error)),
         }
     }
 
-    fn read(&mut self, _name: &str, buf: &mut [u8]) -> Result<usize, Failed> {
-        let Some(file) = &mut self.picked else {
-            return Ok(0);
-        };
-        match file.read(buf) {
+    fn read(&mut self, name: &str, buf: &mut [u8]) -> Result<usize, Failed> {
+        match self.read_picked(name, buf) {
             Ok(count) => Ok(count),
-            Err(_) => Err(self.fault()),
+            Err(error) => Err(self.fault(FileCall::Read, name, error)),
         }
     }
 
     fn create(&mut self, name: &str) -> Result<(), Failed> {
-        match fs::create(&self.rt, name) {
-            Ok(_) => Ok(()),
-            Err(_) => Err(self.fault()),
+        match self.empty_output(name) {
+            Ok(()) => Ok(()),
+            Err(error) => Err(self.fault(FileCall::Create, name, error)),
         }
     }
 
     fn append(&mut self, name: &str, bytes: &[u8]) -> Result<(), Failed> {
-        let Ok(mut file) = OpenOptions::new().append(true).open(&self.rt, name) else {
-            return Err(self.fault());
-        };
-        match file.write_all(bytes) {
+        match self.add_to_output(name, bytes) {
             Ok(()) => Ok(()),
-            Err(_) => Err(self.fault()),
+            Err(error) => Err(self.fault(FileCall::Append, name, error)),
         }
     }
 
     fn print(&mut self, bytes: &[u8]) -> Result<(), Failed> {
         match io::writer(&self.rt).write_all(bytes) {
             Ok(()) => Ok(()),
-            Err(_) => Err(self.fault()),
+            Err(error) => Err(self.fault(FileCall::Print, "", error)),
         }
     }
 }

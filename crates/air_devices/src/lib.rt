@@ -8,15 +8,18 @@
 #![tactic(auto)]
 
 mod calls;
+pub mod file_failures;
 pub mod file_shelf;
 mod fixed_bytes;
 pub mod masts;
 pub mod memory_mast;
 pub mod memory_shelf;
+mod read_files;
 pub mod reading;
 pub mod shelves;
 pub mod tape_room;
 
+pub use file_failures::{FileCall, FileFailure};
 pub use file_shelf::FileShelf;
 pub use masts::Mast;
 pub use memory_mast::MemMast;

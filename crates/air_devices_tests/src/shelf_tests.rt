@@ -227,6 +227,9 @@ fn a_file_past_the_limit_or_torn_is_refused(rt: HostRuntime) -> Result<(), Fail>
         calls: &[
             Call::ReadWhole("deck", 7, b"item,0\n"),
             Call::RefuseWhole("deck", 6, ReadFileError::TooLarge),
+            Call::Read("deck", Ok(b"")),
+            Call::RefuseWhole("deck", 2, ReadFileError::TooLarge),
+            Call::Read("deck", Ok(b"m,0\n")),
             Call::RefuseWhole("desk", 7, ReadFileError::Failed),
         ],
         tape: b"",

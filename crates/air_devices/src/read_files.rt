@@ -1,0 +1,69 @@
+//! Which files were read, however they were named, linked or reached: each by its device and its number there.
+//!
+//! There is room for sixteen, and no call takes memory.
+
+ghost use Rattle.std.specs.Prelude.{◌≡◌, [], true, OnOk};
+ghost use Rattle.air_devices.specs.ReadFiles.{is_among};
+
+use arrayvec::ArrayVec;
+use std::fs::OpenFile;
+use std::io;
+use std::os::unix::fs::MetadataExt;
+
+/// Which file it is.
+#[derive(Clone, Copy, Default)]
+pub(crate) struct FileId {
+    device: u64,
+    inode: u64,
+}
+
+impl FileId {
+    /// Which file an open file is.
+    pub fn of<F: OpenFile>(file: &F) -> io::Result<FileId> {
+        let known = file.metadata()?;
+        Ok(FileId {
+            device: known.dev(),
+            inode: known.ino(),
+        })
+    }
+}
+
+/// The files that were read.
+#[derive(Drop)]
+pub(crate) struct ReadFiles {
+    ids: ArrayVec<FileId, 16>,
+}
+
+impl ReadFiles {
+    /// No file was read yet.
+    pub fn new() -> ReadFiles
+        ensures { result.ids.items ≡ [] }
+    {
+        ReadFiles {
+            ids: ArrayVec::new(),
+        }
+    }
+
+    /// Whether this file was read.
+    pub fn has(&self, id: FileId) -> bool
+        ensures { result ≡ is_among id self.now.ids.items }
+    {
+        let mut read = self.ids.iter();
+        read.any(|read| read.device == id.device && read.inode == id.inode)
+    }
+
+    /// Adds a file, where it isn't among them; it fails where there is no room.
+    #[tactic(auto, using(crate::proofs::ReadFacts::is_added, crate::proofs::ReadFacts::stays_among))]
+    pub fn add(&mut self, id: FileId) -> io::Result<()>
+        ensures added { OnOk result (is_among id self.new.ids.items ≡ true) }
+        ensures kept { (other : FileId) → is_among other self.old.ids.items ≡ true → is_among other self.new.ids.items ≡ true }
+    {
+        if self.has(id) {
+            return Ok(());
+        }
+        match self.ids.try_push(id) {
+            Ok(()) => Ok(()),
+            Err(_) => Err(io::Error::other("too many files were read")),
+        }
+    }
+}
