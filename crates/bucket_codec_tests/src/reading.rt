@@ -92,23 +92,25 @@ fn first_other(
     Ok(None)
 }
 
+/// What the first bucket says.
+const FIRST_SAID: Said<'static> = Said {
+    edition: 0,
+    cycle: 1,
+    slot: 0,
+    kind: ViewKind::Column,
+    count: 2,
+    item: 0,
+    value: 10,
+    entries: &[0, 0],
+};
+
 #[test]
 fn worked_buckets_are_read(rt: HostRuntime) -> Result<(), Fail> {
-    let first = Said {
-        edition: 0,
-        cycle: 1,
-        slot: 0,
-        kind: ViewKind::Column,
-        count: 2,
-        item: 0,
-        value: 10,
-        entries: &[0, 0],
-    };
     let second = Said {
         slot: 1,
         item: 1,
         value: 20,
-        ..first
+        ..FIRST_SAID
     };
     let idle = Said {
         slot: 2,
@@ -116,7 +118,7 @@ fn worked_buckets_are_read(rt: HostRuntime) -> Result<(), Fail> {
         item: 65535,
         value: 0,
         entries: &[],
-        ..first
+        ..FIRST_SAID
     };
     let vector = Said {
         edition: 0x0102,
@@ -129,7 +131,7 @@ fn worked_buckets_are_read(rt: HostRuntime) -> Result<(), Fail> {
         entries: &[0, 0x01020304, 0x03040505],
     };
     let cases = [
-        (FIRST, first),
+        (FIRST, FIRST_SAID),
         (SECOND, second),
         (IDLE, idle),
         (VECTOR, vector),

@@ -76,17 +76,27 @@ fn gives(tape: &[u8], records: &[&[u8]], cut: Option<TapeFault>) -> bool {
 /// The least and the greatest length of a front of the tape, the whole records that it gives, and where it is cut.
 type Front = (usize, usize, usize, Option<TapeFault>);
 
+/// Returns the first of these lengths at which the front of the tape is read otherwise than told.
+fn first_length_misread(tape: &[u8], records: &[&[u8]], front: Front) -> Option<usize> {
+    let (least, greatest, whole, cut) = front;
+    for len in least..=greatest {
+        let given = match (tape.get(..len), records.get(..whole)) {
+            (Some(bytes), Some(records)) => gives(bytes, records, cut),
+            _ => false,
+        };
+        if !given {
+            return Some(len);
+        }
+    }
+    None
+}
+
 /// Returns the first length at which the front of the tape is read otherwise than told.
 fn first_front_misread(tape: &[u8], records: &[&[u8]], fronts: &[Front]) -> Option<usize> {
-    for (least, greatest, whole, cut) in fronts {
-        for len in *least..=*greatest {
-            let given = match (tape.get(..len), records.get(..*whole)) {
-                (Some(front), Some(records)) => gives(front, records, *cut),
-                _ => false,
-            };
-            if !given {
-                return Some(len);
-            }
+    for front in fronts {
+        let misread = first_length_misread(tape, records, *front);
+        if misread.is_some() {
+            return misread;
         }
     }
     None
