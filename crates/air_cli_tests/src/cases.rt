@@ -3,10 +3,10 @@
 //! A file is written as its parts, so that a long deck is as short as what makes it. `first_other` plays cases over
 //! a shelf in memory, and names the first that leaves something else than is wanted, and in what.
 
+use air_base::{NoMemory, write_u64};
 use air_cli::{Status, air_quiet};
 use air_devices::MemShelf;
 use std::alloc::Global;
-use std::test::Fail;
 use std::thread::Threads;
 
 /// A part of a file.
@@ -55,13 +55,15 @@ pub enum Other {
     Status(Status),
     Printed,
     Output,
+    /// There was no memory to play the case.
+    Unplayed,
 }
 
 /// Adds these texts with a number between each two.
-fn add_row(bytes: &mut Vec<u8>, number: &str, texts: &[&str]) -> Result<(), Fail> {
+fn add_row(bytes: &mut Vec<u8>, number: u32, texts: &[&str]) -> Result<(), NoMemory> {
     for (place, text) in texts.iter().enumerate() {
         if place > 0 {
-            bytes.extend_from_slice(number.as_bytes())?;
+            write_u64(u64::from(number), bytes)?;
         }
         bytes.extend_from_slice(text.as_bytes())?;
     }
@@ -69,16 +71,15 @@ fn add_row(bytes: &mut Vec<u8>, number: &str, texts: &[&str]) -> Result<(), Fail
 }
 
 /// Adds so many rows of these texts.
-fn add_rows(alloc: Global, bytes: &mut Vec<u8>, rows: u32, texts: &[&str]) -> Result<(), Fail> {
+fn add_rows(bytes: &mut Vec<u8>, rows: u32, texts: &[&str]) -> Result<(), NoMemory> {
     for row in 0..rows {
-        let number = format!(in alloc; "{row}")?;
-        add_row(bytes, &number, texts)?;
+        add_row(bytes, row, texts)?;
     }
     Ok(())
 }
 
 /// Adds this text so many times.
-fn add_times(bytes: &mut Vec<u8>, times: u32, text: &str) -> Result<(), Fail> {
+fn add_times(bytes: &mut Vec<u8>, times: u32, text: &str) -> Result<(), NoMemory> {
     for _ in 0..times {
         bytes.extend_from_slice(text.as_bytes())?;
     }
@@ -86,69 +87,76 @@ fn add_times(bytes: &mut Vec<u8>, times: u32, text: &str) -> Result<(), Fail> {
 }
 
 /// Adds these bytes, the one at this place with its highest bit changed.
-fn add_flipped(bytes: &mut Vec<u8>, at: usize, more: &[u8]) -> Result<(), Fail> {
+fn add_flipped(bytes: &mut Vec<u8>, at: usize, more: &[u8]) -> Result<(), NoMemory> {
     for (place, byte) in more.iter().enumerate() {
         let byte = if place == at { *byte ^ 128 } else { *byte };
-        bytes.push(byte)?;
+        bytes.extend_from_slice(&[byte])?;
+    }
+    Ok(())
+}
+
+/// Adds a part.
+fn add_part(alloc: Global, bytes: &mut Vec<u8>, part: &Part<'_>) -> Result<(), NoMemory> {
+    match *part {
+        Part::Text(text) => bytes.extend_from_slice(text.as_bytes())?,
+        Part::Bytes(more) => bytes.extend_from_slice(more)?,
+        Part::Front(count, more) => bytes.extend_from_slice(&more[..count.min(more.len())])?,
+        Part::Flipped(at, more) => add_flipped(bytes, at, more)?,
+        Part::Zeros(count) => bytes.extend_from_slice(&vec![in alloc; b'0'; count]?)?,
+        Part::Times(times, text) => add_times(bytes, times, text)?,
+        Part::Rows(rows, texts) => add_rows(bytes, rows, texts)?,
     }
     Ok(())
 }
 
 /// The bytes of these parts.
-fn bytes_of(alloc: Global, parts: Parts<'_>) -> Result<Vec<u8>, Fail> {
+fn bytes_of(alloc: Global, parts: Parts<'_>) -> Result<Vec<u8>, NoMemory> {
     let mut bytes = Vec::new(alloc);
     for part in parts {
-        match *part {
-            Part::Text(text) => bytes.extend_from_slice(text.as_bytes())?,
-            Part::Bytes(more) => bytes.extend_from_slice(more)?,
-            Part::Front(count, more) => bytes.extend_from_slice(&more[..count.min(more.len())])?,
-            Part::Flipped(at, more) => add_flipped(&mut bytes, at, more)?,
-            Part::Zeros(count) => bytes.extend_from_slice(&vec![in alloc; b'0'; count]?)?,
-            Part::Times(times, text) => add_times(&mut bytes, times, text)?,
-            Part::Rows(rows, texts) => add_rows(alloc, &mut bytes, rows, texts)?,
-        }
+        add_part(alloc, &mut bytes, part)?;
     }
     Ok(bytes)
 }
 
-/// The shelf of a case.
-fn shelf_of(alloc: Global, case: &Case<'_>) -> Result<MemShelf, Fail> {
-    let mut files = Vec::new(alloc);
-    files.push((
-        String::from_str(alloc, "deck")?,
-        bytes_of(alloc, case.deck)?,
-    ))?;
-    files.push((
-        String::from_str(alloc, "tape")?,
-        bytes_of(alloc, case.tape)?,
-    ))?;
-    let mut outputs = Vec::new(alloc);
-    outputs.push(String::from_str(alloc, "tape")?)?;
-    let fail = Vec::from_slice(alloc, case.fail)?;
-    Ok(MemShelf::new(alloc, files, outputs, case.room, fail)?)
+/// Adds a file.
+fn add_file(
+    alloc: Global,
+    files: &mut Vec<(String, Vec<u8>)>,
+    name: &str,
+    parts: Parts<'_>,
+) -> Result<(), NoMemory> {
+    let name = String::from_str(alloc, name)?;
+    let bytes = bytes_of(alloc, parts)?;
+    match files.push((name, bytes)) {
+        Ok(()) => Ok(()),
+        Err(_) => Err(NoMemory),
+    }
 }
 
-/// The words of a case.
-fn words_of(alloc: Global, words: &[&str]) -> Result<Vec<String>, Fail> {
+/// These words.
+fn words_of(alloc: Global, words: &[&str]) -> Result<Vec<String>, NoMemory> {
     let mut all = Vec::new(alloc);
     for word in words {
-        all.push(String::from_str(alloc, word)?)?;
+        let word = String::from_str(alloc, word)?;
+        if all.push(word).is_err() {
+            return Err(NoMemory);
+        }
     }
     Ok(all)
 }
 
-/// In what the run of a case differs from what is wanted, if it does.
-pub fn difference<R: Threads + Sync>(
-    rt: &R,
-    alloc: Global,
-    case: &Case<'_>,
-) -> Result<Option<Other>, Fail> {
-    let mut shelf = shelf_of(alloc, case)?;
-    let words = words_of(alloc, case.words)?;
-    let status = air_quiet(rt, alloc, &words, &mut shelf);
-    if status != case.status {
-        return Ok(Some(Other::Status(status)));
-    }
+/// The shelf of a case.
+fn shelf_of(alloc: Global, case: &Case<'_>) -> Result<MemShelf, NoMemory> {
+    let mut files = Vec::new(alloc);
+    add_file(alloc, &mut files, "deck", case.deck)?;
+    add_file(alloc, &mut files, "tape", case.tape)?;
+    let outputs = words_of(alloc, &["tape"])?;
+    let fail = Vec::from_slice(alloc, case.fail)?;
+    MemShelf::new(alloc, files, outputs, case.room, fail)
+}
+
+/// In what the shelf differs from what is wanted of it, if it does.
+fn left_other(alloc: Global, shelf: &MemShelf, case: &Case<'_>) -> Result<Option<Other>, NoMemory> {
     let printed = bytes_of(alloc, case.printed)?;
     if shelf.printed() != printed.as_slice() {
         return Ok(Some(Other::Printed));
@@ -160,16 +168,39 @@ pub fn difference<R: Threads + Sync>(
     Ok(None)
 }
 
+/// In what the run of a case differs from what is wanted, if it does.
+fn played<R: Threads + Sync>(
+    rt: &R,
+    alloc: Global,
+    case: &Case<'_>,
+) -> Result<Option<Other>, NoMemory> {
+    let mut shelf = shelf_of(alloc, case)?;
+    let words = words_of(alloc, case.words)?;
+    let status = air_quiet(rt, alloc, &words, &mut shelf);
+    if status != case.status {
+        return Ok(Some(Other::Status(status)));
+    }
+    left_other(alloc, &shelf, case)
+}
+
+/// In what the run of a case differs from what is wanted, if it does; also where it isn't played.
+pub fn difference<R: Threads + Sync>(rt: &R, alloc: Global, case: &Case<'_>) -> Option<Other> {
+    match played(rt, alloc, case) {
+        Ok(other) => other,
+        Err(NoMemory) => Some(Other::Unplayed),
+    }
+}
+
 /// The first case that leaves something else than is wanted: what it shows, and in what it differs.
 pub fn first_other<'a, R: Threads + Sync>(
     rt: &R,
     alloc: Global,
     cases: &[Case<'a>],
-) -> Result<Option<(&'a str, Other)>, Fail> {
+) -> Option<(&'a str, Other)> {
     for case in cases {
-        if let Some(other) = difference(rt, alloc, case)? {
-            return Ok(Some((case.shows, other)));
+        if let Some(other) = difference(rt, alloc, case) {
+            return Some((case.shows, other));
         }
     }
-    Ok(None)
+    None
 }

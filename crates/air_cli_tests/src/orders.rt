@@ -4,7 +4,6 @@ use crate::cases::{Case, Other, Part, Parts, difference, first_other, joined};
 use crate::first::{FIRST, FIRST_CASE, PLAN, SCRIPT, SCRIPT_TAPE, TUNE};
 use air_cli::Status;
 use std::alloc::Global;
-use std::test::Fail;
 use std::thread::Threads;
 
 /// To tune to a file that isn't there.
@@ -34,6 +33,9 @@ const LONG_TAPE: Parts<'static> = &[
     Part::Text("\n"),
 ];
 
+/// A deck of one byte more than a deck may have.
+const LARGE: Parts<'static> = &[Part::Zeros(67_108_865)];
+
 /// These words over this deck end with the status, and print the line.
 fn refused<'a>(
     shows: &'a str,
@@ -53,7 +55,7 @@ fn refused<'a>(
 }
 
 #[test]
-fn a_fault_of_the_deck_is_told_before_all_else(rt: HostRuntime) -> Result<(), Fail> {
+fn a_fault_of_the_deck_is_told_before_all_else(rt: HostRuntime) {
     let base: Parts<'_> = &[Part::Text(NO_BASE)];
     let fault = Status::Deck { row: 7, kind: 8 };
     let line: Parts<'_> = &[Part::Text("fault,2,7,8\n")];
@@ -70,8 +72,7 @@ fn a_fault_of_the_deck_is_told_before_all_else(rt: HostRuntime) -> Result<(), Fa
         refused("of an empty deck", SCRIPT, &[], empty, empty_line),
         refused("before another form", SCRIPT, odd, odd_tag, odd_tag_line),
     ];
-    assert_eq!(rt; first_other(&rt, rt.alloc(), &cases)?, None);
-    Ok(())
+    assert_eq!(rt; first_other(&rt, rt.alloc(), &cases), None);
 }
 
 /// In what these words over a deck of one item and these further records differ from this status and text.
@@ -82,7 +83,7 @@ fn difference_with<R: Threads + Sync>(
     more: &str,
     status: Status,
     text: &str,
-) -> Result<Option<Other>, Fail> {
+) -> Option<Other> {
     let deck = joined("item,0,10,1\ndisk,1,1\n", more, "");
     let printed = [Part::Text(text)];
     let case = refused("one item", words, &deck, status, &printed);
@@ -91,18 +92,14 @@ fn difference_with<R: Threads + Sync>(
 
 /// In what a deck of one item and these records differs from one that is planned, and that neither `script` nor
 /// `tune` does for its form.
-fn difference_of_form<R: Threads + Sync>(
-    rt: &R,
-    alloc: Global,
-    more: &str,
-) -> Result<Option<Other>, Fail> {
+fn difference_of_form<R: Threads + Sync>(rt: &R, alloc: Global, more: &str) -> Option<Other> {
     let form = Status::Deck { row: 0, kind: 12 };
     let line = "fault,2,0,12\n";
-    let script = difference_with(rt, alloc, SCRIPT, more, form, line)?;
-    let tune = difference_with(rt, alloc, TUNE_NONE, more, form, line)?;
+    let script = difference_with(rt, alloc, SCRIPT, more, form, line);
+    let tune = difference_with(rt, alloc, TUNE_NONE, more, form, line);
     let text = "program,1,1,1\ndisk,0,1,1,1\nminor,0,0\nitem,0,0,1,1,0,1\n";
-    let plan = difference_with(rt, alloc, PLAN, more, Status::Ok, text)?;
-    Ok(script.or(tune).or(plan))
+    let plan = difference_with(rt, alloc, PLAN, more, Status::Ok, text);
+    script.or(tune).or(plan)
 }
 
 /// The first of these kinds of records by which a deck isn't of another form, and what is other there.
@@ -110,17 +107,17 @@ fn first_done<'a, R: Threads + Sync>(
     rt: &R,
     alloc: Global,
     forms: &[(&'a str, &'a str)],
-) -> Result<Option<(&'a str, Other)>, Fail> {
+) -> Option<(&'a str, Other)> {
     for (shows, more) in forms {
-        if let Some(other) = difference_of_form(rt, alloc, more)? {
-            return Ok(Some((*shows, other)));
+        if let Some(other) = difference_of_form(rt, alloc, more) {
+            return Some((*shows, other));
         }
     }
-    Ok(None)
+    None
 }
 
 #[test]
-fn decks_of_another_form_are_planned_and_not_done(rt: HostRuntime) -> Result<(), Fail> {
+fn decks_of_another_form_are_planned_and_not_done(rt: HostRuntime) {
     let decks = [
         ("a reader keeps copies", "reader,1,0,1\n"),
         ("Datacycle", "set,policy,D\n"),
@@ -129,8 +126,7 @@ fn decks_of_another_form_are_planned_and_not_done(rt: HostRuntime) -> Result<(),
         ("buckets are heard again", "set,again,1\n"),
         ("buckets are heard late", "set,late,1\n"),
     ];
-    assert_eq!(rt; first_done(&rt, rt.alloc(), &decks)?, None);
-    Ok(())
+    assert_eq!(rt; first_done(&rt, rt.alloc(), &decks), None);
 }
 
 /// The first of these settings with which a deck of one item isn't done, and what is other there.
@@ -138,30 +134,29 @@ fn first_undone<'a, R: Threads + Sync>(
     rt: &R,
     alloc: Global,
     settings: &[&'a str],
-) -> Result<Option<(&'a str, Other)>, Fail> {
+) -> Option<(&'a str, Other)> {
     for setting in settings {
-        let other = difference_with(rt, alloc, SCRIPT, setting, Status::Ok, "")?;
+        let other = difference_with(rt, alloc, SCRIPT, setting, Status::Ok, "");
         if let Some(other) = other {
-            return Ok(Some((*setting, other)));
+            return Some((*setting, other));
         }
     }
-    Ok(None)
+    None
 }
 
 #[test]
-fn settings_that_no_reader_sees_are_done(rt: HostRuntime) -> Result<(), Fail> {
+fn settings_that_no_reader_sees_are_done(rt: HostRuntime) {
     let settings = [
         "set,cycles,5\n",
         "set,seed,3\n",
         "set,monitors,1\n",
         "set,hears,5\n",
     ];
-    assert_eq!(rt; first_undone(&rt, rt.alloc(), &settings)?, None);
-    Ok(())
+    assert_eq!(rt; first_undone(&rt, rt.alloc(), &settings), None);
 }
 
 #[test]
-fn a_program_that_is_too_long_is_refused_before_its_tape(rt: HostRuntime) -> Result<(), Fail> {
+fn a_program_that_is_too_long_is_refused_before_its_tape(rt: HostRuntime) {
     let deck: Parts<'_> = &[Part::Text(LONG)];
     let long = Status::PlanTooLong { slots: 737_856 };
     let line: Parts<'_> = &[Part::Text("fault,13,737856\n")];
@@ -179,33 +174,37 @@ fn a_program_that_is_too_long_is_refused_before_its_tape(rt: HostRuntime) -> Res
         refused("behind another form", SCRIPT, copies, form, form_line),
         refused("by a plan of another form", PLAN, copies, long, line),
     ];
-    assert_eq!(rt; first_other(&rt, rt.alloc(), &cases)?, None);
-    Ok(())
+    assert_eq!(rt; first_other(&rt, rt.alloc(), &cases), None);
 }
 
 #[test]
-fn a_tape_of_63_full_cycles_is_too_long(rt: HostRuntime) -> Result<(), Fail> {
-    let long = Status::TooLong {
+fn what_is_or_would_be_too_large_is_refused(rt: HostRuntime) {
+    let tape = Status::TooLong {
         bytes: 1_085_865_984,
     };
-    let line: Parts<'_> = &[Part::Text("fault,12,1085865984\n")];
+    let tape_line: Parts<'_> = &[Part::Text("fault,12,1085865984\n")];
+    let deck = Status::TooLarge { limit: 67_108_864 };
+    let deck_line: Parts<'_> = &[Part::Text("fault,7,67108864\n")];
     let cases = [
-        refused("unwritten", SCRIPT, LONG_TAPE, long, line),
-        refused("written", SCRIPT_TAPE, LONG_TAPE, long, line),
+        refused("an unwritten tape", SCRIPT, LONG_TAPE, tape, tape_line),
+        refused("a tape", SCRIPT_TAPE, LONG_TAPE, tape, tape_line),
+        refused("a deck", PLAN, LARGE, deck, deck_line),
     ];
-    assert_eq!(rt; first_other(&rt, rt.alloc(), &cases)?, None);
-    Ok(())
+    assert_eq!(rt; first_other(&rt, rt.alloc(), &cases), None);
 }
 
 #[test]
-fn a_file_that_is_not_there_is_told(rt: HostRuntime) -> Result<(), Fail> {
+fn a_missing_file_and_a_deck_for_a_tape_are_told(rt: HostRuntime) {
     let deck: Parts<'_> = &[Part::Text(FIRST)];
     let line: Parts<'_> = &[Part::Text("fault,3\n")];
     let no_deck: &[&str] = &["tune", "none", "tape"];
+    let twice: &[&str] = &["tune", "deck", "deck"];
+    let cut = Status::TapeCut { at: 0 };
+    let cut_line: Parts<'_> = &[Part::Text("fault,6,0\n")];
     let cases = [
-        refused("the tape", TUNE_NONE, deck, Status::ReadFault, line),
-        refused("the deck", no_deck, deck, Status::ReadFault, line),
+        refused("no tape", TUNE_NONE, deck, Status::ReadFault, line),
+        refused("no deck", no_deck, deck, Status::ReadFault, line),
+        refused("a deck twice", twice, deck, cut, cut_line),
     ];
-    assert_eq!(rt; first_other(&rt, rt.alloc(), &cases)?, None);
-    Ok(())
+    assert_eq!(rt; first_other(&rt, rt.alloc(), &cases), None);
 }

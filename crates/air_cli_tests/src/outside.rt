@@ -4,11 +4,7 @@ use crate::cases::{Case, Other, Part, Parts, difference, first_other};
 use crate::first::{FIRST_CASE, FIRST_REPORT, FIRST_TAPE, PLAN, SCRIPT, SCRIPT_TAPE, TUNE};
 use air_cli::Status;
 use std::alloc::Global;
-use std::test::Fail;
 use std::thread::Threads;
-
-/// A deck of one byte more than a deck may have.
-const LARGE: Parts<'static> = &[Part::Zeros(67_108_865)];
 
 /// The first deck and its tape with room enough, where the listed calls fail, leave this.
 fn fails<'a>(
@@ -30,43 +26,66 @@ fn fails<'a>(
     }
 }
 
-#[test]
-fn a_failing_pick_or_read_is_told(rt: HostRuntime) -> Result<(), Fail> {
-    let fault = Status::ReadFault;
-    let line: Parts<'_> = &[Part::Text("fault,3\n")];
-    let cases = [
-        fails("a plan's pick", PLAN, &[1], fault, line, &[]),
-        fails("a plan's read", PLAN, &[2], fault, line, &[]),
-        fails("a plan's last read", PLAN, &[3], fault, line, &[]),
-        fails("a script's pick", SCRIPT_TAPE, &[1], fault, line, &[]),
-        fails("a script's read", SCRIPT_TAPE, &[2], fault, line, &[]),
-        fails("a script's last read", SCRIPT_TAPE, &[3], fault, line, &[]),
-        fails("a tuned deck's pick", TUNE, &[1], fault, line, &[]),
-        fails("a tuned deck's read", TUNE, &[2], fault, line, &[]),
-        fails("a tuned deck's last read", TUNE, &[3], fault, line, &[]),
-        fails("a tape's pick", TUNE, &[4], fault, line, &[]),
-        fails("a tape's read", TUNE, &[5], fault, line, &[]),
-        fails("a tape's last read", TUNE, &[6], fault, line, &[]),
-    ];
-    assert_eq!(rt; first_other(&rt, rt.alloc(), &cases)?, None);
-    Ok(())
+/// The first of these calls whose failure isn't told as a read fault, and what is other then.
+fn first_other_call<R: Threads + Sync>(
+    rt: &R,
+    alloc: Global,
+    calls: &[(&[&str], u64)],
+) -> Option<(u64, Other)> {
+    for (words, call) in calls {
+        let fail = [*call];
+        let line: Parts<'_> = &[Part::Text("fault,3\n")];
+        let case = fails("a failing call", words, &fail, Status::ReadFault, line, &[]);
+        if let Some(other) = difference(rt, alloc, &case) {
+            return Some((*call, other));
+        }
+    }
+    None
 }
 
 #[test]
-fn a_refusal_whose_line_is_not_printed_stays(rt: HostRuntime) -> Result<(), Fail> {
+fn a_failing_pick_or_read_is_told(rt: HostRuntime) {
+    let calls = [
+        (PLAN, 1),
+        (PLAN, 2),
+        (PLAN, 3),
+        (SCRIPT_TAPE, 1),
+        (SCRIPT_TAPE, 2),
+        (SCRIPT_TAPE, 3),
+        (TUNE, 1),
+        (TUNE, 2),
+        (TUNE, 3),
+        (TUNE, 4),
+        (TUNE, 5),
+        (TUNE, 6),
+    ];
+    assert_eq!(rt; first_other_call(&rt, rt.alloc(), &calls), None);
+}
+
+#[test]
+fn of_a_text_that_is_not_printed_the_first_bytes_are_left(rt: HostRuntime) {
     let fault = Status::ReadFault;
     let front: Parts<'_> = &[Part::Text("faul")];
-    let short = fails("too little room", SCRIPT, &[1], fault, front, &[]);
+    let line = fails("a refusal without room", SCRIPT, &[1], fault, front, &[]);
+    let read: Parts<'_> = &[Part::Text("accept,0,0,1,")];
+    let report = fails(
+        "a report without room",
+        TUNE,
+        &[],
+        Status::WriteFault,
+        read,
+        &[],
+    );
     let cases = [
-        fails("a failing print", SCRIPT, &[1, 2], fault, &[], &[]),
-        Case { room: 4, ..short },
+        fails("a refusal", SCRIPT, &[1, 2], fault, &[], &[]),
+        Case { room: 4, ..line },
+        Case { room: 13, ..report },
     ];
-    assert_eq!(rt; first_other(&rt, rt.alloc(), &cases)?, None);
-    Ok(())
+    assert_eq!(rt; first_other(&rt, rt.alloc(), &cases), None);
 }
 
 #[test]
-fn the_tape_is_written_before_the_text_is_printed(rt: HostRuntime) -> Result<(), Fail> {
+fn the_tape_is_written_before_the_text_is_printed(rt: HostRuntime) {
     let fault = Status::WriteFault;
     let none: &[&str] = &["script", "deck", "none"];
     let tape: Parts<'_> = &[Part::Bytes(&FIRST_TAPE)];
@@ -76,8 +95,7 @@ fn the_tape_is_written_before_the_text_is_printed(rt: HostRuntime) -> Result<(),
         fails("no such output", none, &[], fault, &[], &[]),
         fails("a failing print", SCRIPT_TAPE, &[6], fault, &[], tape),
     ];
-    assert_eq!(rt; first_other(&rt, rt.alloc(), &cases)?, None);
-    Ok(())
+    assert_eq!(rt; first_other(&rt, rt.alloc(), &cases), None);
 }
 
 /// The first room in which these words over the first deck leave something else than so many bytes of its report
@@ -86,7 +104,7 @@ fn first_other_room<R: Threads + Sync>(
     rt: &R,
     alloc: Global,
     rooms: &[(&[&str], usize, usize, usize)],
-) -> Result<Option<(usize, Other)>, Fail> {
+) -> Option<(usize, Other)> {
     for (words, room, printed, written) in rooms {
         let report = [Part::Front(*printed, FIRST_REPORT)];
         let tape = [Part::Front(*written, &FIRST_TAPE)];
@@ -102,15 +120,15 @@ fn first_other_room<R: Threads + Sync>(
             room: *room,
             ..full
         };
-        if let Some(other) = difference(rt, alloc, &case)? {
-            return Ok(Some((*room, other)));
+        if let Some(other) = difference(rt, alloc, &case) {
+            return Some((*room, other));
         }
     }
-    Ok(None)
+    None
 }
 
 #[test]
-fn of_what_does_not_fit_the_first_bytes_are_left(rt: HostRuntime) -> Result<(), Fail> {
+fn of_a_report_or_a_tape_that_does_not_fit_the_first_bytes_are_left(rt: HostRuntime) {
     let rooms = [
         (SCRIPT_TAPE, 0, 0, 0),
         (SCRIPT_TAPE, 1, 0, 1),
@@ -121,36 +139,5 @@ fn of_what_does_not_fit_the_first_bytes_are_left(rt: HostRuntime) -> Result<(), 
         (SCRIPT, 20, 20, 0),
         (SCRIPT, 53, 53, 0),
     ];
-    assert_eq!(rt; first_other_room(&rt, rt.alloc(), &rooms)?, None);
-    Ok(())
-}
-
-#[test]
-fn of_a_tuned_report_that_does_not_fit_the_first_bytes_are_left(
-    rt: HostRuntime,
-) -> Result<(), Fail> {
-    let case = Case {
-        shows: "13 bytes",
-        words: TUNE,
-        room: 13,
-        status: Status::WriteFault,
-        printed: &[Part::Text("accept,0,0,1,")],
-        ..FIRST_CASE
-    };
-    assert_eq!(rt; first_other(&rt, rt.alloc(), &[case])?, None);
-    Ok(())
-}
-
-#[test]
-fn a_deck_beyond_the_limit_is_refused(rt: HostRuntime) -> Result<(), Fail> {
-    let case = Case {
-        shows: "a byte too many",
-        words: PLAN,
-        deck: LARGE,
-        status: Status::TooLarge { limit: 67_108_864 },
-        printed: &[Part::Text("fault,7,67108864\n")],
-        ..FIRST_CASE
-    };
-    assert_eq!(rt; first_other(&rt, rt.alloc(), &[case])?, None);
-    Ok(())
+    assert_eq!(rt; first_other_room(&rt, rt.alloc(), &rooms), None);
 }

@@ -5,7 +5,6 @@
 
 use crate::cases::{Case, Part, Parts, first_other};
 use crate::first::{FIRST_CASE, FIRST_TAPE, SCRIPT, TUNE};
-use std::test::Fail;
 
 /// Three items, updates by which item 1 descends from item 0, and four readers.
 const FOUR_READERS: Part<'static> = Part::Text(
@@ -31,7 +30,7 @@ fn reported<'a>(shows: &'a str, deck: Parts<'a>, printed: Parts<'a>) -> Case<'a>
 }
 
 #[test]
-fn each_kind_of_verdict_has_its_row(rt: HostRuntime) -> Result<(), Fail> {
+fn each_kind_of_verdict_has_its_row(rt: HostRuntime) {
     let accept: Parts<'_> = &[FOUR_READERS, Part::Text("query,3,0 2\nscript,s\n")];
     let accept_report: Parts<'_> = &[Part::Text(
         "start\naccept,3,0,1,0@1=10 2@1=30\n\
@@ -55,12 +54,11 @@ fn each_kind_of_verdict_has_its_row(rt: HostRuntime) -> Result<(), Fail> {
         reported("abort", abort, abort_report),
         reported("unfinished", unfinished, unfinished_report),
     ];
-    assert_eq!(rt; first_other(&rt, rt.alloc(), &cases)?, None);
-    Ok(())
+    assert_eq!(rt; first_other(&rt, rt.alloc(), &cases), None);
 }
 
 #[test]
-fn a_report_has_the_history_then_all_verdicts_then_all_counts(rt: HostRuntime) -> Result<(), Fail> {
+fn a_report_has_the_history_then_all_verdicts_then_all_counts(rt: HostRuntime) {
     let deck: Parts<'_> = &[Part::Text(
         "item,0,10,1\nitem,1,20,1\ndisk,2,1\nupdate,0,,1=21\nupdate,1,1,0=1+0\n\
         reader,0,0,2\nquery,0,1 0\nreader,0,0,1\nquery,1,1\nquery,1,1 0\nquery,1,0\n\
@@ -72,18 +70,7 @@ fn a_report_has_the_history_then_all_verdicts_then_all_counts(rt: HostRuntime) -
         accept,1,0,1,1@1=20\naccept,1,1,1,1@2=21 0@3=21\nunfinished,1,2,1,\n\
         counts,0,4,2,0,0,0,0\ncounts,1,3,3,0,0,0,0\n",
     )];
-    let nothing: Parts<'_> = &[Part::Text("item,0,10,1\ndisk,1,1\n")];
-    let cases = [
-        reported("all three", deck, report),
-        reported("none of them", nothing, &[]),
-    ];
-    assert_eq!(rt; first_other(&rt, rt.alloc(), &cases)?, None);
-    Ok(())
-}
-
-#[test]
-fn counts_are_printed_in_order(rt: HostRuntime) -> Result<(), Fail> {
-    let case = Case {
+    let counts = Case {
         shows: "1 opened, 2 dozed, 4 refused, 5 foreign",
         words: TUNE,
         deck: &[
@@ -108,6 +95,11 @@ fn counts_are_printed_in_order(rt: HostRuntime) -> Result<(), Fail> {
         ],
         ..FIRST_CASE
     };
-    assert_eq!(rt; first_other(&rt, rt.alloc(), &[case])?, None);
-    Ok(())
+    let nothing: Parts<'_> = &[Part::Text("item,0,10,1\ndisk,1,1\n")];
+    let cases = [
+        reported("all three", deck, report),
+        reported("none of them", nothing, &[]),
+        counts,
+    ];
+    assert_eq!(rt; first_other(&rt, rt.alloc(), &cases), None);
 }

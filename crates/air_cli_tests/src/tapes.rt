@@ -1,14 +1,16 @@
 //! The command `tune` over tapes that are whole, cut or changed in a byte.
 
-use crate::cases::{Case, Other, Part, Parts, difference, first_other, joined};
+use crate::cases::{Case, Other, Part, Parts, difference, joined};
 use crate::first::{FIRST_CASE, FIRST_TAPE, TUNE};
 use air_cli::Status;
 use std::alloc::Global;
-use std::test::Fail;
 use std::thread::Threads;
 
+/// The tape of the first deck.
+const TAPE: &[u8] = &FIRST_TAPE;
+
 /// A record of two bytes, then one of none.
-const SHORT: [u8; 10] = [0, 0, 0, 2, 7, 8, 0, 0, 0, 0];
+const SHORT: &[u8] = &[0, 0, 0, 2, 7, 8, 0, 0, 0, 0];
 
 const AT_0: Status = Status::TapeCut { at: 0 };
 
@@ -48,71 +50,44 @@ fn tuned<'a>(tape: Parts<'a>, status: Status, printed: Parts<'a>) -> Case<'a> {
     }
 }
 
-/// The first length to which a tape is cut, so that something else is left, and in what that differs.
+/// The first of these tapes, each cut to a length, by which something else is left, and in what that differs.
 fn first_other_length<R: Threads + Sync>(
     rt: &R,
     alloc: Global,
-    tape: &[u8],
-    lengths: &[(usize, Status, Parts<'_>)],
-) -> Result<Option<(usize, Other)>, Fail> {
-    for (length, status, printed) in lengths {
+    lengths: &[(&[u8], usize, Status, Parts<'_>)],
+) -> Option<(usize, Other)> {
+    for (tape, length, status, printed) in lengths {
         let front = [Part::Front(*length, tape)];
         let case = tuned(&front, *status, printed);
-        if let Some(other) = difference(rt, alloc, &case)? {
-            return Ok(Some((*length, other)));
+        if let Some(other) = difference(rt, alloc, &case) {
+            return Some((*length, other));
         }
     }
-    Ok(None)
+    None
 }
 
 #[test]
-fn a_tape_is_heard_exactly_where_its_last_record_is_whole(rt: HostRuntime) -> Result<(), Fail> {
+fn a_tape_is_heard_exactly_where_its_last_record_is_whole(rt: HostRuntime) {
     let lengths = [
-        (0, Status::Ok, NOTHING),
-        (1, AT_0, CUT_AT_0),
-        (3, AT_0, CUT_AT_0),
-        (4, AT_0, CUT_AT_0),
-        (35, AT_0, CUT_AT_0),
-        (36, Status::Ok, ONE_READ),
-        (37, AT_36, CUT_AT_36),
-        (38, AT_36, CUT_AT_36),
-        (40, AT_36, CUT_AT_36),
-        (60, AT_36, CUT_AT_36),
-        (71, AT_36, CUT_AT_36),
+        (TAPE, 0, Status::Ok, NOTHING),
+        (TAPE, 1, AT_0, CUT_AT_0),
+        (TAPE, 3, AT_0, CUT_AT_0),
+        (TAPE, 4, AT_0, CUT_AT_0),
+        (TAPE, 35, AT_0, CUT_AT_0),
+        (TAPE, 36, Status::Ok, ONE_READ),
+        (TAPE, 37, AT_36, CUT_AT_36),
+        (TAPE, 38, AT_36, CUT_AT_36),
+        (TAPE, 40, AT_36, CUT_AT_36),
+        (TAPE, 60, AT_36, CUT_AT_36),
+        (TAPE, 71, AT_36, CUT_AT_36),
+        (SHORT, 0, Status::Ok, NOTHING),
+        (SHORT, 1, AT_0, CUT_AT_0),
+        (SHORT, 5, AT_0, CUT_AT_0),
+        (SHORT, 6, Status::Ok, ONE_REFUSED),
+        (SHORT, 9, AT_6, CUT_AT_6),
+        (SHORT, 10, Status::Ok, TWO_REFUSED),
     ];
-    assert_eq!(rt;
-        first_other_length(&rt, rt.alloc(), &FIRST_TAPE, &lengths)?,
-        None
-    );
-    Ok(())
-}
-
-#[test]
-fn records_that_are_no_buckets_end_where_they_say(rt: HostRuntime) -> Result<(), Fail> {
-    let lengths = [
-        (0, Status::Ok, NOTHING),
-        (1, AT_0, CUT_AT_0),
-        (5, AT_0, CUT_AT_0),
-        (6, Status::Ok, ONE_REFUSED),
-        (9, AT_6, CUT_AT_6),
-        (10, Status::Ok, TWO_REFUSED),
-    ];
-    assert_eq!(rt;
-        first_other_length(&rt, rt.alloc(), &SHORT, &lengths)?,
-        None
-    );
-    Ok(())
-}
-
-#[test]
-fn a_deck_is_no_tape(rt: HostRuntime) -> Result<(), Fail> {
-    let case = Case {
-        shows: "the deck for its tape",
-        words: &["tune", "deck", "deck"],
-        ..tuned(&[], AT_0, CUT_AT_0)
-    };
-    assert_eq!(rt; first_other(&rt, rt.alloc(), &[case])?, None);
-    Ok(())
+    assert_eq!(rt; first_other_length(&rt, rt.alloc(), &lengths), None);
 }
 
 /// The first of these places at which a change of the highest bit in the first tape leaves something else than this,
@@ -121,23 +96,21 @@ fn first_other_place<R: Threads + Sync>(
     rt: &R,
     alloc: Global,
     changes: &[(&[usize], Status, Parts<'_>)],
-) -> Result<Option<(usize, Other)>, Fail> {
+) -> Option<(usize, Other)> {
     for (places, status, printed) in changes {
         for place in *places {
-            let tape = [Part::Flipped(*place, &FIRST_TAPE)];
+            let tape = [Part::Flipped(*place, TAPE)];
             let case = tuned(&tape, *status, printed);
-            if let Some(other) = difference(rt, alloc, &case)? {
-                return Ok(Some((*place, other)));
+            if let Some(other) = difference(rt, alloc, &case) {
+                return Some((*place, other));
             }
         }
     }
-    Ok(None)
+    None
 }
 
 #[test]
-fn a_changed_byte_of_length_or_head_cuts_refuses_or_makes_foreign(
-    rt: HostRuntime,
-) -> Result<(), Fail> {
+fn a_changed_byte_of_length_or_head_cuts_refuses_or_makes_foreign(rt: HostRuntime) {
     let changes: [(&[usize], Status, Parts<'_>); 5] = [
         (&[0, 1, 2, 3], AT_0, CUT_AT_0),
         (&[36, 37, 38, 39], AT_36, CUT_AT_36),
@@ -145,8 +118,7 @@ fn a_changed_byte_of_length_or_head_cuts_refuses_or_makes_foreign(
         (&[28, 29, 30, 31, 32, 33, 34, 35], Status::Ok, FIRST_REFUSED),
         (&[8, 9, 16, 17], Status::Ok, FIRST_FOREIGN),
     ];
-    assert_eq!(rt; first_other_place(&rt, rt.alloc(), &changes)?, None);
-    Ok(())
+    assert_eq!(rt; first_other_place(&rt, rt.alloc(), &changes), None);
 }
 
 /// What stands before and behind the first read of the first tape's report.
@@ -160,20 +132,20 @@ fn first_other_read<R: Threads + Sync>(
     rt: &R,
     alloc: Global,
     reads: &[(usize, &str)],
-) -> Result<Option<(usize, Other)>, Fail> {
+) -> Option<(usize, Other)> {
     for (place, read) in reads {
         let printed = joined(FRONT, read, BACK);
-        let tape = [Part::Flipped(*place, &FIRST_TAPE)];
+        let tape = [Part::Flipped(*place, TAPE)];
         let case = tuned(&tape, Status::Ok, &printed);
-        if let Some(other) = difference(rt, alloc, &case)? {
-            return Ok(Some((*place, other)));
+        if let Some(other) = difference(rt, alloc, &case) {
+            return Some((*place, other));
         }
     }
-    Ok(None)
+    None
 }
 
 #[test]
-fn a_changed_cycle_or_value_is_read_as_it_stands(rt: HostRuntime) -> Result<(), Fail> {
+fn a_changed_cycle_or_value_is_read_as_it_stands(rt: HostRuntime) {
     let reads = [
         (12, "0@2147483649=10"),
         (13, "0@8388609=10"),
@@ -188,6 +160,5 @@ fn a_changed_cycle_or_value_is_read_as_it_stands(rt: HostRuntime) -> Result<(), 
         (26, "0@1=32778"),
         (27, "0@1=138"),
     ];
-    assert_eq!(rt; first_other_read(&rt, rt.alloc(), &reads)?, None);
-    Ok(())
+    assert_eq!(rt; first_other_read(&rt, rt.alloc(), &reads), None);
 }

@@ -1,43 +1,52 @@
 //! Words of no form, and the numbers of the statuses.
 
-use crate::cases::{Case, Part, first_other};
+use crate::cases::{Case, Other, Part, difference};
 use crate::first::FIRST_CASE;
 use air_cli::Status;
-use std::test::Fail;
+use std::alloc::Global;
+use std::thread::Threads;
 
-/// Words of no form: nothing but the line of that is printed, and nothing is written.
-fn no_form<'a>(shows: &'a str, words: &'a [&'a str]) -> Case<'a> {
-    Case {
-        shows,
-        words,
-        status: Status::Words,
-        printed: &[Part::Text("fault,1\n")],
-        ..FIRST_CASE
+/// The place of the first of these words that aren't refused, and what is other there.
+fn first_taken<R: Threads + Sync>(
+    rt: &R,
+    alloc: Global,
+    forms: &[&[&str]],
+) -> Option<(usize, Other)> {
+    for (place, words) in forms.iter().enumerate() {
+        let case = Case {
+            words,
+            status: Status::Words,
+            printed: &[Part::Text("fault,1\n")],
+            ..FIRST_CASE
+        };
+        if let Some(other) = difference(rt, alloc, &case) {
+            return Some((place, other));
+        }
     }
+    None
 }
 
 #[test]
-fn words_of_no_form_are_refused(rt: HostRuntime) -> Result<(), Fail> {
-    let cases = [
-        no_form("no word", &[]),
-        no_form("a name of none", &["fly"]),
-        no_form("a plan of nothing", &["plan"]),
-        no_form("a script of nothing", &["script"]),
-        no_form("to tune nothing", &["tune"]),
-        no_form("a plan of an empty name", &["plan", ""]),
-        no_form("a script of an empty name", &["script", ""]),
-        no_form("capitals", &["PLAN", "deck"]),
-        no_form("a name of none with a deck", &["fly", "deck"]),
-        no_form("to tune without a tape", &["tune", "deck"]),
-        no_form("a plan with a tape", &["plan", "deck", "tape"]),
-        no_form("an empty tape of a script", &["script", "deck", ""]),
-        no_form("an empty deck of a script", &["script", "", "tape"]),
-        no_form("to tune to an empty tape", &["tune", "deck", ""]),
-        no_form("to tune an empty deck", &["tune", "", "tape"]),
-        no_form("a word too many", &["script", "deck", "tape", "more"]),
+fn words_of_no_form_are_refused(rt: HostRuntime) {
+    let forms: [&[&str]; 16] = [
+        &[],
+        &["fly"],
+        &["plan"],
+        &["script"],
+        &["tune"],
+        &["plan", ""],
+        &["script", ""],
+        &["PLAN", "deck"],
+        &["fly", "deck"],
+        &["tune", "deck"],
+        &["plan", "deck", "tape"],
+        &["script", "deck", ""],
+        &["script", "", "tape"],
+        &["tune", "deck", ""],
+        &["tune", "", "tape"],
+        &["script", "deck", "tape", "more"],
     ];
-    assert_eq!(rt; first_other(&rt, rt.alloc(), &cases)?, None);
-    Ok(())
+    assert_eq!(rt; first_taken(&rt, rt.alloc(), &forms), None);
 }
 
 /// The first status whose number isn't its place.
