@@ -90,6 +90,10 @@ no_number_at : bad_part_at number_of (codes "1 x 2") ≡ Some 2
 unfolding bad_part_at number_of
 no_number_at = refl
 
+two_bad_parts_at : bad_part_at number_of (codes "1 x y") ≡ Some 2
+unfolding bad_part_at number_of
+two_bad_parts_at = refl
+
 zero_first : list_of number_of (codes "10 01") ≡ None
 unfolding all_some number_of
 zero_first = refl

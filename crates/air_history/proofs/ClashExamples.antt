@@ -14,7 +14,7 @@ use Rattle.air_history.specs.Reads.{ReadAt, origin, stale, read_value}
 use Rattle.air_history.specs.Consistency.{descends_from, runs_alone, picked, alone, last_alone, consistent}
 use Rattle.air_history.specs.Clashes.{least, is_late, clash_by_history, Heard, clash_by_entries}
 use Rattle.air_history.specs.ClashLaws.{current_cycle}
-use Rattle.air_history.proofs.HistoryExamples.{set_to, commit, chained, then_blind, tens}
+use Rattle.air_history.proofs.HistoryExamples.{set_to, add_to, commit, chained, then_blind, tens}
 
 abbrev pub at : ℕ → ℕ → ReadAt
 at i c = record { item = i; cycle = c }
@@ -23,6 +23,14 @@ at i c = record { item = i; cycle = c }
 abbrev pub heard : Policy → List Event → ℕ → ℕ → Heard
 heard policy H i c = record { item = i; cycle = c; entries = policy_entries policy 2 H c i }
 
+-- the same of a read, over three items
+abbrev heard_at : Policy → List Event → ReadAt → Heard
+heard_at policy H r = record { item = r.item; cycle = r.cycle; entries = policy_entries policy 3 H r.cycle r.item }
+
+-- a heard read over four items
+abbrev of_four : ℕ → ℕ → List ℕ → Heard
+of_four i c entries = record { item = i; cycle = c; entries = entries }
+
 -- both items are written in cycle 1, by updates that read nothing
 abbrev pub apart : List Event
 apart = Start ∷ commit 0 [] (set_to 0 11) ∷ commit 1 [] (set_to 1 21) ∷ Start ∷ []
@@ -30,6 +38,18 @@ apart = Start ∷ commit 0 [] (set_to 0 11) ∷ commit 1 [] (set_to 1 21) ∷ St
 -- item 0 alone is written
 abbrev pub one_written : List Event
 one_written = Start ∷ commit 0 [] (set_to 0 11) ∷ Start ∷ []
+
+-- item 1 is written in cycle 1, then item 2 with what was read of item 1
+abbrev one_then_two : List Event
+one_then_two = Start ∷ commit 0 [] (set_to 1 5) ∷ commit 1 (1 ∷ []) (add_to 2 1 1) ∷ Start ∷ []
+
+-- item 2 is written in cycle 2 alone
+abbrev two_later : List Event
+two_later = Start ∷ Start ∷ commit 0 [] (set_to 2 5) ∷ Start ∷ []
+
+-- the items 0 and 2 are written in cycle 1
+abbrev ends_written : List Event
+ends_written = Start ∷ commit 0 [] (set_to 0 11) ∷ commit 1 [] (set_to 2 31) ∷ Start ∷ Start ∷ []
 
 -- a clash with item 0 of cycle 1
 abbrev with_first : Option Clash
@@ -41,6 +61,12 @@ Both policy H answer =
     (clash_by_history policy H (at 0 1 ∷ []) (at 1 2) ≡ answer)
     × (clash_by_entries policy (heard policy H 0 1 ∷ []) (heard policy H 1 2) ≡ answer)
 
+-- the clash of item 2 in a cycle with two held reads, by the history and by the entries, over three items
+abbrev OfTwo : Policy → List Event → ReadAt → ReadAt → ℕ → Option Clash → Type 0
+OfTwo policy H r s c answer =
+    (clash_by_history policy H (r ∷ s ∷ []) (at 2 c) ≡ answer)
+    × (clash_by_entries policy (heard_at policy H r ∷ heard_at policy H s ∷ []) (heard_at policy H (at 2 c)) ≡ answer)
+
 pub record Consistency : Type 0 where
   -- item 1 of cycle 2 descends from a write of item 0 that the first read has not seen
   chain : consistent chained (at 0 1 ∷ at 1 2 ∷ []) ≡ false
@@ -49,7 +75,7 @@ pub record Consistency : Type 0 where
   no_cycle : consistent apart (at 0 1 ∷ at 1 2 ∷ []) ≡ true
   blind : consistent then_blind (at 0 1 ∷ at 1 3 ∷ []) ≡ true
   -- what runs alone for item 2 of cycle 2: the first two commits
-  alone_for_two : alone chained (at 2 2 ∷ []) ≡ commit 0 [] (set_to 0 11) ∷ commit 1 (0 ∷ []) (Rattle.air_history.proofs.HistoryExamples.add_to 2 0 1) ∷ []
+  alone_for_two : alone chained (at 2 2 ∷ []) ≡ commit 0 [] (set_to 0 11) ∷ commit 1 (0 ∷ []) (add_to 2 0 1) ∷ []
   value : read_value (Rattle.air_history.specs.Tables.values_of tens) chained (at 2 2) ≡ 12
 
 pub consistency : Consistency
@@ -70,6 +96,17 @@ pub record Clashes : Type 0 where
   older : clash_by_history Datacycle apart (at 0 2 ∷ []) (at 1 1) ≡ Some (record { item = 0; cycle = 2 })
   -- the least item number is named, whatever the order of reading
   least_named : clash_by_history Datacycle apart (at 1 1 ∷ at 0 1 ∷ []) (at 2 2) ≡ with_first
+  -- a held read of lesser item that doesn't clash isn't named: item 0 isn't written, item 1 is
+  not_the_least_held : OfTwo FMatrix one_then_two (at 0 1) (at 1 1) 2 (Some (record { item = 1; cycle = 1 }))
+      × OfTwo Datacycle one_then_two (at 0 1) (at 1 1) 2 (Some (record { item = 1; cycle = 1 }))
+      × OfTwo RMatrix one_then_two (at 0 1) (at 1 1) 2 (Some (record { item = 1; cycle = 1 }))
+  -- Datacycle names, for a read of an older cycle, a held read of the newest one, and not item 0 of cycle 1
+  of_the_newest : OfTwo Datacycle two_later (at 0 1) (at 1 3) 2 (Some (record { item = 1; cycle = 3 }))
+  -- it asks the entries of the first held read of that cycle
+  first_of_the_newest : (clash_by_entries Datacycle (of_four 1 3 (0 ∷ 0 ∷ 2 ∷ 0 ∷ []) ∷ of_four 0 3 (0 ∷ 0 ∷ 0 ∷ 0 ∷ []) ∷ []) (of_four 2 2 (0 ∷ 0 ∷ 0 ∷ 0 ∷ [])) ≡ Some (record { item = 0; cycle = 3 }))
+      × (clash_by_entries Datacycle (of_four 0 3 (0 ∷ 0 ∷ 0 ∷ 0 ∷ []) ∷ of_four 1 3 (0 ∷ 0 ∷ 2 ∷ 0 ∷ []) ∷ []) (of_four 2 2 (0 ∷ 0 ∷ 0 ∷ 0 ∷ [])) ≡ None)
+  -- R-Matrix names the held read that is stale at the new cycle: item 0, which was written, and not item 1
+  stale_one : OfTwo RMatrix ends_written (at 0 1) (at 1 2) 3 with_first
   -- the reads of item 0 and 1 share the first cycle, since item 1 stays there
   shares : current_cycle one_written (at 0 1 ∷ at 1 2 ∷ []) ≡ 1
 
@@ -87,5 +124,9 @@ clashes = record {
   in_time = refl;
   older = refl;
   least_named = refl;
+  not_the_least_held = ((refl, refl), (refl, refl), (refl, refl));
+  of_the_newest = (refl, refl);
+  first_of_the_newest = (refl, refl);
+  stale_one = (refl, refl);
   shares = refl;
 }

@@ -1,5 +1,6 @@
 -- Small histories, computed: what the definitions say of them.
-use Rattle.std.specs.Prelude.{◌≡◌, ℕ, ◌^◌, ◌-◌, List, [], ◌∷◌, ◌++◌, Some, None, true, false, refl}
+use Rattle.std.specs.Prelude.{◌≡◌, ℕ, ◌^◌, ◌-◌, List, [], ◌∷◌, ◌++◌, map, Some, None, true, false, refl}
+use Rattle.std.specs.List.{range_with_len}
 use Rattle.air_history.specs.declared.updates.Write.{Write}
 use Rattle.air_history.specs.declared.updates.UpdateFault.TheVariants.{Limit, Repeated, BaseNotRead}
 use Rattle.air_history.specs.declared.histories.Event.{Event}
@@ -38,6 +39,19 @@ then_blind = chained ++ commit 3 [] (set_to 1 5) ∷ Start ∷ []
 abbrev pub before_all : List Event
 before_all = commit 0 [] (set_to 0 11) ∷ commit 1 (0 ∷ []) (add_to 2 0 1) ∷ commit 2 (2 ∷ []) (add_to 1 2 1) ∷ Start ∷ Start ∷ []
 
+-- item 0 is raised by 1 in cycle 1, and again in cycle 2
+abbrev counter : List Event
+counter = Start ∷ commit 0 (0 ∷ []) (add_to 0 0 1) ∷ Start ∷ commit 1 (0 ∷ []) (add_to 0 0 1) ∷ Start ∷ []
+
+-- the items 0 and 1 change places, after each was written
+abbrev exchanged : List Event
+exchanged = Start ∷ commit 0 [] (set_to 0 7) ∷ commit 1 [] (set_to 1 8)
+    ∷ Commit 0 2 (record { reads = 0 ∷ 1 ∷ []; writes = add_to 0 1 0 ∷ add_to 1 0 0 ∷ [] }) ∷ []
+
+-- so many writes, each of an item of its own
+abbrev writes_to : ℕ → List Write
+writes_to n = map (λ i. set_to i 1) (range_with_len 0 n)
+
 -- the catalog's values
 abbrev pub tens : List ℕ
 tens = 10 ∷ 20 ∷ 30 ∷ []
@@ -49,15 +63,35 @@ pub record Rules : Type 0 where
   base_not_read : update_fault (1 ∷ []) (add_to 0 2 1 ∷ []) ≡ Some BaseNotRead
   minus_alone : update_fault [] (record { item = 0; base = None; minus = true; amount = 1 } ∷ []) ≡ Some BaseNotRead
   read_and_written : update_fault (0 ∷ []) (add_to 0 0 1 ∷ []) ≡ None
+  -- sixteen reads and sixteen writes are allowed, and no more
+  most : update_fault (range_with_len 0 16) (writes_to 16) ≡ None
+  too_many_writes : update_fault [] (writes_to 17) ≡ Some Limit
+  -- the limits come before repeats, and repeats before bases
+  limit_before_repeat : update_fault (0 ∷ range_with_len 0 16) (set_to 0 1 ∷ []) ≡ Some Limit
+  repeat_before_base : update_fault (0 ∷ 0 ∷ []) (add_to 1 2 1 ∷ []) ≡ Some Repeated
 
 pub rules : Rules
 unfolding update_fault has_repeat
-rules = record { no_write = refl; read_twice = refl; written_twice = refl; base_not_read = refl; minus_alone = refl; read_and_written = refl }
+rules = record {
+  no_write = refl;
+  read_twice = refl;
+  written_twice = refl;
+  base_not_read = refl;
+  minus_alone = refl;
+  read_and_written = refl;
+  most = refl;
+  too_many_writes = refl;
+  limit_before_repeat = refl;
+  repeat_before_base = refl;
+}
 
 pub record Places : Type 0 where
   first_cycle : cycle_at chained 0 ≡ 0
   second_cycle : cycle_at chained 4 ≡ 1
   no_front : front chained 0 ≡ []
+  -- a commit before the first start is in the front of cycle 1, and not in that of cycle 0
+  nothing_before_all : front (commit 0 [] (set_to 0 11) ∷ Start ∷ Start ∷ []) 0 ≡ []
+  before_the_first : front (commit 0 [] (set_to 0 11) ∷ Start ∷ Start ∷ []) 1 ≡ commit 0 [] (set_to 0 11) ∷ []
   front_of_one : front chained 1 ≡ []
   front_of_two : front chained 2 ≡ Start ∷ commit 0 [] (set_to 0 11) ∷ commit 1 (0 ∷ []) (add_to 2 0 1) ∷ commit 2 (2 ∷ []) (add_to 1 2 1) ∷ []
   writer_of_one : writer chained 1 ≡ Some 3
@@ -65,7 +99,7 @@ pub record Places : Type 0 where
 
 pub places : Places
 unfolding cycle_at is_start front writer writer_before last_place writes
-places = record { first_cycle = refl; second_cycle = refl; no_front = refl; front_of_one = refl; front_of_two = refl; writer_of_one = refl; no_writer = refl }
+places = record { first_cycle = refl; second_cycle = refl; no_front = refl; nothing_before_all = refl; before_the_first = refl; front_of_one = refl; front_of_two = refl; writer_of_one = refl; no_writer = refl }
 
 pub record Descents : Type 0 where
   -- the writer of item 1 descends from that of item 0 through that of item 2
@@ -75,10 +109,14 @@ pub record Descents : Type 0 where
   -- the blind write descends from itself alone
   cut : descends then_blind 5 3 ≡ false
   itself : descends then_blind 5 5 ≡ true
+  -- an item that is read and written carries the descent on
+  counts_on : descends counter 3 1 ≡ true
+  -- what reads two items descends from both writers
+  from_both : (descends exchanged 3 1 ≡ true) × (descends exchanged 3 2 ≡ true)
 
 pub descents : Descents
 unfolding descends descends_in reads writer_before last_place writes
-descents = record { through_two = refl; not_a_start = refl; cut = refl; itself = refl }
+descents = record { through_two = refl; not_a_start = refl; cut = refl; itself = refl; counts_on = refl; from_both = (refl, refl) }
 
 pub record Entries : Type 0 where
   column_of_0 : column 3 chained 0 ≡ 1 ∷ 0 ∷ 0 ∷ []
@@ -88,10 +126,12 @@ pub record Entries : Type 0 where
   after_blind : column 3 then_blind 1 ≡ 0 ∷ 2 ∷ 0 ∷ []
   vector_after : vector 3 then_blind ≡ 1 ∷ 2 ∷ 1 ∷ []
   before_cycles : column 3 before_all 1 ≡ 0 ∷ 0 ∷ 0 ∷ []
+  -- the later of two commits in one descent counts
+  latest : column 1 counter 0 ≡ 2 ∷ []
 
 pub entries : Entries
 unfolding column_entry vector_entry greatest writer writer_before last_place writes descends descends_in reads cycle_at is_start
-entries = record { column_of_0 = refl; column_of_1 = refl; column_of_2 = refl; all_in_one = refl; after_blind = refl; vector_after = refl; before_cycles = refl }
+entries = record { column_of_0 = refl; column_of_1 = refl; column_of_2 = refl; all_in_one = refl; after_blind = refl; vector_after = refl; before_cycles = refl; latest = refl }
 
 pub record Values : Type 0 where
   in_cycle_one : table_list tens (front chained 1) ≡ tens
@@ -106,10 +146,15 @@ unfolding table value_after write_of based front
 values = record { in_cycle_one = refl; in_cycle_two = refl; wraps_up = refl; wraps_down = refl; swapped = refl }
 
 pub record Boards : Type 0 where
+  -- a reply's read values are those before the commit, its written ones those after it
+  reply_raised : reply_of (10 ∷ []) counter 3 ≡ record { number = 3; cycle = 2; read = 11 ∷ []; written = 12 ∷ [] }
+  reply_exchanged : reply_of (0 ∷ 0 ∷ []) exchanged 3 ≡ record { number = 3; cycle = 1; read = 7 ∷ 8 ∷ []; written = 8 ∷ 7 ∷ [] }
+  -- the total of a frame wraps
+  frame_wraps : frame_of ((2 ^ 64 - 1) ∷ 3 ∷ []) [] ≡ record { cycle = 0; values = (2 ^ 64 - 1) ∷ 3 ∷ []; columns = (0 ∷ 0 ∷ []) ∷ (0 ∷ 0 ∷ []) ∷ []; total = 2 }
   reply : reply_of tens chained 2 ≡ record { number = 2; cycle = 1; read = 11 ∷ []; written = 12 ∷ [] }
   board : board_of tens chained ≡ record { cycle = 2; values = 11 ∷ 13 ∷ 12 ∷ []; columns = (1 ∷ 0 ∷ 0 ∷ []) ∷ (1 ∷ 1 ∷ 1 ∷ []) ∷ (1 ∷ 0 ∷ 1 ∷ []) ∷ []; vector = 1 ∷ 1 ∷ 1 ∷ [] }
   frame : frame_of tens chained ≡ record { cycle = 2; values = 11 ∷ 13 ∷ 12 ∷ []; columns = (1 ∷ 0 ∷ 0 ∷ []) ∷ (1 ∷ 1 ∷ 1 ∷ []) ∷ (1 ∷ 0 ∷ 1 ∷ []) ∷ []; total = 36 }
 
 pub boards : Boards
 unfolding table value_after write_of based starts column_entry vector_entry greatest writer writer_before last_place writes writes_of descends descends_in reads cycle_at is_start
-boards = record { reply = refl; board = refl; frame = refl }
+boards = record { reply_raised = refl; reply_exchanged = refl; frame_wraps = refl; reply = refl; board = refl; frame = refl }

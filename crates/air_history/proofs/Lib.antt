@@ -12,3 +12,4 @@ pub mod WriteLemmas
 pub mod HistoryExamples
 pub mod ClashExamples
 pub mod RelationExamples
+pub mod HeldExamples

@@ -10,7 +10,7 @@ use Rattle.air_history.specs.declared.histories.Event.TheVariants.{Start}
 use Rattle.air_history.specs.UpdateRules.{has_repeat, update_fault, KeepsRules, UpdateFits}
 use Rattle.air_history.specs.UpdateLists.{UpdateLists}
 use Rattle.air_history.specs.Places.{last_place, greatest, greatest_of}
-use Rattle.air_history.specs.Histories.{is_start, reads, writes, cycle_at, front, writer_before, writer, ItemsFit}
+use Rattle.air_history.specs.Histories.{is_start, reads, writes, cycle_at, front, writer_before, writer, EventFits, ItemsFit}
 use Rattle.air_history.specs.Descents.{descends_in, descends}
 use Rattle.air_history.specs.DescentLaws.{ReadsFrom, IsClosed}
 use Rattle.air_history.specs.Columns.{column_entry, vector_entry, entry_at, scheme_of}
@@ -49,11 +49,16 @@ pub record Updates : Type 0 where
   -- items 0 and 2 are below 3
   update_fits : UpdateFits 3 two_from_zero
   -- so are those of a commit of the update
-  event_fits : ItemsFit 3 (commit 1 (0 ∷ []) (add_to 2 0 1))
-  -- a start has no item
+  items_fit : ItemsFit 3 (commit 1 (0 ∷ []) (add_to 2 0 1))
+  -- a start writes nothing
   start_fits : ItemsFit 0 Start
   -- item 2 isn't below 2
   not_fits : ItemsFit 2 (commit 1 (0 ∷ []) (add_to 2 0 1)) → ⊥
+  -- the commit is of updater 0, and so fits where there is one
+  event_fits : EventFits 1 3 (commit 1 (0 ∷ []) (add_to 2 0 1))
+  -- and not where there is none, nor over two items
+  no_updater : EventFits 0 3 (commit 1 (0 ∷ []) (add_to 2 0 1)) → ⊥
+  no_item : EventFits 1 2 (commit 1 (0 ∷ []) (add_to 2 0 1)) → ⊥
   -- the write's item 2 and its base 0 are below 3
   write_fits : WriteFits 3 (add_to 2 0 1)
   -- base 3 isn't below 3
@@ -70,14 +75,17 @@ two_fits = record {
 }
 
 pub updates : Updates
-unfolding update_fault has_repeat ItemsFit BasesRead
+unfolding update_fault has_repeat EventFits ItemsFit BasesRead
 updates = record {
   kept = refl;
   broken = λ e. cc;
   update_fits = two_fits;
-  event_fits = two_fits;
+  items_fit = two_fits;
   start_fits = tt;
   not_fits = λ f. let low : 2 < 2 = f.writes 0 (add_to 2 0 1) (omega arith) in omega arith;
+  event_fits = (omega arith, two_fits);
+  no_updater = λ f. let low : 0 < 0 = f.0 in omega arith;
+  no_item = λ f. let fits = f.1 in let low : 2 < 2 = fits.writes 0 (add_to 2 0 1) (omega arith) in omega arith;
   write_fits = (omega arith, omega arith);
   base_too_large = λ f. let low : 3 < 3 = f.1 in omega arith;
   base_read = All-from_recursion (λ w. IfSome w.base (Contains (0 ∷ []))) (add_to 2 0 1 ∷ []) ((0, omega arith, refl), tt);

@@ -1,7 +1,7 @@
 -- The two buckets of a deck of two items in its first cycle, and an idle one, byte by byte, and bytes with each fault.
 use Rattle.std.specs.Prelude.{◌≡◌, ℕ, List, [], ◌∷◌, ◌++◌, take, set, Some, None, Ok, Err, refl}
 use Rattle.air_model.specs.declared.bucket.BucketFault.TheVariants.{Short, Magic, Version, Kind, Length, Shape}
-use Rattle.air_model.specs.Buckets.{Bucket, Column, Idle, body_at, bucket_at, count_of, entries_at, entries_of, entry_count, fault_of, is_placed, is_shaped, item_of, kind_of, reading, spelling, value_of}
+use Rattle.air_model.specs.Buckets.{Body, Bucket, Column, Idle, Vector, body_at, bucket_at, count_of, entries_at, entries_of, entry_count, fault_of, is_placed, is_shaped, item_of, kind_of, reading, spelling, value_of}
 
 abbrev first : Bucket
 first = record { edition = 0; cycle = 1; slot = 0; body = Column 0 10 (0 ∷ 0 ∷ []) }
@@ -46,3 +46,45 @@ first_fault_counts = (refl, refl, refl)
 fault_alone : (fault_of (take 23 first_bytes) ≡ Some (Short 23)) × (fault_of first_bytes ≡ None)
 unfolding reading is_shaped is_placed entry_count entries_at bucket_at body_at
 fault_alone = (refl, refl)
+
+-- ---- a bucket whose numbers all differ
+
+-- of an edition, with a column and with a vector
+abbrev varied : (ℕ → ℕ → List ℕ → Body) → Bucket
+varied kind = record { edition = 3; cycle = 0x01020304; slot = 5; body = kind 2 0x0102030405060708 (7 ∷ 8 ∷ 9 ∷ []) }
+
+-- its bytes, with the number of its kind
+abbrev varied_bytes : ℕ → List ℕ
+varied_bytes kind =
+    0x41 ∷ 0x44 ∷ 1 ∷ kind ∷ 0 ∷ 3 ∷ 0 ∷ 3 ∷ 1 ∷ 2 ∷ 3 ∷ 4 ∷ 0 ∷ 5 ∷ 0 ∷ 2 ∷ 1 ∷ 2 ∷ 3 ∷ 4 ∷ 5 ∷ 6 ∷ 7 ∷ 8 ∷ 0 ∷ 0 ∷ 0 ∷ 7 ∷ 0 ∷ 0 ∷ 0 ∷ 8 ∷ 0 ∷ 0 ∷ 0 ∷ 9 ∷ []
+
+-- it is spelled in this order, and read back
+varied_spelled : (spelling (varied Column) ≡ varied_bytes 1) × (spelling (varied Vector) ≡ varied_bytes 2)
+unfolding spelling kind_of count_of item_of value_of entries_of
+varied_spelled = (refl, refl)
+
+varied_read : (reading (varied_bytes 1) ≡ Ok (varied Column)) × (reading (varied_bytes 2) ≡ Ok (varied Vector))
+unfolding reading is_shaped is_placed entry_count entries_at bucket_at body_at
+varied_read = (refl, refl)
+
+-- ---- the ends of the ranges
+
+-- item 2 of two, an idle slot in cycle 0, one of another item, and a first entry of the bucket's own cycle are out of range
+out_of_range :
+    (reading (set first_bytes 15 2) ≡ Err Shape) × (reading (set idle_bytes 11 0) ≡ Err Shape) × (reading (set idle_bytes 15 0xfe) ≡ Err Shape)
+    × (reading (set first_bytes 27 1) ≡ Err Shape)
+unfolding reading is_shaped is_placed entry_count entries_at bucket_at body_at
+out_of_range = (refl, refl, refl, refl)
+
+-- 256 items are the most
+most_items : (reading (set (set idle_bytes 6 1) 7 0) ≡ Ok (record idle { body = Idle 256 })) × (reading (set (set idle_bytes 6 1) 7 1) ≡ Err Shape)
+unfolding reading is_shaped is_placed entry_count entries_at bucket_at body_at
+most_items = (refl, refl)
+
+-- ---- of two faults the first is told: a letter before the version, that before the kind, that before the length, and that before the ranges
+first_of_two :
+    (reading (set (set first_bytes 0 0x45) 2 2) ≡ Err Magic) × (reading (set (set first_bytes 2 2) 3 3) ≡ Err Version)
+    × (reading (set first_bytes 3 3 ++ 0 ∷ []) ≡ Err Kind) × (reading (set first_bytes 31 1 ++ 0 ∷ []) ≡ Err Length)
+    × (reading (take 23 (set first_bytes 0 0x45)) ≡ Err (Short 23))
+unfolding reading is_shaped is_placed entry_count entries_at bucket_at body_at
+first_of_two = (refl, refl, refl, refl, refl)

@@ -30,6 +30,29 @@ some_lost : heard (record { loss = 51; again = 100; late = 51 }) words pushed �
 unfolding heard heard_places places_due due_at due_number times_heard
 some_lost = refl
 
+-- the third word: below 50 of a hundred it isn't late; with 51, 850 makes push 0 one late, and 750 push 1 eight
+abbrev late_words : List ℕ
+late_words = 99 ∷ 99 ∷ 850 ∷ 99 ∷ 99 ∷ 750 ∷ []
+
+-- the due numbers of the first two pushes
+abbrev due_of_both : ℕ → ℕ × ℕ
+due_of_both late = (due_number (record { loss = 0; again = 0; late = late }) late_words 0, due_number (record { loss = 0; again = 0; late = late }) late_words 1)
+
+due_late : (due_of_both 51 ≡ (1, 9)) × (due_of_both 50 ≡ (0, 1))
+unfolding due_number
+due_late = (refl, refl)
+
+-- by push 8 only the first one is due
+due_so_far : places_due (record { loss = 0; again = 0; late = 51 }) late_words 2 9 ≡ 0 ∷ []
+unfolding places_due due_at due_number times_heard
+due_so_far = refl
+
+-- with 50 lost of a hundred a first word of 50 is heard, and one of 49 is lost; with 50 heard again a second word of 49 is heard twice
+heard_at_the_odds : (times_heard (record { loss = 50; again = 0; late = 0 }) (50 ∷ 0 ∷ 0 ∷ []) 0 ≡ 1) × (times_heard (record { loss = 50; again = 0; late = 0 }) (49 ∷ 0 ∷ 0 ∷ []) 0 ≡ 0)
+    × (times_heard (record { loss = 0; again = 50; late = 0 }) (0 ∷ 49 ∷ 0 ∷ []) 0 ≡ 2) × (times_heard (record { loss = 0; again = 50; late = 0 }) (0 ∷ 50 ∷ 0 ∷ []) 0 ≡ 1)
+unfolding times_heard
+heard_at_the_odds = (refl, refl, refl, refl)
+
 -- by the words that the seed 3 gives to reader 3
 by_seed : heard_by 3 3 (record { loss = 30; again = 30; late = 60 }) pushed ≡ (11 ∷ []) ∷ (12 ∷ []) ∷ (10 ∷ []) ∷ (10 ∷ []) ∷ []
 unfolding heard_by words_by heard heard_places places_due due_at due_number times_heard

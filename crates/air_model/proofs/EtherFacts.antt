@@ -14,7 +14,7 @@ use Rattle.std.proofs.lemmas.List.Sums.{sum_by-append, sum_by-cons}
 use Rattle.air_model.specs.Ethers.{Odds, due_at, due_number, heard, heard_places, places_due, times_heard, word_of}
 
 -- ---- lists over a range
-range_join : (a n m : ℕ) → range_with_len a (n + m) ≡ range_with_len a n ++ range_with_len (a + n) m
+pub range_join : (a n m : ℕ) → range_with_len a (n + m) ≡ range_with_len a n ++ range_with_len (a + n) m
 range_join a zero m = let e : 0 + m ≡ m = omega arith in let f : a + 0 ≡ a = omega arith in rw (e, f) refl
 range_join a (suc n) m =
     let e : suc n + m ≡ suc (n + m) = omega arith in
@@ -22,7 +22,7 @@ range_join a (suc n) m =
     ap (range_with_len a) e ∙ ap (λ l. a ∷ l) (range_join (a + 1) n m) ∙ ap (λ b. a ∷ range_with_len (a + 1) n ++ range_with_len b m) (sym f)
 
 -- where no number of the range has elements there are none
-flat_none : (f : ℕ → List ℕ) (a n : ℕ) → ((k : ℕ) → a ≤ k → k < a + n → f k ≡ []) → flat_map f (range_with_len a n) ≡ []
+pub flat_none : (f : ℕ → List ℕ) (a n : ℕ) → ((k : ℕ) → a ≤ k → k < a + n → f k ≡ []) → flat_map f (range_with_len a n) ≡ []
 flat_none f a zero h = refl
 flat_none f a (suc n) h = ap (λ l. l ++ flat_map f (range_with_len (a + 1) n)) (h a (omega arith) (omega arith)) ∙ flat_none f (a + 1) n (λ k low high. h k (omega arith) (omega arith))
 
@@ -110,10 +110,10 @@ count_copies v (suc n) x = by (x == v) (count_copies v n x) (sum_by-cons (λ y. 
 -- ---- one push
 module _ (odds : Odds) (words : List ℕ) where
   -- what is heard of the push at this place with this due number
-  abbrev of_push : ℕ → ℕ → List ℕ
+  abbrev pub of_push : ℕ → ℕ → List ℕ
   of_push number place = if due_number odds words place == number then replicate (times_heard odds words place) place else []
 
-  due_low : (place : ℕ) → place ≤ due_number odds words place
+  pub due_low : (place : ℕ) → place ≤ due_number odds words place
   unfolding due_number
   due_low place = by (nat_lt (word_of words place 2 % 100) odds.late)
     where

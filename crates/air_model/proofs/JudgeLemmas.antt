@@ -16,7 +16,7 @@ use Rattle.air_base.specs.declared.verdicts.VerdictKind.{VerdictKind}
 use Rattle.air_base.specs.declared.verdicts.VerdictKind.TheVariants.{Accept, Abort, Unfinished}
 use Rattle.air_base.specs.declared.verdicts.ReadOf.{ReadOf}
 use Rattle.air_history.specs.declared.histories.Event.{Event}
-use Rattle.air_history.specs.Columns.{aired_entries, policy_entries}
+use Rattle.air_history.specs.Columns.{aired_entries}
 use Rattle.air_history.specs.Tables.{values_of}
 use Rattle.air_history.specs.Reads.{ReadAt, read_value, last_cycle}
 use Rattle.air_history.specs.Clashes.{read_at, is_late, clash_by_history, clash_by_entries}

@@ -9,12 +9,14 @@ pub mod ByteFacts
 pub mod FieldFacts
 pub mod BucketFacts
 pub mod BucketExamples
+pub mod FitExamples
 pub mod TapeFacts
 pub mod TapeExamples
 pub mod CopyOrders
 pub mod CopySums
 pub mod CopyExamples
 pub mod EtherFacts
+pub mod DueLemmas
 pub mod EtherExamples
 pub mod AiredLemmas
 pub mod BareLemmas
@@ -32,6 +34,7 @@ pub mod ScriptLemmas
 pub mod SettleLemmas
 pub mod SoundLemmas
 pub mod SessionExamples
+pub mod SessionRuleExamples
 pub mod OutputExamples
 pub mod RelationExamples
 pub mod LineExamples

@@ -1,8 +1,10 @@
 -- What commands print and write on small decks, byte by byte, through the spelling of buckets and the words of ethers.
-use Rattle.std.specs.Prelude.{◌≡◌, ℕ, List, [], ◌∷◌, ◌++◌, codes, map, replicate, refl}
+use Rattle.std.specs.Prelude.{◌≡◌, ℕ, List, [], ◌∷◌, ◌++◌, Some, codes, map, replicate, refl}
 use Rattle.csv.specs.Writing.{escaped, fields_text, is_blank}
 use Rattle.air_base.specs.Numbers.{number_text}
 use Rattle.air_base.specs.declared.verdicts.Policy.TheVariants.{Datacycle}
+use Rattle.air_history.specs.declared.histories.Event.{Event}
+use Rattle.air_history.specs.declared.histories.Event.TheVariants.{Commit, Start}
 use Rattle.air_history.specs.Places.{last_place, greatest}
 use Rattle.air_history.specs.Histories.{cycle_at, front, starts, writer, writer_before, writes, reads, is_start}
 use Rattle.air_history.specs.Descents.{descends, descends_in}
@@ -27,7 +29,7 @@ use Rattle.air_model.specs.Sessions.{session, query_of, wanted, line_of, with_li
 use Rattle.air_model.specs.Rows.{rows_text}
 use Rattle.air_model.specs.Reports.{AirFault, DeckFault, PlanTooLong, ReadFault, ReportFault, TapeCut, TooLarge, TooLong, TooMuch, Words, fault_line, report_text, total_at}
 use Rattle.air_model.specs.Outputs.{cast_output, plan_output, run_output, run_tape, script_output, script_tape, true_sessions, tune_output}
-use Rattle.air_model.proofs.SessionExamples.{judged_by, pair, s, swapped, u}
+use Rattle.air_model.proofs.SessionExamples.{judged_by, pair, s, set_to, swapped, u, update}
 
 -- The deck with this seed and these odds.
 abbrev through : ℕ → ℕ → ℕ → ℕ → Deck → Deck
@@ -40,6 +42,21 @@ first = 0x41 ∷ 0x44 ∷ 1 ∷ 1 ∷ 0 ∷ 0 ∷ 0 ∷ 2 ∷ 0 ∷ 0 ∷ 0 ∷ 
 -- The bytes of its second bucket.
 abbrev second : List ℕ
 second = 0x41 ∷ 0x44 ∷ 1 ∷ 1 ∷ 0 ∷ 0 ∷ 0 ∷ 2 ∷ 0 ∷ 0 ∷ 0 ∷ 1 ∷ 0 ∷ 1 ∷ 0 ∷ 1 ∷ 0 ∷ 0 ∷ 0 ∷ 0 ∷ 0 ∷ 0 ∷ 0 ∷ 20 ∷ replicate 8 0
+
+-- Two readers with queries of their own.
+abbrev two_readers : List (List ℕ) → List (List ℕ) → Deck
+two_readers first second = record pair { readers = record { room = 0; age = 0; tries = 1 } ∷ record { room = 0; age = 0; tries = 1 } ∷ []; queries = first ∷ second ∷ [] }
+
+-- Two updaters, of which the first commits before and after the start.
+abbrev two_updaters : Deck
+two_updaters = record pair {
+  updates = (update [] (set_to 0 11 ∷ []) ∷ update [] (set_to 0 12 ∷ []) ∷ []) ∷ (update [] (set_to 1 21 ∷ []) ∷ []) ∷ [];
+  script = Some 0 ∷ Some 1 ∷ s ∷ Some 0 ∷ [];
+}
+
+-- Item 0 becomes 11 before the first start.
+abbrev raised_first : List Event
+raised_first = Commit 0 0 (record { reads = []; writes = set_to 0 11 ∷ [] }) ∷ Start ∷ Start ∷ []
 
 -- What is printed and written.
 pub record Printed : Type 0 where
@@ -66,6 +83,21 @@ pub record Printed : Type 0 where
   -- A cast has no verdicts and no counts.
   cast : cast_output (script_history pair) (record { cycle = 0; total = 30 } ∷ []) [] ≡ codes "start\nglance,0,0,30\n"
   plan : plan_output pair ≡ codes "program,2,1,2\ndisk,0,1,1,2\nminor,0,0 1\nitem,0,0,1,2,0,1\nitem,1,0,1,2,1,1\n"
+  -- Of two readers each has its own queries; all verdicts stand before all counts.
+  readers : script_output (two_readers ((0 ∷ []) ∷ []) ((1 ∷ []) ∷ (0 ∷ []) ∷ []))
+      ≡ codes "start\naccept,0,0,1,0@1=10\naccept,1,0,1,1@1=20\nunfinished,1,1,1,\ncounts,0,1,1,0,0,0,0\ncounts,1,1,1,0,0,0,0\n"
+  -- Through one seed each hears by a stream of its own.
+  streams : script_output (through 7 50 50 50 (two_readers ((0 ∷ 1 ∷ []) ∷ []) ((0 ∷ 1 ∷ []) ∷ [])))
+      ≡ codes "start\nunfinished,0,0,1,\nunfinished,1,0,1,0@1=10\ncounts,0,0,0,0,0,0,0\ncounts,1,1,1,0,0,0,0\n"
+  -- A commit is told by its updater and by that updater's number for it.
+  updaters : script_output two_updaters ≡ codes "commit,0,0\ncommit,1,0\nstart\ncommit,0,1\naccept,0,0,1,0@1=11 1@1=21\ncounts,0,2,0,0,0,0,0\n"
+  -- Each monitor has its own number.
+  monitors : cast_output (script_history pair) (record { cycle = 0; total = 30 } ∷ record { cycle = 1; total = 30 } ∷ []) (record { cycle = 1; total = 30 } ∷ record { cycle = 1; total = 30 } ∷ [])
+      ≡ codes "start\nglance,0,0,30\nglance,1,1,30\nlook,0,1,30\nlook,1,1,30\n"
+  -- Cycle 0 has the catalog's total; a commit before the first start is in that of cycle 1, and one in cycle 1 isn't.
+  total_of_the_catalog : total_at (10 ∷ []) raised_first 0 ≡ 10
+  total_at_the_start : total_at (10 ∷ []) raised_first 1 ≡ 11
+  total_before_the_end : total_at (10 ∷ []) (Start ∷ raised_first) 1 ≡ 10
   total_wraps : total_at (18446744073709551615 ∷ 3 ∷ []) [] 0 ≡ 2
 
 -- And it is.
@@ -84,6 +116,13 @@ printed = record {
   run_tape = refl;
   cast = refl;
   plan = refl;
+  readers = refl;
+  streams = refl;
+  updaters = refl;
+  monitors = refl;
+  total_of_the_catalog = refl;
+  total_at_the_start = refl;
+  total_before_the_end = refl;
   total_wraps = refl;
 }
 

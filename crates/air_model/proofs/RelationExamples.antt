@@ -10,7 +10,7 @@ use Rattle.air_history.specs.Places.{greatest}
 use Rattle.air_history.specs.Tables.{table}
 use Rattle.air_history.specs.UpdateLists.{UpdateLists}
 use Rattle.air_history.specs.UpdateRules.{has_repeat, update_fault}
-use Rattle.air_model.specs.DeckLaws.{commits_from, made_by}
+use Rattle.air_model.specs.DeckLaws.{HasNumbers, commits_from, made_by}
 use Rattle.air_model.specs.Decks.{Deck, IsDeck, IsNext, IsQuery, IsUpdate, IsWhole, ScriptFits, count_made, event_of, is_by, script_history, updates_by, values_in}
 use Rattle.air_model.specs.Disks.{Disk, all_items, cut, order, order_with, is_hotter}
 use Rattle.air_model.specs.Programs.{chunk, chunk_len, least_common_multiple, minor_cycle, num_chunks, num_minors, program}
@@ -258,3 +258,11 @@ own_items = AllPairs-cons (λ a b. a.item < b.item) (copy 0) (copy 1 ∷ []) (Al
 -- Copies in another order don't stand by rising item, nor do two copies of one item.
 no_own_items : (HaveOwnItems (copy 1 ∷ copy 0 ∷ []) → ⊥) × (HaveOwnItems (copy 1 ∷ copy 1 ∷ []) → ⊥)
 no_own_items = (λ h. let less = h 0 1 (copy 0) (omega arith) (omega arith) in omega arith, λ h. let less = h 0 1 (copy 0) (omega arith) (omega arith) in omega arith)
+
+-- The numbers of the small deck's updater, which has no update, are below 2^64.
+pub pair_numbers : HasNumbers pair
+pair_numbers = record { updaters = omega arith; updates = few }
+  where
+    few : (by : ℕ) → length (updates_by pair by) ≤ 2 ^ 64
+    few zero = omega arith
+    few (suc by) = omega arith

@@ -30,19 +30,19 @@ use Rattle.air_model.specs.Sessions.{Line, State, reader_of, session, query_of, 
 -- ---- decks of one disk, one updater and one reader
 
 -- An item of this value and rate.
-abbrev item : ℕ → ℕ → Item
+abbrev pub item : ℕ → ℕ → Item
 item value rate = record { value = value; rate = rate }
 
 -- An update with these reads and writes.
-abbrev update : List ℕ → List Write → UpdateLists
+abbrev pub update : List ℕ → List Write → UpdateLists
 update reads writes = record { reads = reads; writes = writes }
 
 -- A write of an amount.
-abbrev set_to : ℕ → ℕ → Write
+abbrev pub set_to : ℕ → ℕ → Write
 set_to i v = record { item = i; base = None; minus = false; amount = v }
 
 -- A write of a base's value and an amount.
-abbrev add_to : ℕ → ℕ → ℕ → Write
+abbrev pub add_to : ℕ → ℕ → ℕ → Write
 add_to i b v = record { item = i; base = Some b; minus = false; amount = v }
 
 -- A deck of one disk, whose reader has this room, age and number of tries.
@@ -78,7 +78,7 @@ abbrev pub swapped : List (Option ℕ) → Deck
 swapped script = deck (item 10 1 ∷ item 20 2 ∷ []) (update [] (set_to 0 11 ∷ []) ∷ update [] (set_to 1 21 ∷ []) ∷ []) (0, 0, 1) ((0 ∷ 1 ∷ []) ∷ []) script
 
 -- Item 0 becomes 11, item 2 that and 1, item 1 that and 1.
-abbrev chained : ℕ → List (Option ℕ) → Deck
+abbrev pub chained : ℕ → List (Option ℕ) → Deck
 chained tries script = deck (item 10 2 ∷ item 20 3 ∷ item 30 1 ∷ [])
     (update [] (set_to 0 11 ∷ []) ∷ update (0 ∷ []) (add_to 2 0 1 ∷ []) ∷ update (2 ∷ []) (add_to 1 2 1 ∷ []) ∷ []) (0, 0, tries) ((0 ∷ 1 ∷ []) ∷ []) script
 
@@ -97,15 +97,15 @@ abbrev pub all_of : Deck → List (Option Bucket)
 all_of d = map Some (buckets_of (values_in d) (air_of d) (script_history d))
 
 -- A bucket of this cycle, slot and body.
-abbrev bucket : ℕ → ℕ → Body → Option Bucket
+abbrev pub bucket : ℕ → ℕ → Body → Option Bucket
 bucket c slot body = Some (record { edition = 0; cycle = c; slot = slot; body = body })
 
 -- The lines and the counts of the deck's reader.
-abbrev over : Judge → Deck → List (Option Bucket) → List Line × Counts
+abbrev pub over : Judge → Deck → List (Option Bucket) → List Line × Counts
 over judge d heard = let t : State = session judge (air_of d) (reader_of d 0) heard in (t.lines, t.counts)
 
 -- The session is this one, by the history and by the entries.
-abbrev by_both : Deck → List (Option Bucket) → List Line × Counts → Type 0
+abbrev pub by_both : Deck → List (Option Bucket) → List Line × Counts → Type 0
 by_both d heard result =
     (over (by_history (scheme_in d) (values_in d) (script_history d)) d heard ≡ result) × (over (by_entries (scheme_in d)) d heard ≡ result)
 

@@ -1,7 +1,7 @@
 -- The copies that a receiver keeps: of those before and a newcomer the greatest by PIX number, as many as there is room for.
 -- A copy's place in the order is told by how many others go before it, so nothing is sorted.
 -- The laws are the contracts of `copies`.
-use Rattle.std.specs.Prelude.{◌<◌, ℕ, Bool, not, ◌&&◌, ◌||◌, ◌==◌, nat_lt, List, [], ◌∷◌, ◌++◌, slice_index, filter, count_by, AllPairs}
+use Rattle.std.specs.Prelude.{◌<◌, ℕ, Bool, not, ◌&&◌, ◌||◌, ◌==◌, nat_lt, List, ◌∷◌, ◌++◌, slice_index, filter, count_by, AllPairs}
 use Rattle.air_model.specs.Reads.{Read}
 
 -- The PIX number of a copy's item.

@@ -2,8 +2,8 @@
 //!
 //! `specs/Ethers.antt` has the words, `specs/Draws.antt` those on the words that are drawn. The ether of a reader stands on them.
 
-ghost use Rattle.std.specs.Prelude.{◌≡◌, ℕ, ◌<◌, ◌≤◌, ◌⊎◌, ◌==◌, List, count_by, All, AllPairs, Contains};
-ghost use Rattle.air_model.specs.Ethers.{Odds, due_number, heard, heard_places, times_heard};
+ghost use Rattle.std.specs.Prelude.{◌≡◌, ℕ, ◌+◌, ◌<◌, ◌≤◌, ◌⊎◌, ◌==◌, List, count_by, All, AllPairs, Contains};
+ghost use Rattle.air_model.specs.Ethers.{Odds, due_number, heard, heard_places, places_due, times_heard};
 
 /// Where nothing is lost, heard again or late, the pushed list is heard.
 pub fn clear_ether_law()
@@ -28,4 +28,10 @@ pub fn heard_order_law()
     ensures { (odds : Odds) (words : List ℕ) (n : ℕ) →
         AllPairs (λ p q. (due_number odds words p < due_number odds words q)
         ⊎ ((due_number odds words p ≡ due_number odds words q) × (p ≤ q))) (heard_places odds words n) }
+{}
+
+/// What is due below a number stays so however much is pushed later, once so many were pushed.
+pub fn due_stays_law()
+    ensures { (odds : Odds) (words : List ℕ) (n more bound : ℕ) → bound ≤ n →
+        places_due odds words (n + more) bound ≡ places_due odds words n bound }
 {}

@@ -1,6 +1,6 @@
 //! The law of steps: what handing lines out one by one has to do with settling.
 
-ghost use Rattle.std.specs.Prelude.{◌≡◌, List, []};
+ghost use Rattle.std.specs.Prelude.{◌≡◌, []};
 ghost use Rattle.air_model.specs.Aired.{Air};
 ghost use Rattle.air_model.specs.Judges.{Judge};
 ghost use Rattle.air_model.specs.Sessions.{Reader, State, settle};

@@ -1,0 +1,47 @@
+-- Held reads over two items: which reads are new ones, and which come in the order of cycles.
+use Rattle.std.proofs.Common.{◌≡◌, ◌≢◌, ℕ, ◌<◌, ◌≤◌, true, false, List, [], ◌∷◌, refl, arith}
+use Rattle.std.proofs.lemmas.List.Elements.{All-from_recursion}
+use Rattle.air_history.specs.Places.{last_place}
+use Rattle.air_history.specs.Histories.{writes, front, writer_before, writer}
+use Rattle.air_history.specs.Reads.{same_origin}
+use Rattle.air_history.specs.Clashes.{Heard}
+use Rattle.air_history.specs.HeldReads.{HeldReads, IsNew, ComesInOrder}
+use Rattle.air_history.proofs.ClashExamples.{one_written}
+
+-- item 0 of cycle 2 is held over two items
+abbrev one_held : HeldReads
+one_held = record { n = 2; reads = record { item = 0; cycle = 2; entries = 1 ∷ 0 ∷ [] } ∷ [] }
+
+-- item 1 with these entries
+abbrev item_one : ℕ → List ℕ → Heard
+item_one cycle entries = record { item = 1; cycle = cycle; entries = entries }
+
+pub record New : Type 0 where
+  -- item 1 isn't held, and its two entries are below its cycle
+  new : IsNew one_held (item_one 1 (0 ∷ 0 ∷ []))
+  -- an item that is held, three entries, and an entry of the read's own cycle aren't a new read's
+  held_item : IsNew one_held (record { item = 0; cycle = 3; entries = 0 ∷ 0 ∷ [] }) → ⊥
+  too_many : IsNew one_held (item_one 1 (0 ∷ 0 ∷ 0 ∷ [])) → ⊥
+  entry_of_its_cycle : IsNew one_held (item_one 1 (1 ∷ 0 ∷ [])) → ⊥
+  -- cycle 2 comes in order, and cycle 1 doesn't
+  in_order : ComesInOrder one_held (item_one 2 (0 ∷ 0 ∷ []))
+  out_of_order : ComesInOrder one_held (item_one 1 (0 ∷ 0 ∷ [])) → ⊥
+  -- item 1 has one origin in both cycles, and item 0 another one in cycle 2
+  one_origin : (same_origin one_written 1 1 2 ≡ true) × (same_origin one_written 0 1 2 ≡ false)
+
+pub new : New
+unfolding writer writer_before last_place writes front
+new = record {
+  new = record {
+    within = omega arith;
+    free = All-from_recursion (λ r. r.item ≢ 1) one_held.reads (λ e. omega (arith, e), tt);
+    sized = refl;
+    below = All-from_recursion (λ e. e < 1) (0 ∷ 0 ∷ []) (omega arith, (omega arith, tt));
+  };
+  held_item = λ h. h.free 0 (item_one 0 []) (omega arith) refl;
+  too_many = λ h. let three : 3 ≡ 2 = h.sized in omega arith;
+  entry_of_its_cycle = λ h. let low : 1 < 1 = h.below 0 0 (omega arith) in omega arith;
+  in_order = omega arith;
+  out_of_order = λ h. let low : 2 ≤ 1 = h in omega arith;
+  one_origin = (refl, refl);
+}
