@@ -75,9 +75,12 @@ pub fn pass_all<R: Threads + Wait + Sync>(
     ensures ready { All (λ w. IsReady gate.now passes mark w) workers.new }
     ensures same { (k : ℕ) (d : _) → k < length workers.old → (slice_index_or workers.new k d).by ≡ (slice_index_or workers.old k d).by }
 {
-    thread::for_each_mut(rt, workers, threads, &|_, w| {
-        w.pass_by(rt, gate, passes, mark, turns)
-    });
+    thread::for_each_mut(
+        rt,
+        workers,
+        threads,
+        &|_, w| { w.pass_by(rt, gate, passes, mark, turns) },
+    );
 }
 
 /// Joins all passes, the last one first, and gives the list.

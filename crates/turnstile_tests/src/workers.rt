@@ -56,12 +56,7 @@ pub fn fill<R: Wait>(
 }
 
 /// So many turns that add nothing.
-pub fn go_through<R: Wait>(
-    wait: &R,
-    gate: &Turnstile<Pairs>,
-    pass: &mut Pass<Pairs>,
-    turns: u64,
-)
+pub fn go_through<R: Wait>(wait: &R, gate: &Turnstile<Pairs>, pass: &mut Pass<Pairs>, turns: u64)
     requires own { pass.old.gate ≡ gate.now }
     requires outside { pass.old.turn ≡ None }
     ensures pass { IsSamePass pass.old pass.new }
