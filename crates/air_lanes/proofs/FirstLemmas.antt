@@ -34,7 +34,7 @@ first_bit x y m a b is some = ap (count_trailing_zeros 64) is ∙ some_lane (zip
 pub no_bit : (x y : List ℕ) (m : ℕ) → length x ≡ 8 → length y ≡ 8 → m ≡ mask_l (zip2 leb y x) % 2 ^ 64 → m ≡ 0 → 8 ≡ prefix_len (λ b. not b) (zip2 leb y x)
 no_bit x y m a b is none = no_lane (zip2 leb y x) (length-zip2 leb y x (b ∙ sym a) ∙ b) (sym is ∙ none)
 
-not_true : (b : Bool) → not b ≡ true → b ≡ false
+pub not_true : (b : Bool) → not b ≡ true → b ≡ false
 not_true true e = cc e
 not_true false e = refl
 

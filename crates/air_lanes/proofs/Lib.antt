@@ -2,4 +2,5 @@ pub mod PlaceLemmas
 pub mod GreaterLemmas
 pub mod StampLemmas
 pub mod FirstLemmas
+pub mod GroupLemmas
 pub mod KernelExamples

@@ -1,12 +1,24 @@
 //! The first place at which a column isn't below what is held.
 //!
-//! One block of eight, the places after the last whole block, and the row of both. `column_check` names a clash by it.
+//! Groups of four blocks are passed over whole, by one test each; from the first that isn't, blocks of eight, then the places
+//! after the last whole block. `column_check` names a clash by it.
 
 ghost use Rattle.std.specs.Prelude.{◌≡◌, ◌≤◌, ◌<◌, ◌+◌, ℕ, length, slice_index, MatchOption};
 ghost use Rattle.air_lanes.specs.Kernels.{IsAnswer};
 
 use std::simd::prelude::*;
-use std::simd::u32x8;
+use std::simd::{u32x8, u32x32};
+
+/// A bit for each of the thirty-two places from one on at which the column isn't below what is held.
+fn group_bits(column: &[u32], held: &[u32], at: usize) -> u64
+    requires room { at + 32 ≤ length column.now }
+    requires same { length held.now ≡ length column.now }
+    ensures { result ≡ 0 → (k : ℕ) → k < 32 → slice_index column.now (at + k) < slice_index held.now (at + k) }
+{
+    let entries = u32x32::from_slice(&column[at..]);
+    let cycles = u32x32::from_slice(&held[at..]);
+    entries.simd_ge(cycles).to_bitmask()
+}
 
 /// How many of the eight places from one on come before the first at which the column isn't below what is held.
 fn first_in_block(column: &[u32], held: &[u32], at: usize) -> u32
@@ -36,17 +48,33 @@ fn first_in_rest(column: &[u32], held: &[u32], from: usize) -> Option<usize>
     None
 }
 
+/// The first place at which the column isn't below what is held, where it is below before a place.
+fn first_from(column: &[u32], held: &[u32], from: usize) -> Option<usize>
+    requires same { length held.now ≡ length column.now }
+    requires within { from ≤ length column.now }
+    requires below { (k : ℕ) → k < from → slice_index column.now k < slice_index held.now k }
+    ensures { IsAnswer column.now held.now result }
+{
+    let blocks = (column.len() - from) / 8;
+    for block in 0..blocks {
+        let before = first_in_block(column, held, from + 8 * block);
+        if before < 8 {
+            return Some(from + 8 * block + before as usize);
+        }
+    }
+    first_in_rest(column, held, from + 8 * blocks)
+}
+
 /// The first place at which the column isn't below what is held; None exactly where there is none.
 pub fn first_not_below(column: &[u32], held: &[u32]) -> Option<usize>
     requires { length held.now ≡ length column.now }
     ensures { IsAnswer column.now held.now result }
 {
-    let whole = column.len() / 8;
-    for block in 0..whole {
-        let before = first_in_block(column, held, 8 * block);
-        if before < 8 {
-            return Some(8 * block + before as usize);
+    let groups = column.len() / 32;
+    for group in 0..groups {
+        if group_bits(column, held, 32 * group) != 0 {
+            return first_from(column, held, 32 * group);
         }
     }
-    first_in_rest(column, held, 8 * whole)
+    first_from(column, held, 32 * groups)
 }
