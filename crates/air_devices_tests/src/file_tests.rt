@@ -4,11 +4,13 @@
 //! file keeps, so that the shelf reads the file it is asked for, and changes none that it has read, is shown here.
 
 use crate::shelves::{Call, first_other};
-use air_devices::{Failed, FileCall, FileShelf, Shelf};
-use std::fs;
+use air_devices::{Failed, FileCall, FileShelf};
+use std::alloc::Global;
 use std::io::ErrorKind;
 use std::os::unix::fs::symlink;
+use std::rt::Files;
 use std::test::Fail;
+use std::{fs, slice};
 
 #[test]
 fn files_are_written_and_read_back(rt: HostRuntime) -> Result<(), Fail> {
@@ -67,87 +69,115 @@ fn a_read_of_another_name_than_the_one_picked_last_fails(rt: HostRuntime) -> Res
     Ok(())
 }
 
+/// One file by four names: its own, from this folder, a symlink's and a hard link's.
+const NAMES: [&str; 4] = ["kept.deck", "./kept.deck", "kept.symlink", "kept.hard"];
+
+/// The first two of these names such that the file is read by the one, and not left as it was where it is to be
+/// written by the other.
+fn first_not_kept<R: Files + Print + Clone + Drop>(
+    rt: &R,
+    alloc: Global,
+) -> Result<Option<(usize, usize)>, Fail> {
+    for place in 0..16 {
+        let (read, written) = (place / 4, place % 4);
+        let calls = [
+            Call::Pick(NAMES[read], Ok(())),
+            Call::Pick("kept.tape", Ok(())),
+            Call::Create(NAMES[written], Err(Failed)),
+            Call::Append(NAMES[written], b"more", Err(Failed)),
+            Call::ReadWhole("kept.deck", 7, b"item,0\n"),
+            Call::Create("kept.tape", Err(Failed)),
+            Call::Create("kept.other", Ok(())),
+        ];
+        let mut shelf = FileShelf::new(rt.clone()?);
+        if first_other(alloc, &mut shelf, &calls).is_some() {
+            return Ok(Some((read, written)));
+        }
+    }
+    Ok(None)
+}
+
 #[test]
 fn an_output_that_is_a_file_that_was_read_is_left_as_it_was(rt: HostRuntime) -> Result<(), Fail> {
     fs::write(&rt, "kept.deck", b"item,0\n")?;
     fs::write(&rt, "kept.tape", b"tape")?;
     symlink(&rt, "kept.deck", "kept.symlink")?;
     fs::hard_link(&rt, "kept.deck", "kept.hard")?;
-    let names = ["kept.deck", "./kept.deck", "kept.symlink", "kept.hard"];
-    let mut others = 0;
-    for read in names {
-        for written in names {
-            let calls = [
-                Call::Pick(read, Ok(())),
-                Call::Pick("kept.tape", Ok(())),
-                Call::Create(written, Err(Failed)),
-                Call::Append(written, b"more", Err(Failed)),
-                Call::ReadWhole("kept.deck", 7, b"item,0\n"),
-                Call::Create("kept.tape", Err(Failed)),
-                Call::Create("kept.other", Ok(())),
-            ];
-            let mut shelf = FileShelf::new(rt.clone()?);
-            if first_other(rt.alloc(), &mut shelf, &calls).is_some() {
-                others += 1;
-            }
+    let other = first_not_kept(&rt, rt.alloc())?;
+    for name in [
+        "kept.symlink",
+        "kept.hard",
+        "kept.deck",
+        "kept.tape",
+        "kept.other",
+    ] {
+        fs::remove_file(&rt, name)?;
+    }
+    assert_eq!(rt; other, None);
+    Ok(())
+}
+
+/// A call, and what the shelf then says of its last failure: the call, the name, the error, and all as a text.
+#[derive(Drop)]
+struct Said<'a> {
+    call: Call<'a>,
+    of: (FileCall, &'a str, ErrorKind),
+    text: &'a str,
+}
+
+/// The place of the first call after which the shelf says something else.
+fn first_said_otherwise<S: Files + Print + Drop>(
+    alloc: Global,
+    shelf: &mut FileShelf<S>,
+    said: &[Said<'_>],
+) -> Result<Option<usize>, Fail> {
+    for (place, case) in said.iter().enumerate() {
+        if first_other(alloc, shelf, slice::from_ref(&case.call)).is_some() {
+            return Ok(Some(place));
+        }
+        let Some(failure) = shelf.last_failure() else {
+            return Ok(Some(place));
+        };
+        let text = format!(in alloc; "{failure}")?;
+        let of = (failure.call(), failure.name(), failure.error().kind());
+        if of != case.of || text.as_str() != case.text {
+            return Ok(Some(place));
         }
     }
-    for name in names {
-        fs::remove_file(&rt, name).ok();
-    }
-    fs::remove_file(&rt, "kept.tape")?;
-    fs::remove_file(&rt, "kept.other")?;
-    assert_eq!(rt; others, 0);
-    Ok(())
+    Ok(None)
 }
 
 #[test]
 fn a_shelf_keeps_what_the_system_said_of_its_last_failure(rt: HostRuntime) -> Result<(), Fail> {
     fs::write(&rt, "failed.deck", b"item,0\n")?;
-    let cases = [
-        (
-            Call::Pick("failed.none", Err(Failed)),
-            (FileCall::Pick, "failed.none", ErrorKind::NotFound),
-            "opening failed.none: No such file or directory (os error 2)",
-        ),
-        (
-            Call::Pick("failed.deck", Ok(())),
-            (FileCall::Pick, "failed.none", ErrorKind::NotFound),
-            "opening failed.none: No such file or directory (os error 2)",
-        ),
-        (
-            Call::Read("failed.tape", Err(Failed)),
-            (FileCall::Read, "failed.tape", ErrorKind::Other),
-            "reading failed.tape: another file was opened last",
-        ),
-        (
-            Call::Create("failed.deck", Err(Failed)),
-            (FileCall::Create, "failed.deck", ErrorKind::Other),
-            "creating failed.deck: it is a file that was read",
-        ),
-        (
-            Call::Append("failed.none/tape", b"a", Err(Failed)),
-            (FileCall::Append, "failed.none/tape", ErrorKind::NotFound),
-            "writing failed.none/tape: No such file or directory (os error 2)",
-        ),
+    let none = "opening failed.none: No such file or directory (os error 2)";
+    let said = [
+        Said {
+            call: Call::Pick("failed.none", Err(Failed)),
+            of: (FileCall::Pick, "failed.none", ErrorKind::NotFound),
+            text: none,
+        },
+        Said {
+            call: Call::Pick("failed.deck", Ok(())),
+            of: (FileCall::Pick, "failed.none", ErrorKind::NotFound),
+            text: none,
+        },
+        Said {
+            call: Call::Read("failed.tape", Err(Failed)),
+            of: (FileCall::Read, "failed.tape", ErrorKind::Other),
+            text: "reading failed.tape: another file was opened last",
+        },
+        Said {
+            call: Call::Create("failed.deck", Err(Failed)),
+            of: (FileCall::Create, "failed.deck", ErrorKind::Other),
+            text: "creating failed.deck: it is a file that was read",
+        },
     ];
     let mut shelf = FileShelf::new(rt.clone()?);
-    let none = shelf.last_failure().is_none();
-    let mut others = 0;
-    for (call, told, text) in cases {
-        let held = first_other(rt.alloc(), &mut shelf, &[call]).is_none();
-        let Some(failure) = shelf.last_failure() else {
-            others += 1;
-            continue;
-        };
-        let printed = format!(in rt.alloc(); "{failure}")?;
-        let known = (failure.call(), failure.name(), failure.error().kind());
-        if !held || known != told || printed.as_str() != text {
-            others += 1;
-        }
-    }
+    let fresh = shelf.last_failure().is_none();
+    let other = first_said_otherwise(rt.alloc(), &mut shelf, &said)?;
     fs::remove_file(&rt, "failed.deck")?;
-    assert_eq!(rt; (none, others), (true, 0));
+    assert_eq!(rt; (fresh, other), (true, None));
     Ok(())
 }
 
