@@ -51,6 +51,10 @@ two_later = Start ∷ Start ∷ commit 0 [] (set_to 2 5) ∷ Start ∷ []
 abbrev ends_written : List Event
 ends_written = Start ∷ commit 0 [] (set_to 0 11) ∷ commit 1 [] (set_to 2 31) ∷ Start ∷ Start ∷ []
 
+-- each of three items is written in cycle 1, by updates that read nothing
+abbrev all_written : List Event
+all_written = Start ∷ commit 0 [] (set_to 0 1) ∷ commit 1 [] (set_to 1 1) ∷ commit 2 [] (set_to 2 1) ∷ Start ∷ []
+
 -- a clash with item 0 of cycle 1
 abbrev with_first : Option Clash
 with_first = Some (record { item = 0; cycle = 1 })
@@ -96,15 +100,22 @@ pub record Clashes : Type 0 where
   older : clash_by_history Datacycle apart (at 0 2 ∷ []) (at 1 1) ≡ Some (record { item = 0; cycle = 2 })
   -- the least item number is named, whatever the order of reading
   least_named : clash_by_history Datacycle apart (at 1 1 ∷ at 0 1 ∷ []) (at 2 2) ≡ with_first
+  -- of two stale held reads the one of least item is named, and neither the first that was read nor the last
+  least_of_two : (OfTwo Datacycle all_written (at 1 1) (at 0 1) 2 with_first × OfTwo Datacycle all_written (at 0 1) (at 1 1) 2 with_first)
+      × (OfTwo RMatrix all_written (at 1 1) (at 0 1) 2 with_first × OfTwo RMatrix all_written (at 0 1) (at 1 1) 2 with_first)
   -- a held read of lesser item that doesn't clash isn't named: item 0 isn't written, item 1 is
   not_the_least_held : OfTwo FMatrix one_then_two (at 0 1) (at 1 1) 2 (Some (record { item = 1; cycle = 1 }))
       × OfTwo Datacycle one_then_two (at 0 1) (at 1 1) 2 (Some (record { item = 1; cycle = 1 }))
       × OfTwo RMatrix one_then_two (at 0 1) (at 1 1) 2 (Some (record { item = 1; cycle = 1 }))
   -- Datacycle names, for a read of an older cycle, a held read of the newest one, and not item 0 of cycle 1
   of_the_newest : OfTwo Datacycle two_later (at 0 1) (at 1 3) 2 (Some (record { item = 1; cycle = 3 }))
+  -- of two held reads of the newest cycle it names the one of least item, whatever the order of reading
+  least_of_the_newest : OfTwo Datacycle two_later (at 1 3) (at 0 3) 2 (Some (record { item = 0; cycle = 3 }))
+      × OfTwo Datacycle two_later (at 0 3) (at 1 3) 2 (Some (record { item = 0; cycle = 3 }))
   -- it asks the entries of the first held read of that cycle
   first_of_the_newest : (clash_by_entries Datacycle (of_four 1 3 (0 ∷ 0 ∷ 2 ∷ 0 ∷ []) ∷ of_four 0 3 (0 ∷ 0 ∷ 0 ∷ 0 ∷ []) ∷ []) (of_four 2 2 (0 ∷ 0 ∷ 0 ∷ 0 ∷ [])) ≡ Some (record { item = 0; cycle = 3 }))
       × (clash_by_entries Datacycle (of_four 0 3 (0 ∷ 0 ∷ 0 ∷ 0 ∷ []) ∷ of_four 1 3 (0 ∷ 0 ∷ 2 ∷ 0 ∷ []) ∷ []) (of_four 2 2 (0 ∷ 0 ∷ 0 ∷ 0 ∷ [])) ≡ None)
+      × (clash_by_entries Datacycle (of_four 0 3 (0 ∷ 0 ∷ 2 ∷ 0 ∷ []) ∷ of_four 1 3 (0 ∷ 0 ∷ 0 ∷ 0 ∷ []) ∷ []) (of_four 2 2 (0 ∷ 0 ∷ 0 ∷ 0 ∷ [])) ≡ Some (record { item = 0; cycle = 3 }))
   -- R-Matrix names the held read that is stale at the new cycle: item 0, which was written, and not item 1
   stale_one : OfTwo RMatrix ends_written (at 0 1) (at 1 2) 3 with_first
   -- the reads of item 0 and 1 share the first cycle, since item 1 stays there
@@ -124,9 +135,11 @@ clashes = record {
   in_time = refl;
   older = refl;
   least_named = refl;
+  least_of_two = (((refl, refl), (refl, refl)), ((refl, refl), (refl, refl)));
   not_the_least_held = ((refl, refl), (refl, refl), (refl, refl));
   of_the_newest = (refl, refl);
-  first_of_the_newest = (refl, refl);
+  least_of_the_newest = ((refl, refl), (refl, refl));
+  first_of_the_newest = (refl, refl, refl);
   stale_one = (refl, refl);
   shares = refl;
 }

@@ -148,6 +148,8 @@ values = record { in_cycle_one = refl; in_cycle_two = refl; wraps_up = refl; wra
 pub record Boards : Type 0 where
   -- a reply's read values are those before the commit, its written ones those after it
   reply_raised : reply_of (10 ∷ []) counter 3 ≡ record { number = 3; cycle = 2; read = 11 ∷ []; written = 12 ∷ [] }
+  -- and not those at the end of the history: item 0 is raised again later
+  reply_before_the_end : reply_of (10 ∷ []) counter 1 ≡ record { number = 1; cycle = 1; read = 10 ∷ []; written = 11 ∷ [] }
   reply_exchanged : reply_of (0 ∷ 0 ∷ []) exchanged 3 ≡ record { number = 3; cycle = 1; read = 7 ∷ 8 ∷ []; written = 8 ∷ 7 ∷ [] }
   -- the total of a frame wraps
   frame_wraps : frame_of ((2 ^ 64 - 1) ∷ 3 ∷ []) [] ≡ record { cycle = 0; values = (2 ^ 64 - 1) ∷ 3 ∷ []; columns = (0 ∷ 0 ∷ []) ∷ (0 ∷ 0 ∷ []) ∷ []; total = 2 }
@@ -157,4 +159,4 @@ pub record Boards : Type 0 where
 
 pub boards : Boards
 unfolding table value_after write_of based starts column_entry vector_entry greatest writer writer_before last_place writes writes_of descends descends_in reads cycle_at is_start
-boards = record { reply_raised = refl; reply_exchanged = refl; frame_wraps = refl; reply = refl; board = refl; frame = refl }
+boards = record { reply_raised = refl; reply_before_the_end = refl; reply_exchanged = refl; frame_wraps = refl; reply = refl; board = refl; frame = refl }
