@@ -2,16 +2,19 @@
 use Rattle.std.proofs.Common.{true, false, ◌≡◌, ◌≤◌, Some, None, [], ◌∷◌, All, refl, subst, arith, IsTrue, IfSome, Contains}
 use Rattle.std.proofs.lemmas.List.Elements.{All-from_recursion}
 use Rattle.std.proofs.lemmas.Bool.{false≢true}
-use Rattle.air_base.specs.declared.verdicts.Policy.TheVariants.{FMatrix}
+use Rattle.air_base.specs.declared.verdicts.Policy.TheVariants.{FMatrix, Datacycle}
 use Rattle.air_base.specs.declared.verdicts.VerdictKind.TheVariants.{Accept, Abort, Unfinished}
 use Rattle.air_history.specs.Clashes.{clash_by_entries, is_late, least}
 use Rattle.air_history.specs.Columns.{scheme_of, column_entry}
-use Rattle.air_history.specs.Histories.{front, is_start, starts}
-use Rattle.air_history.specs.Places.{greatest}
-use Rattle.air_history.specs.Tables.{table}
+use Rattle.air_history.specs.Consistency.{alone, consistent, descends_from, last_alone, picked, runs_alone}
+use Rattle.air_history.specs.Descents.{descends, descends_in}
+use Rattle.air_history.specs.Histories.{cycle_at, front, is_start, reads, starts, writer, writer_before, writes}
+use Rattle.air_history.specs.Places.{greatest, last_place}
+use Rattle.air_history.specs.Reads.{origin}
+use Rattle.air_history.specs.Tables.{BasesRead, based, table, value_after, write_of}
 use Rattle.air_model.specs.Buckets.{Column}
 use Rattle.air_model.specs.Copies.{keep, with_copy, without}
-use Rattle.air_model.specs.Decks.{event_of, script_history, values_in}
+use Rattle.air_model.specs.Decks.{Deck, event_of, script_history, values_in}
 use Rattle.air_model.specs.Disks.{cut, order, order_with}
 use Rattle.air_model.specs.Programs.{chunk, chunk_len, least_common_multiple, minor_cycle, num_chunks, num_minors, program}
 use Rattle.air_model.specs.Airings.{chunks_of, disk_number, pix_number}
@@ -24,7 +27,7 @@ use Rattle.air_model.proofs.AiredLemmas.{aired}
 use Rattle.air_model.proofs.NameLemmas.{names}
 use Rattle.air_model.proofs.ReceiverLemmas.{receiver}
 use Rattle.air_model.proofs.RelationExamples.{pair_is_deck}
-use Rattle.air_model.proofs.SessionExamples.{all_of, line, pair, read}
+use Rattle.air_model.proofs.SessionExamples.{all_of, chained, line, pair, read, s, swapped, u}
 
 -- The script's history aired all of its own buckets.
 pub own_buckets_aired : IsAired (values_in pair) (air_of pair) (script_history pair) (all_of pair)
@@ -57,6 +60,45 @@ own_line = kept (IsOfReader (reader_of pair 0)) true_session.own
 pub exact_line : IsExactLine (script_history pair) (reader_of pair 0) accepted
 exact_line = kept (IsExactLine (script_history pair) (reader_of pair 0)) (true_session.exact refl)
 
+-- ---- lines that aren't so
+
+-- The chain's history, in which item 0 of cycle 1 and item 1 of cycle 2 aren't consistent.
+abbrev chain : Deck
+chain = chained 1 (s ∷ u ∷ u ∷ u ∷ s ∷ [])
+
+-- A history in which the reads of item 0 of cycle 1 and item 1 of cycle 2 are consistent and share no cycle.
+abbrev apart : Deck
+apart = swapped (s ∷ u ∷ u ∷ s ∷ [])
+
+pub record NoLines : Type 0 where
+  -- reads that aren't consistent are neither accepted nor unfinished
+  accepted_not_consistent : IsExactLine (script_history chain) (reader_of chain 0) (line 0 1 Accept (read 0 1 10 ∷ read 1 2 13 ∷ [])) → ⊥
+  unfinished_not_consistent : IsExactLine (script_history chain) (reader_of chain 0) (line 0 1 Unfinished (read 0 1 10 ∷ read 1 2 13 ∷ [])) → ⊥
+  -- consistent ones aren't aborted
+  aborted_consistent : IsExactLine (script_history pair) (reader_of pair 0) (line 0 1 (Abort 1 1 0) (read 0 1 10 ∷ [])) → ⊥
+  -- a query isn't accepted on a part of its items, and isn't unfinished where all were read
+  accepted_part : IsExactLine (script_history pair) (reader_of pair 0) (line 0 1 Accept (read 0 1 10 ∷ [])) → ⊥
+  unfinished_whole : IsExactLine (script_history pair) (reader_of pair 0) (line 0 1 Unfinished (read 0 1 10 ∷ read 1 1 20 ∷ [])) → ⊥
+  -- a line of reads that aren't consistent isn't sound
+  not_consistent : IsSoundLine (values_in chain) FMatrix (script_history chain) (line 0 1 Accept (read 0 1 10 ∷ read 1 2 13 ∷ [])) → ⊥
+  -- nor is one under Datacycle whose reads share no cycle
+  not_shared : IsSoundLine (values_in apart) Datacycle (script_history apart) (line 0 1 Accept (read 0 1 10 ∷ read 1 2 21 ∷ [])) → ⊥
+  -- nor one with a wrong value: item 1 has 20
+  wrong_value : IsSoundLine (values_in pair) FMatrix (script_history pair) (line 0 1 Accept (read 0 1 10 ∷ read 1 1 21 ∷ [])) → ⊥
+
+pub no_lines : NoLines
+unfolding script_history event_of consistent alone picked last_alone runs_alone descends_from origin writer writer_before last_place writes descends descends_in reads front cycle_at is_start starts table value_after write_of based BasesRead
+no_lines = record {
+  accepted_not_consistent = λ h. let e : false ≡ true = (h.accepted.0 refl).1 in false≢true e;
+  unfinished_not_consistent = λ h. let e : false ≡ true = (h.unfinished.0 refl).0 in false≢true e;
+  aborted_consistent = λ h. h.aborted.0 tt refl;
+  accepted_part = λ h. let e : 0 ∷ [] ≡ 0 ∷ 1 ∷ [] = (h.accepted.0 refl).0 in cc;
+  unfinished_whole = λ h. (h.unfinished.0 refl).1 refl;
+  not_consistent = λ h. let e : false ≡ true = h.reads.consistent in false≢true e;
+  not_shared = λ h. let e : Some 1 ≡ None = h.reads.shared 0 (record { item = 0; cycle = 1 }) (omega arith) in cc;
+  wrong_value = λ h. let e : 21 ≡ 20 = h.replayed (All-from_recursion BasesRead (script_history pair) (tt, tt)) 1 (read 1 1 21) (omega arith) in omega arith;
+}
+
 -- A line that stands before those of a state.
 lines_after : (after (accepted ∷ []) (record start { lines = line 1 1 Unfinished [] ∷ [] })).lines ≡ accepted ∷ line 1 1 Unfinished [] ∷ []
 lines_after = refl
@@ -82,6 +124,11 @@ not_follow = (refl, refl, refl)
 not_aborted : (follows_query (0 ∷ 1 ∷ []) (Abort 0 2 0) (0 ∷ []) ≡ false) × (follows_query (0 ∷ 1 ∷ []) (Abort 1 2 1) (0 ∷ []) ≡ false)
 unfolding follows_query
 not_aborted = (refl, refl)
+
+-- Nor do items that aren't the query's first ones, before the next one was refused or where one is missing.
+not_the_first_ones : (follows_query (0 ∷ 1 ∷ 2 ∷ []) (Abort 2 3 0) (1 ∷ 0 ∷ []) ≡ false) × (follows_query (0 ∷ 1 ∷ []) Unfinished (1 ∷ []) ≡ false)
+unfolding follows_query
+not_the_first_ones = (refl, refl)
 
 -- Cycles count from 1 where the bucket fits; of one that doesn't, of another edition, nothing is asked.
 pub cycles_from_one : CyclesFromOne (air_of pair) (Some (record { edition = 0; cycle = 1; slot = 0; body = Column 0 10 (0 ∷ 0 ∷ []) })

@@ -1,5 +1,5 @@
 -- What commands print and write on small decks, byte by byte, through the spelling of buckets and the words of ethers.
-use Rattle.std.specs.Prelude.{◌≡◌, ℕ, List, [], ◌∷◌, ◌++◌, Some, codes, map, replicate, refl}
+use Rattle.std.specs.Prelude.{◌≡◌, ℕ, List, [], ◌∷◌, ◌++◌, Some, codes, length, map, replicate, refl}
 use Rattle.csv.specs.Writing.{escaped, fields_text, is_blank}
 use Rattle.air_base.specs.Numbers.{number_text}
 use Rattle.air_base.specs.declared.verdicts.Policy.TheVariants.{Datacycle}
@@ -29,7 +29,7 @@ use Rattle.air_model.specs.Sessions.{session, query_of, wanted, line_of, with_li
 use Rattle.air_model.specs.Rows.{rows_text}
 use Rattle.air_model.specs.Reports.{AirFault, DeckFault, PlanTooLong, ReadFault, ReportFault, TapeCut, TooLarge, TooLong, TooMuch, Words, fault_line, report_text, total_at}
 use Rattle.air_model.specs.Outputs.{cast_output, plan_output, run_output, run_tape, script_output, script_tape, true_sessions, tune_output}
-use Rattle.air_model.proofs.SessionExamples.{judged_by, pair, s, set_to, swapped, u, update}
+use Rattle.air_model.proofs.SessionExamples.{chained, judged_by, pair, s, set_to, swapped, u, update}
 
 -- The deck with this seed and these odds.
 abbrev through : ℕ → ℕ → ℕ → ℕ → Deck → Deck
@@ -46,6 +46,17 @@ second = 0x41 ∷ 0x44 ∷ 1 ∷ 1 ∷ 0 ∷ 0 ∷ 0 ∷ 2 ∷ 0 ∷ 0 ∷ 0 ∷
 -- Two readers with queries of their own.
 abbrev two_readers : List (List ℕ) → List (List ℕ) → Deck
 two_readers first second = record pair { readers = record { room = 0; age = 0; tries = 1 } ∷ record { room = 0; age = 0; tries = 1 } ∷ []; queries = first ∷ second ∷ [] }
+
+-- The chain's deck with two readers of one query, the first of one try and the second of two.
+abbrev two_plans : Deck
+two_plans = record (chained 1 (s ∷ u ∷ u ∷ u ∷ s ∷ [])) {
+  readers = record { room = 0; age = 0; tries = 1 } ∷ record { room = 0; age = 0; tries = 2 } ∷ [];
+  queries = ((0 ∷ 1 ∷ []) ∷ []) ∷ ((0 ∷ 1 ∷ []) ∷ []) ∷ [];
+}
+
+-- Two starts, where the deck's script has one.
+abbrev two_starts : List Event
+two_starts = Start ∷ Start ∷ []
 
 -- Two updaters, of which the first commits before and after the start.
 abbrev two_updaters : Deck
@@ -68,12 +79,17 @@ pub record Printed : Type 0 where
   heard_twice : script_output (through 0 0 100 0 pair) ≡ codes "start\naccept,0,0,1,0@1=10 1@1=20\ncounts,0,2,2,0,0,0,0\n"
   -- Some lost, some heard twice, some late.
   mixed : script_output (through 7 50 50 50 (record pair { script = s ∷ s ∷ s ∷ s ∷ [] })) ≡ codes "start\nstart\nstart\nstart\naccept,0,0,1,0@2=10 1@3=20\ncounts,0,2,4,0,0,0,0\n"
+  -- Late ones alone: each bucket of cycle 1 comes too late for the query, which is read in cycle 2.
+  all_late : script_output (through 7 0 0 100 (record pair { script = s ∷ s ∷ [] })) ≡ codes "start\nstart\naccept,0,0,1,0@2=10 1@2=20\ncounts,0,2,2,0,0,0,0\n"
   -- A byte too many and an entry that isn't below the cycle are refused, and one entry too many is foreign.
   tune : tune_output pair (
       (first ++ 0 ∷ []) ∷ (0x41 ∷ 0x44 ∷ 1 ∷ 1 ∷ 0 ∷ 0 ∷ 0 ∷ 2 ∷ 0 ∷ 0 ∷ 0 ∷ 1 ∷ 0 ∷ 0 ∷ 0 ∷ 0 ∷ 0 ∷ 0 ∷ 0 ∷ 0 ∷ 0 ∷ 0 ∷ 0 ∷ 10 ∷ 0 ∷ 0 ∷ 0 ∷ 1 ∷ replicate 4 0)
       ∷ spelling (record { edition = 0; cycle = 1; slot = 0; body = Column 0 10 (0 ∷ 0 ∷ 0 ∷ []) }) ∷ first ∷ second ∷ [])
       ≡ codes "accept,0,0,1,0@1=10 1@1=20\ncounts,0,2,0,0,2,1,0\n"
   tune_nothing : tune_output pair [] ≡ codes "unfinished,0,0,1,\ncounts,0,0,0,0,0,0,0\n"
+  -- A run tells of the history that its threads made, and not of the script's: here of two cycles, where the script has one.
+  run_of_its_own : run_output pair two_starts [] [] ≡ codes "start\nstart\naccept,0,0,1,0@1=10 1@1=20\ncounts,0,2,2,0,0,0,0\n"
+  tape_of_its_own : length (run_tape pair two_starts) ≡ 144
   -- Monitors that saw the catalog and the first cycle.
   run : let H = script_history pair in
       run_output pair H (record { cycle = 0; total = total_at (values_in pair) H 0 } ∷ []) (record { cycle = 1; total = total_at (values_in pair) H 1 } ∷ [])
@@ -86,6 +102,9 @@ pub record Printed : Type 0 where
   -- Of two readers each has its own queries; all verdicts stand before all counts.
   readers : script_output (two_readers ((0 ∷ []) ∷ []) ((1 ∷ []) ∷ (0 ∷ []) ∷ []))
       ≡ codes "start\naccept,0,0,1,0@1=10\naccept,1,0,1,1@1=20\nunfinished,1,1,1,\ncounts,0,1,1,0,0,0,0\ncounts,1,1,1,0,0,0,0\n"
+  -- And each has its own plan: the second one tries again, and its last line tells of its second attempt.
+  plans : script_output two_plans
+      ≡ codes "start\ncommit,0,0\ncommit,0,1\ncommit,0,2\nstart\nabort,0,0,1,0@1=10,1@2,0\nabort,1,0,1,0@1=10,1@2,0\nunfinished,1,0,2,0@2=11\ncounts,0,2,4,0,0,0,0\ncounts,1,3,3,0,0,0,0\n"
   -- Through one seed each hears by a stream of its own.
   streams : script_output (through 7 50 50 50 (two_readers ((0 ∷ 1 ∷ []) ∷ []) ((0 ∷ 1 ∷ []) ∷ [])))
       ≡ codes "start\nunfinished,0,0,1,\nunfinished,1,0,1,0@1=10\ncounts,0,0,0,0,0,0,0\ncounts,1,1,1,0,0,0,0\n"
@@ -110,13 +129,17 @@ printed = record {
   all_lost = refl;
   heard_twice = refl;
   mixed = refl;
+  all_late = refl;
   tune = refl;
   tune_nothing = refl;
+  run_of_its_own = refl;
+  tape_of_its_own = refl;
   run = refl;
   run_tape = refl;
   cast = refl;
   plan = refl;
   readers = refl;
+  plans = refl;
   streams = refl;
   updaters = refl;
   monitors = refl;

@@ -11,7 +11,7 @@ use Rattle.air_history.specs.Tables.{based, write_of, value_after, table}
 use Rattle.air_history.specs.Reads.{origin, stale}
 use Rattle.air_history.specs.Consistency.{descends_from, runs_alone, last_alone, consistent}
 use Rattle.air_history.specs.Clashes.{least, is_late, clash_by_history, clash_by_entries}
-use Rattle.air_model.specs.Buckets.{Bucket, Column, Vector}
+use Rattle.air_model.specs.Buckets.{Bucket, Column, Idle, Vector}
 use Rattle.air_model.specs.Copies.{keep, without, with_copy}
 use Rattle.air_model.specs.Disks.{order, order_with, cut}
 use Rattle.air_model.specs.Programs.{program, least_common_multiple, num_minors, num_chunks, chunk_len, chunk, minor_cycle}
@@ -29,6 +29,17 @@ chained_for (room, age, tries) queries script = record (chained 1 script) { read
 -- Two items of these rates, a reader and its queries; nothing is written.
 abbrev two_items : ℕ → ℕ → ℕ × ℕ × ℕ → List (List ℕ) → List (Option ℕ) → Deck
 two_items first second plan queries script = deck (item 10 first ∷ item 20 second ∷ []) [] plan queries script
+
+-- The same on two disks, which air the first item twice a cycle and the second once; the fourth slot is idle.
+abbrev on_two_disks : ℕ → ℕ → ℕ × ℕ × ℕ → List (List ℕ) → List (Option ℕ) → Deck
+on_two_disks first second plan queries script = record (two_items first second plan queries script) { disks = record { size = 1; freq = 2 } ∷ record { size = 1; freq = 1 } ∷ [] }
+
+-- Three items of the rates 3, 2 and 1 under R-Matrix, and a bucket of one of them with this vector.
+abbrev three_items : List (List ℕ) → Deck
+three_items queries = judged_by RMatrix (deck (item 10 3 ∷ item 20 2 ∷ item 30 1 ∷ []) [] (2, 9, 1) queries [])
+
+abbrev heard_of_three : ℕ → ℕ → List ℕ → Option Bucket
+heard_of_three i c entries = bucket c i (Vector i (10 * (i + 1)) entries)
 
 -- A bucket of one of two items whose column has these entries, in its slot.
 abbrev heard_column : ℕ → ℕ → List ℕ → Option Bucket
@@ -69,13 +80,22 @@ pub record KeptCopies : Type 0 where
     line 0 1 Accept (read 1 1 20 ∷ []) ∷ line 1 1 Accept (read 2 1 30 ∷ []) ∷ line 2 1 Accept (read 0 1 10 ∷ []) ∷ line 3 1 Accept (read 1 1 20 ∷ []) ∷ [],
     counted 3 3 1,
   )
+  -- an item's PIX number isn't its rate: item 1 is of lesser rate and is aired half as often, so its copy stays
+  by_airing : let d = on_two_disks 3 2 (1, 9, 1) ((0 ∷ []) ∷ (1 ∷ []) ∷ (0 ∷ []) ∷ (1 ∷ []) ∷ []) (s ∷ []) in by_both d (all_of d) (
+    line 0 1 Accept (read 0 1 10 ∷ []) ∷ line 1 1 Accept (read 1 1 20 ∷ []) ∷ line 2 1 Accept (read 0 1 10 ∷ []) ∷ line 3 1 Accept (read 1 1 20 ∷ []) ∷ [],
+    counted 3 1 1,
+  )
+  -- a late read isn't offered to the copies: with room for two that of item 2 stays, and is used in the last query
+  late_not_kept : over (by_entries (scheme_of RMatrix)) (three_items ((2 ∷ []) ∷ (0 ∷ 1 ∷ []) ∷ (2 ∷ []) ∷ [])) (
+    heard_of_three 2 4 (0 ∷ 0 ∷ 0 ∷ []) ∷ heard_of_three 0 4 (0 ∷ 0 ∷ 0 ∷ []) ∷ heard_of_three 1 2 (0 ∷ 0 ∷ 0 ∷ []) ∷ heard_of_three 1 5 (4 ∷ 4 ∷ 0 ∷ []) ∷ [])
+      ≡ (line 0 1 Accept (read 2 4 30 ∷ []) ∷ line 1 1 (Abort 1 5 0) (read 0 4 10 ∷ []) ∷ line 2 1 Accept (read 2 4 30 ∷ []) ∷ [], counts 3 0 1 0 0 1)
   -- under R-Matrix a copy of an older cycle than the last read's is late, and is dropped
   late_copy : over (by_entries (scheme_of RMatrix)) (judged_by RMatrix (two_items 1 1 (2, 9, 1) ((1 ∷ []) ∷ (0 ∷ 1 ∷ []) ∷ []) [])) (heard_vector 1 2 ∷ heard_vector 0 4 ∷ [])
       ≡ (line 0 1 Accept (read 1 2 20 ∷ []) ∷ line 1 1 Unfinished (read 0 4 10 ∷ []) ∷ [], counted 2 0 0)
 
 pub kept_copies : KeptCopies
 unfolding last_place greatest cycle_at front starts writer writer_before writes reads is_start descends descends_in column_entry vector_entry based write_of value_after table origin stale descends_from runs_alone last_alone consistent least is_late clash_by_history clash_by_entries keep without with_copy order order_with cut program least_common_multiple num_minors num_chunks chunk_len chunk minor_cycle disk_number chunks_of pix_number event_of script_history body_of bucket_of buckets_of body_fits fits by_history by_entries session query_of wanted line_of with_line count_copied count_opened count_dozed count_late count_refused count_foreign next_query next_attempt accept_if_whole hold abort is_unusable drop_copy copy_of turn_with turn settle decide offer open_bucket hear_read hear hear_all end_query end
-kept_copies = record { of_its_age = (refl, refl); too_old = (refl, refl); settled_at_the_end = (refl, refl); by_item = (refl, refl); late_copy = refl }
+kept_copies = record { of_its_age = (refl, refl); too_old = (refl, refl); settled_at_the_end = (refl, refl); by_item = (refl, refl); by_airing = (refl, refl); late_not_kept = refl; late_copy = refl }
 
 -- ---- aborts
 
@@ -120,10 +140,18 @@ pub record Heard : Type 0 where
     line 0 1 Unfinished (read 1 1 20 ∷ []) ∷ line 1 1 Unfinished [] ∷ line 2 1 Unfinished [] ∷ [],
     counted 1 1 0,
   )
+  -- a query that is left in a later attempt has its line at that attempt
+  left_again : let d = chained_for (0, 0, 2) ((0 ∷ 1 ∷ []) ∷ []) (s ∷ u ∷ u ∷ u ∷ s ∷ []) in by_both d (all_of d) (
+    line 0 1 (Abort 1 2 0) (read 0 1 10 ∷ []) ∷ line 0 2 Unfinished (read 0 2 11 ∷ []) ∷ [],
+    counted 3 3 0,
+  )
   -- a foreign bucket of cycle 9 doesn't age the copy of item 0; a dozed one of cycle 2 does, and an older one behind it makes it no younger
   foreign_no_clock : over (by_entries (scheme_of FMatrix)) (two_items 1 1 (1, 0, 1) ((0 ∷ []) ∷ (1 ∷ []) ∷ (0 ∷ []) ∷ []) []) (heard_column 0 1 (0 ∷ 0 ∷ []) ∷ foreign ∷ heard_column 1 1 (0 ∷ 0 ∷ []) ∷ [])
       ≡ (line 0 1 Accept (read 0 1 10 ∷ []) ∷ line 1 1 Accept (read 1 1 20 ∷ []) ∷ line 2 1 Accept (read 0 1 10 ∷ []) ∷ [], counts 2 0 0 0 1 1)
   dozed_clock : over (by_entries (scheme_of FMatrix)) (two_items 1 1 (1, 0, 1) ((0 ∷ []) ∷ (1 ∷ []) ∷ (0 ∷ []) ∷ []) []) (heard_column 0 1 (0 ∷ 0 ∷ []) ∷ heard_column 0 2 (0 ∷ 0 ∷ []) ∷ heard_column 1 1 (0 ∷ 0 ∷ []) ∷ [])
+      ≡ (line 0 1 Accept (read 0 1 10 ∷ []) ∷ line 1 1 Accept (read 1 1 20 ∷ []) ∷ line 2 1 Unfinished [] ∷ [], counted 2 1 0)
+  -- an idle bucket of cycle 2 ages it too
+  idle_clock : over (by_entries (scheme_of FMatrix)) (on_two_disks 2 1 (1, 0, 1) ((0 ∷ []) ∷ (1 ∷ []) ∷ (0 ∷ []) ∷ []) []) (heard_column 0 1 (0 ∷ 0 ∷ []) ∷ bucket 2 3 (Idle 2) ∷ heard_column 1 1 (0 ∷ 0 ∷ []) ∷ [])
       ≡ (line 0 1 Accept (read 0 1 10 ∷ []) ∷ line 1 1 Accept (read 1 1 20 ∷ []) ∷ line 2 1 Unfinished [] ∷ [], counted 2 1 0)
   -- under R-Matrix an older bucket that isn't wanted is dozed through, and a wanted one is late
   dozed_before_late : over (by_entries (scheme_of RMatrix)) (judged_by RMatrix (two_items 1 1 (0, 0, 1) ((0 ∷ 1 ∷ []) ∷ []) [])) (heard_vector 0 4 ∷ heard_vector 0 2 ∷ heard_vector 1 2 ∷ [])
@@ -131,4 +159,4 @@ pub record Heard : Type 0 where
 
 pub heard : Heard
 unfolding last_place greatest cycle_at front starts writer writer_before writes reads is_start descends descends_in column_entry vector_entry based write_of value_after table origin stale descends_from runs_alone last_alone consistent least is_late clash_by_history clash_by_entries keep without with_copy order order_with cut program least_common_multiple num_minors num_chunks chunk_len chunk minor_cycle disk_number chunks_of pix_number event_of script_history body_of bucket_of buckets_of body_fits fits by_history by_entries session query_of wanted line_of with_line count_copied count_opened count_dozed count_late count_refused count_foreign next_query next_attempt accept_if_whole hold abort is_unusable drop_copy copy_of turn_with turn settle decide offer open_bucket hear_read hear hear_all end_query end
-heard = record { idle_dozed = (refl, refl); each_left = (refl, refl); foreign_no_clock = refl; dozed_clock = refl; dozed_before_late = refl }
+heard = record { idle_dozed = (refl, refl); each_left = (refl, refl); left_again = (refl, refl); foreign_no_clock = refl; dozed_clock = refl; idle_clock = refl; dozed_before_late = refl }
