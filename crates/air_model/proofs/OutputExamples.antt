@@ -79,7 +79,7 @@ pub record Printed : Type 0 where
   heard_twice : script_output (through 0 0 100 0 pair) ≡ codes "start\naccept,0,0,1,0@1=10 1@1=20\ncounts,0,2,2,0,0,0,0\n"
   -- Some lost, some heard twice, some late.
   mixed : script_output (through 7 50 50 50 (record pair { script = s ∷ s ∷ s ∷ s ∷ [] })) ≡ codes "start\nstart\nstart\nstart\naccept,0,0,1,0@2=10 1@3=20\ncounts,0,2,4,0,0,0,0\n"
-  -- Late ones alone: each bucket of cycle 1 comes too late for the query, which is read in cycle 2.
+  -- All are late: what is heard is item 1 of cycle 1, item 0 of cycle 2, item 0 of cycle 1, item 1 of cycle 2.
   all_late : script_output (through 7 0 0 100 (record pair { script = s ∷ s ∷ [] })) ≡ codes "start\nstart\naccept,0,0,1,0@2=10 1@2=20\ncounts,0,2,2,0,0,0,0\n"
   -- A byte too many and an entry that isn't below the cycle are refused, and one entry too many is foreign.
   tune : tune_output pair (
