@@ -150,12 +150,12 @@ pub record Reads : Type 0 where
   greatest_cycle : greatest_of (λ r. r.cycle) first_then_next ≡ 2
 
 pub reads_shown : Reads
-unfolding consistent column_entry greatest greatest_of cycle_at is_start last_alone runs_alone descends_from origin writer writer_before last_place writes descends descends_in reads front
+unfolding consistent column_entry greatest greatest_of cycle_at is_start last_alone runs_alone descends_from origin stale writer writer_before last_place writes descends descends_in reads front
 reads_shown = record {
   read = omega arith;
   not_read = λ h. omega arith;
-  shares_one = All-from_recursion (λ r. writer (front one_written 1) r.item ≡ origin one_written r) first_then_next (refl, (refl, tt));
-  not_two = λ h. let e : Some 1 ≡ None = h 0 (at 0 1) (omega arith) in cc;
+  shares_one = All-from_recursion (λ r. stale one_written r 1 ≡ false) first_then_next (refl, (refl, tt));
+  not_two = λ h. let e : true ≡ false = h 0 (at 0 1) (omega arith) in cc;
   consistent_apart = refl;
   not_consistent = λ h. let e : false ≡ true = h in cc;
   entry = refl;
@@ -235,7 +235,7 @@ both_pass policy H one two (suc (suc k)) d l = absurd (omega arith)
 pub accepted : Accepted
 unfolding passes current_cycle clash_by_history is_late least stale consistent last_alone runs_alone descends_from origin column_entry vector_entry greatest writer writer_before last_place writes descends descends_in reads front cycle_at is_start
 accepted =
-    let shared : SharesCycle one_written first_then_next 1 = All-from_recursion (λ r. writer (front one_written 1) r.item ≡ origin one_written r) first_then_next (refl, (refl, tt)) in
+    let shared : SharesCycle one_written first_then_next 1 = All-from_recursion (λ r. stale one_written r 1 ≡ false) first_then_next (refl, (refl, tt)) in
     record {
       heard_column = record { cycle = omega arith; within = omega arith; entries = refl };
       heard_vector = record { cycle = omega arith; within = omega arith; entries = refl };
@@ -248,8 +248,8 @@ accepted =
       accepts_f = both_pass FMatrix apart refl refl;
       not_accepted = λ h. let e : false ≡ true = h 1 (at 0 0) (omega arith) in cc;
       shares_current = shared;
-      shares_newest = All-from_recursion (λ r. writer (front one_written 2) r.item ≡ origin one_written r) (at 1 1 ∷ at 0 2 ∷ []) (refl, (refl, tt));
-      not_shared = λ h. let e : Some 1 ≡ None = h 0 (at 0 1) (omega arith) in cc;
+      shares_newest = All-from_recursion (λ r. stale one_written r 2 ≡ false) (at 1 1 ∷ at 0 2 ∷ []) (refl, (refl, tt));
+      not_shared = λ h. let e : true ≡ false = h 0 (at 0 1) (omega arith) in cc;
       sound_r = record {
         consistent = refl;
         shared = shared;

@@ -10,7 +10,7 @@ use Rattle.air_history.specs.Consistency.{alone, consistent, descends_from, last
 use Rattle.air_history.specs.Descents.{descends, descends_in}
 use Rattle.air_history.specs.Histories.{cycle_at, front, is_start, reads, starts, writer, writer_before, writes}
 use Rattle.air_history.specs.Places.{greatest, last_place}
-use Rattle.air_history.specs.Reads.{origin}
+use Rattle.air_history.specs.Reads.{origin, stale}
 use Rattle.air_history.specs.Tables.{BasesRead, based, table, value_after, write_of}
 use Rattle.air_model.specs.Buckets.{Column}
 use Rattle.air_model.specs.Copies.{keep, with_copy, without}
@@ -87,7 +87,7 @@ pub record NoLines : Type 0 where
   wrong_value : IsSoundLine (values_in pair) FMatrix (script_history pair) (line 0 1 Accept (read 0 1 10 ∷ read 1 1 21 ∷ [])) → ⊥
 
 pub no_lines : NoLines
-unfolding script_history event_of consistent alone picked last_alone runs_alone descends_from origin writer writer_before last_place writes descends descends_in reads front cycle_at is_start starts table value_after write_of based BasesRead
+unfolding script_history event_of consistent alone picked last_alone runs_alone descends_from origin stale writer writer_before last_place writes descends descends_in reads front cycle_at is_start starts table value_after write_of based BasesRead
 no_lines = record {
   accepted_not_consistent = λ h. let e : false ≡ true = (h.accepted.0 refl).1 in false≢true e;
   unfinished_not_consistent = λ h. let e : false ≡ true = (h.unfinished.0 refl).0 in false≢true e;
@@ -95,7 +95,7 @@ no_lines = record {
   accepted_part = λ h. let e : 0 ∷ [] ≡ 0 ∷ 1 ∷ [] = (h.accepted.0 refl).0 in cc;
   unfinished_whole = λ h. (h.unfinished.0 refl).1 refl;
   not_consistent = λ h. let e : false ≡ true = h.reads.consistent in false≢true e;
-  not_shared = λ h. let e : Some 1 ≡ None = h.reads.shared 0 (record { item = 0; cycle = 1 }) (omega arith) in cc;
+  not_shared = λ h. let e : true ≡ false = h.reads.shared 0 (record { item = 0; cycle = 1 }) (omega arith) in cc;
   wrong_value = λ h. let e : 21 ≡ 20 = h.replayed (All-from_recursion BasesRead (script_history pair) (tt, tt)) 1 (read 1 1 21) (omega arith) in omega arith;
 }
 

@@ -6,13 +6,12 @@ use Rattle.std.proofs.lemmas.List.Elements.{All-head, All-tail, All-cons, All-pu
 use Rattle.air_base.specs.declared.verdicts.Policy.{Policy}
 use Rattle.air_base.specs.declared.verdicts.Policy.TheVariants.{FMatrix, Datacycle, RMatrix}
 use Rattle.air_history.specs.declared.histories.Event.{Event}
-use Rattle.air_history.specs.Histories.{front, writer}
-use Rattle.air_history.specs.Reads.{ReadAt, IsRead, origin, stale, newest_cycle, first_cycle, last_cycle}
+use Rattle.air_history.specs.Reads.{ReadAt, IsRead, stale, newest_cycle, first_cycle, last_cycle}
 use Rattle.air_history.specs.Consistency.{IsConsistent, consistent}
 use Rattle.air_history.specs.ConsistencyLaws.{SharesCycle}
 use Rattle.air_history.specs.Clashes.{is_late, clash_by_history, IsCurrent}
 use Rattle.air_history.specs.ClashLaws.{Accepts, IsSound, passes, cycle_in, current_cycle}
-use Rattle.history_laws.proofs.StaleLemmas.{fresh_same, same_origin_says}
+use Rattle.history_laws.proofs.StaleLemmas.{stale_self, same_origin_says}
 use Rattle.history_laws.proofs.PolicyLemmas.{stays_consistent, stays_current, takes, stays_between, one_cycle}
 use Rattle.std.specs.Prelude.{is_none}
 use Rattle.std.specs.Option.{option_map_or}
@@ -62,14 +61,14 @@ kept_none RMatrix H = (λ k d l. absurd (omega arith), omega arith, omega arith)
 
 r_matrix_more : (H : List Event) (R : List ReadAt) (x : ReadAt) (g : ℕ) → IsKept RMatrix H R g → is_late RMatrix R x ≡ false → clash_by_history RMatrix H R x ≡ None →
     (b : Bool) → list_all (λ r. not (stale H r x.cycle)) R ≡ b → IsKept RMatrix H (R ++ x ∷ []) (cond b x.cycle g)
-unfolding is_late origin
+unfolding is_late
 r_matrix_more H R x g k late none true e =
     let le = ltb-false x.cycle (last_cycle R) late in
     let last = last_push R x in
     let low = k.1 in
     let high = k.2 in
     let fresh = all_from (λ r. not (stale H r x.cycle)) R e in (
-      All-push (λ r. writer (front H x.cycle) r.item ≡ origin H r) R x (λ i d l. fresh_same H (get_or R i d) x.cycle (not-true _ (fresh i d l))) refl,
+      All-push (λ r. stale H r x.cycle ≡ false) R x (λ i d l. not-true _ (fresh i d l)) (stale_self H x),
       elim (first_push R x) as (λ _. first_cycle (R ++ x ∷ []) ≤ x.cycle) [ inl same ↦ omega arith | inr new ↦ (let f = new.1 in omega arith) ],
       omega arith,
     )
@@ -160,15 +159,11 @@ kept_of_first p H R are accepts (suc n) l =
     (kept_more p H (take n R) (get_or R n no_read) (cycle_of_first H R n) (all_take R n are (omega arith)) (are n no_read within)
     (kept_of_first p H R are accepts n (omega arith)) passed.0 passed.1))
 
--- current reads share the newest cycle
-current_shares : (H : List Event) (R : List ReadAt) → IsCurrent H R → SharesCycle H R (newest_cycle R)
-current_shares H R h = λ k d l. fresh_same H (get_or R k d) (newest_cycle R) (h k d l)
-
 kept_sound : (p : Policy) (H : List Event) (R : List ReadAt) → All IsRead R → IsKept p H R (current_cycle H R) → IsSound p H R
 kept_sound FMatrix H R are k = record { consistent = k; shared = tt }
 kept_sound Datacycle H R are k = record {
-  consistent = one_cycle H R (newest_cycle R) are (current_shares H R k);
-  shared = current_shares H R k;
+  consistent = one_cycle H R (newest_cycle R) are k;
+  shared = k;
 }
 kept_sound RMatrix H R are k = record {
   consistent = one_cycle H R (current_cycle H R) are k.0;

@@ -15,7 +15,7 @@ use Rattle.air_history.proofs.PlaceLemmas.{IsLast, last_unique, place_at}
 use Rattle.air_history.proofs.HistoryLemmas.{front_cycle, writer_no_start, writes_within, front_holds, descends_le}
 use Rattle.air_history.proofs.ScanLemmas.{front_writer_is}
 use Rattle.history_laws.proofs.ConsistencyLemmas.{consistent_from_clear, entry_below, more}
-use Rattle.history_laws.proofs.StaleLemmas.{writer_is, stale_self, origin_of}
+use Rattle.history_laws.proofs.StaleLemmas.{writer_is, stale_self, origin_of, fresh_same, same_fresh}
 use Rattle.history_laws.proofs.NamedLemmas.{none_named, named_none}
 
 -- ---- F-Matrix
@@ -126,21 +126,21 @@ between H i a g c ag gc o ec ea = last_unique (length (front H g)) (λ q. writes
 
 -- where x's item has at x's cycle the origin that it had at the first held cycle, the reads with x stay those of the cycle g
 pub stays_between : (H : List Event) (first g : ℕ) (R : List ReadAt) (x : ReadAt) → first ≤ g → g ≤ x.cycle → SharesCycle H R g → writer (front H x.cycle) x.item ≡ writer (front H first) x.item → SharesCycle H (R ++ x ∷ []) g
-stays_between H first g R x fg gc one same = All-push (λ r. writer (front H g) r.item ≡ origin H r) R x one
-    (between H x.item first g x.cycle fg gc (writer (front H x.cycle) x.item) refl (sym same) ∙ sym (origin_of H x.item x.cycle))
+stays_between H first g R x fg gc one same = All-push (λ r. stale H r g ≡ false) R x one
+    (same_fresh H x g (between H x.item first g x.cycle fg gc (writer (front H x.cycle) x.item) refl (sym same) ∙ sym (origin_of H x.item x.cycle)))
 
 -- ---- reads that share a cycle
 
 -- reads of one cycle are clear of each other
 pub one_cycle : (H : List Event) (R : List ReadAt) (g : ℕ) → All IsRead R → SharesCycle H R g → IsConsistent H R
 unfolding descends_from origin
-one_cycle H R c are same = consistent_from_clear H R (λ k l d lk ll.
+one_cycle H R c are fresh = consistent_from_clear H R (λ k l d lk ll.
     entry_below H (get_or R l d) (get_or R k d).item (get_or R k d).cycle (are k d lk) (λ p e w.
     let v = place_at (origin H (get_or R l d)) (λ o. descends H o p) e in
     let low = descends_le H v.0 p v.2 in
-    let from = (writer_is H c (get_or R l d).item (Some v.0) (same l d ll ∙ v.1)).0 in
+    let from = (writer_is H c (get_or R l d).item (Some v.0) (fresh_same H (get_or R l d) c (fresh l d ll) ∙ v.1)).0 in
     let inside : p < length (front H c) = omega arith in
-    own (get_or R k d) p (origin H (get_or R k d)) (same k d lk) refl inside w))
+    own (get_or R k d) p (origin H (get_or R k d)) (fresh_same H (get_or R k d) c (fresh k d lk)) refl inside w))
   where
     own : (r : ReadAt) (p : ℕ) (o : Option ℕ) → writer (front H c) r.item ≡ o → origin H r ≡ o → p < length (front H c) → writes (event_at H p) r.item ≡ true → cycle_at H p < r.cycle
     own r p None e f inside w = absurd (both_ways (writes (event_at H p) r.item) (writer_is H c r.item None e p inside) w)
