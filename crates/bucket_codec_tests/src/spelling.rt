@@ -1,6 +1,6 @@
 //! Worked buckets written as bytes.
 //!
-//! Each is written to the front of a slice that is longer by some bytes, which stay as they are.
+//! Each is written into a slice of just its size, and to the front of a longer one, whose further bytes stay as they are.
 
 use crate::ranges::in_range;
 use crate::worked::{FIRST, IDLE, VECTOR};
@@ -11,17 +11,18 @@ use std::test::Fail;
 /// A bucket and its bytes.
 type Case<'a> = (Bucket<'a>, &'a [u8]);
 
-/// In what the bucket is written otherwise than told.
+/// In what the bucket is written otherwise than told, into a slice with so many bytes behind it.
 fn difference(
     alloc: Global,
     bucket: &Bucket<'_>,
     told: &[u8],
+    behind: u8,
 ) -> Result<Option<&'static str>, Fail> {
     let size = size_of(bucket);
     if !in_range(bucket) || size != told.len() {
         return Ok(Some("the size"));
     }
-    let mut out = vec![in alloc; 0xee; 2000]?;
+    let mut out = vec![in alloc; 0xee; told.len() + behind as usize]?;
     if size > out.len() || encode(bucket, &mut out) != size {
         return Ok(Some("the number of bytes written"));
     }
@@ -36,9 +37,13 @@ fn difference(
 }
 
 /// Returns the place of the first bucket that is written otherwise than told, and in what.
-fn first_other(alloc: Global, cases: &[Case<'_>]) -> Result<Option<(usize, &'static str)>, Fail> {
+fn first_other(
+    alloc: Global,
+    cases: &[Case<'_>],
+    behind: u8,
+) -> Result<Option<(usize, &'static str)>, Fail> {
     for (place, (bucket, told)) in cases.iter().enumerate() {
-        if let Some(what) = difference(alloc, bucket, told)? {
+        if let Some(what) = difference(alloc, bucket, told, behind)? {
             return Ok(Some((place, what)));
         }
     }
@@ -74,6 +79,8 @@ fn worked_buckets_are_spelled(rt: HostRuntime) -> Result<(), Fail> {
         body: Body::Idle { count: 2 },
     };
     let cases = [(column, FIRST), (vector, VECTOR), (idle, IDLE)];
-    assert_eq!(rt; first_other(rt.alloc(), &cases)?, None);
+    let exact = first_other(rt.alloc(), &cases, 0)?;
+    let longer = first_other(rt.alloc(), &cases, 8)?;
+    assert_eq!(rt; (exact, longer), (None, None));
     Ok(())
 }

@@ -27,9 +27,9 @@ fn write_all(records: &[&[u8]], out: &mut [u8]) -> Option<usize> {
     Some(at)
 }
 
-/// Whether the records make the tape, and leave the bytes behind it as they are.
-fn make(alloc: Global, records: &[&[u8]], tape: &[u8]) -> Result<bool, Fail> {
-    let mut out = vec![in alloc; 0xee; 108]?;
+/// Whether the records make the tape, and leave the bytes behind it, of which there are so many, as they are.
+fn make(alloc: Global, records: &[&[u8]], tape: &[u8], behind: u8) -> Result<bool, Fail> {
+    let mut out = vec![in alloc; 0xee; tape.len() + behind as usize]?;
     let Some(len) = write_all(records, &mut out) else {
         return Ok(false);
     };
@@ -38,9 +38,13 @@ fn make(alloc: Global, records: &[&[u8]], tape: &[u8]) -> Result<bool, Fail> {
 }
 
 /// Returns the place of the first records that don't make the tape.
-fn first_other(alloc: Global, cases: &[(&[&[u8]], &[u8])]) -> Result<Option<usize>, Fail> {
+fn first_other(
+    alloc: Global,
+    cases: &[(&[&[u8]], &[u8])],
+    behind: u8,
+) -> Result<Option<usize>, Fail> {
     for (place, (records, tape)) in cases.iter().enumerate() {
-        if !make(alloc, records, tape)? {
+        if !make(alloc, records, tape, behind)? {
             return Ok(Some(place));
         }
     }
@@ -54,7 +58,9 @@ fn records_make_the_tape(rt: HostRuntime) -> Result<(), Fail> {
         (&[FIRST, SECOND], TAPE),
         (&[&[]], &[0, 0, 0, 0]),
     ];
-    assert_eq!(rt; first_other(rt.alloc(), &cases)?, None);
+    let exact = first_other(rt.alloc(), &cases, 0)?;
+    let longer = first_other(rt.alloc(), &cases, 36)?;
+    assert_eq!(rt; (exact, longer), (None, None));
     Ok(())
 }
 
