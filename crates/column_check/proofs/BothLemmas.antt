@@ -4,10 +4,10 @@ use Rattle.std.proofs.Common.{◌≡◌, ◌<◌, ◌≤◌, ◌||◌, ◌⊎◌
 use Rattle.std.specs.Prelude.{Any, MatchOption}
 use Rattle.std.proofs.lemmas.Bool.{cases_lt, leb-true, leb-false, both_ways}
 use Rattle.air_base.specs.declared.verdicts.Clash.{Clash}
-use Rattle.air_history.specs.Clashes.{Heard, heard_clash}
+use Rattle.air_history.specs.Clashes.{Heard, entry_of, heard_clash}
 use Rattle.air_history.specs.HeldReads.{HeldReads}
 use Rattle.column_check.specs.Searches.{clash_of, disagree}
-use Rattle.column_check.specs.HeldCycles.{held_cycle, cycles_of, new_has, held_has, lesser_of_both, IsFirstClash}
+use Rattle.column_check.specs.HeldCycles.{held_cycle, cycles_of, held_has, lesser_of_both, IsFirstClash}
 use Rattle.column_check.proofs.LeastFacts.{none_passes, some_passes, IsLeastOf}
 use Rattle.column_check.proofs.ArrayLemmas.{cycle_at, is_held}
 
@@ -23,6 +23,10 @@ search_names test R = by (heard_clash test R) refl
     by (Some c) e = some_passes test R c e
 
 -- ---- the array
+
+-- whether the column of the new read x has the held read's item at its cycle or later
+abbrev new_has : Heard → Heard → Bool
+new_has x r = nat_le r.cycle (entry_of x r.item)
 
 le_false : (a b : ℕ) → b < a → nat_le a b ≡ false
 le_false a b l = grind arith

@@ -18,10 +18,6 @@ held_cycle (r ∷ R) i = cond (r.item == i) r.cycle (held_cycle R i)
 abbrev pub cycles_of : HeldReads → List ℕ
 cycles_of held = map (held_cycle held.reads) (range_with_len 0 held.n)
 
--- whether the column of the new read x has the held read's item at its cycle or later
-abbrev pub new_has : Heard → Heard → Bool
-new_has x r = nat_le r.cycle (entry_of x r.item)
-
 -- whether the column of the held read has the item at the cycle or later
 abbrev pub held_has : ℕ → ℕ → Heard → Bool
 held_has item cycle r = nat_le cycle (entry_of r item)
