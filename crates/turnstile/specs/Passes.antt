@@ -4,7 +4,7 @@ use Rattle.std.specs.Prelude.{ℕ, List, [], ◌∷◌, ◌++◌, Option, Some, 
 use Rattle.atomic_table.specs.Seated.{TableId}
 use Rattle.turnstile.specs.Entries.{longer}
 
--- which turnstile it is: no two have the same
+-- which turnstile it is
 abbrev pub GateId : Type 0
 GateId = TableId
 

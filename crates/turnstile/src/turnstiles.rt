@@ -23,7 +23,7 @@ use std::{hint, thread};
 /// How many times a wait looks again at once, before it yields.
 const SPINS: u32 = 100;
 
-/// A lock round one value, which goes from pass to pass in the order of their tickets.
+/// A lock round one value, which goes from pass to pass.
 #[derive(Drop)]
 pub struct Turnstile<K: Chronicle> {
     table: Table<Option<K>, View<K::Entry, K::Base>, About<K>, Rule, Global>,
@@ -43,7 +43,8 @@ impl<K: Chronicle> Model for Turnstile<K> {
     ghost invariant = { λ t. (t.table.shared.table_id.words ≡ 2) × (t.table.shared.table_id.slots ≡ 1) };
 }
 
-/// Lets others go on: the processor at first, and after some rounds the thread. Gives the number of rounds.
+/// Lets others go on: the processor at first, and after some rounds the thread. Gives the number of rounds. No clause speaks
+/// of it.
 fn pause(rounds: u32) -> u32 {
     if rounds < SPINS {
         hint::spin_loop();
