@@ -99,7 +99,18 @@ pub fn finish(gate: Turnstile<Pairs>, mut workers: Vec<Worker>, passes: u32, mar
     gate.close(all)
 }
 
-/// A turnstile of so many passes round an empty list, each pass with so many turns, by so many threads: the list at the end.
+/// Whether each worker's last turns all had memory.
+fn all_done(workers: &[Worker]) -> bool {
+    for worker in workers {
+        if !worker.done {
+            return false;
+        }
+    }
+    true
+}
+
+/// A turnstile of so many passes round an empty list, each pass with so many turns, by so many threads: the list at the end,
+/// or `NoMemory` where a turn had none.
 pub fn play<R: Threads + Wait + Sync>(
     rt: &R,
     alloc: Global,
@@ -123,5 +134,8 @@ pub fn play<R: Threads + Wait + Sync>(
         threads,
         turns,
     );
+    if !all_done(&workers) {
+        return Err(NoMemory);
+    }
     Ok(finish(gate, workers, passes, mark))
 }

@@ -1,12 +1,15 @@
 //! The lists that come out: as many pairs as turns were made, and the pairs of each pass in its order.
-ghost use Rattle.std.specs.Prelude.{◌<◌};
+ghost use Rattle.std.specs.Prelude.{◌≡◌, ◌<◌, ℕ, length, slice_index_or, All};
+ghost use Rattle.turnstile_tests.specs.Workers.{IsReady};
 
-use crate::rounds::play;
+use crate::pairs::Pairs;
+use crate::rounds::{finish, hire, pass_all, play, work_all};
+use crate::workers::Worker;
 use std::alloc::Global;
 use std::sync::Wait;
 use std::test::Fail;
 use std::thread::Threads;
-use turnstile::NoMemory;
+use turnstile::{NoMemory, Turnstile};
 
 /// A turnstile's passes, the threads that work, and the turns of each pass.
 #[derive(Drop)]
@@ -79,5 +82,61 @@ fn sixteen_passes_are_joined_from_the_last_to_the_first(rt: HostRuntime) -> Resu
         turns: 25,
     };
     assert_eq!(rt; played(&rt, rt.alloc(), &case)?, (77, 400, None));
+    Ok(())
+}
+
+/// Lets each worker go through fifty times before its turns and fifty times after them.
+fn go_and_work<R: Threads + Wait + Sync>(
+    rt: &R,
+    gate: &Turnstile<Pairs>,
+    passes: u32,
+    workers: &mut [Worker],
+    threads: usize,
+    turns: u64,
+)
+    requires some { 0 < threads }
+    requires ready { All (λ w. IsReady gate.now passes 6 w) workers.old }
+    ensures ready { All (λ w. IsReady gate.now passes 6 w) workers.new }
+    ensures same { (k : ℕ) (d : _) → k < length workers.old → (slice_index_or workers.new k d).by ≡ (slice_index_or workers.old k d).by }
+{
+    pass_all(rt, gate, passes, 6, workers, threads, 50);
+    work_all(rt, gate, passes, 6, workers, threads, turns);
+    pass_all(rt, gate, passes, 6, workers, threads, 50);
+}
+
+/// A turnstile round an empty list, through which each pass goes beside its turns: the mark at the end, and what `read`
+/// finds.
+fn gone_through<R: Threads + Wait + Sync>(
+    rt: &R,
+    alloc: Global,
+    case: &Case,
+) -> Result<(u64, usize, Option<u64>), NoMemory>
+    requires { (0 < case.now.passes) × (0 < case.now.threads) }
+{
+    let (passes, threads) = (case.passes, case.threads);
+    let items = Vec::new(alloc);
+    let (gate, all) = Turnstile::new(alloc, Pairs { items, mark: 6 }, passes)?;
+    let mut workers = hire(alloc, &gate, all, 6)?;
+    go_and_work(
+        rt,
+        &gate,
+        passes,
+        workers.as_mut_slice(),
+        threads,
+        case.turns,
+    );
+    let pairs = finish(gate, workers, passes, 6);
+    let (count, other) = read(pairs.items.as_slice(), case);
+    Ok((pairs.mark, count, other))
+}
+
+#[test]
+fn going_through_adds_nothing(rt: HostRuntime) -> Result<(), Fail> {
+    let case = Case {
+        passes: 4,
+        threads: 3,
+        turns: 7,
+    };
+    assert_eq!(rt; gone_through(&rt, rt.alloc(), &case)?, (6, 28, None));
     Ok(())
 }
