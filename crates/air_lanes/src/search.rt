@@ -9,7 +9,7 @@ ghost use Rattle.air_lanes.specs.Kernels.{IsAnswer};
 use std::simd::prelude::*;
 use std::simd::{u32x8, u32x32};
 
-/// A bit for each of the thirty-two places from one on at which the column isn't below what is held.
+/// Bits that are 0 only where the column is below what is held at all thirty-two places from one on.
 fn group_bits(column: &[u32], held: &[u32], at: usize) -> u64
     requires room { at + 32 ≤ length column.now }
     requires same { length held.now ≡ length column.now }
