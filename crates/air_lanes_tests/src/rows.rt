@@ -3,8 +3,11 @@
 use std::alloc::Global;
 use std::test::Fail;
 
-/// No entry, around one and two blocks of eight, around a small and at a large number of items, and the most.
-pub const LENGTHS: [usize; 12] = [0, 1, 7, 8, 9, 15, 16, 17, 255, 256, 1024, 65535];
+/// No entry, around one and two blocks of eight, around one and two groups of thirty-two, around a small and at a large
+/// number of items, and the most.
+pub const LENGTHS: [usize; 18] = [
+    0, 1, 7, 8, 9, 15, 16, 17, 31, 32, 33, 63, 64, 65, 255, 256, 1024, 65535,
+];
 
 /// A row of that many entries by a linear congruence: small and large ones, half of them from 2^31 on.
 pub fn row(alloc: Global, length: usize, seed: u32) -> Result<Vec<u32>, Fail> {
