@@ -3,4 +3,4 @@ pub mod MemoryFacts
 pub mod CallFacts
 pub mod WrittenFacts
 pub mod RecordFacts
-pub mod ReadFacts
+pub mod ReadFileFacts

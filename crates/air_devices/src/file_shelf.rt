@@ -3,7 +3,8 @@
 //! It tells nothing of what it holds, since no contract can say what a file keeps. One number stands for all of
 //! its counts, and rises at each failure; what the system said of the last one is kept. It reads on in the file that
 //! was picked last, and of another name it reads nothing. It changes no file that it has read, whatever the name: such
-//! an output is refused before it is touched. No call takes memory.
+//! an output is refused before it is touched. It has room for sixteen such files, and for names of 4,096 bytes: a pick
+//! past either fails. No call takes memory.
 
 ghost use Rattle.std.specs.Prelude.{◌≡◌, ◌≢◌, ◌≤◌, ◌<◌, None, Some, length, IsErr, IsSome, OnErr, OnOk};
 ghost use Rattle.std.specs.Io.{ReadsAtMost};

@@ -3,7 +3,7 @@
 //! All memory is taken when it is made. Its calls are numbered together from 1, and a call whose number is listed
 //! fails. So does a send past the room, of which nothing is kept: a bucket takes its own bytes and four more.
 
-ghost use Rattle.std.specs.Prelude.{◌≡◌, ◌≤◌, ◌<◌, ◌^◌, ◌↔◌, [], ◌∷◌, Some, length, IfOk, IsErr, IsTrue, OnErr, OnOk};
+ghost use Rattle.std.specs.Prelude.{◌≡◌, ◌<◌, ◌^◌, ◌↔◌, [], ◌∷◌, Some, length, IfOk, IsErr, IsTrue, OnErr, OnOk};
 ghost use Rattle.std.specs.Option.{is_some};
 ghost use Rattle.air_model.specs.Tapes.{tape_of};
 ghost use Rattle.air_devices.specs.Calls.{is_next_listed};

@@ -4,7 +4,7 @@
 //! fails. So does a pick of a name that is no file's, a create or an append of a name that is no output's, and a
 //! write past the room, of which what fits is added.
 
-ghost use Rattle.std.specs.Prelude.{◌≡◌, ◌≤◌, ◌<◌, ◌+◌, ◌-◌, ◌^◌, ◌++◌, ◌||◌, ◌↔◌, ℕ, List, [], Some, drop, length, map, min, position, take, IfOk, IfSome, IsErr, IsTrue, OnErr, OnOk};
+ghost use Rattle.std.specs.Prelude.{◌≡◌, ◌<◌, ◌+◌, ◌-◌, ◌^◌, ◌++◌, ◌||◌, ◌↔◌, ℕ, List, [], Some, drop, length, map, min, position, take, IfOk, IfSome, IsErr, IsTrue, OnErr, OnOk};
 ghost use Rattle.std.specs.Io.{ReadsAtMost};
 ghost use Rattle.std.specs.Io.KnownBytes.{Appends, ReadConsumes};
 ghost use Rattle.std.specs.Option.{is_none, option_map};

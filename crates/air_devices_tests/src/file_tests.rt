@@ -4,7 +4,7 @@
 //! file keeps, so that the shelf reads the file it is asked for, and changes none that it has read, is shown here.
 
 use crate::shelves::{Call, first_other};
-use air_devices::{Failed, FileCall, FileShelf};
+use air_devices::{Failed, FileCall, FileFailure, FileShelf};
 use std::alloc::Global;
 use std::io::ErrorKind;
 use std::os::unix::fs::symlink;
@@ -117,30 +117,41 @@ fn an_output_that_is_a_file_that_was_read_is_left_as_it_was(rt: HostRuntime) -> 
     Ok(())
 }
 
-/// A call, and what the shelf then says of its last failure: the call, the name, the error, and all as a text.
+/// A call, and what the shelf then says of its last failure: what was done, the name, the error, and all as a text.
 #[derive(Drop)]
 struct Said<'a> {
     call: Call<'a>,
-    of: (FileCall, &'a str, ErrorKind),
+    done: FileCall,
+    name: &'a str,
+    kind: ErrorKind,
     text: &'a str,
 }
 
+/// Whether a failure is the one that is told.
+fn is_said(alloc: Global, failure: &FileFailure, said: &Said<'_>) -> Result<bool, Fail> {
+    let text = format!(in alloc; "{failure}")?;
+    Ok(
+        failure.call() == said.done
+            && failure.name() == said.name
+            && failure.error().kind() == said.kind
+            && text.as_str() == said.text,
+    )
+}
+
 /// The place of the first call after which the shelf says something else.
-fn first_said_otherwise<S: Files + Print + Drop>(
+fn first_said_otherwise<R: Files + Print + Drop>(
     alloc: Global,
-    shelf: &mut FileShelf<S>,
+    shelf: &mut FileShelf<R>,
     said: &[Said<'_>],
 ) -> Result<Option<usize>, Fail> {
-    for (place, case) in said.iter().enumerate() {
-        if first_other(alloc, shelf, slice::from_ref(&case.call)).is_some() {
+    for (place, said) in said.iter().enumerate() {
+        if first_other(alloc, shelf, slice::from_ref(&said.call)).is_some() {
             return Ok(Some(place));
         }
         let Some(failure) = shelf.last_failure() else {
             return Ok(Some(place));
         };
-        let text = format!(in alloc; "{failure}")?;
-        let of = (failure.call(), failure.name(), failure.error().kind());
-        if of != case.of || text.as_str() != case.text {
+        if !is_said(alloc, failure, said)? {
             return Ok(Some(place));
         }
     }
@@ -154,22 +165,30 @@ fn a_shelf_keeps_what_the_system_said_of_its_last_failure(rt: HostRuntime) -> Re
     let said = [
         Said {
             call: Call::Pick("failed.none", Err(Failed)),
-            of: (FileCall::Pick, "failed.none", ErrorKind::NotFound),
+            done: FileCall::Pick,
+            name: "failed.none",
+            kind: ErrorKind::NotFound,
             text: none,
         },
         Said {
             call: Call::Pick("failed.deck", Ok(())),
-            of: (FileCall::Pick, "failed.none", ErrorKind::NotFound),
+            done: FileCall::Pick,
+            name: "failed.none",
+            kind: ErrorKind::NotFound,
             text: none,
         },
         Said {
             call: Call::Read("failed.tape", Err(Failed)),
-            of: (FileCall::Read, "failed.tape", ErrorKind::Other),
+            done: FileCall::Read,
+            name: "failed.tape",
+            kind: ErrorKind::Other,
             text: "reading failed.tape: another file was opened last",
         },
         Said {
             call: Call::Create("failed.deck", Err(Failed)),
-            of: (FileCall::Create, "failed.deck", ErrorKind::Other),
+            done: FileCall::Create,
+            name: "failed.deck",
+            kind: ErrorKind::Other,
             text: "creating failed.deck: it is a file that was read",
         },
     ];
