@@ -87,7 +87,7 @@ pub record KeptCopies : Type 0 where
   )
   -- a late read isn't offered to the copies: with room for two that of item 2 stays, and is used in the last query
   late_not_kept : over (by_entries (scheme_of RMatrix)) (three_items ((2 ∷ []) ∷ (0 ∷ 1 ∷ []) ∷ (2 ∷ []) ∷ [])) (
-    heard_of_three 2 4 (0 ∷ 0 ∷ 0 ∷ []) ∷ heard_of_three 0 4 (0 ∷ 0 ∷ 0 ∷ []) ∷ heard_of_three 1 2 (0 ∷ 0 ∷ 0 ∷ []) ∷ heard_of_three 1 5 (4 ∷ 4 ∷ 0 ∷ []) ∷ [])
+      heard_of_three 2 4 (0 ∷ 0 ∷ 0 ∷ []) ∷ heard_of_three 0 4 (0 ∷ 0 ∷ 0 ∷ []) ∷ heard_of_three 1 2 (0 ∷ 0 ∷ 0 ∷ []) ∷ heard_of_three 1 5 (4 ∷ 4 ∷ 0 ∷ []) ∷ [])
       ≡ (line 0 1 Accept (read 2 4 30 ∷ []) ∷ line 1 1 (Abort 1 5 0) (read 0 4 10 ∷ []) ∷ line 2 1 Accept (read 2 4 30 ∷ []) ∷ [], counts 3 0 1 0 0 1)
   -- under R-Matrix a copy of an older cycle than the last read's is late, and is dropped
   late_copy : over (by_entries (scheme_of RMatrix)) (judged_by RMatrix (two_items 1 1 (2, 9, 1) ((1 ∷ []) ∷ (0 ∷ 1 ∷ []) ∷ []) [])) (heard_vector 1 2 ∷ heard_vector 0 4 ∷ [])
