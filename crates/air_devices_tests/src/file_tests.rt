@@ -44,6 +44,21 @@ fn files_are_written_and_read_back(rt: HostRuntime) -> Result<(), Fail> {
 }
 
 #[test]
+fn an_emptied_file_is_read_whole_as_no_bytes(rt: HostRuntime) -> Result<(), Fail> {
+    let calls = [
+        Call::Create("emptied.deck", Ok(())),
+        Call::Append("emptied.deck", b"item", Ok(())),
+        Call::Create("emptied.deck", Ok(())),
+        Call::ReadWhole("emptied.deck", 0, b""),
+    ];
+    let mut shelf = FileShelf::new(rt.clone()?);
+    let other = first_other(rt.alloc(), &mut shelf, &calls);
+    fs::remove_file(&rt, "emptied.deck")?;
+    assert_eq!(rt; other, None);
+    Ok(())
+}
+
+#[test]
 fn a_read_of_another_name_than_the_one_picked_last_fails(rt: HostRuntime) -> Result<(), Fail> {
     fs::write(&rt, "picked.deck", b"item")?;
     fs::write(&rt, "picked.tape", b"tape")?;
