@@ -1,4 +1,4 @@
-//! Whole cycles over the programs of decks, and how long tapes are.
+//! Whole cycles over the programs of decks.
 //!
 //! The two-item deck airs two buckets in a cycle. The deck of four items airs item 0 twice, and has one idle slot. Two decks
 //! have three items (10, 20, 30). There item 0 is set to 11, item 2 to item 0 plus 1, item 1 to item 2 plus 1, all in
@@ -8,13 +8,13 @@ use crate::boards::{Step, made};
 use crate::tapes::{Slot, cycle_tape};
 use air_base::Policy;
 use air_devices::MemMast;
-use air_sender::{AirFault, TapeMast, air_cycle, tape_bytes};
+use air_sender::{AirFault, TapeMast, air_cycle};
 use std::alloc::Global;
 use std::process::Abort;
 use std::test::Fail;
 
 /// Two items of one rate on one disk.
-const TWO: &str = "item,0,10,1\nitem,1,20,1\ndisk,2,1\n";
+pub const TWO: &str = "item,0,10,1\nitem,1,20,1\ndisk,2,1\n";
 
 /// The tape of its first cycle.
 const TWO_TAPE: [u8; 72] = [
@@ -24,7 +24,7 @@ const TWO_TAPE: [u8; 72] = [
 ];
 
 /// Item 0 on a disk that is aired twice, the three others on one that is aired once: slots 0 1 2 0 3 and an idle one.
-const FOUR: &str = "item,0,5,3\nitem,1,6,2\nitem,2,7,2\nitem,3,8,2\ndisk,1,2\ndisk,3,1\n";
+pub const FOUR: &str = "item,0,5,3\nitem,1,6,2\nitem,2,7,2\nitem,3,8,2\ndisk,1,2\ndisk,3,1\n";
 
 /// Three items on one disk that is aired twice: slots 0 1 2 0 1 2.
 const THREE: &str = "item,0,10,1\nitem,1,20,1\nitem,2,30,1\ndisk,3,2\n";
@@ -67,11 +67,16 @@ enum Other {
     BytesBehindTheBuckets,
 }
 
-/// Airs a case's cycle, and tells in what it went otherwise. The buffer is four bytes longer than the longest bucket.
-fn other_in(rt: &impl Abort, alloc: Global, case: &Case<'_>) -> Result<Option<Other>, Fail> {
+/// Airs a case's cycle, and tells in what it went otherwise. The buffer has so many bytes behind the longest bucket.
+fn other_with(
+    rt: &impl Abort,
+    alloc: Global,
+    case: &Case<'_>,
+    behind: u8,
+) -> Result<Option<Other>, Fail> {
     let (program, board) = made(rt, alloc, case.deck, case.steps)?;
     let long = 24 + 4 * usize::from(board.n());
-    let mut buf = vec![in alloc; 0xeeu8; long + 4]?;
+    let mut buf = vec![in alloc; 0xeeu8; long + usize::from(behind)]?;
     let (answer, sent) = match case.on {
         On::Tape => {
             let mut mast = TapeMast::new(alloc, case.room as u64)?;
@@ -90,21 +95,33 @@ fn other_in(rt: &impl Abort, alloc: Global, case: &Case<'_>) -> Result<Option<Ot
     if !sent {
         return Ok(Some(Other::Sent));
     }
-    if buf[long..] != [0xee; 4] {
+    if buf.iter().skip(long).any(|byte| *byte != 0xee) {
         return Ok(Some(Other::BytesBehindTheBuckets));
     }
     Ok(None)
 }
 
-/// The place of the first case that goes otherwise than told, and in what.
+/// Airs a case's cycle with a buffer of just the longest bucket, then with one that is four bytes longer. Tells how many
+/// bytes were behind the longest bucket in the first that went otherwise, and in what.
+fn other_in(rt: &impl Abort, alloc: Global, case: &Case<'_>) -> Result<Option<(u8, Other)>, Fail> {
+    if let Some(other) = other_with(rt, alloc, case, 0)? {
+        return Ok(Some((0, other)));
+    }
+    match other_with(rt, alloc, case, 4)? {
+        Some(other) => Ok(Some((4, other))),
+        None => Ok(None),
+    }
+}
+
+/// The place of the first case that goes otherwise than told, with how many bytes behind, and in what.
 fn first_other(
     rt: &impl Abort,
     alloc: Global,
     cases: &[Case<'_>],
-) -> Result<Option<(usize, Other)>, Fail> {
+) -> Result<Option<(usize, u8, Other)>, Fail> {
     for (place, case) in cases.iter().enumerate() {
-        if let Some(other) = other_in(rt, alloc, case)? {
-            return Ok(Some((place, other)));
+        if let Some((behind, other)) = other_in(rt, alloc, case)? {
+            return Ok(Some((place, behind, other)));
         }
     }
     Ok(None)
@@ -240,45 +257,5 @@ fn buckets_have_the_value_and_the_vector_under_r_matrix(rt: HostRuntime) -> Resu
         sent: &tape,
     };
     assert_eq!(rt; other_in(&rt, alloc, &case)?, None);
-    Ok(())
-}
-
-/// The place of the first row of deck, number of items, cycles and bytes that doesn't hold.
-fn first_other_length(
-    rt: &impl Abort,
-    alloc: Global,
-    rows: &[(&str, u16, u32, u64)],
-) -> Result<Option<usize>, Fail> {
-    for (place, (deck, n, cycles, bytes)) in rows.iter().enumerate() {
-        let (program, board) = made(rt, alloc, deck, &[])?;
-        if board.n() != *n || tape_bytes(&program, board.n(), *cycles) != *bytes {
-            return Ok(Some(place));
-        }
-    }
-    Ok(None)
-}
-
-/// A deck of 256 items on a disk that is aired 64 times.
-fn longest(alloc: Global) -> Result<String, Fail> {
-    let mut text = String::new(alloc);
-    for item in 0..256 {
-        let line = format!(in alloc; "item,{item},0,1\n")?;
-        text.push_str(&line)?;
-    }
-    text.push_str("disk,256,64\n")?;
-    Ok(text)
-}
-
-#[test]
-fn the_length_of_a_tape_is_told_to_the_longest(rt: HostRuntime) -> Result<(), Fail> {
-    let longest = longest(rt.alloc())?;
-    let rows = [
-        (TWO, 2, 1, 72),
-        (FOUR, 4, 3, 3 * 248),
-        (longest.as_str(), 256, 0, 0),
-        (longest.as_str(), 256, 62, 1068630016),
-        (longest.as_str(), 256, 63, 1085865984),
-    ];
-    assert_eq!(rt; first_other_length(&rt, rt.alloc(), &rows)?, None);
     Ok(())
 }
