@@ -1,3 +1,12 @@
 pub mod NumberFacts
 pub mod PartFacts
 pub mod ListLaws
+pub mod FrontFacts
+pub mod LeadingNumbers
+pub mod MoreDigits
+pub mod NumberFronts
+pub mod PlainNumbers
+pub mod Cuts
+pub mod ListFronts
+pub mod PlainLists
+pub mod BadParts

@@ -1,6 +1,6 @@
 -- Which number a text spells, digit by digit, and the laws of spelling.
 --
--- `DigitsRead` is the invariant of `read_u64`, and the lemmas on it its answers; `number_text-decimal` ties a number's text to what
+-- `value_more` and `digits_more_read` read one more digit; `number_text-decimal` ties a number's text to what
 -- the library prints; `text_spells` and `one_spelling` are the two laws. Readers and printers cite them.
 use Rattle.std.proofs.Common.{◌≡◌, ◌+◌, ◌-◌, ◌*◌, ◌^◌, ◌<◌, ◌≤◌, ◌∷◌, [], ℕ, zero, suc, List, Some, None, Bool, true, false, refl, cond, arith, rules, nat_lt, length, take, not, sym, ap, ◌∙◌, get_or}
 use Rattle.std.specs.Prelude.{◌&&◌, ◌||◌, ◌==◌}
@@ -15,6 +15,7 @@ use Rattle.std.proofs.lemmas.Int.Digits.{digits_value_more}
 use Rattle.std.proofs.lemmas.List.Folds.{list_all_at, list_all_more}
 use Rattle.std.proofs.lemmas.Str.{digit_value_digit}
 use Rattle.std.proofs.lemmas.Str.Parse.{IsNumeralModel, digits_value-take-le, numerals_by_value}
+use Rattle.air_base.specs.Fronts.{DigitsRead}
 use Rattle.air_base.specs.Numbers.{is_numeral, number_of, number_text, last_digits, TextSpellsLaw, OneSpellingLaw}
 
 -- the library's laws on digits, at this test of digits
@@ -73,12 +74,6 @@ spelled text n some alone digits value below =
     rw (numeral, ← value, fits) refl
 
 -- ---- digit by digit
-
--- the first i bytes are digits, and have this value
-pub record DigitsRead (text : List ℕ) (i n : ℕ) : Type 0 where
-  pub digits : list_all is_ascii_digit (take i text) ≡ true
-  pub value : n ≡ digits_value 10 (take i text)
-  pub below : n < 2 ^ 64
 
 pub digits_none : (text : List ℕ) → DigitsRead text 0 0
 digits_none text = record { digits = refl; value = refl; below = omega arith }

@@ -3,14 +3,15 @@
 -- `list_of` says which list a text spells, `bad_part_at` where the first part begins that spells
 -- nothing. Both take what a part is to spell, so lists of numbers, of writes and of events have one
 -- definition. A leading, trailing or double space makes an empty part.
-use Rattle.std.specs.Prelude.{◌≡◌, ◌↔◌, ◌<◌, ◌^◌, ◌==◌, ◌+◌, ℕ, List, [], ◌∷◌, Option, Some, None, length, take, map, is_none, IsNone, IsSome, option_map, codes, refl}
-use Rattle.std.specs.List.{All, slice_split, sum_by, position, join_with_byte}
+use Rattle.std.specs.Prelude.{◌≡◌, ◌↔◌, ◌<◌, ◌^◌, ◌+◌, ℕ, List, [], ◌∷◌, Option, Some, None, length, take, map, is_none, IsNone, IsSome, option_map, codes, refl}
+use Rattle.std.specs.List.{All, sum_by, position, join_with_byte}
 use Rattle.air_base.specs.Numbers.{number_of, number_text}
+use Rattle.air_base.specs.Pieces.{cut_at}
 
 -- The parts of a text: one space stands between each two, and the empty text has none.
 abbrev pub parts_of : List ℕ → List (List ℕ)
 parts_of [] = []
-parts_of (byte ∷ bytes) = slice_split (λ b. b == 32) (byte ∷ bytes)
+parts_of (byte ∷ bytes) = cut_at 32 (byte ∷ bytes)
 
 -- The byte at which a part begins, by its number: after the parts before it and one space for each.
 abbrev pub part_start : List (List ℕ) → ℕ → ℕ
@@ -34,11 +35,11 @@ bad_part_at item text = option_map (part_start (parts_of text)) (position (λ pa
 abbrev pub list_text : List (List ℕ) → List ℕ
 list_text parts = join_with_byte 32 parts
 
--- A text spells a list of numbers exactly where these are the numbers of its parts, one for each.
+-- A text spells a list of numbers exactly if these are the numbers of its parts, one for each.
 abbrev pub ListIsItsPartsLaw : Type 0
 ListIsItsPartsLaw = (text ns : List ℕ) → (list_of number_of text ≡ Some ns) ↔ (map number_of (parts_of text) ≡ map Some ns)
 
--- A text spells no list of numbers exactly where some part is the first that spells no number.
+-- A text spells no list of numbers exactly if some part is the first that spells no number.
 abbrev pub ListOrBadPartLaw : Type 0
 ListOrBadPartLaw = (text : List ℕ) → IsNone (list_of number_of text) ↔ IsSome (bad_part_at number_of text)
 

@@ -1,21 +1,29 @@
 //! The types that every crate shares, and the texts of numbers and lists.
 //!
-//! Nothing here knows of decks, histories or receivers. `memory` has the one free answer, `verdicts`
-//! what a receiver decides and counts, `lists` the lists that other types hold, `texts` and
-//! `number_lists` how numbers and lists of them are read and written.
+//! Nothing here knows what a deck, a history or a receiver is. `memory` has the one free answer, `limits`
+//! how much there may be of each thing, `verdicts` what a receiver decides and counts, `lists` the lists that other types hold, `texts` and
+//! `number_lists` how numbers and lists of them are read and written. `digits`, `number_fronts` and
+//! `plain_numbers` read the numbers of any text, part by part.
 #![tactic(auto)]
 
+mod digits;
+pub mod limits;
 pub mod lists;
 pub mod memory;
+mod number_fronts;
 pub mod number_lists;
+mod plain_numbers;
 pub mod texts;
 pub mod verdicts;
 
+pub use digits::short_number;
 pub use lists::{Reads, Rows, Sizes, Values};
 pub use memory::NoMemory;
+pub use number_fronts::{after_byte, ends_part, leading_number, number_front};
 pub use number_lists::{
     ListFault, list_is_its_parts_law, list_or_bad_part_law, list_text_spells_law,
     one_list_spelling_law, read_list,
 };
-pub use texts::{one_spelling_law, read_u64, text_spells_law, with_digit, write_u64};
+pub use plain_numbers::{plain_number, plain_short};
+pub use texts::{one_spelling_law, read_u64, text_spells_law, write_u64};
 pub use verdicts::{Clash, Counts, Policy, ReadOf, Verdict, VerdictKind};

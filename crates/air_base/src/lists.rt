@@ -2,7 +2,7 @@
 //!
 //! A `Vec` becomes such a list, and a list lends its items, without taking memory.
 
-ghost use Rattle.std.specs.Prelude.{◌≡◌};
+ghost use Rattle.std.specs.Prelude.{◌≡◌, ◌<◌, length, set};
 
 use crate::verdicts::ReadOf;
 use std::marker::Model;
@@ -34,6 +34,14 @@ impl Values {
         ensures { result.now ≡ self.now }
     {
         &self.items
+    }
+
+    /// Puts a value in the place of another.
+    pub fn put(&mut self, place: usize, value: u64)
+        requires { place < length self.old }
+        ensures { self.new ≡ set self.old place value }
+    {
+        self.items[place] = value;
     }
 }
 

@@ -8,7 +8,7 @@ ghost use Rattle.air_base.specs.Numbers.{number_of};
 ghost use Rattle.air_base.specs.NumberLists.{list_of, bad_part_at, ListIsItsPartsLaw, ListOrBadPartLaw, ListTextSpellsLaw, OneListSpellingLaw};
 ghost use Rattle.air_base.specs.ListFault.{TellsBadPart};
 
-use crate::texts::read_u64;
+use crate::number_fronts::number_front;
 use std::alloc::{AllocFailed, Global};
 use std::error::Error;
 use std::fmt;
@@ -54,15 +54,18 @@ pub fn read_list(alloc: Global, text: &[u8]) -> Result<Vec<u64>, ListFault>
     if text.is_empty() {
         return Ok(numbers);
     }
-    let mut at = 0_u64;
-    for part in text.split(|byte| *byte == b' ') {
-        match read_u64(part) {
-            Some(number) => numbers.push(number)?,
-            None => return Err(ListFault::BadNumber { at: at as u32 }),
-        }
-        at += part.len() as u64 + 1;
+    let mut rest = text;
+    loop {
+        let Some((number, after)) = number_front(rest) else {
+            let at = text.len() - rest.len();
+            return Err(ListFault::BadNumber { at: at as u32 });
+        };
+        numbers.push(number)?;
+        let Some((_, more)) = after.split_first() else {
+            return Ok(numbers);
+        };
+        rest = more;
     }
-    Ok(numbers)
 }
 
 /// A list has the numbers of its parts, one for each.

@@ -4,35 +4,44 @@
 
 use air_base::{ListFault, read_list};
 use std::alloc::Global;
+use std::test::Fail;
 
 /// A text, and the numbers that it spells or the fault that it has.
 type Case<'a> = (&'a str, Result<&'a [u64], ListFault>);
 
-/// Whether the text gives the numbers or the fault that are told.
-fn holds(alloc: Global, case: &Case<'_>) -> bool {
-    let (text, told) = case;
+/// What the text gives; it is short.
+fn read(alloc: Global, text: &str) -> Result<Result<Vec<u64>, ListFault>, Fail> {
     if text.len() > 1000 {
-        return false;
+        return Err("too long a text".into());
     }
-    match (read_list(alloc, text.as_bytes()), told) {
+    Ok(read_list(alloc, text.as_bytes()))
+}
+
+/// Whether these are the numbers or the fault that are told.
+fn is_told(read: &Result<Vec<u64>, ListFault>, told: &Result<&[u64], ListFault>) -> bool {
+    match (read, told) {
         (Ok(numbers), Ok(told)) => numbers.as_slice() == *told,
-        (Err(fault), Err(told)) => fault == *told,
+        (Err(fault), Err(told)) => fault == told,
         _ => false,
     }
 }
 
-/// Returns the first text that gives otherwise than told.
-fn first_misread<'a>(alloc: Global, cases: &[Case<'a>]) -> Option<&'a str> {
-    for case in cases {
-        if !holds(alloc, case) {
-            return Some(case.0);
+/// Returns the first text that gives otherwise than told, and what it gives.
+fn first_misread<'a>(
+    alloc: Global,
+    cases: &[Case<'a>],
+) -> Result<Option<(&'a str, Result<Vec<u64>, ListFault>)>, Fail> {
+    for (text, told) in cases {
+        let read = read(alloc, text)?;
+        if !is_told(&read, told) {
+            return Ok(Some((*text, read)));
         }
     }
-    None
+    Ok(None)
 }
 
 #[test]
-fn lists_of_single_spaces_are_read(rt: HostRuntime) {
+fn lists_of_single_spaces_are_read(rt: HostRuntime) -> Result<(), Fail> {
     let cases: [Case; 4] = [
         ("", Ok(&[])),
         ("7", Ok(&[7])),
@@ -42,11 +51,12 @@ fn lists_of_single_spaces_are_read(rt: HostRuntime) {
             Ok(&[0, 18446744073709551615, 0]),
         ),
     ];
-    assert_eq!(rt; first_misread(rt.alloc(), &cases), None);
+    assert_eq!(rt; first_misread(rt.alloc(), &cases)?, None);
+    Ok(())
 }
 
 #[test]
-fn the_first_bad_part_is_reported(rt: HostRuntime) {
+fn the_first_bad_part_is_reported(rt: HostRuntime) -> Result<(), Fail> {
     let cases: [Case; 9] = [
         (" ", Err(ListFault::BadNumber { at: 0 })),
         (" 1", Err(ListFault::BadNumber { at: 0 })),
@@ -61,5 +71,6 @@ fn the_first_bad_part_is_reported(rt: HostRuntime) {
         ),
         ("1,2", Err(ListFault::BadNumber { at: 0 })),
     ];
-    assert_eq!(rt; first_misread(rt.alloc(), &cases), None);
+    assert_eq!(rt; first_misread(rt.alloc(), &cases)?, None);
+    Ok(())
 }

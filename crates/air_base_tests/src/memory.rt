@@ -1,4 +1,4 @@
-//! A push whose value is a text of its own: its failure becomes want of memory too.
+//! A push whose value is a text of its own: its failure tells of no memory too.
 
 use air_base::NoMemory;
 use std::alloc::Global;

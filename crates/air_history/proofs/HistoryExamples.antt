@@ -7,7 +7,7 @@ use Rattle.air_history.specs.declared.histories.Event.{Event}
 use Rattle.air_history.specs.declared.histories.Event.TheVariants.{Commit, Start}
 use Rattle.air_history.specs.UpdateRules.{has_repeat, update_fault}
 use Rattle.air_history.specs.Places.{last_place, greatest}
-use Rattle.air_history.specs.Histories.{is_start, reads, writes, writes_of, starts, cycle_at, front, writer_before, writer}
+use Rattle.air_history.specs.Histories.{is_start, reads, writes, writes_of, starts, cycle_at, front, since_start, writer_before, writer}
 use Rattle.air_history.specs.Descents.{descends_in, descends}
 use Rattle.air_history.specs.Columns.{column_entry, vector_entry, column, vector}
 use Rattle.air_history.specs.Tables.{based, write_of, value_after, table, table_list}
@@ -94,12 +94,16 @@ pub record Places : Type 0 where
   before_the_first : front (commit 0 [] (set_to 0 11) ∷ Start ∷ Start ∷ []) 1 ≡ commit 0 [] (set_to 0 11) ∷ []
   front_of_one : front chained 1 ≡ []
   front_of_two : front chained 2 ≡ Start ∷ commit 0 [] (set_to 0 11) ∷ commit 1 (0 ∷ []) (add_to 2 0 1) ∷ commit 2 (2 ∷ []) (add_to 1 2 1) ∷ []
+  -- what comes after the last start, or all before the first
+  since_the_last : since_start (chained ++ commit 0 [] (set_to 0 5) ∷ []) ≡ commit 0 [] (set_to 0 5) ∷ []
+  since_none : since_start (commit 0 [] (set_to 0 11) ∷ commit 0 [] (set_to 1 12) ∷ []) ≡ commit 0 [] (set_to 0 11) ∷ commit 0 [] (set_to 1 12) ∷ []
+  nothing_since : since_start chained ≡ []
   writer_of_one : writer chained 1 ≡ Some 3
   no_writer : writer (front chained 1) 1 ≡ None
 
 pub places : Places
-unfolding cycle_at is_start front writer writer_before last_place writes
-places = record { first_cycle = refl; second_cycle = refl; no_front = refl; nothing_before_all = refl; before_the_first = refl; front_of_one = refl; front_of_two = refl; writer_of_one = refl; no_writer = refl }
+unfolding cycle_at is_start front since_start writer writer_before last_place writes
+places = record { since_the_last = refl; since_none = refl; nothing_since = refl; first_cycle = refl; second_cycle = refl; no_front = refl; nothing_before_all = refl; before_the_first = refl; front_of_one = refl; front_of_two = refl; writer_of_one = refl; no_writer = refl }
 
 pub record Descents : Type 0 where
   -- the writer of item 1 descends from that of item 0 through that of item 2

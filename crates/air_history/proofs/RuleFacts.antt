@@ -3,6 +3,7 @@ use Rattle.std.proofs.Common.{◌≡◌, ℕ, ◌<◌, ◌≤◌, Bool, true, fa
 use Rattle.std.specs.List.{list_all}
 use Rattle.std.proofs.lemmas.Bool.{and_parts, leb-true, eqb-true}
 use Rattle.std.proofs.lemmas.List.Elements.{All-cons}
+use Rattle.air_base.specs.declared.limits.TheConstants.{MOST_READS, MOST_WRITES}
 use Rattle.air_history.specs.declared.updates.Write.{Write}
 use Rattle.air_history.specs.declared.updates.UpdateFault.{UpdateFault}
 use Rattle.air_history.specs.declared.updates.UpdateFault.TheVariants.{Limit, Repeated, BaseNotRead}
@@ -30,19 +31,19 @@ rules_kept reads writes e =
     let parts = none_of_three (within_limits reads writes) (has_repeat reads || has_repeat (map item_of writes)) (list_all (base_is_read reads) writes) Limit Repeated BaseNotRead e in
     record { limits = parts.0; apart = parts.1; based = parts.2 }
 
-pub few_writes : (u : UpdateLists) → KeepsRules u → length u.writes ≤ 16
+pub few_writes : (u : UpdateLists) → KeepsRules u → length u.writes ≤ MOST_WRITES
 few_writes u kept =
-    let limits = and_parts (nat_le (length u.reads) 16) (nat_le 1 (length u.writes) && nat_le (length u.writes) 16) (rules_kept u.reads u.writes kept).limits in
-    let writes = and_parts (nat_le 1 (length u.writes)) (nat_le (length u.writes) 16) limits.1 in
-    leb-true (length u.writes) 16 writes.1
+    let limits = and_parts (nat_le (length u.reads) MOST_READS) (nat_le 1 (length u.writes) && nat_le (length u.writes) MOST_WRITES) (rules_kept u.reads u.writes kept).limits in
+    let writes = and_parts (nat_le 1 (length u.writes)) (nat_le (length u.writes) MOST_WRITES) limits.1 in
+    leb-true (length u.writes) MOST_WRITES writes.1
 
-pub few_reads : (u : UpdateLists) → KeepsRules u → length u.reads ≤ 16
-few_reads u kept = leb-true (length u.reads) 16 (and_parts (nat_le (length u.reads) 16) _ (rules_kept u.reads u.writes kept).limits).0
+pub few_reads : (u : UpdateLists) → KeepsRules u → length u.reads ≤ MOST_READS
+few_reads u kept = leb-true (length u.reads) MOST_READS (and_parts (nat_le (length u.reads) MOST_READS) _ (rules_kept u.reads u.writes kept).limits).0
 
 pub some_write : (u : UpdateLists) → KeepsRules u → 1 ≤ length u.writes
 some_write u kept =
-    let limits = and_parts (nat_le (length u.reads) 16) (nat_le 1 (length u.writes) && nat_le (length u.writes) 16) (rules_kept u.reads u.writes kept).limits in
-    leb-true 1 (length u.writes) (and_parts (nat_le 1 (length u.writes)) (nat_le (length u.writes) 16) limits.1).0
+    let limits = and_parts (nat_le (length u.reads) MOST_READS) (nat_le 1 (length u.writes) && nat_le (length u.writes) MOST_WRITES) (rules_kept u.reads u.writes kept).limits in
+    leb-true 1 (length u.writes) (and_parts (nat_le 1 (length u.writes)) (nat_le (length u.writes) MOST_WRITES) limits.1).0
 
 -- each element passes where all do
 pub each_passes : (f : Write → Bool) (ws : List Write) → list_all f ws ≡ true → All (λ w. f w ≡ true) ws

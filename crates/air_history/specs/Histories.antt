@@ -1,6 +1,6 @@
 -- A history is a list of events, commits and cycle starts, and a place is an index into it from 0.
 -- Here: what an event reads and writes, the cycle of a place, the front of a cycle, the last writer.
-use Rattle.std.specs.Prelude.{ℕ, zero, suc, ◌<◌, Bool, true, false, ◌==◌, List, [], ◌∷◌, length, get_or, take, count_by, Option}
+use Rattle.std.specs.Prelude.{ℕ, zero, suc, ◌<◌, Bool, true, false, ◌==◌, List, [], ◌∷◌, length, get_or, take, count_by, cond, Option}
 use Rattle.std.specs.List.{list_any}
 use Rattle.air_history.specs.declared.histories.Event.{Event}
 use Rattle.air_history.specs.declared.histories.Event.TheVariants.{Commit, Start}
@@ -47,6 +47,11 @@ front [] (suc c) = []
 front (Start ∷ H) (suc zero) = []
 front (Start ∷ H) (suc (suc c)) = Start ∷ front H (suc c)
 front (Commit by seq update ∷ H) (suc c) = Commit by seq update ∷ front H (suc c)
+
+-- the events after the last start, all where there is none
+unfoldable pub since_start : List Event → List Event
+since_start [] = []
+since_start (e ∷ G) = cond (list_any is_start (e ∷ G)) (since_start G) (e ∷ G)
 
 -- the last place before p whose commit writes the item
 unfoldable pub writer_before : List Event → ℕ → ℕ → Option ℕ

@@ -1,6 +1,7 @@
 -- The rules that every update keeps, and which one two lists break first.
 use Rattle.std.specs.Prelude.{◌≡◌, ℕ, ◌<◌, Bool, false, cond, not, ◌&&◌, ◌||◌, ◌==◌, nat_le, List, [], ◌∷◌, length, map, All, Option, Some, None}
 use Rattle.std.specs.List.{list_any, list_all}
+use Rattle.air_base.specs.declared.limits.TheConstants.{MOST_READS, MOST_WRITES}
 use Rattle.air_history.specs.declared.updates.Write.{Write}
 use Rattle.air_history.specs.declared.updates.UpdateFault.{UpdateFault}
 use Rattle.air_history.specs.declared.updates.UpdateFault.TheVariants.{Limit, Repeated, BaseNotRead}
@@ -17,7 +18,7 @@ item_of w = w.item
 
 -- at most 16 reads, and 1 to 16 writes
 abbrev pub within_limits : List ℕ → List Write → Bool
-within_limits reads writes = nat_le (length reads) 16 && (nat_le 1 (length writes) && nat_le (length writes) 16)
+within_limits reads writes = nat_le (length reads) MOST_READS && (nat_le 1 (length writes) && nat_le (length writes) MOST_WRITES)
 
 -- a base is one of the reads, and without a base there is no minus
 abbrev pub base_holds : List ℕ → Bool → Option ℕ → Bool

@@ -15,7 +15,7 @@ use crate::updates::Write;
 use air_base::NoMemory;
 use std::alloc::Global;
 
-/// The last place before the cycle's start whose commit writes the item, and `None` exactly where there is none.
+/// The last place before the cycle's start whose commit writes the item, and `None` exactly if there is none.
 /// Cycle 0 has an empty front.
 pub fn writer_at(h: &History, cycle: u32, item: u16) -> Option<u64>
     requires { cycle ≤ starts h.now }

@@ -8,6 +8,7 @@ ghost use Rattle.air_history.specs.Tables.{put, written, values_of, WriteFits, v
 
 use crate::histories::{Event, History};
 use crate::updates::{Update, Write};
+use air_base::limits::MOST_WRITES;
 
 /// Runs the commits before place `upto` on the values.
 pub fn table_of(h: &History, upto: u64, values: &mut [u64])
@@ -59,14 +60,14 @@ fn written_value(values: &[u64], write: &Write) -> u64
 }
 
 /// The new values of the writes, all from the values before them.
-fn written_values(values: &[u64], writes: &[Write]) -> [u64; 16]
-    requires few { length writes.now ≤ 16 }
+fn written_values(values: &[u64], writes: &[Write]) -> [u64; MOST_WRITES]
+    requires few { length writes.now ≤ MOST_WRITES }
     requires fits { All (WriteFits (length values.now)) writes.now }
-    ensures sized { length result ≡ 16 }
+    ensures sized { length result ≡ MOST_WRITES }
     ensures are { (k : ℕ) (d : Write) → k < length writes.now →
         slice_index result k ≡ written (values_of values.now) (get_or writes.now k d) }
 {
-    let mut fresh = [0; 16];
+    let mut fresh = [0; MOST_WRITES];
     for (k, write) in writes.iter().enumerate() {
         fresh[k] = written_value(values, write);
     }

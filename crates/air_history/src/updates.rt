@@ -8,6 +8,7 @@ ghost use Rattle.std.specs.List.{list_any, list_all};
 ghost use Rattle.air_history.specs.UpdateRules.{has_repeat, item_of, base_is_read, update_fault, KeepsRules, UpdateFits};
 
 use air_base::NoMemory;
+use air_base::limits::{MOST_READS, MOST_WRITES};
 use arrayvec::ArrayVec;
 use std::alloc::Global;
 use std::error::Error;
@@ -52,7 +53,7 @@ impl Error for UpdateFault {}
 /// An update: the items that it reads, and its writes.
 #[derive(Debug, Drop)]
 pub struct Update {
-    reads: ArrayVec<u16, 16>,
+    reads: ArrayVec<u16, MOST_READS>,
     writes: Vec<Write>,
 }
 
@@ -76,7 +77,7 @@ impl Update {
         ensures cause { MatchResult result (λ _. update_fault reads.now writes.now ≡ None)
             (λ e. (e ≡ UpdateFault.NoMemory) ⊎ (update_fault reads.now writes.now ≡ Some e)) }
     {
-        if reads.len() > 16 || writes.is_empty() || writes.len() > 16 {
+        if reads.len() > MOST_READS || writes.is_empty() || writes.len() > MOST_WRITES {
             return Err(UpdateFault::Limit);
         }
         if has_number_twice(reads) || has_item_twice(writes) {
@@ -147,8 +148,8 @@ impl Update {
 
 /// The items in the value itself, as an update keeps them.
 #[inline(always)]
-fn inline(items: &[u16]) -> ArrayVec<u16, 16>
-    requires { length items.now ≤ 16 }
+fn inline(items: &[u16]) -> ArrayVec<u16, MOST_READS>
+    requires { length items.now ≤ MOST_READS }
     ensures { result.items ≡ items.now }
 {
     let mut kept = ArrayVec::new();

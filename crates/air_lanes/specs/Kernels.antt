@@ -16,6 +16,6 @@ pub record IsFirstNotBelow (column held : List ℕ) (place : ℕ) : Type 0 where
   pub reached : slice_index held place ≤ slice_index column place
   pub before : (k : ℕ) → k < place → slice_index column k < slice_index held k
 
--- the answer is the first place at which the column isn't below what is held, and None exactly where there is none
+-- the answer is the first place at which the column isn't below what is held, and None exactly if there is none
 abbrev pub IsAnswer : List ℕ → List ℕ → Option ℕ → Type 0
 IsAnswer column held answer = MatchOption answer (EachIndex column (λ k. slice_index column k < slice_index held k)) (IsFirstNotBelow column held)

@@ -65,7 +65,7 @@ fn first_from(column: &[u32], held: &[u32], from: usize) -> Option<usize>
     first_in_rest(column, held, from + 8 * blocks)
 }
 
-/// The first place at which the column isn't below what is held; None exactly where there is none.
+/// The first place at which the column isn't below what is held; None exactly if there is none.
 pub fn first_not_below(column: &[u32], held: &[u32]) -> Option<usize>
     requires { length held.now ≡ length column.now }
     ensures { IsAnswer column.now held.now result }

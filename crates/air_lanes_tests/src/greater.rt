@@ -1,6 +1,6 @@
 //! `max_into`: the greater of two rows.
 
-use crate::rows::{LENGTHS, row};
+use crate::rows::{LENGTHS, entry_apart, row};
 use air_lanes::max_into;
 use std::alloc::Global;
 use std::test::Fail;
@@ -13,31 +13,34 @@ struct Case<'a> {
     greater: &'a [u32],
 }
 
-/// What `max_into` leaves of a copy of the first row; None where the rows have two lengths.
-fn kernel(alloc: Global, dst: &[u32], src: &[u32]) -> Result<Option<Vec<u32>>, Fail> {
+/// What `max_into` leaves of a copy of the first row; the rows have one length.
+fn kernel(alloc: Global, dst: &[u32], src: &[u32]) -> Result<Vec<u32>, Fail> {
     let mut left = dst.to_vec(alloc)?;
     if left.len() != src.len() {
-        return Ok(None);
+        return Err("rows of two lengths".into());
     }
     max_into(&mut left, src);
-    Ok(Some(left))
+    Ok(left)
 }
 
 /// The same by a plain loop.
-fn plain(alloc: Global, dst: &[u32], src: &[u32]) -> Result<Option<Vec<u32>>, Fail> {
+fn plain(alloc: Global, dst: &[u32], src: &[u32]) -> Result<Vec<u32>, Fail> {
     let mut left = Vec::new(alloc);
     for (x, y) in dst.iter().zip(src) {
         left.push(if *x < *y { *y } else { *x })?;
     }
-    Ok(Some(left))
+    Ok(left)
 }
 
-/// The place of the first case that leaves another row.
-fn first_other(alloc: Global, cases: &[Case<'_>]) -> Result<Option<usize>, Fail> {
+/// The place of the first case that leaves another row, with the place of the first other entry, and that entry.
+fn first_other(
+    alloc: Global,
+    cases: &[Case<'_>],
+) -> Result<Option<(usize, usize, Option<u32>)>, Fail> {
     for (place, case) in cases.iter().enumerate() {
-        let told = case.greater.to_vec(alloc)?;
-        if kernel(alloc, case.dst, case.src)? != Some(told) {
-            return Ok(Some(place));
+        let left = kernel(alloc, case.dst, case.src)?;
+        if let Some((at, entry)) = entry_apart(&left, case.greater) {
+            return Ok(Some((place, at, entry)));
         }
     }
     Ok(None)
@@ -76,13 +79,16 @@ fn the_greater_entry_stays_at_each_place(rt: HostRuntime) -> Result<(), Fail> {
     Ok(())
 }
 
-/// The first of the lengths at which the kernel leaves another row than the plain loop.
-fn first_length_apart(alloc: Global) -> Result<Option<usize>, Fail> {
+/// The first of the lengths at which the kernel leaves another row than the plain loop, with the place of the first other
+/// entry, and that entry.
+fn first_length_apart(alloc: Global) -> Result<Option<(usize, usize, Option<u32>)>, Fail> {
     for length in LENGTHS {
         let dst = row(alloc, length, 1)?;
         let src = row(alloc, length, 2)?;
-        if kernel(alloc, &dst, &src)? != plain(alloc, &dst, &src)? {
-            return Ok(Some(length));
+        let left = kernel(alloc, &dst, &src)?;
+        let told = plain(alloc, &dst, &src)?;
+        if let Some((at, entry)) = entry_apart(&left, &told) {
+            return Ok(Some((length, at, entry)));
         }
     }
     Ok(None)

@@ -33,3 +33,16 @@ pub fn rising(alloc: Global, length: usize, first: u32, period: u32) -> Result<V
     }
     Ok(row)
 }
+
+/// The first place at which the row has another entry than told, and that entry, or none where the row has ended; where it is
+/// told to have ended, and hasn't, that place.
+pub fn entry_apart(row: &[u32], told: &[u32]) -> Option<(usize, Option<u32>)> {
+    for (place, entry) in told.iter().enumerate() {
+        let came = row.get(place).copied();
+        if came != Some(*entry) {
+            return Some((place, came));
+        }
+    }
+    let end = told.len();
+    (row.len() != end).then_some((end, row.get(end).copied()))
+}

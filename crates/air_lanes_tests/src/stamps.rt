@@ -1,6 +1,6 @@
 //! `stamp`: a cycle where a mark stands.
 
-use crate::rows::{LENGTHS, rising, row};
+use crate::rows::{LENGTHS, entry_apart, rising, row};
 use air_lanes::stamp;
 use std::alloc::Global;
 use std::test::Fail;
@@ -14,31 +14,34 @@ struct Case<'a> {
     stamped: &'a [u32],
 }
 
-/// What `stamp` leaves of a copy of the row; None where row and marks have two lengths.
-fn kernel(alloc: Global, dst: &[u32], marks: &[u32], cycle: u32) -> Result<Option<Vec<u32>>, Fail> {
+/// What `stamp` leaves of a copy of the row; row and marks have one length.
+fn kernel(alloc: Global, dst: &[u32], marks: &[u32], cycle: u32) -> Result<Vec<u32>, Fail> {
     let mut left = dst.to_vec(alloc)?;
     if left.len() != marks.len() {
-        return Ok(None);
+        return Err("rows of two lengths".into());
     }
     stamp(&mut left, marks, cycle);
-    Ok(Some(left))
+    Ok(left)
 }
 
 /// The same by a plain loop.
-fn plain(alloc: Global, dst: &[u32], marks: &[u32], cycle: u32) -> Result<Option<Vec<u32>>, Fail> {
+fn plain(alloc: Global, dst: &[u32], marks: &[u32], cycle: u32) -> Result<Vec<u32>, Fail> {
     let mut left = Vec::new(alloc);
     for (x, mark) in dst.iter().zip(marks) {
         left.push(if *mark == 0 { *x } else { cycle })?;
     }
-    Ok(Some(left))
+    Ok(left)
 }
 
-/// The place of the first case that leaves another row.
-fn first_other(alloc: Global, cases: &[Case<'_>]) -> Result<Option<usize>, Fail> {
+/// The place of the first case that leaves another row, with the place of the first other entry, and that entry.
+fn first_other(
+    alloc: Global,
+    cases: &[Case<'_>],
+) -> Result<Option<(usize, usize, Option<u32>)>, Fail> {
     for (place, case) in cases.iter().enumerate() {
-        let told = case.stamped.to_vec(alloc)?;
-        if kernel(alloc, case.dst, case.marks, case.cycle)? != Some(told) {
-            return Ok(Some(place));
+        let left = kernel(alloc, case.dst, case.marks, case.cycle)?;
+        if let Some((at, entry)) = entry_apart(&left, case.stamped) {
+            return Ok(Some((place, at, entry)));
         }
     }
     Ok(None)
@@ -78,13 +81,16 @@ fn the_cycle_stands_where_the_mark_is_not_zero(rt: HostRuntime) -> Result<(), Fa
     Ok(())
 }
 
-/// The first of the lengths at which the kernel leaves another row than the plain loop: two of three places have a mark.
-fn first_length_apart(alloc: Global) -> Result<Option<usize>, Fail> {
+/// The first of the lengths at which the kernel leaves another row than the plain loop, with the place of the first other
+/// entry, and that entry. Two of three places have a mark.
+fn first_length_apart(alloc: Global) -> Result<Option<(usize, usize, Option<u32>)>, Fail> {
     for length in LENGTHS {
         let dst = row(alloc, length, 3)?;
         let marks = rising(alloc, length, 0, 3)?;
-        if kernel(alloc, &dst, &marks, 77)? != plain(alloc, &dst, &marks, 77)? {
-            return Ok(Some(length));
+        let left = kernel(alloc, &dst, &marks, 77)?;
+        let told = plain(alloc, &dst, &marks, 77)?;
+        if let Some((at, entry)) = entry_apart(&left, &told) {
+            return Ok(Some((length, at, entry)));
         }
     }
     Ok(None)

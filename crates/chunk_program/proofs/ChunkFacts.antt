@@ -9,6 +9,7 @@ use Rattle.std.proofs.lemmas.Nat.{div_below, mod_below, row_fits}
 use Rattle.std.proofs.lemmas.Nat.Gcd.{dvd_of_mod-eq-zero}
 use Rattle.std.proofs.lemmas.Option.{slice_get_read}
 use Rattle.std.proofs.Math.Nat.{div-le_self, div-mul_cancel, mul-le-mul_left}
+use Rattle.air_base.specs.declared.limits.TheConstants.{MOST_SLOTS}
 use Rattle.air_model.specs.Disks.{Disk}
 use Rattle.air_model.specs.Programs.{chunk, chunk_len, minor_cycle, minor_len, num_chunks, num_minors, program}
 use Rattle.air_model.proofs.AiringFacts.{airable_aired}
@@ -47,8 +48,8 @@ module _ (disks : List Disk) (limits : AreDeckDisks disks) (n : ℕ) (d : Disk) 
       let fewer = fewer_items disks n d at in let few = limits.few in omega arith
 
 -- where the chunk that a minor cycle airs ends on its disk, in a program that isn't too long
-pub chunk_ends : (disks : List Disk) (n : ℕ) (d : Disk) (minors k chunk len : ℕ) → AreDeckDisks disks → slice_get disks n ≡ Some d → minors ≡ num_minors disks → minors ≤ 16384
-    → chunk ≡ k % num_chunks minors d → len ≡ chunk_len minors d → chunk * len + len ≤ 256 * 16384
+pub chunk_ends : (disks : List Disk) (n : ℕ) (d : Disk) (minors k chunk len : ℕ) → AreDeckDisks disks → slice_get disks n ≡ Some d → minors ≡ num_minors disks → minors ≤ MOST_SLOTS
+    → chunk ≡ k % num_chunks minors d → len ≡ chunk_len minors d → chunk * len + len ≤ 256 * MOST_SLOTS
 chunk_ends disks n d minors k chunk len limits at is few aired long =
     let chunks = num_chunks minors d in
     let some : 0 < chunks = rw is (chunks_some disks limits n d at) in

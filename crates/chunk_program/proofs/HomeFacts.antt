@@ -5,6 +5,7 @@ use Rattle.std.specs.List.{Contains}
 use Rattle.std.proofs.lemmas.List.Elements.{Contains-append_cases}
 use Rattle.std.proofs.lemmas.Option.{same_Some, slice_get_read, slice_get_within}
 use Rattle.std.proofs.Math.Nat.{mod-eq_of_lt}
+use Rattle.air_base.specs.declared.limits.TheConstants.{MOST_SLOTS}
 use Rattle.air_model.specs.Disks.{Disk, all_items}
 use Rattle.air_model.specs.Programs.{minor_len, num_chunks, num_minors, program}
 use Rattle.air_model.specs.Airings.{IsNextWake, airings, chunks_of, disk_number, gap_of, next_wake, slot_item}
@@ -90,11 +91,11 @@ module _ (disks : List Disk) (i n q : ℕ) (d : Disk) (limits : AreDeckDisks dis
   first_is =
       ((item_next_wake disks n d i limits.airable held.at has 0 (let below = first_is_below in let within = gap_within in omega arith)).0 (place_slot (num_minors disks) disks n d q)).0 first_wake
 
-  chunks_short : length (program disks) ≤ 16384 → num_chunks (num_minors disks) d ≤ 16384
+  chunks_short : length (program disks) ≤ MOST_SLOTS → num_chunks (num_minors disks) d ≤ MOST_SLOTS
   unfolding disk_gap
   chunks_short short = by (minor_len (num_minors disks) disks) first_is_below gap_within
     where
-      by : (row : ℕ) → place_slot (num_minors disks) disks n d q < num_chunks (num_minors disks) d * row → num_chunks (num_minors disks) d * row ≤ length (program disks) → num_chunks (num_minors disks) d ≤ 16384
+      by : (row : ℕ) → place_slot (num_minors disks) disks n d q < num_chunks (num_minors disks) d * row → num_chunks (num_minors disks) d * row ≤ length (program disks) → num_chunks (num_minors disks) d ≤ MOST_SLOTS
       by zero below within = absurd (omega arith)
       by (suc row) below within = omega arith
 
@@ -106,7 +107,7 @@ pub record HomeNumbers (disks : List Disk) (i q m row front : ℕ) (d : Disk) : 
   pub first : first_slot m row front q d ≡ next_wake (program disks) 0 i
   pub chunks : num_chunks m d ≡ chunks_of disks i
 
-home_own : (disks : List Disk) (i n q : ℕ) (d : Disk) → AreDeckDisks disks → IsHeld disks i n q d → length (program disks) ≤ 16384
+home_own : (disks : List Disk) (i n q : ℕ) (d : Disk) → AreDeckDisks disks → IsHeld disks i n q d → length (program disks) ≤ MOST_SLOTS
     → HomeNumbers disks i q (num_minors disks) (minor_len (num_minors disks) disks) (minor_len (num_minors disks) (take n disks)) d
 unfolding disk_gap place_slot
 home_own disks i n q d limits held short = record {
@@ -124,7 +125,7 @@ home_own disks i n q d limits held short = record {
   chunks = sym (chunks_are disks n d i limits.airable held.at (has disks i n q d limits held));
 }
 
-pub home_numbers : (disks : List Disk) (i n q m row front : ℕ) (d : Disk) → AreDeckDisks disks → IsHeld disks i n q d → length (program disks) ≤ 16384
+pub home_numbers : (disks : List Disk) (i n q m row front : ℕ) (d : Disk) → AreDeckDisks disks → IsHeld disks i n q d → length (program disks) ≤ MOST_SLOTS
     → m ≡ num_minors disks → row ≡ minor_len m disks → front ≡ minor_len m (take n disks) → HomeNumbers disks i q m row front d
 home_numbers disks i n q m row front d limits held short is rows fronts =
     let rows_are : row ≡ minor_len (num_minors disks) disks = rows ∙ ap (λ m. minor_len m disks) is in
@@ -137,7 +138,7 @@ number_within disks i n limits below is = let held = held_item disks i limits be
 
 -- the same of the disk that is read at the item's number
 pub home_known : (disks : List Disk) (i n q m row front : ℕ) (d : Disk) → AreDeckDisks disks → i < length (all_items disks) → n ≡ disk_number disks i → q ≡ place_number disks i
-    → d ≡ get_or disks n d → length (program disks) ≤ 16384 → m ≡ num_minors disks → row ≡ minor_len m disks → front ≡ minor_len m (take n disks)
+    → d ≡ get_or disks n d → length (program disks) ≤ MOST_SLOTS → m ≡ num_minors disks → row ≡ minor_len m disks → front ≡ minor_len m (take n disks)
     → HomeNumbers disks i q m row front d
 home_known disks i n q m row front d limits below number place is short minors rows fronts =
     let found = held_item disks i limits below in

@@ -5,6 +5,7 @@ use Rattle.std.specs.List.{All, Contains, flat_map, range_with_len}
 use Rattle.std.proofs.lemmas.Nat.{mod_below}
 use Rattle.std.proofs.lemmas.List.Elements.{All-append, All-head, All-map, All-tail}
 use Rattle.std.proofs.lemmas.Option.{slice_get_read}
+use Rattle.air_base.specs.declared.limits.TheConstants.{MOST_SLOTS}
 use Rattle.air_model.specs.Disks.{Disk, all_items}
 use Rattle.air_model.specs.Programs.{chunk, chunk_len, minor_cycle, minor_len, num_chunks, num_minors, program}
 use Rattle.air_model.specs.Airings.{ComesEvery, IsNextWake, airings, disk_number, gap_of, next_wake}
@@ -62,8 +63,8 @@ module _ (disks : List Disk) (i : ℕ) (limits : AreDeckDisks disks) (below : i 
   item_freq times is = subst (λ (o : Option Disk). IfSome o (λ d. times ≡ d.freq)) (sym at) (is ∙ aired)
 
 -- what is known of the numbers of a home
-pub home_fits : (disks : List Disk) (i : ℕ) (h : Home) → AreDeckDisks disks → i < length (all_items disks) → length (program disks) ≤ 16384 → IsHome disks i h
-    → (h.gap ≤ 16384) × (h.first < h.gap)
+pub home_fits : (disks : List Disk) (i : ℕ) (h : Home) → AreDeckDisks disks → i < length (all_items disks) → length (program disks) ≤ MOST_SLOTS → IsHome disks i h
+    → (h.gap ≤ MOST_SLOTS) × (h.first < h.gap)
 home_fits disks i h limits below short is =
     let within = item_gap_within disks i limits below in let first = item_first_below disks i limits below in
     let gap = is.gap in let own = is.first in (omega arith, omega arith)
@@ -105,11 +106,11 @@ pub slots_are : (disks : List Disk) (m row slots : ℕ) → m ≡ num_minors dis
 slots_are disks m row slots minors rows is =
     is ∙ ap (λ r. m * r) rows ∙ ap (λ n. n * minor_len n disks) minors ∙ sym (length_program disks)
 
-pub minors_short : (m row slots : ℕ) → 1 ≤ slots → slots ≡ m * row → slots ≤ 16384 → m ≤ 16384
+pub minors_short : (m row slots : ℕ) → 1 ≤ slots → slots ≡ m * row → slots ≤ MOST_SLOTS → m ≤ MOST_SLOTS
 minors_short m zero slots some is short = absurd (omega arith)
 minors_short m (suc row) slots some is short = omega arith
 
-pub minors_few : (disks : List Disk) → AreDeckDisks disks → length (program disks) ≤ 16384 → num_minors disks ≤ 16384
+pub minors_few : (disks : List Disk) → AreDeckDisks disks → length (program disks) ≤ MOST_SLOTS → num_minors disks ≤ MOST_SLOTS
 minors_few disks limits short = minors_short (num_minors disks) (minor_len (num_minors disks) disks) (length (program disks)) (slots_some disks limits) (length_program disks) short
 
 -- ---- a disk that is read, and what its chunks are
@@ -117,10 +118,10 @@ pub record IsDiskOf (disks : List Disk) (m n : ℕ) (d : Disk) : Type 0 where
   pub at : slice_get disks n ≡ Some d
   pub aired : 0 < d.freq
   pub some : 0 < num_chunks m d
-  pub chunks : num_chunks m d ≤ 16384
+  pub chunks : num_chunks m d ≤ MOST_SLOTS
   pub len : chunk_len m d ≤ 256
 
-pub read_disk : (disks : List Disk) (m n : ℕ) (d : Disk) → AreDeckDisks disks → length (program disks) ≤ 16384 → m ≡ num_minors disks → n < length disks → d ≡ get_or disks n d → IsDiskOf disks m n d
+pub read_disk : (disks : List Disk) (m n : ℕ) (d : Disk) → AreDeckDisks disks → length (program disks) ≤ MOST_SLOTS → m ≡ num_minors disks → n < length disks → d ≡ get_or disks n d → IsDiskOf disks m n d
 read_disk disks m n d limits short minors below is =
     let at = slice_get_read disks (length disks) n d refl below is in
     let few = minors_few disks limits short in

@@ -1,5 +1,6 @@
 -- What is known of an item in a program: how often it comes, how far apart, where first, and its number of chunks.
 use Rattle.std.specs.Prelude.{◌≡◌, ◌<◌, ◌≤◌, ℕ, ◌+◌, ◌*◌, ◌/◌, ◌%◌, List}
+use Rattle.air_base.specs.declared.limits.TheConstants.{MOST_SLOTS}
 use Rattle.air_model.specs.Disks.{Disk}
 use Rattle.air_model.specs.Programs.{chunk_len, num_chunks, program}
 use Rattle.air_model.specs.Airings.{airings, chunks_of, gap_of, next_wake}
@@ -21,6 +22,6 @@ pub record FitsHome (minors minor_slots front place : ℕ) (d : Disk) : Type 0 w
   pub aired : 0 < d.freq
   pub some : 0 < num_chunks minors d
   pub filled : 0 < chunk_len minors d
-  pub few : num_chunks minors d ≤ 16384
-  pub short : num_chunks minors d * minor_slots ≤ 16384
+  pub few : num_chunks minors d ≤ MOST_SLOTS
+  pub short : num_chunks minors d * minor_slots ≤ MOST_SLOTS
   pub first : first_slot minors minor_slots front place d < num_chunks minors d * minor_slots

@@ -1,5 +1,6 @@
 -- When a program is too long.
 use Rattle.std.specs.Prelude.{◌≡◌, ℕ, ◌<◌, List, length, ⊤}
+use Rattle.air_base.specs.declared.limits.TheConstants.{MOST_SLOTS}
 use Rattle.air_model.specs.Disks.{Disk}
 use Rattle.air_model.specs.Programs.{program}
 use Rattle.chunk_program.specs.declared.programs.PlanFault.{PlanFault}
@@ -7,14 +8,14 @@ use Rattle.chunk_program.specs.declared.programs.PlanFault.TheVariants as fault
 
 -- A program has at most so many slots.
 abbrev pub most_slots : ℕ
-most_slots = 16384
+most_slots = MOST_SLOTS
 
 -- The program of the disks has so many slots, more than it may.
 pub record IsTooLong (disks : List Disk) (slots : ℕ) : Type 0 where
   pub counted : slots ≡ length (program disks)
   pub above : most_slots < slots
 
--- A program that is too long is refused with its number of slots; want of memory says nothing.
+-- A program that is too long is refused with its number of slots; no memory has no cause.
 abbrev pub IsPlanAnswer : List Disk → PlanFault → Type 0
 IsPlanAnswer disks (fault.TooLong slots) = IsTooLong disks slots
 IsPlanAnswer disks fault.NoMemory = ⊤

@@ -1,5 +1,6 @@
 -- What always holds of the fields of a program.
 use Rattle.std.specs.Prelude.{◌≡◌, ◌≤◌, ℕ, Some, length, slice_get}
+use Rattle.air_base.specs.declared.limits.TheConstants.{MOST_SLOTS}
 use Rattle.air_model.specs.Disks.{all_items}
 use Rattle.air_model.specs.Programs.{minor_len, num_minors, program}
 use Rattle.chunk_program.specs.declared.homes.Home.{Home}
@@ -14,6 +15,6 @@ pub record IsLaidOut (p : Inside) : Type 0 where
   pub minors : p.minors ≡ num_minors p.disks.items
   pub minor_len : p.minor_len ≡ minor_len (num_minors p.disks.items) p.disks.items
   pub slots : p.slots.items ≡ program p.disks.items
-  pub short : length p.slots.items ≤ 16384
+  pub short : length p.slots.items ≤ MOST_SLOTS
   pub len : length p.homes.items ≡ length (all_items p.disks.items)
   pub homes : (i : ℕ) (h : Home) → slice_get p.homes.items i ≡ Some h → IsHome p.disks.items i h

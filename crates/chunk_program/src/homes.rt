@@ -4,6 +4,7 @@
 //! from them in one step.
 
 ghost use Rattle.std.specs.Prelude.{◌≡◌, ℕ, ◌*◌, ◌<◌, ◌≤◌, IfOk, Some, length, slice_get};
+ghost use Rattle.air_base.specs.declared.limits.TheConstants.{MOST_SLOTS};
 ghost use Rattle.air_model.specs.Disks.{all_items};
 ghost use Rattle.air_model.specs.Programs.{minor_len, num_chunks, num_minors, program};
 ghost use Rattle.chunk_program.specs.declared.homes.Home.{Home};
@@ -48,7 +49,7 @@ fn home_of(cut: &Cut, minors: u64, minor_slots: u64, item: u16) -> Home
     requires limits { AreDeckDisks cut.now }
     requires minors { minors ≡ num_minors cut.now }
     requires minor_slots { minor_slots ≡ minor_len minors cut.now }
-    requires short { length (program cut.now) ≤ 16384 }
+    requires short { length (program cut.now) ≤ MOST_SLOTS }
     requires item { item < length (all_items cut.now) }
     ensures { IsHome cut.now item result }
 {
@@ -69,7 +70,7 @@ pub fn homes(
     requires limits { AreDeckDisks cut.now }
     requires minors { minors ≡ num_minors cut.now }
     requires minor_slots { minor_slots ≡ minor_len minors cut.now }
-    requires short { length (program cut.now) ≤ 16384 }
+    requires short { length (program cut.now) ≤ MOST_SLOTS }
     ensures len { IfOk result (λ homes. length homes.items ≡ length (all_items cut.now)) }
     ensures homes { IfOk result (λ homes. (i : ℕ) (h : Home) → slice_get homes.items i ≡ Some h → IsHome cut.now i h) }
 {

@@ -5,6 +5,7 @@
 
 ghost use Rattle.std.specs.Prelude.{◌≡◌, ◌≤◌, ◌<◌, ◌+◌, ◌*◌, ◌^◌, ◌++◌, IfOk, OnOk, length, map, slice_get, take};
 ghost use Rattle.std.specs.List.{range_with_len};
+ghost use Rattle.air_base.specs.declared.limits.TheConstants.{MOST_SLOTS};
 ghost use Rattle.air_model.specs.Programs.{chunk_len, least_common_multiple, minor_cycle, minor_len, num_minors, program};
 ghost use Rattle.chunk_program.specs.Limits.{AreDeckDisks};
 
@@ -81,7 +82,7 @@ fn push_minor(
 ) -> Result<(), AllocError>
     requires limits { AreDeckDisks disks.now }
     requires minors { minors ≡ num_minors disks.now }
-    requires few { minors ≤ 16384 }
+    requires few { minors ≤ MOST_SLOTS }
     ensures { OnOk result (slots.new.items ≡ slots.old.items ++ minor_cycle minors disks.now minor) }
 {
     for disk in disks {
@@ -96,7 +97,7 @@ fn push_minor(
 pub fn slots_of(alloc: Global, disks: &[Disk], minors: u64) -> Result<Vec<Option<u16>>, AllocError>
     requires limits { AreDeckDisks disks.now }
     requires minors { minors ≡ num_minors disks.now }
-    requires few { minors ≤ 16384 }
+    requires few { minors ≤ MOST_SLOTS }
     ensures { IfOk result (λ slots. slots.items ≡ program disks.now) }
 {
     let mut slots = Vec::new(alloc);

@@ -10,7 +10,7 @@ use std::alloc::{AllocError, Global};
 use std::cmp::Reverse;
 
 /// The rank of each item: its rate, for which greater goes first, and its number.
-fn ranked(alloc: Global, rates: &[u32]) -> Result<Vec<(Reverse<u32>, u16)>, AllocError>
+fn ranks_of(alloc: Global, rates: &[u32]) -> Result<Vec<(Reverse<u32>, u16)>, AllocError>
     requires { length rates.now ≤ 65536 }
     ensures { IfOk result (λ v. v.items ≡ ranks rates.now) }
 {
@@ -26,7 +26,7 @@ pub fn order(alloc: Global, rates: &[u32]) -> Result<Vec<u16>, AllocError>
     requires { length rates.now ≤ 65536 }
     ensures { IfOk result (λ items. items.items ≡ order rates.now) }
 {
-    let mut ranked = ranked(alloc, rates)?;
+    let mut ranked = ranks_of(alloc, rates)?;
     ranked.sort_unstable();
     let mut items = Vec::new(alloc);
     for (_, item) in &ranked {

@@ -4,6 +4,7 @@
 //! the laid out slots, and all that is asked of an item from its home: each in one step.
 
 ghost use Rattle.std.specs.Prelude.{◌≡◌, ◌<◌, ◌≤◌, ◌*◌, All, length, slice_get, IfOk, IfErr, IfSome};
+ghost use Rattle.air_base.specs.declared.limits.TheConstants.{MOST_ITEMS};
 ghost use Rattle.air_model.specs.Disks.{all_items};
 ghost use Rattle.air_model.specs.Decks.{disks_in};
 ghost use Rattle.air_model.specs.Programs.{chunk_len, minor_len, num_chunks, num_minors, program};
@@ -17,6 +18,7 @@ use crate::cuts::Cut;
 use crate::disks::{Disk, copies};
 use crate::homes::{Home, homes};
 use crate::layout::{front_len, num_minors, slots_of};
+use air_base::limits;
 use item_catalog::Deck;
 use std::alloc::{AllocError, Global};
 use std::error::Error;
@@ -24,7 +26,7 @@ use std::fmt;
 use std::marker::Model;
 
 /// The most slots that a program may have.
-const MOST_SLOTS: u64 = 16384;
+const MOST_SLOTS: u64 = limits::MOST_SLOTS;
 
 /// Why there is no program.
 #[derive(Clone, Copy, Debug, PartialEq, Eq)]
@@ -85,7 +87,7 @@ impl Program {
     pub fn plan(alloc: Global, deck: &Deck, cut: &Cut) -> Result<Program, PlanFault>
         requires { cut.now ≡ disks_in deck.now }
         ensures planned { IfOk result (λ p. p ≡ disks_in deck.now) }
-        ensures short { IfOk result (λ p. length (program p) ≤ 16384) }
+        ensures short { IfOk result (λ p. length (program p) ≤ MOST_SLOTS) }
         ensures too_long { IfErr result (IsPlanAnswer (disks_in deck.now)) }
     {
         deck.well_made();
@@ -96,7 +98,7 @@ impl Program {
     pub(crate) fn of_cut(alloc: Global, cut: &Cut) -> Result<Program, PlanFault>
         requires { AreDeckDisks cut.now }
         ensures planned { IfOk result (λ p. p ≡ cut.now) }
-        ensures short { IfOk result (λ p. length (program p) ≤ 16384) }
+        ensures short { IfOk result (λ p. length (program p) ≤ MOST_SLOTS) }
         ensures too_long { IfErr result (IsPlanAnswer cut.now) }
     {
         let disks = cut.disks();
@@ -122,7 +124,7 @@ impl Program {
     pub fn well_made(&self)
         ensures airable { IsAirable self.now }
         ensures some { 1 ≤ length (all_items self.now) }
-        ensures few { length (all_items self.now) ≤ 256 }
+        ensures few { length (all_items self.now) ≤ MOST_ITEMS }
         ensures within { All (λ i. i < length (all_items self.now)) (all_items self.now) }
         ensures slots { All (λ o. IfSome o (λ i. i < length (all_items self.now))) (program self.now) }
     {
@@ -134,7 +136,7 @@ impl Program {
         requires { item < length (all_items self.now) }
         ensures limits { AreDeckDisks self.now }
         ensures home { IsHome self.now item result }
-        ensures few { result.gap ≤ 16384 }
+        ensures few { result.gap ≤ MOST_SLOTS }
         ensures first { result.first < result.gap }
     {
         self.homes[item as usize]
@@ -144,7 +146,7 @@ impl Program {
     pub fn slots(&self) -> u32
         ensures counted { result ≡ length (program self.now) }
         ensures some { 1 ≤ result }
-        ensures few { result ≤ 16384 }
+        ensures few { result ≤ MOST_SLOTS }
     {
         self.slots.len() as u32
     }

@@ -1,6 +1,6 @@
 //! Numbers of slots up to the most, waits around the cycle, places in a cut, and printed faults.
 //!
-//! Each table is walked to the first row that doesn't hold.
+//! Each table is walked to the first row that doesn't hold, which is given with what came.
 
 ghost use Rattle.std.specs.Prelude.{◌≡◌};
 
@@ -63,14 +63,22 @@ fn a_program_has_at_most_16384_slots(rt: HostRuntime) -> Result<(), Fail> {
     Ok(())
 }
 
-/// The place of the first row of slot, item and wait that doesn't hold.
-fn first_other_wait(cut: &Cut, program: &Program, rows: &[(u32, u16, u32)]) -> Option<usize>
+/// The place of the first row of slot, item and wait that doesn't hold, and the wait that came; none where the program has no
+/// such slot or item.
+fn first_other_wait(
+    cut: &Cut,
+    program: &Program,
+    rows: &[(u32, u16, u32)],
+) -> Option<(usize, Option<u32>)>
     requires { cut.now ≡ program.now }
 {
-    for (place, (slot, item, wait)) in rows.iter().enumerate() {
-        let known = *slot < program.slots() && usize::from(*item) < cut.order().len();
-        if !known || program.next_wake(*slot, *item) != *wait {
-            return Some(place);
+    for (place, (slot, item, told)) in rows.iter().enumerate() {
+        if *slot >= program.slots() || usize::from(*item) >= cut.order().len() {
+            return Some((place, None));
+        }
+        let wait = program.next_wake(*slot, *item);
+        if wait != *told {
+            return Some((place, Some(wait)));
         }
     }
     None
@@ -85,14 +93,16 @@ fn a_wait_goes_around_the_cycle(rt: HostRuntime) -> Result<(), Fail> {
     Ok(())
 }
 
-/// The place of the first row of item, disk and place that doesn't hold.
-fn first_other_place(cut: &Cut, rows: &[(u16, u32, u32)]) -> Option<usize> {
+/// The number of the first row of item, disk and place that doesn't hold, and the disk and place that came; none where the cut
+/// has no such item.
+fn first_other_place(cut: &Cut, rows: &[(u16, u32, u32)]) -> Option<(usize, Option<(u32, u32)>)> {
     for (number, (item, disk, place)) in rows.iter().enumerate() {
         if usize::from(*item) >= cut.order().len() {
-            return Some(number);
+            return Some((number, None));
         }
-        if (cut.disk_of(*item), cut.place_of(*item)) != (*disk, *place) {
-            return Some(number);
+        let came = (cut.disk_of(*item), cut.place_of(*item));
+        if came != (*disk, *place) {
+            return Some((number, Some(came)));
         }
     }
     None
@@ -108,19 +118,27 @@ fn the_cut_says_where_each_item_stands(rt: HostRuntime) -> Result<(), Fail> {
     Ok(())
 }
 
-/// Whether the fault prints this text.
-fn prints(alloc: Global, fault: PlanFault, text: &str) -> Result<bool, Fail> {
-    let printed = fault.to_string(alloc)?;
-    Ok(printed.as_str() == text)
+/// The first text that a fault doesn't show, and what it shows.
+fn first_other_text<'a>(
+    alloc: Global,
+    rows: &[(PlanFault, &'a str)],
+) -> Result<Option<(&'a str, String)>, Fail> {
+    for (fault, told) in rows {
+        let shown = fault.to_string(alloc)?;
+        if shown.as_str() != *told {
+            return Ok(Some((*told, shown)));
+        }
+    }
+    Ok(None)
 }
 
 #[test]
 fn a_fault_is_shown(rt: HostRuntime) -> Result<(), Fail> {
     let long = PlanFault::TooLong { slots: 737856 };
-    let printed = [
-        prints(rt.alloc(), long, "a program of 737856 slots is too long")?,
-        prints(rt.alloc(), PlanFault::NoMemory, "out of memory")?,
+    let rows = [
+        (long, "a program of 737856 slots is too long"),
+        (PlanFault::NoMemory, "out of memory"),
     ];
-    assert_eq!(rt; printed, [true; 2]);
+    assert_eq!(rt; first_other_text(rt.alloc(), &rows)?, None);
     Ok(())
 }

@@ -83,7 +83,7 @@ f_matrix n H R x held new = clash_heard (λ s. not (consistent H (s ∷ read_at 
     ∙ ap (λ e. nat_le r.cycle e || nat_le x.cycle (entry_at H r.cycle r.item x.item)) (sym (column_is n H x new r.item h.within))
     ∙ ap (λ e. nat_le r.cycle (entry_of x r.item) || nat_le x.cycle e) (sym (column_is n H r h x.item new.within)))
 
--- a held read is stale at the new cycle exactly where the new vector says so
+-- a held read is stale at the new cycle exactly if the new vector says so
 stale_told : (n : ℕ) (H : List Event) (r x : Heard) → x.entries ≡ Rattle.air_history.specs.Columns.vector n (front H x.cycle) →
     1 ≤ r.cycle → r.cycle ≤ x.cycle → r.item < n → stale H (read_at r) x.cycle ≡ nat_le r.cycle (entry_of x r.item)
 stale_told n H r x told pos le within = stale_is H (read_at r) x.cycle pos le ∙ ap (nat_le r.cycle) (sym (vector_of n H x x.cycle told r.item within))

@@ -1,4 +1,4 @@
--- Reads are consistent exactly where each column's entry of each read item is below that read's cycle.
+-- Reads are consistent exactly if each column's entry of each read item is below that read's cycle.
 use Rattle.std.proofs.Common.{◌≡◌, ℕ, zero, suc, ◌<◌, ◌≤◌, true, ◌&&◌, ◌⊎◌, Option, Some, None, List, [], ◌∷◌, ◌++◌, length, get_or, All, ◌↔◌, refl, sym, subst, inl, inr, arith, Decides, ap}
 use Rattle.std.specs.Prelude.{AllPairs}
 use Rattle.std.proofs.lemmas.Bool.{cases_lt, cases_order, both_ways, and_parts, and_from, false_from_ne_true, false≢true, eqb-true, eq-eqb}
@@ -36,7 +36,7 @@ consistent_decides H R = Decides-by_and (λ r. same_place (last_alone H R r.item
 pub origins_last : (H : List Event) (R : List ReadAt) → IsConsistent H R → OriginsLast H R
 origins_last H R h = (consistent_decides H R).0 h
 
--- below a positive c, the entry of i in a read's column is below c exactly where each commit from which
+-- below a positive c, the entry of i in a read's column is below c exactly if each commit from which
 -- the read descends and that writes i has a cycle below c
 pub entry_below : (H : List Event) (s : ReadAt) (i c : ℕ) → 1 ≤ c →
     ((p : ℕ) → descends_from H s p ≡ true → writes (event_at H p) i ≡ true → cycle_at H p < c) → entry_at H s.cycle s.item i < c
@@ -148,7 +148,7 @@ reads_of_two r s ir is zero d l = ir
 reads_of_two r s ir is (suc zero) d l = is
 reads_of_two r s ir is (suc (suc k)) d l = absurd (omega arith)
 
--- two reads are consistent exactly where they agree
+-- two reads are consistent exactly if they agree
 pub pair_agree : (H : List Event) (r s : ReadAt) → IsRead r → IsRead s → IsConsistent H (r ∷ s ∷ []) ↔ Agree H r s
 pair_agree H r s ir is = (
   λ h. let clear = clear_from_consistent H (r ∷ s ∷ []) (reads_of_two r s ir is) h in
@@ -156,7 +156,7 @@ pair_agree H r s ir is = (
   λ a. consistent_from_clear H (r ∷ s ∷ []) (clear_of_two H r s ir is a),
 )
 
--- and inconsistent exactly where an entry isn't below the cycle, in one direction or the other
+-- and inconsistent exactly if an entry isn't below the cycle, in one direction or the other
 pub pair_apart : (H : List Event) (r s : ReadAt) → IsRead r → IsRead s →
     (IsConsistent H (r ∷ s ∷ []) → ⊥) ↔ ((r.cycle ≤ entry_at H s.cycle s.item r.item) ⊎ (s.cycle ≤ entry_at H r.cycle r.item s.item))
 pair_apart H r s ir is = (
@@ -230,7 +230,7 @@ agree_of_more H R x clear k d l =
       below_at H (get_or (R ++ x ∷ []) (length R) d) x (get_or (R ++ x ∷ []) k d) (get_or R k d) (sym f) (sym e) (clear (length R) k d last inside),
     )
 
--- one more read keeps consistent reads so exactly where it agrees with each
+-- one more read keeps consistent reads so exactly if it agrees with each
 pub more_agree : (H : List Event) (R : List ReadAt) (x : ReadAt) → All IsRead R → IsRead x → IsConsistent H R →
     IsConsistent H (R ++ x ∷ []) ↔ All (λ r. Agree H r x) R
 more_agree H R x are is held = (

@@ -1,4 +1,4 @@
--- The least of the reads that a test names: none exactly where no read passes, and by two tests that agree the same.
+-- The least of the reads that a test names: none exactly if no read passes, and by two tests that agree the same.
 use Rattle.std.proofs.Common.{◌≡◌, Bool, true, false, cond, nat_le, Option, Some, None, List, [], ◌∷◌, map, All, refl, sym, ◌∙◌, ap, inl, inr, arith}
 use Rattle.std.specs.List.{filter}
 use Rattle.std.proofs.lemmas.Bool.{cases_Bool, both_ways, cond-true, cond-false}
@@ -22,7 +22,7 @@ least_none : least [] ≡ None
 unfolding least
 least_none = refl
 
--- nothing is named exactly where no read passes
+-- nothing is named exactly if no read passes
 pub none_named : (f : ReadAt → Bool) (R : List ReadAt) → named_clash f R ≡ None → All (λ r. f r ≡ false) R
 none_named f [] e = λ k d l. absurd (omega arith)
 none_named f (r ∷ R) e = by (f r) refl e (none_named f R)

@@ -1,4 +1,4 @@
--- No rule is broken exactly where each rule holds.
+-- No rule is broken exactly if each rule holds.
 use Rattle.std.proofs.Common.{◌≡◌, ◌≢◌, ◌↔◌, ◌≤◌, ℕ, suc, Bool, true, false, ◌&&◌, ◌||◌, ◌==◌, nat_le, Option, Some, None, IfSome, List, [], ◌∷◌, length, map, get_or, All, Contains, refl, sym, ◌∙◌, ap, arith}
 use Rattle.std.specs.Prelude.{AllPairs}
 use Rattle.std.specs.List.{list_any, list_all}
@@ -23,7 +23,7 @@ is_none x [] h = refl
 is_none x (y ∷ xs) h =
     ap (λ b. b || list_any (λ y. y == x) xs) (ne_eqb y x (λ e. All-head (λ y. x ≢ y) y xs h (sym e))) ∙ is_none x xs (All-tail (λ y. x ≢ y) y xs h)
 
--- nothing stands twice exactly where each two differ
+-- nothing stands twice exactly if each two differ
 apart_from : (xs : List ℕ) → has_repeat xs ≡ false → AllPairs (λ a b. a ≢ b) xs
 unfolding has_repeat
 apart_from [] h = λ i j d lt within. absurd (omega arith)

@@ -67,12 +67,12 @@ stale_at H i a c pos le (Some w) e =
           ∙ sym (le-leb a (cycle_at (front H c) w) (omega arith))
     ]
 
--- a read is stale exactly where the vector's entry of its item isn't below its cycle
+-- a read is stale exactly if the vector's entry of its item isn't below its cycle
 pub stale_is : (H : List Event) (r : ReadAt) (c : ℕ) → 1 ≤ r.cycle → r.cycle ≤ c → stale H r c ≡ nat_le r.cycle (vector_entry (front H c) r.item)
 unfolding stale vector_entry
 stale_is H r c pos le = stale_at H r.item r.cycle c pos le (writer (front H c) r.item) refl
 
--- an item has another origin at a later cycle exactly where the later vector's entry isn't below the earlier cycle
+-- an item has another origin at a later cycle exactly if the later vector's entry isn't below the earlier cycle
 pub origin_told : (H : List Event) (i a c : ℕ) → 1 ≤ a → a ≤ c → not (same_origin H i c a) ≡ nat_le a (vector_entry (front H c) i)
 unfolding vector_entry
 origin_told H i a c pos le = stale_at H i a c pos le (writer (front H c) i) refl

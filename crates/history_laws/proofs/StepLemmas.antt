@@ -94,7 +94,7 @@ module _ (G : List Event) (e : Event) where
       ∙ cond-true (counted j i (length G)) _ _ new
       ∙ top
 
-  -- an old place is in the descent of the new one exactly where it is in that of the last writer of an item that the event reads
+  -- an old place is in the descent of the new one exactly if it is in that of the last writer of an item that the event reads
   new_descent : (p : ℕ) → p < length G → descends (G ++ e ∷ []) (length G) p ≡ list_any (λ item. place_and (writer G item) (λ w. descends G w p)) (reads e)
   unfolding writer
   new_descent p l =

@@ -22,7 +22,7 @@ ghost use Rattle.air_history.specs.ConsistencyLaws.{SharesCycle};
 ghost use Rattle.air_history.specs.Clashes.{Heard, read_at, is_late, clash_by_history, clash_by_entries, IsCurrent, Takes};
 ghost use Rattle.air_history.specs.ClashLaws.{IsHeard, IsAllowed, Accepts, IsSound};
 
-/// Two lists break no rule exactly where each rule holds: at most 16 reads and 1 to 16 writes, no item twice
+/// Two lists break no rule exactly if each rule holds: at most 16 reads and 1 to 16 writes, no item twice
 /// among either, each base read, a minus only with a base.
 pub fn rules_law()
     ensures { (u : UpdateLists) → KeepsRules u ↔
@@ -40,8 +40,8 @@ pub fn descent_law()
         (q : ℕ) → IsTrue (descends G p q) → IsTrue (S q) }
 {}
 
-/// Two reads are consistent exactly where neither's column has the other's item at its cycle or later, and
-/// inconsistent exactly where one's column has it so, in one direction or the other.
+/// Two reads are consistent exactly if neither's column has the other's item at its cycle or later, and
+/// inconsistent exactly if one's column has it so, in one direction or the other.
 pub fn pair_law()
     ensures consistent { (H : List Event) (r s : ReadAt) → IsRead r → IsRead s →
         IsConsistent H (r ∷ s ∷ []) ↔
@@ -51,13 +51,13 @@ pub fn pair_law()
         ((r.cycle ≤ entry_at H s.cycle s.item r.item) ⊎ (s.cycle ≤ entry_at H r.cycle r.item s.item)) }
 {}
 
-/// Reads are consistent exactly where each two of them are.
+/// Reads are consistent exactly if each two of them are.
 pub fn whole_law()
     ensures { (H : List Event) (R : List ReadAt) → All IsRead R →
         IsConsistent H R ↔ AllPairs (λ r s. IsConsistent H (r ∷ s ∷ [])) R }
 {}
 
-/// One more read keeps reads consistent exactly where it is consistent with each.
+/// One more read keeps reads consistent exactly if it is consistent with each.
 pub fn more_law()
     ensures { (H : List Event) (R : List ReadAt) (x : ReadAt) → All IsRead R → IsRead x → IsConsistent H R →
         IsConsistent H (R ++ x ∷ []) ↔ All (λ r. IsConsistent H (r ∷ x ∷ [])) R }
@@ -98,19 +98,19 @@ pub fn clash_law()
         clash_by_history scheme.policy H (map read_at R) (read_at x) ≡ clash_by_entries scheme.policy R x }
 {}
 
-/// After consistent reads, F-Matrix has no clash exactly where the reads stay consistent.
+/// After consistent reads, F-Matrix has no clash exactly if the reads stay consistent.
 pub fn stays_consistent_law()
     ensures { (H : List Event) (R : List ReadAt) (x : ReadAt) → All IsRead R → IsRead x → IsConsistent H R →
         (clash_by_history FMatrix H R x ≡ None) ↔ IsConsistent H (R ++ x ∷ []) }
 {}
 
-/// After current reads, Datacycle has no clash exactly where the reads stay current.
+/// After current reads, Datacycle has no clash exactly if the reads stay current.
 pub fn stays_current_law()
     ensures { (H : List Event) (R : List ReadAt) (x : ReadAt) → All IsRead R → IsRead x → IsCurrent H R →
         (clash_by_history Datacycle H R x ≡ None) ↔ IsCurrent H (R ++ x ∷ []) }
 {}
 
-/// R-Matrix has no clash with a read that isn't late exactly where it takes the read.
+/// R-Matrix has no clash with a read that isn't late exactly if it takes the read.
 pub fn takes_law()
     ensures { (H : List Event) (R : List ReadAt) (x : ReadAt) → is_late RMatrix R x ≡ false →
         (clash_by_history RMatrix H R x ≡ None) ↔ Takes H R x }

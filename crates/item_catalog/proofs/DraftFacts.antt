@@ -8,6 +8,7 @@ use Rattle.std.proofs.lemmas.List.Concat.{flat_map-append}
 use Rattle.std.proofs.lemmas.List.FromFn.{length-map-range_with_len, get_or-map-range_with_len}
 use Rattle.std.proofs.lemmas.List.Sums.{sum_by-append}
 use Rattle.std.proofs.lemmas.Bool.{cases_eq}
+use Rattle.air_base.specs.declared.limits.TheConstants.{MOST_READERS, MOST_UPDATERS}
 use Rattle.air_history.specs.UpdateLists.{UpdateLists}
 use Rattle.air_model.specs.Decks.{count_parts}
 use Rattle.air_model.specs.declared.deck.ReaderPlan.{ReaderPlan}
@@ -15,8 +16,8 @@ use Rattle.item_catalog.specs.Decks.{for_each}
 use Rattle.item_catalog.specs.Drafts.{DraftValue, draft_of, draft_tests, push_at, with_entry}
 use Rattle.item_catalog.specs.Entries.{Entry}
 use Rattle.item_catalog.specs.Entries as e
+use Rattle.item_catalog.specs.declared.kinds.FaultKind.TheVariants as fault
 use Rattle.item_catalog.specs.Faults.{script_passes, tests_of}
-use Rattle.item_catalog.specs.Limits.{most_readers, most_updaters}
 use Rattle.item_catalog.specs.Parts.{greatest, is_query, is_update, its_disk, its_events, its_item, its_query, its_reader, its_setting, its_update, its_updaters, queries_in, script_in, updaters_in, updates_in}
 use Rattle.item_catalog.specs.declared.parts.ItemPart.{ItemPart}
 use Rattle.item_catalog.specs.declared.parts.DiskPart.{DiskPart}
@@ -68,11 +69,11 @@ same_parts : {i1 i2 : List ItemPart} {d1 d2 : List DiskPart} {u1 u2 : List (List
     (record { items = i2; disks = d2; updates = u2; updaters = n2; update_count = c2; readers = r2; queries = q2; query_count = a2; script = s2; set = t2 })
 same_parts h1 h2 h3 h4 h5 h6 h7 h8 h9 h10 = cc
 
-updates_kept : (es : List Entry) (x : Entry) → ((by : ℕ) → its_update by x ≡ None) → for_each most_updaters (updates_in (es ++ x ∷ [])) ≡ for_each most_updaters (updates_in es)
-updates_kept es x h = same_from (updates_in es) (updates_in (es ++ x ∷ [])) 0 most_updaters (λ by. none_more (its_update by) es x (h by))
+updates_kept : (es : List Entry) (x : Entry) → ((by : ℕ) → its_update by x ≡ None) → for_each MOST_UPDATERS (updates_in (es ++ x ∷ [])) ≡ for_each MOST_UPDATERS (updates_in es)
+updates_kept es x h = same_from (updates_in es) (updates_in (es ++ x ∷ [])) 0 MOST_UPDATERS (λ by. none_more (its_update by) es x (h by))
 
-queries_kept : (es : List Entry) (x : Entry) → ((r : ℕ) → its_query r x ≡ None) → for_each most_readers (queries_in (es ++ x ∷ [])) ≡ for_each most_readers (queries_in es)
-queries_kept es x h = same_from (queries_in es) (queries_in (es ++ x ∷ [])) 0 most_readers (λ r. none_more (its_query r) es x (h r))
+queries_kept : (es : List Entry) (x : Entry) → ((r : ℕ) → its_query r x ≡ None) → for_each MOST_READERS (queries_in (es ++ x ∷ [])) ≡ for_each MOST_READERS (queries_in es)
+queries_kept es x h = same_from (queries_in es) (queries_in (es ++ x ∷ [])) 0 MOST_READERS (λ r. none_more (its_query r) es x (h r))
 
 pub updaters_kept : (es : List Entry) (x : Entry) → its_updaters x ≡ 0 → updaters_in (es ++ x ∷ []) ≡ updaters_in es
 updaters_kept es x h = updaters_more es x ∙ rw h (omega arith)
@@ -98,7 +99,7 @@ draft_more es (e.Disk size freq) = let x : Entry = e.Disk size freq in
     (none_more its_reader es x refl) (queries_kept es x (λ r. refl)) (count_kept is_query es x refl) (script_kept es x refl) (none_more its_setting es x refl)
 draft_more es (e.Update by reads writes) = let x : Entry = e.Update by reads writes in
     same_parts (none_more its_item es x refl) (none_more its_disk es x refl)
-    (pushed most_updaters by (updates_in es) (updates_in (es ++ x ∷ [])) (record { reads = reads; writes = writes })
+    (pushed MOST_UPDATERS by (updates_in es) (updates_in (es ++ x ∷ [])) (record { reads = reads; writes = writes })
     (λ k differs. none_more (its_update k) es x (rw (eq_other k by differs) refl)) (one_more (its_update by) es x _ (rw (eq_self by) refl)))
     (updaters_more es x) (count_more is_update es x)
     (none_more its_reader es x refl) (queries_kept es x (λ r. refl)) (count_kept is_query es x refl) (script_kept es x refl) (none_more its_setting es x refl)
@@ -108,7 +109,7 @@ draft_more es (e.Reader room age tries) = let x : Entry = e.Reader room age trie
 draft_more es (e.Query reader items) = let x : Entry = e.Query reader items in
     same_parts (none_more its_item es x refl) (none_more its_disk es x refl) (updates_kept es x (λ by. refl)) (updaters_kept es x refl) (count_kept is_update es x refl)
     (none_more its_reader es x refl)
-    (pushed most_readers reader (queries_in es) (queries_in (es ++ x ∷ [])) items
+    (pushed MOST_READERS reader (queries_in es) (queries_in (es ++ x ∷ [])) items
     (λ k differs. none_more (its_query k) es x (rw (eq_other k reader differs) refl)) (one_more (its_query reader) es x _ (rw (eq_self reader) refl)))
     (count_more is_query es x) (script_kept es x refl) (none_more its_setting es x refl)
 draft_more es (e.Script events) = let x : Entry = e.Script events in
@@ -127,7 +128,7 @@ tests_same es (e.Update by reads writes) = refl
 tests_same es (e.Reader room age tries) = refl
 tests_same es (e.Query reader items) = refl
 tests_same es (e.Script events) =
-    ap (λ b. (7, script_passes (script_in es) events) ∷ (11, b) ∷ [])
-    (some_same most_updaters (λ by. nat_lt (length (get_or (for_each most_updaters (updates_in es)) by [])) (count_parts by (script_in es ++ events))) (λ by. nat_lt (length (updates_in es by)) (count_parts by (script_in es ++ events)))
-    (λ k below. ap (λ us. nat_lt (length us) (count_parts k (script_in es ++ events))) (get_or-map-range_with_len (updates_in es) 0 most_updaters k k [] below (omega arith))))
+    ap (λ b. (fault.Limit, script_passes (script_in es) events) ∷ (fault.Overdrawn, b) ∷ [])
+    (some_same MOST_UPDATERS (λ by. nat_lt (length (get_or (for_each MOST_UPDATERS (updates_in es)) by [])) (count_parts by (script_in es ++ events))) (λ by. nat_lt (length (updates_in es by)) (count_parts by (script_in es ++ events)))
+    (λ k below. ap (λ us. nat_lt (length us) (count_parts k (script_in es ++ events))) (get_or-map-range_with_len (updates_in es) 0 MOST_UPDATERS k k [] below (omega arith))))
 tests_same es (e.Set setting) = refl

@@ -4,16 +4,23 @@ use Rattle.std.specs.Prelude.{◌||◌, ◌==◌}
 use Rattle.std.specs.List.{list_all, list_any}
 use Rattle.std.proofs.lemmas.Bool.{and_parts}
 use Rattle.std.proofs.lemmas.Bool.Decides.{nat_tests}
+use Rattle.air_base.specs.declared.limits.TheConstants.{MOST_READS, MOST_UPDATERS, MOST_UPDATES, MOST_WRITES}
 use Rattle.air_base.specs.Numbers.{number_of}
 use Rattle.air_base.specs.NumberLists.{all_some, list_of, parts_of}
 use Rattle.air_history.specs.declared.updates.Write.{Write}
 use Rattle.air_history.specs.UpdateRules.{base_holds, base_is_read, has_repeat, item_of, update_fault}
 use Rattle.item_catalog.specs.Entries.{Entry, entry_of, query_by, script_by, update_by}
 use Rattle.item_catalog.specs.Entries as e
-use Rattle.item_catalog.specs.Fields.{changed, constant, cut_at, event_of, two_of, value_of, write_by, write_from, write_of}
-use Rattle.item_catalog.specs.Faults.{first_of, is_unread, option_any, reaches, script_passes, update_tests, write_reaches}
-use Rattle.item_catalog.specs.Seen.{EventsRead, ReadIs}
-use Rattle.item_catalog.proofs.NumberFronts.{spelled_fits}
+use Rattle.update_texts.specs.Writes.{changed, constant, value_of, write_by, write_from, write_of}
+use Rattle.air_base.specs.Pieces.{cut_at, two_of}
+use Rattle.item_catalog.specs.Fields.{event_of}
+use Rattle.item_catalog.specs.declared.kinds.FaultKind.{FaultKind}
+use Rattle.item_catalog.specs.declared.kinds.FaultKind.TheVariants as fault
+use Rattle.item_catalog.specs.Faults.{first_of, script_passes, update_tests}
+use Rattle.update_texts.specs.ListTests.{is_unread, option_any, reaches, write_reaches}
+use Rattle.item_catalog.specs.ScriptView.{EventsRead}
+use Rattle.update_texts.specs.KeptLists.{ReadIs}
+use Rattle.air_base.proofs.NumberFronts.{spelled_fits}
 
 -- What holds of each value that a part may spell holds of all values of a list.
 pub all_spelled : {A : Type 0} (value : List ℕ → Option A) (test : A → Bool) → ((text : List ℕ) (x : A) → value text ≡ Some x → test x ≡ true)
@@ -137,19 +144,19 @@ bases_read rs (w ∷ ws) signed none =
         by false h = cc h
 
 -- Tests of which none holds.
-pub none_of_one : (k : ℕ) (p : Bool) → first_of ((k, p) ∷ []) ≡ None → p ≡ false
+pub none_of_one : (k : FaultKind) (p : Bool) → first_of ((k, p) ∷ []) ≡ None → p ≡ false
 none_of_one k true h = cc h
 none_of_one k false h = refl
 
-pub none_of_two : (k l : ℕ) (p q : Bool) → first_of ((k, p) ∷ (l, q) ∷ []) ≡ None → (p ≡ false) × (q ≡ false)
+pub none_of_two : (k l : FaultKind) (p q : Bool) → first_of ((k, p) ∷ (l, q) ∷ []) ≡ None → (p ≡ false) × (q ≡ false)
 none_of_two k l true q h = cc h
 none_of_two k l false q h = (refl, none_of_one l q h)
 
-pub none_of_three : (k l m : ℕ) (p q r : Bool) → first_of ((k, p) ∷ (l, q) ∷ (m, r) ∷ []) ≡ None → (p ≡ false) × (q ≡ false) × (r ≡ false)
+pub none_of_three : (k l m : FaultKind) (p q r : Bool) → first_of ((k, p) ∷ (l, q) ∷ (m, r) ∷ []) ≡ None → (p ≡ false) × (q ≡ false) × (r ≡ false)
 none_of_three k l m true q r h = cc h
 none_of_three k l m false q r h = let more = none_of_two l m q r h in (refl, more.0, more.1)
 
-pub none_of_four : (k l m n : ℕ) (p q r s : Bool) → first_of ((k, p) ∷ (l, q) ∷ (m, r) ∷ (n, s) ∷ []) ≡ None → (p ≡ false) × (q ≡ false) × (r ≡ false) × (s ≡ false)
+pub none_of_four : (k l m n : FaultKind) (p q r s : Bool) → first_of ((k, p) ∷ (l, q) ∷ (m, r) ∷ (n, s) ∷ []) ≡ None → (p ≡ false) × (q ≡ false) × (r ≡ false) × (s ≡ false)
 none_of_four k l m n true q r s h = cc h
 none_of_four k l m n false q r s h = let more = none_of_three l m n q r s h in (refl, more.0, more.1, more.2)
 
@@ -163,23 +170,23 @@ pub record UpdateTested (n by given : ℕ) (rs : List ℕ) (ws : List Write) : T
   pub writes : list_any (write_reaches n) ws ≡ false
   pub reads_apart : has_repeat rs ≡ false
   pub writes_apart : has_repeat (map item_of ws) ≡ false
-  pub updater : by < 16
-  pub few_reads : length rs ≤ 16
+  pub updater : by < MOST_UPDATERS
+  pub few_reads : length rs ≤ MOST_READS
   pub some_write : 1 ≤ length ws
-  pub few_writes : length ws ≤ 16
-  pub few : given < 100000
+  pub few_writes : length ws ≤ MOST_WRITES
+  pub few : given < MOST_UPDATES
   pub bases : list_any (is_unread rs) ws ≡ false
 
 pub update_tested : (n by given : ℕ) (rs : List ℕ) (ws : List Write) → first_of (update_tests n given by rs ws) ≡ None → UpdateTested n by given rs ws
 update_tested n by given rs ws h =
-    let t = none_of_four 4 5 7 8 (reaches n rs || list_any (write_reaches n) ws) (has_repeat rs || has_repeat (map item_of ws))
-    (nat_le 16 by || nat_lt 16 (length rs) || (nat_lt (length ws) 1 || nat_lt 16 (length ws)) || nat_le 100000 given) (list_any (is_unread rs) ws) h in
+    let t = none_of_four fault.Undeclared fault.Twice fault.Limit fault.Unread (reaches n rs || list_any (write_reaches n) ws) (has_repeat rs || has_repeat (map item_of ws))
+    (nat_le MOST_UPDATERS by || nat_lt MOST_READS (length rs) || (nat_lt (length ws) 1 || nat_lt MOST_WRITES (length ws)) || nat_le MOST_UPDATES given) (list_any (is_unread rs) ws) h in
     let declared = or_none (reaches n rs) (list_any (write_reaches n) ws) t.0 in
     let apart = or_none (has_repeat rs) (has_repeat (map item_of ws)) t.1 in
-    let all = or_none (nat_le 16 by || nat_lt 16 (length rs) || (nat_lt (length ws) 1 || nat_lt 16 (length ws))) (nat_le 100000 given) t.2 in
-    let lists = or_none (nat_le 16 by || nat_lt 16 (length rs)) (nat_lt (length ws) 1 || nat_lt 16 (length ws)) all.0 in
-    let front = or_none (nat_le 16 by) (nat_lt 16 (length rs)) lists.0 in
-    let back = or_none (nat_lt (length ws) 1) (nat_lt 16 (length ws)) lists.1 in
+    let all = or_none (nat_le MOST_UPDATERS by || nat_lt MOST_READS (length rs) || (nat_lt (length ws) 1 || nat_lt MOST_WRITES (length ws))) (nat_le MOST_UPDATES given) t.2 in
+    let lists = or_none (nat_le MOST_UPDATERS by || nat_lt MOST_READS (length rs)) (nat_lt (length ws) 1 || nat_lt MOST_WRITES (length ws)) all.0 in
+    let front = or_none (nat_le MOST_UPDATERS by) (nat_lt MOST_READS (length rs)) lists.0 in
+    let back = or_none (nat_lt (length ws) 1) (nat_lt MOST_WRITES (length ws)) lists.1 in
     record {
       reads = declared.0;
       writes = declared.1;
@@ -197,9 +204,9 @@ pub rules_kept : (n by given : ℕ) (rs : List ℕ) (ws : List Write) → list_a
 unfolding update_fault
 rules_kept n by given rs ws signed none =
     let t = update_tested n by given rs ws none in
-    let few : nat_le (length rs) 16 ≡ true = grind (arith, nat_tests, t.few_reads) in
+    let few : nat_le (length rs) MOST_READS ≡ true = grind (arith, nat_tests, t.few_reads) in
     let some : nat_le 1 (length ws) ≡ true = grind (arith, nat_tests, t.some_write) in
-    let most : nat_le (length ws) 16 ≡ true = grind (arith, nat_tests, t.few_writes) in
+    let most : nat_le (length ws) MOST_WRITES ≡ true = grind (arith, nat_tests, t.few_writes) in
     rw (few, some, most, t.reads_apart, t.writes_apart, bases_read rs ws signed t.bases) refl
 
 -- Events that were read.

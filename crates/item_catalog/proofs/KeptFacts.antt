@@ -8,6 +8,7 @@ use Rattle.std.proofs.lemmas.Bool.{and_parts, cases_lt}
 use Rattle.std.proofs.lemmas.List.{set_past}
 use Rattle.std.proofs.lemmas.List.Elements.{All-append}
 use Rattle.std.proofs.lemmas.List.Sums.{sum_by-set}
+use Rattle.air_base.specs.declared.limits.TheConstants.{MOST_ASKED, MOST_DISKS, MOST_EVENTS, MOST_FREQ, MOST_ITEMS, MOST_QUERIES, MOST_RATE, MOST_READERS, MOST_SIZE, MOST_STARTS, MOST_UPDATERS, MOST_UPDATES}
 use Rattle.air_history.specs.UpdateLists.{UpdateLists}
 use Rattle.air_model.specs.Decks.{IsQuery, IsUpdate, count_parts}
 use Rattle.air_model.specs.declared.deck.ReaderPlan.{ReaderPlan}
@@ -15,7 +16,8 @@ use Rattle.item_catalog.specs.DeckLimits.{ReaderWithin}
 use Rattle.item_catalog.specs.Drafts.{DraftValue, push_at}
 use Rattle.item_catalog.specs.Entries.{Entry}
 use Rattle.item_catalog.specs.Entries as e
-use Rattle.item_catalog.specs.Faults.{count_starts, option_any}
+use Rattle.item_catalog.specs.Faults.{count_starts}
+use Rattle.update_texts.specs.ListTests.{option_any}
 use Rattle.item_catalog.specs.Limits.{outside}
 use Rattle.item_catalog.specs.Settings.{range_of}
 use Rattle.item_catalog.specs.declared.parts.ItemPart.{ItemPart}
@@ -72,8 +74,8 @@ Spelt (e.Set s) = InRange s
 
 pub record DiskKept (d : DiskPart) : Type 0 where
   pub some : 1 ≤ d.size
-  pub few : d.size ≤ 256
-  pub freq : option_any (outside 1 64) d.freq ≡ false
+  pub few : d.size ≤ MOST_SIZE
+  pub freq : option_any (outside 1 MOST_FREQ) d.freq ≡ false
 
 pub record ReaderKept (r : ReaderPlan) : Type 0 where
   pub within : ReaderWithin r
@@ -81,38 +83,38 @@ pub record ReaderKept (r : ReaderPlan) : Type 0 where
 
 pub record QueryKept (n : ℕ) (items : List ℕ) : Type 0 where
   pub query : IsQuery n items
-  pub few : length items ≤ 16
+  pub few : length items ≤ MOST_ASKED
 
 pub record ItemsKept (items : List ItemPart) : Type 0 where
-  pub each : All (λ i. (i.value < 2 ^ 64) × (i.rate ≤ 1000000)) items
-  pub few : length items ≤ 256
+  pub each : All (λ i. (i.value < 2 ^ 64) × (i.rate ≤ MOST_RATE)) items
+  pub few : length items ≤ MOST_ITEMS
 
 pub record DisksKept (disks : List DiskPart) : Type 0 where
   pub each : All DiskKept disks
-  pub few : length disks ≤ 8
+  pub few : length disks ≤ MOST_DISKS
 
 pub record UpdatesKept (n : ℕ) (updates : List (List UpdateLists)) (updaters count : ℕ) : Type 0 where
   pub each : All (All (IsUpdate n)) updates
-  pub lists : length updates ≡ 16
-  pub few : updaters ≤ 16
+  pub lists : length updates ≡ MOST_UPDATERS
+  pub few : updaters ≤ MOST_UPDATERS
   pub past : (by : ℕ) → updaters ≤ by → length (get_or updates by []) ≡ 0
-  pub few_in_all : count ≤ 100000
+  pub few_in_all : count ≤ MOST_UPDATES
   pub all : sum_by length updates ≤ count
 
 pub record ReadersKept (readers : List ReaderPlan) : Type 0 where
   pub each : All ReaderKept readers
-  pub few : length readers ≤ 64
+  pub few : length readers ≤ MOST_READERS
 
 pub record QueriesKept (n : ℕ) (queries : List (List (List ℕ))) (count : ℕ) : Type 0 where
   pub each : All (All (QueryKept n)) queries
-  pub lists : length queries ≡ 64
-  pub few_in_all : count ≤ 10000
+  pub lists : length queries ≡ MOST_READERS
+  pub few_in_all : count ≤ MOST_QUERIES
   pub all : sum_by length queries ≤ count
 
 pub record EventsKept (updates : List (List UpdateLists)) (script : List (Option ℕ)) : Type 0 where
-  pub few : length script ≤ 200000
-  pub few_starts : count_starts script ≤ 10000
-  pub updaters : list_any (option_any (nat_le 16)) script ≡ false
+  pub few : length script ≤ MOST_EVENTS
+  pub few_starts : count_starts script ≤ MOST_STARTS
+  pub updaters : list_any (option_any (nat_le MOST_UPDATERS)) script ≡ false
   pub fits : (by : ℕ) → count_parts by script ≤ length (get_or updates by [])
 
 pub record Kept (d : DraftValue) : Type 0 where

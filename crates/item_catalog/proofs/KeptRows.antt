@@ -4,6 +4,7 @@ use Rattle.std.proofs.lemmas.Bool.{cases_lt}
 use Rattle.std.proofs.lemmas.List.{get_or_past, take_all, take_more}
 use Rattle.std.proofs.lemmas.List.FromFn.{length-map-range_with_len, get_or-map-range_with_len}
 use Rattle.std.proofs.lemmas.Option.{slice_get-get_or}
+use Rattle.air_base.specs.declared.limits.TheConstants.{MOST_READERS, MOST_UPDATERS}
 use Rattle.air_history.specs.UpdateLists.{UpdateLists}
 use Rattle.air_model.specs.Decks.{Deck, IsDeck}
 use Rattle.item_catalog.specs.DeckLimits.{WithinLimits}
@@ -13,6 +14,7 @@ use Rattle.item_catalog.specs.Entries.{Entry, entry_of}
 use Rattle.item_catalog.specs.Faults.{end_tests, entries_in, first_of, kinds_after, kinds_at, tests_of}
 use Rattle.item_catalog.specs.Grammar.{Faultless, RowsSpell}
 use Rattle.item_catalog.specs.Parts.{disks_in, items_in}
+use Rattle.item_catalog.specs.declared.kinds.FaultKind.{FaultKind}
 use Rattle.item_catalog.proofs.DraftFacts.{draft_more, tests_same}
 use Rattle.item_catalog.proofs.KeptFacts.{Kept}
 use Rattle.item_catalog.proofs.KeptSteps.{kept_more}
@@ -38,16 +40,16 @@ kept_none = record {
   items = record { each = λ k d below. absurd (omega arith); few = omega arith };
   disks = record { each = λ k d below. absurd (omega arith); few = omega arith };
   updates = record {
-    each = λ k d below. λ j e inside. absurd (omega (arith, inside, ap length (empty_at 16 k d below)));
+    each = λ k d below. λ j e inside. absurd (omega (arith, inside, ap length (empty_at MOST_UPDATERS k d below)));
     lists = refl;
     few = omega arith;
-    past = λ by past. none_at UpdateLists 16 by;
+    past = λ by past. none_at UpdateLists MOST_UPDATERS by;
     few_in_all = omega arith;
     all = omega arith;
   };
   readers = record { each = λ k d below. absurd (omega arith); few = omega arith };
   queries = record {
-    each = λ k d below. λ j e inside. absurd (omega (arith, inside, ap length (empty_at 64 k d below)));
+    each = λ k d below. λ j e inside. absurd (omega (arith, inside, ap length (empty_at MOST_READERS k d below)));
     lists = refl;
     few_in_all = omega arith;
     all = omega arith;
@@ -60,7 +62,7 @@ kept_none = record {
 kept_row : (rows : List (List (List ℕ))) (row : List (List ℕ)) → kinds_after (entries_in rows) (entry_of row) ≡ [] → Kept (draft_of (entries_in rows)) → Kept (draft_of (entries_in (rows ++ row ∷ [])))
 kept_row rows row none k = by (entry_of row) refl none
   where
-    by : (r : Result Entry ℕ) → entry_of row ≡ r → kinds_after (entries_in rows) r ≡ [] → Kept (draft_of (entries_in (rows ++ row ∷ [])))
+    by : (r : Result Entry FaultKind) → entry_of row ≡ r → kinds_after (entries_in rows) r ≡ [] → Kept (draft_of (entries_in (rows ++ row ∷ [])))
     by (Err kind) e h = cc h
     by (Ok x) e h =
         let first : first_of (draft_tests (draft_of (entries_in rows)) x) ≡ None = ap first_of (tests_same (entries_in rows) x) ∙ some_apply (tests_of (entries_in rows) x) h in

@@ -7,6 +7,7 @@ use Rattle.std.proofs.lemmas.Bool.Decides.{nat_tests}
 use Rattle.std.proofs.lemmas.List.{get_or-set_other, get_or-set_same, get_or_past, length-set, set_past}
 use Rattle.std.proofs.lemmas.List.Folds.{list_any-append}
 use Rattle.std.proofs.lemmas.List.Sums.{sum_by-cons}
+use Rattle.air_base.specs.declared.limits.TheConstants.{MOST_AGE, MOST_ASKED, MOST_DISKS, MOST_EVENTS, MOST_FREQ, MOST_ITEMS, MOST_QUERIES, MOST_RATE, MOST_READERS, MOST_ROOM, MOST_SIZE, MOST_STARTS, MOST_TRIES, MOST_UPDATERS}
 use Rattle.air_history.specs.declared.updates.Write.{Write}
 use Rattle.air_history.specs.UpdateLists.{UpdateLists}
 use Rattle.air_history.specs.UpdateRules.{has_repeat}
@@ -15,8 +16,10 @@ use Rattle.air_model.specs.declared.deck.ReaderPlan.{ReaderPlan}
 use Rattle.item_catalog.specs.Drafts.{DraftValue, draft_tests, push_at, with_entry}
 use Rattle.item_catalog.specs.Entries.{Entry}
 use Rattle.item_catalog.specs.Entries as e
-use Rattle.item_catalog.specs.Faults.{count_starts, first_of, option_any, reaches, script_passes, some_below, write_reaches}
+use Rattle.item_catalog.specs.Faults.{count_starts, first_of, script_passes, some_below}
+use Rattle.update_texts.specs.ListTests.{option_any, reaches, write_reaches}
 use Rattle.item_catalog.specs.Limits.{outside}
+use Rattle.item_catalog.specs.declared.kinds.FaultKind.TheVariants as fault
 use Rattle.item_catalog.specs.declared.parts.ItemPart.{ItemPart}
 use Rattle.item_catalog.specs.declared.settings.Setting.{Setting}
 use Rattle.item_catalog.proofs.EntryFacts.{is_signed, none_of_one, none_of_three, none_of_two, or_none, rules_kept, update_tested}
@@ -57,13 +60,13 @@ each_push {A = A} P lists i x all here k d below = by (cases_eq k i)
 module _ (d : DraftValue) (k : Kept d) where
   kept_item : (id value rate : ℕ) → value < 2 ^ 64 → first_of (draft_tests d (e.Item id value rate)) ≡ None → Kept (with_entry d (e.Item id value rate))
   kept_item id value rate fits none =
-      let t = none_of_two 3 7 (not (id == length d.items)) (nat_lt 1000000 rate || nat_le 256 (length d.items)) none in
-      let seven = or_none (nat_lt 1000000 rate) (nat_le 256 (length d.items)) t.1 in
-      let low : rate ≤ 1000000 = grind (arith, nat_tests, seven.0) in
-      let few : length d.items < 256 = grind (arith, nat_tests, seven.1) in
+      let t = none_of_two fault.Id fault.Limit (not (id == length d.items)) (nat_lt MOST_RATE rate || nat_le MOST_ITEMS (length d.items)) none in
+      let seven = or_none (nat_lt MOST_RATE rate) (nat_le MOST_ITEMS (length d.items)) t.1 in
+      let low : rate ≤ MOST_RATE = grind (arith, nat_tests, seven.0) in
+      let few : length d.items < MOST_ITEMS = grind (arith, nat_tests, seven.1) in
       let n : length (d.items ++ record { value = value; rate = rate } ∷ []) ≡ length d.items + 1 = length-append d.items (record { value = value; rate = rate } ∷ []) in
       record {
-        items = record { each = all_push (λ (i : ItemPart). (i.value < 2 ^ 64) × (i.rate ≤ 1000000)) d.items (record { value = value; rate = rate }) k.items.each (fits, low); few = omega arith };
+        items = record { each = all_push (λ (i : ItemPart). (i.value < 2 ^ 64) × (i.rate ≤ MOST_RATE)) d.items (record { value = value; rate = rate }) k.items.each (fits, low); few = omega arith };
         disks = k.disks;
         updates = record {
           each = rw n (λ i us below. λ j u inside. update_wider (length d.items) (get_or (get_or d.updates i us) j u) (k.updates.each i us below j u inside));
@@ -86,11 +89,11 @@ module _ (d : DraftValue) (k : Kept d) where
 
   kept_disk : (size : ℕ) (freq : Option ℕ) → first_of (draft_tests d (e.Disk size freq)) ≡ None → Kept (with_entry d (e.Disk size freq))
   kept_disk size freq none =
-      let t = none_of_one 7 ((nat_lt size 1 || nat_lt 256 size) || option_any (outside 1 64) freq || nat_le 8 (length d.disks)) none in
-      let all = or_none ((nat_lt size 1 || nat_lt 256 size) || option_any (outside 1 64) freq) (nat_le 8 (length d.disks)) t in
-      let one = or_none (nat_lt size 1 || nat_lt 256 size) (option_any (outside 1 64) freq) all.0 in
-      let sizes = or_none (nat_lt size 1) (nat_lt 256 size) one.0 in
-      let few : length d.disks < 8 = grind (arith, nat_tests, all.1) in
+      let t = none_of_one fault.Limit ((nat_lt size 1 || nat_lt MOST_SIZE size) || option_any (outside 1 MOST_FREQ) freq || nat_le MOST_DISKS (length d.disks)) none in
+      let all = or_none ((nat_lt size 1 || nat_lt MOST_SIZE size) || option_any (outside 1 MOST_FREQ) freq) (nat_le MOST_DISKS (length d.disks)) t in
+      let one = or_none (nat_lt size 1 || nat_lt MOST_SIZE size) (option_any (outside 1 MOST_FREQ) freq) all.0 in
+      let sizes = or_none (nat_lt size 1) (nat_lt MOST_SIZE size) one.0 in
+      let few : length d.disks < MOST_DISKS = grind (arith, nat_tests, all.1) in
       record {
         items = k.items;
         disks = record {
@@ -106,12 +109,12 @@ module _ (d : DraftValue) (k : Kept d) where
 
   kept_reader : (room age tries : ℕ) → first_of (draft_tests d (e.Reader room age tries)) ≡ None → Kept (with_entry d (e.Reader room age tries))
   kept_reader room age tries none =
-      let t = none_of_one 7 (nat_lt 256 room || nat_lt 10000 age || (nat_lt tries 1 || nat_lt 16 tries) || nat_le 64 (length d.readers)) none in
-      let all = or_none (nat_lt 256 room || nat_lt 10000 age || (nat_lt tries 1 || nat_lt 16 tries)) (nat_le 64 (length d.readers)) t in
-      let plan = or_none (nat_lt 256 room || nat_lt 10000 age) (nat_lt tries 1 || nat_lt 16 tries) all.0 in
-      let copies = or_none (nat_lt 256 room) (nat_lt 10000 age) plan.0 in
-      let often = or_none (nat_lt tries 1) (nat_lt 16 tries) plan.1 in
-      let few : length d.readers < 64 = grind (arith, nat_tests, all.1) in
+      let t = none_of_one fault.Limit (nat_lt MOST_ROOM room || nat_lt MOST_AGE age || (nat_lt tries 1 || nat_lt MOST_TRIES tries) || nat_le MOST_READERS (length d.readers)) none in
+      let all = or_none (nat_lt MOST_ROOM room || nat_lt MOST_AGE age || (nat_lt tries 1 || nat_lt MOST_TRIES tries)) (nat_le MOST_READERS (length d.readers)) t in
+      let plan = or_none (nat_lt MOST_ROOM room || nat_lt MOST_AGE age) (nat_lt tries 1 || nat_lt MOST_TRIES tries) all.0 in
+      let copies = or_none (nat_lt MOST_ROOM room) (nat_lt MOST_AGE age) plan.0 in
+      let often = or_none (nat_lt tries 1) (nat_lt MOST_TRIES tries) plan.1 in
+      let few : length d.readers < MOST_READERS = grind (arith, nat_tests, all.1) in
       let reader : ReaderPlan = record { room = room; age = age; tries = tries } in
       record {
         items = k.items;
@@ -152,16 +155,16 @@ written n ws none k d below =
     let one = (or_none (nat_le n (get_or ws k d).item) (option_any (nat_le n) (get_or ws k d).base) (none_all (write_reaches n) ws none k d below)).0 in
     grind (arith, nat_tests, one)
 
-no_parts : (by : ℕ) (script : List (Option ℕ)) → list_any (option_any (nat_le 16)) script ≡ false → 16 ≤ by → count_parts by script ≡ 0
+no_parts : (by : ℕ) (script : List (Option ℕ)) → list_any (option_any (nat_le MOST_UPDATERS)) script ≡ false → MOST_UPDATERS ≤ by → count_parts by script ≡ 0
 no_parts by [] none past = refl
 no_parts by (event ∷ script) none past =
-    let both = or_none (option_any (nat_le 16) event) (list_any (option_any (nat_le 16)) script) none in
+    let both = or_none (option_any (nat_le MOST_UPDATERS) event) (list_any (option_any (nat_le MOST_UPDATERS)) script) none in
     let more = no_parts by script both.1 past in
     omega (arith, sum_by-cons (λ x. cond (is_part_of by x) 1 0) event script, one event both.0)
   where
-    one : (event : Option ℕ) → option_any (nat_le 16) event ≡ false → ◌≡◌ {A = ℕ} (cond (is_part_of by event) 1 0) 0
+    one : (event : Option ℕ) → option_any (nat_le MOST_UPDATERS) event ≡ false → ◌≡◌ {A = ℕ} (cond (is_part_of by event) 1 0) 0
     one None h = refl
-    one (Some who) h = let low : who < 16 = grind (arith, nat_tests, h) in let other : (who == by) ≡ false = grind arith in rw other refl
+    one (Some who) h = let low : who < MOST_UPDATERS = grind (arith, nat_tests, h) in let other : (who == by) ≡ false = grind arith in rw other refl
 
 module _ (d : DraftValue) (k : Kept d) where
   kept_update : (by : ℕ) (rs : List ℕ) (ws : List Write) → list_all is_signed ws ≡ true → All (λ w. w.amount < 2 ^ 64) ws → first_of (draft_tests d (e.Update by rs ws)) ≡ None
@@ -199,11 +202,11 @@ module _ (d : DraftValue) (k : Kept d) where
 
   kept_query : (reader : ℕ) (asked : List ℕ) → first_of (draft_tests d (e.Query reader asked)) ≡ None → Kept (with_entry d (e.Query reader asked))
   kept_query reader asked none =
-      let t = none_of_three 4 5 7 (nat_le (length d.readers) reader || reaches (length d.items) asked) (has_repeat asked) ((nat_lt (length asked) 1 || nat_lt 16 (length asked)) || nat_le 10000 d.query_count) none in
+      let t = none_of_three fault.Undeclared fault.Twice fault.Limit (nat_le (length d.readers) reader || reaches (length d.items) asked) (has_repeat asked) ((nat_lt (length asked) 1 || nat_lt MOST_ASKED (length asked)) || nat_le MOST_QUERIES d.query_count) none in
       let four = or_none (nat_le (length d.readers) reader) (reaches (length d.items) asked) t.0 in
-      let seven = or_none (nat_lt (length asked) 1 || nat_lt 16 (length asked)) (nat_le 10000 d.query_count) t.2 in
-      let size = or_none (nat_lt (length asked) 1) (nat_lt 16 (length asked)) seven.0 in
-      let few : d.query_count < 10000 = grind (arith, nat_tests, seven.1) in
+      let seven = or_none (nat_lt (length asked) 1 || nat_lt MOST_ASKED (length asked)) (nat_le MOST_QUERIES d.query_count) t.2 in
+      let size = or_none (nat_lt (length asked) 1) (nat_lt MOST_ASKED (length asked)) seven.0 in
+      let few : d.query_count < MOST_QUERIES = grind (arith, nat_tests, seven.1) in
       let right : QueryKept (length d.items) asked = record {
         query = record { filled = grind (arith, nat_tests, size.0); distinct = t.1; within = declared (length d.items) asked four.1 };
         few = grind (arith, nat_tests, size.1);
@@ -225,12 +228,12 @@ module _ (d : DraftValue) (k : Kept d) where
 
   kept_script : (events : List (Option ℕ)) → first_of (draft_tests d (e.Script events)) ≡ None → Kept (with_entry d (e.Script events))
   kept_script events none =
-      let t = none_of_two 7 11 (script_passes d.script events) (some_below 16 (λ by. nat_lt (length (get_or d.updates by [])) (count_parts by (d.script ++ events)))) none in
-      let seven = or_none (list_any (option_any (nat_le 16)) events || nat_lt 200000 (length d.script + length events)) (nat_lt 10000 (count_starts d.script + count_starts events)) t.0 in
-      let front = or_none (list_any (option_any (nat_le 16)) events) (nat_lt 200000 (length d.script + length events)) seven.0 in
-      let few : length d.script + length events ≤ 200000 = grind (arith, nat_tests, front.1) in
-      let starts : count_starts d.script + count_starts events ≤ 10000 = grind (arith, nat_tests, seven.1) in
-      let updaters : list_any (option_any (nat_le 16)) (d.script ++ events) ≡ false = list_any-append (option_any (nat_le 16)) d.script events ∙ rw (k.script.updaters, front.0) refl in
+      let t = none_of_two fault.Limit fault.Overdrawn (script_passes d.script events) (some_below MOST_UPDATERS (λ by. nat_lt (length (get_or d.updates by [])) (count_parts by (d.script ++ events)))) none in
+      let seven = or_none (list_any (option_any (nat_le MOST_UPDATERS)) events || nat_lt MOST_EVENTS (length d.script + length events)) (nat_lt MOST_STARTS (count_starts d.script + count_starts events)) t.0 in
+      let front = or_none (list_any (option_any (nat_le MOST_UPDATERS)) events) (nat_lt MOST_EVENTS (length d.script + length events)) seven.0 in
+      let few : length d.script + length events ≤ MOST_EVENTS = grind (arith, nat_tests, front.1) in
+      let starts : count_starts d.script + count_starts events ≤ MOST_STARTS = grind (arith, nat_tests, seven.1) in
+      let updaters : list_any (option_any (nat_le MOST_UPDATERS)) (d.script ++ events) ≡ false = list_any-append (option_any (nat_le MOST_UPDATERS)) d.script events ∙ rw (k.script.updaters, front.0) refl in
       record {
         items = k.items;
         disks = k.disks;
@@ -241,8 +244,8 @@ module _ (d : DraftValue) (k : Kept d) where
           few = omega (arith, length-append d.script events);
           few_starts = omega (arith, starts_all d.script events);
           updaters = updaters;
-          fits = λ by. elim (cases_lt by 16) [
-            | inl below ↦ let one = none_below 16 by (λ by. nat_lt (length (get_or d.updates by [])) (count_parts by (d.script ++ events))) below t.1 in grind (arith, nat_tests, one)
+          fits = λ by. elim (cases_lt by MOST_UPDATERS) [
+            | inl below ↦ let one = none_below MOST_UPDATERS by (λ by. nat_lt (length (get_or d.updates by [])) (count_parts by (d.script ++ events))) below t.1 in grind (arith, nat_tests, one)
             | inr past ↦ let no = no_parts by (d.script ++ events) updaters past in omega arith
           ];
         };

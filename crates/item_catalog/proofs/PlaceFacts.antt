@@ -12,16 +12,18 @@ use Rattle.item_catalog.specs.Drafts.{draft_of, judged, with_spelled}
 use Rattle.item_catalog.specs.Entries.{Entry, entry_of}
 use Rattle.item_catalog.specs.Entries as e
 use Rattle.item_catalog.specs.Faults.{end_tests, entries_in, entry_if, first_of, kinds_after, kinds_at, kinds_of, tests_of}
+use Rattle.item_catalog.specs.Kinds.{code_of}
+use Rattle.item_catalog.specs.declared.kinds.FaultKind.{FaultKind}
 use Rattle.item_catalog.specs.Grammar.{Faultless, IsFirstFault, IsLeast}
 use Rattle.item_catalog.specs.Parts.{disks_in, items_in}
 use Rattle.item_catalog.proofs.DraftFacts.{draft_more, tests_same}
 
 -- Tests by rising kind, all above a number: the first that holds has the least of the kinds.
-abbrev rising : ℕ → List (ℕ × Bool) → Bool
+abbrev rising : ℕ → List (FaultKind × Bool) → Bool
 rising n [] = true
-rising n (t ∷ tests) = nat_lt n t.0 && rising t.0 tests
+rising n (t ∷ tests) = nat_lt n (code_of t.0) && rising (code_of t.0) tests
 
-pub none_apply : (tests : List (ℕ × Bool)) → first_of tests ≡ None → kinds_of tests ≡ []
+pub none_apply : (tests : List (FaultKind × Bool)) → first_of tests ≡ None → kinds_of tests ≡ []
 none_apply [] h = refl
 none_apply (t ∷ tests) h = by t.1 refl h (none_apply tests)
   where
@@ -29,12 +31,12 @@ none_apply (t ∷ tests) h = by t.1 refl h (none_apply tests)
     by true e h more = cc h
     by false e h more = rw e (more h)
 
-pub some_apply : (tests : List (ℕ × Bool)) → kinds_of tests ≡ [] → first_of tests ≡ None
+pub some_apply : (tests : List (FaultKind × Bool)) → kinds_of tests ≡ [] → first_of tests ≡ None
 some_apply [] h = refl
 some_apply (t ∷ tests) h = by t.1 refl (some_apply tests)
   where
     by : (b : Bool) → t.1 ≡ b → (kinds_of tests ≡ [] → first_of tests ≡ None) → cond b (Some t.0) (first_of tests) ≡ None
-    by true e more = let one : t.0 ∷ kinds_of tests ≡ [] = rw e at h in cc one
+    by true e more = let one : code_of t.0 ∷ kinds_of tests ≡ [] = rw e at h in cc one
     by false e more = let rest : kinds_of tests ≡ [] = rw e at h in more rest
 
 all_below : (n m : ℕ) (ks : List ℕ) → n ≤ m → All (λ k. m < k) ks → All (λ k. n < k) ks
@@ -44,15 +46,15 @@ first_above : (n k : ℕ) (ks : List ℕ) → n < k → All (λ k. n < k) ks →
 first_above n k ks here more zero d below = here
 first_above n k ks here more (suc i) d below = more i d (omega arith)
 
-above : (n : ℕ) (tests : List (ℕ × Bool)) → rising n tests ≡ true → All (λ k. n < k) (kinds_of tests)
+above : (n : ℕ) (tests : List (FaultKind × Bool)) → rising n tests ≡ true → All (λ k. n < k) (kinds_of tests)
 above n [] h = λ k d below. absurd (omega arith)
 above n (t ∷ tests) h =
-    let both = and_parts (nat_lt n t.0) (rising t.0 tests) h in
-    let here : n < t.0 = grind (arith, nat_tests, both.0) in
-    by t.1 refl here (all_below n t.0 (kinds_of tests) (omega arith) (above t.0 tests both.1))
+    let both = and_parts (nat_lt n (code_of t.0)) (rising (code_of t.0) tests) h in
+    let here : n < code_of t.0 = grind (arith, nat_tests, both.0) in
+    by t.1 refl here (all_below n (code_of t.0) (kinds_of tests) (omega arith) (above (code_of t.0) tests both.1))
   where
-    by : (b : Bool) → t.1 ≡ b → n < t.0 → All (λ k. n < k) (kinds_of tests) → All (λ k. n < k) (kinds_of (t ∷ tests))
-    by true e here more = rw e (first_above n t.0 (kinds_of tests) here more)
+    by : (b : Bool) → t.1 ≡ b → n < code_of t.0 → All (λ k. n < k) (kinds_of tests) → All (λ k. n < k) (kinds_of (t ∷ tests))
+    by true e here more = rw e (first_above n (code_of t.0) (kinds_of tests) here more)
     by false e here more = rw e more
 
 least_first : (k : ℕ) (ks : List ℕ) → All (λ l. k < l) ks → IsLeast k (k ∷ ks)
@@ -62,14 +64,14 @@ least_first k ks all = record { one = (0, omega arith, refl); least = at }
     at zero d below = omega arith
     at (suc i) d below = let more = all i d (omega arith) in omega arith
 
-pub least_applies : (n : ℕ) (tests : List (ℕ × Bool)) (kind : ℕ) → rising n tests ≡ true → first_of tests ≡ Some kind → IsLeast kind (kinds_of tests)
+pub least_applies : (n : ℕ) (tests : List (FaultKind × Bool)) (kind : FaultKind) → rising n tests ≡ true → first_of tests ≡ Some kind → IsLeast (code_of kind) (kinds_of tests)
 least_applies n [] kind h e = cc e
 least_applies n (t ∷ tests) kind h e =
-    let both = and_parts (nat_lt n t.0) (rising t.0 tests) h in
-    by t.1 refl e (above t.0 tests both.1) (least_applies t.0 tests kind both.1)
+    let both = and_parts (nat_lt n (code_of t.0)) (rising (code_of t.0) tests) h in
+    by t.1 refl e (above (code_of t.0) tests both.1) (least_applies (code_of t.0) tests kind both.1)
   where
-    by : (b : Bool) → t.1 ≡ b → cond b (Some t.0) (first_of tests) ≡ Some kind → All (λ k. t.0 < k) (kinds_of tests) → (first_of tests ≡ Some kind → IsLeast kind (kinds_of tests)) → IsLeast kind (kinds_of (t ∷ tests))
-    by true f e all more = let same : t.0 ≡ kind = cc e in rw (f, ← same) (least_first t.0 (kinds_of tests) all)
+    by : (b : Bool) → t.1 ≡ b → cond b (Some t.0) (first_of tests) ≡ Some kind → All (λ k. code_of t.0 < k) (kinds_of tests) → (first_of tests ≡ Some kind → IsLeast (code_of kind) (kinds_of tests)) → IsLeast (code_of kind) (kinds_of (t ∷ tests))
+    by true f e all more = let same : t.0 ≡ kind = cc e in rw (f, ← same) (least_first (code_of t.0) (kinds_of tests) all)
     by false f e all more = rw f (more e)
 
 pub alone : (kind : ℕ) → IsLeast kind (kind ∷ [])
@@ -121,22 +123,22 @@ module _ (rows : List (List (List ℕ))) (row : List (List ℕ)) where
   pub added : judged (draft_of (entries_in rows)) (entry_of row) ≡ None → with_spelled (draft_of (entries_in rows)) (entry_of row) ≡ draft_of (entries_in (rows ++ row ∷ []))
   added h = by (entry_of row) refl h
     where
-      by : (r : Result Entry ℕ) → entry_of row ≡ r → judged (draft_of (entries_in rows)) r ≡ None → with_spelled (draft_of (entries_in rows)) r ≡ draft_of (entries_in (rows ++ row ∷ []))
+      by : (r : Result Entry FaultKind) → entry_of row ≡ r → judged (draft_of (entries_in rows)) r ≡ None → with_spelled (draft_of (entries_in rows)) r ≡ draft_of (entries_in (rows ++ row ∷ []))
       by (Err kind) e h = cc h
       by (Ok x) e h = sym (ap draft_of (entries_more rows row x e) ∙ draft_more (entries_in rows) x)
 
   pub none_after : judged (draft_of (entries_in rows)) (entry_of row) ≡ None → kinds_after (entries_in rows) (entry_of row) ≡ []
   none_after h = by (entry_of row) h
     where
-      by : (r : Result Entry ℕ) → judged (draft_of (entries_in rows)) r ≡ None → kinds_after (entries_in rows) r ≡ []
+      by : (r : Result Entry FaultKind) → judged (draft_of (entries_in rows)) r ≡ None → kinds_after (entries_in rows) r ≡ []
       by (Err kind) h = cc h
       by (Ok x) h = none_apply (tests_of (entries_in rows) x) (ap first_of (sym (tests_same (entries_in rows) x)) ∙ h)
 
-  pub least_after : (kind : ℕ) → judged (draft_of (entries_in rows)) (entry_of row) ≡ Some kind → IsLeast kind (kinds_after (entries_in rows) (entry_of row))
+  pub least_after : (kind : FaultKind) → judged (draft_of (entries_in rows)) (entry_of row) ≡ Some kind → IsLeast (code_of kind) (kinds_after (entries_in rows) (entry_of row))
   least_after kind h = by (entry_of row) h
     where
-      by : (r : Result Entry ℕ) → judged (draft_of (entries_in rows)) r ≡ Some kind → IsLeast kind (kinds_after (entries_in rows) r)
-      by (Err k) h = let same : k ≡ kind = cc h in rw same (alone kind)
+      by : (r : Result Entry FaultKind) → judged (draft_of (entries_in rows)) r ≡ Some kind → IsLeast (code_of kind) (kinds_after (entries_in rows) r)
+      by (Err k) h = let same : k ≡ kind = cc h in rw same (alone (code_of kind))
       by (Ok x) h = least_applies 0 (tests_of (entries_in rows) x) kind (tests_rise (entries_in rows) x) (ap first_of (sym (tests_same (entries_in rows) x)) ∙ h)
 
   -- The places of the records so far, and of this one.
@@ -146,8 +148,8 @@ module _ (rows : List (List (List ℕ))) (row : List (List ℕ)) where
     | inr more ↦ let here : place ≡ length rows = omega (arith, length-append rows (row ∷ [])) in ap (kinds_at (rows ++ row ∷ [])) here ∙ kinds_here rows row [] ∙ none_after h
   ]
 
-  pub refused : (rest : List (List (List ℕ))) (kind : ℕ) → Faultless rows (length rows) → judged (draft_of (entries_in rows)) (entry_of row) ≡ Some kind
-      → IsFirstFault ((rows ++ row ∷ []) ++ rest) (length rows) kind
+  pub refused : (rest : List (List (List ℕ))) (kind : FaultKind) → Faultless rows (length rows) → judged (draft_of (entries_in rows)) (entry_of row) ≡ Some kind
+      → IsFirstFault ((rows ++ row ∷ []) ++ rest) (length rows) (code_of kind)
   refused rest kind before h =
       let all : (rows ++ row ∷ []) ++ rest ≡ rows ++ row ∷ rest = append_assoc rows (row ∷ []) rest in
       rw all (record {
@@ -157,8 +159,8 @@ module _ (rows : List (List (List ℕ))) (row : List (List ℕ)) where
       })
 
 -- The end.
-pub ended_bad : (rows : List (List (List ℕ))) (kind : ℕ) → Faultless rows (length rows) → first_of (end_tests (length (items_in (entries_in rows))) (disks_in (entries_in rows))) ≡ Some kind
-    → IsFirstFault rows (length rows) kind
+pub ended_bad : (rows : List (List (List ℕ))) (kind : FaultKind) → Faultless rows (length rows) → first_of (end_tests (length (items_in (entries_in rows))) (disks_in (entries_in rows))) ≡ Some kind
+    → IsFirstFault rows (length rows) (code_of kind)
 ended_bad rows kind before h = record {
   within = omega arith;
   first = before;

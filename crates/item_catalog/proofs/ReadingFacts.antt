@@ -1,5 +1,5 @@
 -- What is answered of a text whose first records were read: the fault of the next one, or that of the end, or the deck.
-use Rattle.std.proofs.Common.{◌≡◌, ◌+◌, ◌++◌, ◌∷◌, [], ℕ, List, Option, Some, None, Result, Ok, Err, ◌∙◌, sym, refl, ap, subst, length}
+use Rattle.std.proofs.Common.{◌≡◌, ◌+◌, ◌++◌, ◌∷◌, [], ℕ, List, Option, Some, None, Result, Ok, Err, ◌∙◌, sym, refl, ap, subst, length, option_map}
 use Rattle.std.specs.Prelude.{IfErr, IfOk}
 use Rattle.csv.specs.Machine.{next_record}
 use Rattle.csv.specs.Reading.{Reached, default_config, strip_bom}
@@ -13,6 +13,8 @@ use Rattle.item_catalog.specs.Faults.{end_tests, entries_in, first_of}
 use Rattle.item_catalog.specs.Grammar.{Faultless, HasFault, IsAnswer, IsFirstFault, RowsSpell, Spells}
 use Rattle.item_catalog.specs.Parts.{disks_in, items_in}
 use Rattle.item_catalog.specs.Records.{records_of}
+use Rattle.item_catalog.specs.Kinds.{code_of}
+use Rattle.item_catalog.specs.declared.kinds.FaultKind.{FaultKind}
 use Rattle.item_catalog.specs.declared.faults.DeckError.{DeckError}
 use Rattle.item_catalog.specs.declared.faults.DeckError.TheVariants as error
 use Rattle.item_catalog.proofs.KeptRows.{kept_all}
@@ -21,7 +23,7 @@ use Rattle.item_catalog.proofs.RowFacts.{all_first, all_rows}
 use Rattle.item_catalog.proofs.WellMadeFacts.{deck_same, delta_small, made, within}
 
 -- The first kind at the end of records.
-abbrev pub end_of : List (List (List ℕ)) → Option ℕ
+abbrev pub end_of : List (List (List ℕ)) → Option FaultKind
 end_of rows = first_of (end_tests (length (items_in (entries_in rows))) (disks_in (entries_in rows)))
 
 pub can_end : (rows : List (List (List ℕ))) → Faultless rows (length rows) → CanEnd (draft_of (entries_in rows))
@@ -30,22 +32,22 @@ can_end rows before none =
     (made d k none, within d k none, delta_small d k none)
 
 module _ (text : List ℕ) (rows : List (List (List ℕ))) (before : Faultless rows (length rows)) (state : State) (left : List ℕ) where
-  pub read_fault : (row : List (List ℕ)) (kind : ℕ) → Reached default_config st.StartRecord (strip_bom text) (rows ++ row ∷ []) state left
-      → judged (draft_of (entries_in rows)) (entry_of row) ≡ Some kind → HasFault text (length rows + 1) kind
+  pub read_fault : (row : List (List ℕ)) (kind : FaultKind) → Reached default_config st.StartRecord (strip_bom text) (rows ++ row ∷ []) state left
+      → judged (draft_of (entries_in rows)) (entry_of row) ≡ Some kind → HasFault text (length rows + 1) (code_of kind)
   unfolding HasFault
   read_fault row kind reached h =
       let all = all_first default_config (strip_bom text) (rows ++ row ∷ []) state left reached in
-      let P : List (List (List ℕ)) → Type 0 = λ all. IsFirstFault all (length rows) kind in
+      let P : List (List (List ℕ)) → Type 0 = λ all. IsFirstFault all (length rows) (code_of kind) in
       (length rows, refl, subst P (sym all.1) (refused rows row all.0 kind before h))
 
   module _ (reached : Reached default_config st.StartRecord (strip_bom text) rows state left) (end : next_record default_config state [] [] left ≡ None) where
     every_row : records_of text ≡ rows
     every_row = all_rows default_config (strip_bom text) rows state left reached end
 
-    pub read_end_fault : (kind : ℕ) → end_of rows ≡ Some kind → HasFault text (length rows + 1) kind
+    pub read_end_fault : (kind : FaultKind) → end_of rows ≡ Some kind → HasFault text (length rows + 1) (code_of kind)
     unfolding HasFault
     read_end_fault kind h =
-        let P : List (List (List ℕ)) → Type 0 = λ all. IsFirstFault all (length rows) kind in
+        let P : List (List (List ℕ)) → Type 0 = λ all. IsFirstFault all (length rows) (code_of kind) in
         (length rows, refl, subst P (sym every_row) (ended_bad rows kind before h))
 
     pub read_deck_is : end_of rows ≡ None → Spells text (deck_from (draft_of (entries_in rows)))
@@ -75,7 +77,9 @@ module _ (text : List ℕ) (rows : List (List (List ℕ))) (before : Faultless r
       subst P (sym (h.1 ∙ ap deck_from same)) (read_deck_is text rows before state left reached end (sym kind_same ∙ h.0))
 
   pub ends_fault : (e : DeckError) → EndsBy row (first_of (end_tests (length draft.items) draft.disks)) e → IsAnswer text e
-  ends_fault (error.Fault fault) h =
-      let P : ℕ → Type 0 = λ r. HasFault text r fault.kind in
-      subst P (sym (h.0 ∙ number)) (read_end_fault text rows before state left reached end fault.kind (sym kind_same ∙ h.1))
+  ends_fault (error.Fault fault) h = subst (λ r. HasFault text r fault.kind) (sym (h.0 ∙ number)) (by (end_of rows) refl (sym (ap (option_map code_of) kind_same) ∙ h.1))
+    where
+      by : (told : Option FaultKind) → end_of rows ≡ told → option_map code_of told ≡ Some fault.kind → HasFault text (length rows + 1) fault.kind
+      by None e same = cc same
+      by (Some kind) e same = let code : code_of kind ≡ fault.kind = cc same in subst (HasFault text (length rows + 1)) code (read_end_fault text rows before state left reached end kind e)
   ends_fault error.NoMemory h = absurd h

@@ -1,8 +1,9 @@
 -- The fields of a record, by their number and one by one.
 use Rattle.std.proofs.Common.{◌≡◌, ◌≢◌, ◌<◌, ◌∷◌, [], ℕ, zero, suc, List, Option, Some, None, Err, length, drop, refl, arith}
 use Rattle.csv.specs.Records.{field_at}
+use Rattle.item_catalog.specs.declared.kinds.FaultKind.TheVariants as fault
 use Rattle.item_catalog.specs.Entries.{entry_by, entry_of, tag_of}
-use Rattle.item_catalog.specs.Fields.{one_of, three_of, two_of}
+use Rattle.air_base.specs.Pieces.{one_of, three_of, two_of}
 
 pub field_there : (fields : List (List ℕ)) (place : ℕ) → place < length fields → None ≡ field_at fields place → ⊥
 unfolding field_at
@@ -65,7 +66,7 @@ unfolding field_at
 by_tag [] text e = cc e
 by_tag (a ∷ fields) text e = let same : text ≡ a = cc e in rw same refl
 
-pub no_tag : (fields : List (List ℕ)) → None ≡ field_at fields 0 → entry_of fields ≡ Err 9
+pub no_tag : (fields : List (List ℕ)) → None ≡ field_at fields 0 → entry_of fields ≡ Err fault.Tag
 unfolding field_at
 no_tag [] e = refl
 no_tag (a ∷ fields) e = cc e

@@ -8,9 +8,11 @@ use Rattle.std.proofs.lemmas.Bool.Decides.{nat_tests}
 use Rattle.std.proofs.lemmas.List.{get_or-set_same, get_or-set_other}
 use Rattle.std.proofs.lemmas.List.Folds.{list_any-append}
 use Rattle.std.proofs.lemmas.List.Sums.{sum_by-append}
+use Rattle.air_base.specs.declared.limits.TheConstants.{MOST_EVENTS, MOST_STARTS, MOST_UPDATERS}
 use Rattle.air_model.specs.Decks.{count_parts}
 use Rattle.item_catalog.specs.DeckLimits.{is_start_part}
-use Rattle.item_catalog.specs.Faults.{count_starts, option_any, script_passes, some_below}
+use Rattle.item_catalog.specs.Faults.{count_starts, script_passes, some_below}
+use Rattle.update_texts.specs.ListTests.{option_any}
 
 -- The part is a commit of the updater.
 abbrev pub is_part_of : ℕ → Option ℕ → Bool
@@ -73,10 +75,10 @@ none_below n i p below none = by (p i) refl
     by true e = cc (some_at n i p below e, none)
 
 -- The limits of no events, and of one more.
-pub passes_none : (script : List (Option ℕ)) → length script ≤ 200000 → count_starts script ≤ 10000 → script_passes script [] ≡ false
+pub passes_none : (script : List (Option ℕ)) → length script ≤ MOST_EVENTS → count_starts script ≤ MOST_STARTS → script_passes script [] ≡ false
 passes_none script few starts =
-    let l : nat_lt 200000 (length script + 0) ≡ false = grind arith in
-    let s : nat_lt 10000 (count_starts script + 0) ≡ false = grind arith in
+    let l : nat_lt MOST_EVENTS (length script + 0) ≡ false = grind arith in
+    let s : nat_lt MOST_STARTS (count_starts script + 0) ≡ false = grind arith in
     rw (l, s) refl
 
 or_each : (a b l m s t : Bool) → (((a || b) || (l || m)) || (s || t)) ≡ (((a || l) || s) || ((b || m) || t))
@@ -98,30 +100,30 @@ over_more limit c d less = by (nat_lt limit c) (nat_lt limit d) refl refl
     by true false e f = let below : limit < c = grind (arith, nat_tests) in let above : d ≤ limit = grind (arith, nat_tests) in absurd (omega arith)
 
 passes_events : (script done : List (Option ℕ)) (event : Option ℕ)
-    → nat_lt 200000 (length script + length (done ++ event ∷ [])) ≡ (nat_lt 200000 (length script + length done) || nat_lt 200000 (length (script ++ done) + 1))
+    → nat_lt MOST_EVENTS (length script + length (done ++ event ∷ [])) ≡ (nat_lt MOST_EVENTS (length script + length done) || nat_lt MOST_EVENTS (length (script ++ done) + 1))
 passes_events script done event =
     let more : length script + length (done ++ event ∷ []) ≡ length (script ++ done) + 1 = omega (arith, length-append script done, length-append done (event ∷ [])) in
     let all : length script + length done ≡ length (script ++ done) = omega (arith, length-append script done) in
-    rw (more, all) (over_more 200000 (length (script ++ done)) (length (script ++ done) + 1) (omega arith))
+    rw (more, all) (over_more MOST_EVENTS (length (script ++ done)) (length (script ++ done) + 1) (omega arith))
 
 passes_starts : (script done : List (Option ℕ)) (event : Option ℕ)
-    → nat_lt 10000 (count_starts script + count_starts (done ++ event ∷ [])) ≡ (nat_lt 10000 (count_starts script + count_starts done) || nat_lt 10000 (count_starts (script ++ done) + count_starts (event ∷ [])))
+    → nat_lt MOST_STARTS (count_starts script + count_starts (done ++ event ∷ [])) ≡ (nat_lt MOST_STARTS (count_starts script + count_starts done) || nat_lt MOST_STARTS (count_starts (script ++ done) + count_starts (event ∷ [])))
 passes_starts script done event =
     let more : count_starts script + count_starts (done ++ event ∷ []) ≡ count_starts (script ++ done) + count_starts (event ∷ []) = omega (arith, starts_all script done, starts_all done (event ∷ [])) in
     let all : count_starts script + count_starts done ≡ count_starts (script ++ done) = omega (arith, starts_all script done) in
-    rw (more, all) (over_more 10000 (count_starts (script ++ done)) (count_starts (script ++ done) + count_starts (event ∷ [])) (omega arith))
+    rw (more, all) (over_more MOST_STARTS (count_starts (script ++ done)) (count_starts (script ++ done) + count_starts (event ∷ [])) (omega arith))
 
 pub passes_more : (script done : List (Option ℕ)) (event : Option ℕ) → script_passes script (done ++ event ∷ []) ≡ (script_passes script done || script_passes (script ++ done) (event ∷ []))
 passes_more script done event =
-    rw (list_any-append (option_any (nat_le 16)) done (event ∷ []), passes_events script done event, passes_starts script done event)
-    (or_each (list_any (option_any (nat_le 16)) done) (list_any (option_any (nat_le 16)) (event ∷ [])) (nat_lt 200000 (length script + length done)) (nat_lt 200000 (length (script ++ done) + 1))
-    (nat_lt 10000 (count_starts script + count_starts done)) (nat_lt 10000 (count_starts (script ++ done) + count_starts (event ∷ []))))
+    rw (list_any-append (option_any (nat_le MOST_UPDATERS)) done (event ∷ []), passes_events script done event, passes_starts script done event)
+    (or_each (list_any (option_any (nat_le MOST_UPDATERS)) done) (list_any (option_any (nat_le MOST_UPDATERS)) (event ∷ [])) (nat_lt MOST_EVENTS (length script + length done)) (nat_lt MOST_EVENTS (length (script ++ done) + 1))
+    (nat_lt MOST_STARTS (count_starts script + count_starts done)) (nat_lt MOST_STARTS (count_starts (script ++ done) + count_starts (event ∷ []))))
 
 -- A commit that passes no limit.
-pub commit_fits : (script : List (Option ℕ)) (by : ℕ) → script_passes script (Some by ∷ []) ≡ false → (by < 16) × (length script + 1 ≤ 200000)
-commit_fits script by h = at (nat_le 16 by) (nat_lt 200000 (length script + 1)) (nat_lt 10000 (count_starts script + 0)) refl refl h
+pub commit_fits : (script : List (Option ℕ)) (by : ℕ) → script_passes script (Some by ∷ []) ≡ false → (by < MOST_UPDATERS) × (length script + 1 ≤ MOST_EVENTS)
+commit_fits script by h = at (nat_le MOST_UPDATERS by) (nat_lt MOST_EVENTS (length script + 1)) (nat_lt MOST_STARTS (count_starts script + 0)) refl refl h
   where
-    at : (a b s : Bool) → nat_le 16 by ≡ a → nat_lt 200000 (length script + 1) ≡ b → (((a || false) || b) || s) ≡ false → (by < 16) × (length script + 1 ≤ 200000)
+    at : (a b s : Bool) → nat_le MOST_UPDATERS by ≡ a → nat_lt MOST_EVENTS (length script + 1) ≡ b → (((a || false) || b) || s) ≡ false → (by < MOST_UPDATERS) × (length script + 1 ≤ MOST_EVENTS)
     at true b s e f h = cc h
     at false true s e f h = cc h
     at false false s e f h = (grind (arith, nat_tests, e), grind (arith, nat_tests, f))

@@ -6,9 +6,12 @@ use Rattle.air_base.specs.Numbers.{number_of}
 use Rattle.air_base.specs.NumberLists.{list_of, parts_of}
 use Rattle.air_base.specs.declared.verdicts.Policy.{Policy}
 use Rattle.air_history.specs.declared.updates.Write.{Write}
+use Rattle.item_catalog.specs.declared.kinds.FaultKind.TheVariants as fault
 use Rattle.item_catalog.specs.Entries.{◌>>=◌, Entry, disk_by, entry_by, entry_of, item_by, or_fault, query_by, reader_by, script_by, set_by, tag_of, update_by}
 use Rattle.item_catalog.specs.Entries as e
-use Rattle.item_catalog.specs.Fields.{event_of, freq_of, one_of, three_of, two_of, write_of, ◌is◌}
+use Rattle.item_catalog.specs.Fields.{event_of, freq_of, ◌is◌}
+use Rattle.air_base.specs.Pieces.{one_of, three_of, two_of}
+use Rattle.update_texts.specs.Writes.{write_of}
 use Rattle.item_catalog.specs.Limits.{outside}
 use Rattle.item_catalog.specs.Settings.{name_of, number_set, policy_of, range_of, setting_of}
 use Rattle.item_catalog.specs.declared.fields.Tag.{Tag}
@@ -18,7 +21,7 @@ use Rattle.item_catalog.specs.declared.settings.Setting.{Setting}
 use Rattle.item_catalog.specs.declared.settings.Setting.TheVariants as setting
 use Rattle.item_catalog.proofs.EntryFacts.{all_spelled, or_none, write_fits, writes_signed}
 use Rattle.item_catalog.proofs.KeptFacts.{InRange, Spelt, every}
-use Rattle.item_catalog.proofs.NumberFronts.{spelled_fits}
+use Rattle.air_base.proofs.NumberFronts.{spelled_fits}
 
 -- A setting that is spelled is in its range.
 number_in_range : (name : Option Name) (n : Option ℕ) (s : Setting) → number_set name n ≡ Some s → InRange s
@@ -49,7 +52,7 @@ item_spelt : (f : Option (List ℕ × List ℕ × List ℕ)) (x : Entry) → ite
 item_spelt None x h = cc h
 item_spelt (Some f) x h = by (number_of f.0) (number_of f.1) (number_of f.2) refl h
   where
-    by : (a b c : Option ℕ) → number_of f.1 ≡ b → or_fault 2 (a >>= λ id. b >>= λ value. c >>= λ rate. Some (e.Item id value rate)) ≡ Ok x → Spelt x
+    by : (a b c : Option ℕ) → number_of f.1 ≡ b → or_fault fault.Form (a >>= λ id. b >>= λ value. c >>= λ rate. Some (e.Item id value rate)) ≡ Ok x → Spelt x
     by None b c e1 h = cc h
     by (Some id) None c e1 h = cc h
     by (Some id) (Some value) None e1 h = cc h
@@ -59,7 +62,7 @@ disk_spelt : (f : Option (List ℕ × List ℕ)) (x : Entry) → disk_by f ≡ O
 disk_spelt None x h = cc h
 disk_spelt (Some f) x h = by (number_of f.0) (freq_of f.1) h
   where
-    by : (a : Option ℕ) (b : Option (Option ℕ)) → or_fault 2 (a >>= λ size. b >>= λ freq. Some (e.Disk size freq)) ≡ Ok x → Spelt x
+    by : (a : Option ℕ) (b : Option (Option ℕ)) → or_fault fault.Form (a >>= λ size. b >>= λ freq. Some (e.Disk size freq)) ≡ Ok x → Spelt x
     by None b h = cc h
     by (Some size) None h = cc h
     by (Some size) (Some freq) h = let same : e.Disk size freq ≡ x = cc h in rw (← same) tt
@@ -73,7 +76,7 @@ update_spelt : (f : Option (List ℕ × List ℕ × List ℕ)) (x : Entry) → u
 update_spelt None x h = cc h
 update_spelt (Some f) x h = by (number_of f.0) (list_of number_of f.1) (list_of write_of f.2) refl h
   where
-    by : (a : Option ℕ) (b : Option (List ℕ)) (c : Option (List Write)) → list_of write_of f.2 ≡ c → or_fault 2 (a >>= λ by. b >>= λ reads. c >>= λ writes. Some (e.Update by reads writes)) ≡ Ok x → Spelt x
+    by : (a : Option ℕ) (b : Option (List ℕ)) (c : Option (List Write)) → list_of write_of f.2 ≡ c → or_fault fault.Form (a >>= λ by. b >>= λ reads. c >>= λ writes. Some (e.Update by reads writes)) ≡ Ok x → Spelt x
     by None b c e1 h = cc h
     by (Some a) None c e1 h = cc h
     by (Some a) (Some rs) None e1 h = cc h
@@ -83,7 +86,7 @@ reader_spelt : (f : Option (List ℕ × List ℕ × List ℕ)) (x : Entry) → r
 reader_spelt None x h = cc h
 reader_spelt (Some f) x h = by (number_of f.0) (number_of f.1) (number_of f.2) h
   where
-    by : (a b c : Option ℕ) → or_fault 2 (a >>= λ room. b >>= λ age. c >>= λ tries. Some (e.Reader room age tries)) ≡ Ok x → Spelt x
+    by : (a b c : Option ℕ) → or_fault fault.Form (a >>= λ room. b >>= λ age. c >>= λ tries. Some (e.Reader room age tries)) ≡ Ok x → Spelt x
     by None b c h = cc h
     by (Some a) None c h = cc h
     by (Some a) (Some b) None h = cc h
@@ -93,7 +96,7 @@ query_spelt : (f : Option (List ℕ × List ℕ)) (x : Entry) → query_by f ≡
 query_spelt None x h = cc h
 query_spelt (Some f) x h = by (number_of f.0) (list_of number_of f.1) h
   where
-    by : (a : Option ℕ) (b : Option (List ℕ)) → or_fault 2 (a >>= λ reader. b >>= λ items. Some (e.Query reader items)) ≡ Ok x → Spelt x
+    by : (a : Option ℕ) (b : Option (List ℕ)) → or_fault fault.Form (a >>= λ reader. b >>= λ items. Some (e.Query reader items)) ≡ Ok x → Spelt x
     by None b h = cc h
     by (Some a) None h = cc h
     by (Some a) (Some b) h = let same : e.Query a b ≡ x = cc h in rw (← same) tt
@@ -102,7 +105,7 @@ script_spelt : (f : Option (List ℕ)) (x : Entry) → script_by f ≡ Ok x → 
 script_spelt None x h = cc h
 script_spelt (Some f) x h = by (list_of event_of f) h
   where
-    by : (a : Option (List (Option ℕ))) → or_fault 2 (a >>= λ events. Some (e.Script events)) ≡ Ok x → Spelt x
+    by : (a : Option (List (Option ℕ))) → or_fault fault.Form (a >>= λ events. Some (e.Script events)) ≡ Ok x → Spelt x
     by None h = cc h
     by (Some a) h = let same : e.Script a ≡ x = cc h in rw (← same) tt
 
@@ -110,7 +113,7 @@ set_spelt : (f : Option (List ℕ × List ℕ)) (x : Entry) → set_by f ≡ Ok 
 set_spelt None x h = cc h
 set_spelt (Some f) x h = by (setting_of f.0 f.1) refl h
   where
-    by : (a : Option Setting) → setting_of f.0 f.1 ≡ a → or_fault 10 (a >>= λ s. Some (e.Set s)) ≡ Ok x → Spelt x
+    by : (a : Option Setting) → setting_of f.0 f.1 ≡ a → or_fault fault.Setting (a >>= λ s. Some (e.Set s)) ≡ Ok x → Spelt x
     by None e1 h = cc h
     by (Some s) e1 h = let same : e.Set s ≡ x = cc h in rw (← same) (setting_in_range f.0 f.1 s e1)
 

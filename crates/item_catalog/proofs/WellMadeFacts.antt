@@ -8,6 +8,7 @@ use Rattle.std.proofs.lemmas.List.{get_or-take, length-map, length-take-le}
 use Rattle.std.proofs.lemmas.List.Elements.{All-map}
 use Rattle.std.proofs.lemmas.List.Sums.{sum_by-cons}
 use Rattle.std.proofs.lemmas.Nat.{mul-le}
+use Rattle.air_base.specs.declared.limits.TheConstants.{MOST_ASKED, MOST_DELTA, MOST_DISKS, MOST_FREQ, MOST_RATE, MOST_SIZE, MOST_UPDATERS}
 use Rattle.air_model.specs.Decks.{Deck, IsDeck, IsQuery, IsUpdate, Item, count_parts}
 use Rattle.air_history.specs.UpdateLists.{UpdateLists}
 use Rattle.air_model.specs.declared.deck.ReaderPlan.{ReaderPlan}
@@ -18,9 +19,11 @@ use Rattle.item_catalog.specs.DeckLimits.{SettingsWithin, WithinLimits}
 use Rattle.item_catalog.specs.Decks.{deck_of, plain_item, with_freqs}
 use Rattle.item_catalog.specs.Drafts.{DraftValue, deck_from, draft_of}
 use Rattle.item_catalog.specs.Entries.{Entry}
-use Rattle.item_catalog.specs.Faults.{end_tests, first_of, option_any}
+use Rattle.item_catalog.specs.Faults.{end_tests, first_of}
+use Rattle.update_texts.specs.ListTests.{option_any}
 use Rattle.item_catalog.specs.Limits.{outside}
 use Rattle.item_catalog.specs.Settings.{default_of, number_in, number_said, range_of, same_name, settings_in}
+use Rattle.item_catalog.specs.declared.kinds.FaultKind.TheVariants as fault
 use Rattle.item_catalog.specs.declared.parts.DiskPart.{DiskPart}
 use Rattle.item_catalog.specs.declared.settings.Name.{Name}
 use Rattle.item_catalog.specs.declared.settings.Name.TheVariants as n
@@ -85,15 +88,15 @@ settings_fit set all =
 
 record SpecKept (d : DiskSpec) : Type 0 where
   some : 0 < d.size
-  few : d.size ≤ 256
+  few : d.size ≤ MOST_SIZE
   often : 0 < d.freq
-  seldom : d.freq ≤ 64
+  seldom : d.freq ≤ MOST_FREQ
 
-freq_fits : (after delta : ℕ) (freq : Option ℕ) → after ≤ 7 → delta ≤ 9 → option_any (outside 1 64) freq ≡ false → (0 < unwrap_or freq (after * delta + 1)) × (unwrap_or freq (after * delta + 1) ≤ 64)
-freq_fits after delta None few small h = let m = mul-le after delta 7 9 few small in (omega arith, omega arith)
-freq_fits after delta (Some f) few small h = let both = or_none (nat_lt f 1) (nat_lt 64 f) h in (grind (arith, nat_tests, both.0), grind (arith, nat_tests, both.1))
+freq_fits : (after delta : ℕ) (freq : Option ℕ) → after < MOST_DISKS → delta ≤ MOST_DELTA → option_any (outside 1 MOST_FREQ) freq ≡ false → (0 < unwrap_or freq (after * delta + 1)) × (unwrap_or freq (after * delta + 1) ≤ MOST_FREQ)
+freq_fits after delta None few small h = let m = mul-le after delta 7 9 (omega (arith, few)) small in (omega arith, omega arith)
+freq_fits after delta (Some f) few small h = let both = or_none (nat_lt f 1) (nat_lt MOST_FREQ f) h in (grind (arith, nat_tests, both.0), grind (arith, nat_tests, both.1))
 
-specs_kept : (delta : ℕ) (disks : List DiskPart) → delta ≤ 9 → length disks ≤ 8 → All DiskKept disks → All SpecKept (with_freqs delta disks)
+specs_kept : (delta : ℕ) (disks : List DiskPart) → delta ≤ MOST_DELTA → length disks ≤ MOST_DISKS → All DiskKept disks → All SpecKept (with_freqs delta disks)
 specs_kept delta [] small few all k d below = absurd (omega arith)
 specs_kept delta (disk ∷ disks) small few all zero d below =
     let one = all 0 disk (omega arith) in let f = freq_fits (length disks) delta disk.freq (omega arith) small one.freq in
@@ -133,7 +136,7 @@ record Ended (d : DraftValue) : Type 0 where
 
 ended : (d : DraftValue) → first_of (end_tests (length d.items) d.disks) ≡ None → Ended d
 ended d none =
-    let t = none_of_two 6 7 (not (sum_by (λ x. x.size) d.disks == length d.items)) (length d.items == 0 || length d.disks == 0) none in
+    let t = none_of_two fault.Sizes fault.Limit (not (sum_by (λ x. x.size) d.disks == length d.items)) (length d.items == 0 || length d.disks == 0) none in
     let items = or_none (length d.items == 0) (length d.disks == 0) t.1 in
     record { sizes = grind (arith, nat_tests, t.0); some = grind (arith, nat_tests, items.0) }
 
@@ -177,7 +180,7 @@ module _ (d : DraftValue) (k : Kept d) (end : first_of (end_tests (length d.item
 
   pub within : WithinLimits (deck_from d)
   within = record {
-    rates = All-map (λ (i : Item). i.rate ≤ 1000000) plain_item d.items (λ i x below. (k.items.each i x below).1);
+    rates = All-map (λ (i : Item). i.rate ≤ MOST_RATE) plain_item d.items (λ i x below. (k.items.each i x below).1);
     disks = let few = k.disks.few in omega (arith, freqs_len (number_in n.Delta d.set) d.disks);
     disk = λ i x below. let s = specs i x below in record { size = s.few; freq = s.seldom };
     updaters = let few = k.updates.few in omega (arith, updaters_len);
@@ -185,7 +188,7 @@ module _ (d : DraftValue) (k : Kept d) (end : first_of (end_tests (length d.item
     readers = k.readers.few;
     reader = λ i x below. (k.readers.each i x below).within;
     queries = let all = k.queries.all in let few = k.queries.few_in_all in omega (arith, sum_take length (length d.readers) d.queries);
-    query = all_take (All (λ items. length items ≤ 16)) (length d.readers) d.queries (λ i x below. λ j y inside. (k.queries.each i x below j y inside).few);
+    query = all_take (All (λ items. length items ≤ MOST_ASKED)) (length d.readers) d.queries (λ i x below. λ j y inside. (k.queries.each i x below j y inside).few);
     script = k.script.few;
     starts = k.script.few_starts;
     settings = settings_fit d.set k.set;
@@ -199,4 +202,4 @@ same_deck h1 h2 h3 h4 h5 h6 h7 = cc
 
 pub deck_same : (es : List Entry) → Kept (draft_of es) → deck_from (draft_of es) ≡ deck_of es
 deck_same es k =
-    same_deck refl refl (take_for_each (updates_in es) 0 (updaters_in es) 16 k.updates.few) refl (take_for_each (queries_in es) 0 (length (readers_in es)) 64 k.readers.few) refl refl
+    same_deck refl refl (take_for_each (updates_in es) 0 (updaters_in es) MOST_UPDATERS k.updates.few) refl (take_for_each (queries_in es) 0 (length (readers_in es)) 64 k.readers.few) refl refl

@@ -1,32 +1,33 @@
 -- The limits of a deck in the grammar, beside what makes it well made (`IsDeck`).
 use Rattle.std.specs.Prelude.{ℕ, ◌^◌, ◌<◌, ◌≤◌, length, All, sum_by}
+use Rattle.air_base.specs.declared.limits.TheConstants.{MOST_AGE, MOST_ASKED, MOST_CYCLES, MOST_DISKS, MOST_EVENTS, MOST_FREQ, MOST_HEARS, MOST_MONITORS, MOST_QUERIES, MOST_RATE, MOST_READERS, MOST_ROOM, MOST_SHARE, MOST_SIZE, MOST_STARTS, MOST_TRIES, MOST_UPDATERS, MOST_UPDATES}
 use Rattle.air_model.specs.declared.deck.ReaderPlan.{ReaderPlan}
 use Rattle.air_model.specs.declared.deck.Settings.{Settings}
 use Rattle.air_model.specs.Disks.{DiskSpec}
 use Rattle.air_model.specs.Decks.{Deck}
 use Rattle.std.specs.Prelude.{Option, Some, None, Bool, true, false, count_by}
 
--- A disk takes at most 256 items, and a cycle airs each of them at most 64 times.
+-- A disk takes so many items at most, and a cycle airs each of them so often at most.
 pub record DiskWithin (d : DiskSpec) : Type 0 where
-  pub size : d.size ≤ 256
-  pub freq : d.freq ≤ 64
+  pub size : d.size ≤ MOST_SIZE
+  pub freq : d.freq ≤ MOST_FREQ
 
--- A reader has room for at most 256 copies, which are too old after at most 10,000 cycles, and tries at most 16 times.
+-- A reader has room for so many copies at most, which are too old after so many cycles at most, and tries so often at most.
 pub record ReaderWithin (r : ReaderPlan) : Type 0 where
-  pub room : r.room ≤ 256
-  pub age : r.age ≤ 10000
-  pub tries : r.tries ≤ 16
+  pub room : r.room ≤ MOST_ROOM
+  pub age : r.age ≤ MOST_AGE
+  pub tries : r.tries ≤ MOST_TRIES
 
 -- The range of each setting.
 pub record SettingsWithin (s : Settings) : Type 0 where
-  pub cycles : s.cycles ≤ 10000
+  pub cycles : s.cycles ≤ MOST_CYCLES
   pub seed : s.seed < 2 ^ 64
-  pub loss : s.loss ≤ 100
-  pub again : s.again ≤ 100
-  pub late : s.late ≤ 100
-  pub monitors : s.monitors ≤ 16
+  pub loss : s.loss ≤ MOST_SHARE
+  pub again : s.again ≤ MOST_SHARE
+  pub late : s.late ≤ MOST_SHARE
+  pub monitors : s.monitors ≤ MOST_MONITORS
   pub some_hears : 1 ≤ s.hears
-  pub hears : s.hears ≤ 100000000
+  pub hears : s.hears ≤ MOST_HEARS
 
 -- A part of the script is a start.
 abbrev pub is_start_part : Option ℕ → Bool
@@ -39,15 +40,15 @@ script_starts deck = count_by is_start_part deck.script
 
 -- A deck is within the limits of the grammar.
 pub record WithinLimits (deck : Deck) : Type 0 where
-  pub rates : All (λ i. i.rate ≤ 1000000) deck.items
-  pub disks : length deck.disks ≤ 8
+  pub rates : All (λ i. i.rate ≤ MOST_RATE) deck.items
+  pub disks : length deck.disks ≤ MOST_DISKS
   pub disk : All DiskWithin deck.disks
-  pub updaters : length deck.updates ≤ 16
-  pub updates : sum_by length deck.updates ≤ 100000
-  pub readers : length deck.readers ≤ 64
+  pub updaters : length deck.updates ≤ MOST_UPDATERS
+  pub updates : sum_by length deck.updates ≤ MOST_UPDATES
+  pub readers : length deck.readers ≤ MOST_READERS
   pub reader : All ReaderWithin deck.readers
-  pub queries : sum_by length deck.queries ≤ 10000
-  pub query : All (All (λ items. length items ≤ 16)) deck.queries
-  pub script : length deck.script ≤ 200000
-  pub starts : script_starts deck ≤ 10000
+  pub queries : sum_by length deck.queries ≤ MOST_QUERIES
+  pub query : All (All (λ items. length items ≤ MOST_ASKED)) deck.queries
+  pub script : length deck.script ≤ MOST_EVENTS
+  pub starts : script_starts deck ≤ MOST_STARTS
   pub settings : SettingsWithin deck.settings

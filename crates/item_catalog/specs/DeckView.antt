@@ -1,5 +1,6 @@
 -- What contracts see of the fields of a deck, and what these keep.
 use Rattle.std.specs.Prelude.{◌≡◌, ◌≤◌, map}
+use Rattle.air_base.specs.declared.limits.TheConstants.{MOST_DELTA}
 use Rattle.air_model.specs.Decks.{Deck, IsDeck}
 use Rattle.item_catalog.specs.DeckLimits.{WithinLimits, script_starts}
 use Rattle.item_catalog.specs.Decks.{plain_item, with_freqs}
@@ -17,9 +18,9 @@ deck_seen d = record {
   settings = d.settings;
 }
 
--- A deck is well made and within the limits, delta is at most 9, and the starts are counted.
+-- A deck is well made and within the limits, delta too, and the starts are counted.
 pub record DeckKept (d : Inside) : Type 0 where
   pub made : IsDeck (deck_seen d)
   pub limits : WithinLimits (deck_seen d)
-  pub delta : d.delta ≤ 9
+  pub delta : d.delta ≤ MOST_DELTA
   pub starts : d.starts ≡ script_starts (deck_seen d)

@@ -1,5 +1,6 @@
 -- What contracts see of a deck while it is read, and what its fields keep.
 use Rattle.std.specs.Prelude.{◌≡◌, ◌≤◌, length}
+use Rattle.air_base.specs.declared.limits.TheConstants.{MOST_DISKS, MOST_ITEMS, MOST_QUERIES, MOST_READERS, MOST_UPDATERS, MOST_UPDATES}
 use Rattle.item_catalog.specs.Drafts.{DraftValue}
 use Rattle.item_catalog.specs.declared.deck.draft.Draft.TheInside.{Inside}
 
@@ -18,11 +19,11 @@ draft_seen d = record {
 }
 
 pub record DraftKept (d : Inside) : Type 0 where
-  pub items : length d.items.items ≤ 256
-  pub disks : length d.disks.items ≤ 8
-  pub updates : length d.updates.items ≡ 16
-  pub updaters : d.updaters ≤ 16
-  pub update_count : d.update_count ≤ 100000
-  pub readers : length d.readers.items ≤ 64
-  pub queries : length d.queries.items ≡ 64
-  pub query_count : d.query_count ≤ 10000
+  pub items : length d.items.items ≤ MOST_ITEMS
+  pub disks : length d.disks.items ≤ MOST_DISKS
+  pub updates : length d.updates.items ≡ MOST_UPDATERS
+  pub updaters : d.updaters ≤ MOST_UPDATERS
+  pub update_count : d.update_count ≤ MOST_UPDATES
+  pub readers : length d.readers.items ≤ MOST_READERS
+  pub queries : length d.queries.items ≡ MOST_READERS
+  pub query_count : d.query_count ≤ MOST_QUERIES

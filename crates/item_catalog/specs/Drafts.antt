@@ -1,16 +1,17 @@
 -- A deck while it is read: what the entries so far declare, and what one more entry adds.
 use Rattle.std.specs.Prelude.{◌≡◌, ◌+◌, ◌++◌, ℕ, List, [], ◌∷◌, Bool, Option, Some, None, Result, Ok, Err, length, max, get_or, map, slice_set, take}
+use Rattle.air_base.specs.declared.limits.TheConstants.{MOST_READERS, MOST_UPDATERS}
 use Rattle.air_history.specs.UpdateLists.{UpdateLists}
 use Rattle.air_model.specs.declared.deck.ReaderPlan.{ReaderPlan}
 use Rattle.item_catalog.specs.Entries.{Entry}
 use Rattle.item_catalog.specs.Entries as e
-use Rattle.item_catalog.specs.Limits.{most_updaters, most_readers}
 use Rattle.item_catalog.specs.Parts.{items_in, disks_in, updates_in, updaters_in, count_updates, readers_in, queries_in, count_queries, script_in, set_in}
 use Rattle.air_model.specs.Decks.{Deck}
 use Rattle.item_catalog.specs.Decks.{for_each, plain_item, with_freqs}
 use Rattle.item_catalog.specs.Settings.{number_in, settings_in}
 use Rattle.item_catalog.specs.declared.settings.Name.TheVariants.{Delta}
 use Rattle.item_catalog.specs.Faults.{first_of, item_tests, disk_tests, update_tests, reader_tests, query_tests, script_tests, set_tests}
+use Rattle.item_catalog.specs.declared.kinds.FaultKind.{FaultKind}
 use Rattle.item_catalog.specs.declared.parts.ItemPart.{ItemPart}
 use Rattle.item_catalog.specs.declared.parts.DiskPart.{DiskPart}
 use Rattle.item_catalog.specs.declared.settings.Setting.{Setting}
@@ -34,11 +35,11 @@ abbrev pub draft_of : List Entry → DraftValue
 draft_of entries = record {
   items = items_in entries;
   disks = disks_in entries;
-  updates = for_each most_updaters (updates_in entries);
+  updates = for_each MOST_UPDATERS (updates_in entries);
   updaters = updaters_in entries;
   update_count = count_updates entries;
   readers = readers_in entries;
-  queries = for_each most_readers (queries_in entries);
+  queries = for_each MOST_READERS (queries_in entries);
   query_count = count_queries entries;
   script = script_in entries;
   set = set_in entries;
@@ -63,7 +64,7 @@ with_entry d (e.Script events) = record d { script = d.script ++ events }
 with_entry d (e.Set setting) = record d { set = d.set ++ setting ∷ [] }
 
 -- The kinds that an entry may have after the parts so far, by rising kind, each with its test.
-abbrev pub draft_tests : DraftValue → Entry → List (ℕ × Bool)
+abbrev pub draft_tests : DraftValue → Entry → List (FaultKind × Bool)
 draft_tests d (e.Item id value rate) = item_tests (length d.items) id rate
 draft_tests d (e.Disk size freq) = disk_tests (length d.disks) size freq
 draft_tests d (e.Update by reads writes) = update_tests (length d.items) d.update_count by reads writes
@@ -85,28 +86,28 @@ deck_from d = record {
 }
 
 -- The least kind that applies to what a record spells, and the parts with it.
-abbrev pub judged : DraftValue → Result Entry ℕ → Option ℕ
+abbrev pub judged : DraftValue → Result Entry FaultKind → Option FaultKind
 judged d (Err kind) = Some kind
 judged d (Ok entry) = first_of (draft_tests d entry)
 
-abbrev pub with_spelled : DraftValue → Result Entry ℕ → DraftValue
+abbrev pub with_spelled : DraftValue → Result Entry FaultKind → DraftValue
 with_spelled d (Err kind) = d
 with_spelled d (Ok entry) = with_entry d entry
 
 -- A call adds what a record spells, where no kind applies; else it tells the least. What it leaves then is not told.
-abbrev pub Adds : {A : Type 0} → Result A Refusal → Result Entry ℕ → DraftValue → DraftValue → Type 0
+abbrev pub Adds : {A : Type 0} → Result A Refusal → Result Entry FaultKind → DraftValue → DraftValue → Type 0
 Adds (Ok _) spelled old new = (judged old spelled ≡ None) × (new ≡ with_spelled old spelled)
 Adds (Err (Kind kind)) spelled old new = judged old spelled ≡ Some kind
 Adds (Err NoMemory) spelled old new = Unit {0}
 
 -- A call reads what an update spells, and adds nothing.
-abbrev pub UpdateRead : Result (ℕ × UpdateLists) Refusal → Result Entry ℕ → DraftValue → Type 0
+abbrev pub UpdateRead : Result (ℕ × UpdateLists) Refusal → Result Entry FaultKind → DraftValue → Type 0
 UpdateRead (Ok read) spelled d = (judged d spelled ≡ None) × (spelled ≡ Ok (e.Update read.0 read.1.reads read.1.writes))
 UpdateRead (Err (Kind kind)) spelled d = judged d spelled ≡ Some kind
 UpdateRead (Err NoMemory) spelled d = Unit {0}
 
 -- The same for a query.
-abbrev pub QueryRead : Result (ℕ × List ℕ) Refusal → Result Entry ℕ → DraftValue → Type 0
+abbrev pub QueryRead : Result (ℕ × List ℕ) Refusal → Result Entry FaultKind → DraftValue → Type 0
 QueryRead (Ok read) spelled d = (judged d spelled ≡ None) × (spelled ≡ Ok (e.Query read.0 read.1))
 QueryRead (Err (Kind kind)) spelled d = judged d spelled ≡ Some kind
 QueryRead (Err NoMemory) spelled d = Unit {0}

@@ -1,15 +1,19 @@
 -- What a record spells by itself: an entry of the deck, or the kind of its fault.
 --
--- Four kinds need no other record: 1 the number of fields, 2 the form of a field, 9 the tag, 10 the setting. Every other
+-- Four kinds need no other record: those of the number of fields, of the form of a field, of the tag and of a setting. Every other
 -- kind is asked of the numbers that a record spells, so a record that spells no entry has the one kind told here.
 use Rattle.std.specs.Prelude.{ℕ, List, [], ◌∷◌, Option, Some, None, Result, Ok, Err, codes, if◌then◌else◌}
 use Rattle.air_base.specs.Numbers.{number_of}
 use Rattle.air_base.specs.NumberLists.{list_of}
+use Rattle.air_base.specs.Pieces.{one_of, two_of, three_of}
 use Rattle.air_history.specs.declared.updates.Write.{Write}
-use Rattle.item_catalog.specs.Fields.{◌is◌, one_of, two_of, three_of, event_of, freq_of, write_of}
+use Rattle.update_texts.specs.Writes.{write_of}
+use Rattle.item_catalog.specs.Fields.{◌is◌, event_of, freq_of}
 use Rattle.item_catalog.specs.Settings.{setting_of}
 use Rattle.item_catalog.specs.declared.fields.Tag.{Tag}
 use Rattle.item_catalog.specs.declared.fields.Tag.TheVariants as t
+use Rattle.item_catalog.specs.declared.kinds.FaultKind.{FaultKind}
+use Rattle.item_catalog.specs.declared.kinds.FaultKind.TheVariants as fault
 use Rattle.item_catalog.specs.declared.settings.Setting.{Setting}
 
 -- An entry: what the fields of a record say, by its tag.
@@ -29,64 +33,64 @@ None >>= f = None
 (Some x) >>= f = f x
 
 -- What is spelled, or a fault of this kind.
-abbrev pub or_fault : {A : Type 0} → ℕ → Option A → Result A ℕ
+abbrev pub or_fault : {A : Type 0} → FaultKind → Option A → Result A FaultKind
 or_fault kind None = Err kind
 or_fault kind (Some x) = Ok x
 
 -- `item,<id>,<value>,<rate>`
-abbrev pub item_by : Option (List ℕ × List ℕ × List ℕ) → Result Entry ℕ
-item_by None = Err 1
-item_by (Some f) = or_fault 2 (do
+abbrev pub item_by : Option (List ℕ × List ℕ × List ℕ) → Result Entry FaultKind
+item_by None = Err fault.Fields
+item_by (Some f) = or_fault fault.Form (do
   id ← number_of f.0
   value ← number_of f.1
   rate ← number_of f.2
   Some (Item id value rate))
 
 -- `disk,<size>,<freq>`
-abbrev pub disk_by : Option (List ℕ × List ℕ) → Result Entry ℕ
-disk_by None = Err 1
-disk_by (Some f) = or_fault 2 (do
+abbrev pub disk_by : Option (List ℕ × List ℕ) → Result Entry FaultKind
+disk_by None = Err fault.Fields
+disk_by (Some f) = or_fault fault.Form (do
   size ← number_of f.0
   freq ← freq_of f.1
   Some (Disk size freq))
 
 -- `update,<by>,<reads>,<writes>`
-abbrev pub update_by : Option (List ℕ × List ℕ × List ℕ) → Result Entry ℕ
-update_by None = Err 1
-update_by (Some f) = or_fault 2 (do
+abbrev pub update_by : Option (List ℕ × List ℕ × List ℕ) → Result Entry FaultKind
+update_by None = Err fault.Fields
+update_by (Some f) = or_fault fault.Form (do
   by ← number_of f.0
   reads ← list_of number_of f.1
   writes ← list_of write_of f.2
   Some (Update by reads writes))
 
 -- `reader,<room>,<age>,<tries>`
-abbrev pub reader_by : Option (List ℕ × List ℕ × List ℕ) → Result Entry ℕ
-reader_by None = Err 1
-reader_by (Some f) = or_fault 2 (do
+abbrev pub reader_by : Option (List ℕ × List ℕ × List ℕ) → Result Entry FaultKind
+reader_by None = Err fault.Fields
+reader_by (Some f) = or_fault fault.Form (do
   room ← number_of f.0
   age ← number_of f.1
   tries ← number_of f.2
   Some (Reader room age tries))
 
 -- `query,<reader>,<items>`
-abbrev pub query_by : Option (List ℕ × List ℕ) → Result Entry ℕ
-query_by None = Err 1
-query_by (Some f) = or_fault 2 (do
+abbrev pub query_by : Option (List ℕ × List ℕ) → Result Entry FaultKind
+query_by None = Err fault.Fields
+query_by (Some f) = or_fault fault.Form (do
   reader ← number_of f.0
   items ← list_of number_of f.1
   Some (Query reader items))
 
 -- `script,<events>`
-abbrev pub script_by : Option (List ℕ) → Result Entry ℕ
-script_by None = Err 1
-script_by (Some f) = or_fault 2 (do
+abbrev pub script_by : Option (List ℕ) → Result Entry FaultKind
+script_by None = Err fault.Fields
+script_by (Some f) = or_fault fault.Form (do
   events ← list_of event_of f
   Some (Script events))
 
 -- `set,<name>,<value>`
-abbrev pub set_by : Option (List ℕ × List ℕ) → Result Entry ℕ
-set_by None = Err 1
-set_by (Some f) = or_fault 10 (do
+abbrev pub set_by : Option (List ℕ × List ℕ) → Result Entry FaultKind
+set_by None = Err fault.Fields
+set_by (Some f) = or_fault fault.Setting (do
   setting ← setting_of f.0 f.1
   Some (Set setting))
 
@@ -103,7 +107,7 @@ tag_of text =
     else None
 
 -- What the fields after a tag spell.
-abbrev pub entry_by : Option Tag → List (List ℕ) → Result Entry ℕ
+abbrev pub entry_by : Option Tag → List (List ℕ) → Result Entry FaultKind
 entry_by (Some t.Item) fields = item_by (three_of fields)
 entry_by (Some t.Disk) fields = disk_by (two_of fields)
 entry_by (Some t.Update) fields = update_by (three_of fields)
@@ -111,9 +115,9 @@ entry_by (Some t.Reader) fields = reader_by (three_of fields)
 entry_by (Some t.Query) fields = query_by (two_of fields)
 entry_by (Some t.Script) fields = script_by (one_of fields)
 entry_by (Some t.Set) fields = set_by (two_of fields)
-entry_by None fields = Err 9
+entry_by None fields = Err fault.Tag
 
 -- What a record spells. Its first field is its tag; the reader of csv gives no record without a field.
-abbrev pub entry_of : List (List ℕ) → Result Entry ℕ
-entry_of [] = Err 9
+abbrev pub entry_of : List (List ℕ) → Result Entry FaultKind
+entry_of [] = Err fault.Tag
 entry_of (tag ∷ fields) = entry_by (tag_of tag) fields

@@ -39,7 +39,7 @@ Spells text deck = RowsSpell (records_of text) deck
 unfoldable pub HasFault : List ℕ → ℕ → ℕ → Type 0
 HasFault text row kind = (place : ℕ) × (row ≡ place + 1) × IsFirstFault (records_of text) place kind
 
--- A fault that is answered is the text's; want of memory says nothing.
+-- A fault that is answered is the text's; no memory has no cause.
 abbrev pub IsAnswer : List ℕ → DeckError → Type 0
 IsAnswer text (error.Fault fault) = HasFault text fault.row fault.kind
 IsAnswer text error.NoMemory = ⊤

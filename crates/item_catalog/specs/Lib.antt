@@ -1,3 +1,4 @@
+pub mod Kinds
 pub mod Records
 pub mod Limits
 pub mod Fields
@@ -10,8 +11,7 @@ pub mod DeckView
 pub mod Faults
 pub mod Grammar
 pub mod GrammarLaws
-pub mod Fronts
-pub mod Seen
+pub mod ListKinds
 pub mod ScriptView
 pub mod Drafts
 pub mod DraftView

@@ -1,5 +1,6 @@
 -- Settings: which name and value a record may give one, and what all settings are where some were set.
 use Rattle.std.specs.Prelude.{ℕ, Bool, true, false, List, [], ◌∷◌, Option, Some, None, option_map, unwrap_or, codes, if◌then◌else◌}
+use Rattle.air_base.specs.declared.limits.TheConstants.{MOST_CYCLES, MOST_DELTA, MOST_HEARS, MOST_MONITORS, MOST_SHARE}
 use Rattle.air_base.specs.Numbers.{number_of}
 use Rattle.air_base.specs.declared.verdicts.Policy.{Policy}
 use Rattle.air_base.specs.declared.verdicts.Policy.TheVariants.{FMatrix, Datacycle, RMatrix}
@@ -13,14 +14,14 @@ use Rattle.item_catalog.specs.declared.settings.Setting.TheVariants as setting
 
 -- The least and the greatest value of a setting that is a number.
 abbrev pub range_of : Name → ℕ × ℕ
-range_of Delta = (0, 9)
-range_of Cycles = (0, 10000)
+range_of Delta = (0, MOST_DELTA)
+range_of Cycles = (0, MOST_CYCLES)
 range_of Seed = (0, 18446744073709551615)
-range_of Loss = (0, 100)
-range_of Again = (0, 100)
-range_of Late = (0, 100)
-range_of Monitors = (0, 16)
-range_of Hears = (1, 100000000)
+range_of Loss = (0, MOST_SHARE)
+range_of Again = (0, MOST_SHARE)
+range_of Late = (0, MOST_SHARE)
+range_of Monitors = (0, MOST_MONITORS)
+range_of Hears = (1, MOST_HEARS)
 
 -- Its value where it isn't set.
 abbrev pub default_of : Name → ℕ

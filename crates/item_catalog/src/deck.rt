@@ -1,6 +1,7 @@
 //! A deck in the grammar, as its records say it.
 
 ghost use Rattle.std.specs.Prelude.{◌≡◌, ◌<◌, ◌≤◌, ◌+◌, ◌*◌, [], length, get_or, slice_get, IfSome, Some};
+ghost use Rattle.air_base.specs.declared.limits.TheConstants.{MOST_ASKED, MOST_DELTA, MOST_DISKS, MOST_EVENTS, MOST_FREQ, MOST_ITEMS, MOST_QUERIES, MOST_RATE, MOST_READERS, MOST_SIZE, MOST_STARTS, MOST_UPDATERS};
 ghost use Rattle.air_model.specs.Decks.{IsDeck, updates_by};
 ghost use Rattle.item_catalog.specs.DeckLimits.{WithinLimits, script_starts};
 
@@ -49,7 +50,7 @@ impl Deck {
     pub fn items(&self) -> u16
         ensures told { result ≡ length self.now.items }
         ensures some { 1 ≤ result }
-        ensures few { result ≤ 256 }
+        ensures few { result ≤ MOST_ITEMS }
     {
         self.items.len() as u16
     }
@@ -66,7 +67,7 @@ impl Deck {
     pub fn rate(&self, i: u16) -> u32
         requires { i < length self.now.items }
         ensures told { IfSome (slice_get self.now.items i) (λ item. result ≡ item.rate) }
-        ensures most { result ≤ 1000000 }
+        ensures most { result ≤ MOST_RATE }
     {
         self.items[i as usize].rate
     }
@@ -74,7 +75,7 @@ impl Deck {
     /// The number of disks.
     pub fn disks(&self) -> u32
         ensures told { result ≡ length self.now.disks }
-        ensures few { result ≤ 8 }
+        ensures few { result ≤ MOST_DISKS }
     {
         self.disks.len() as u32
     }
@@ -84,7 +85,7 @@ impl Deck {
         requires { d < length self.now.disks }
         ensures told { IfSome (slice_get self.now.disks d) (λ disk. result ≡ disk.size) }
         ensures some { 1 ≤ result }
-        ensures few { result ≤ 256 }
+        ensures few { result ≤ MOST_SIZE }
     {
         self.disks[d as usize].size
     }
@@ -94,7 +95,7 @@ impl Deck {
         requires { d < length self.now.disks }
         ensures told { IfSome (slice_get self.now.disks d) (λ disk. result ≡ disk.freq) }
         ensures some { 1 ≤ result }
-        ensures few { result ≤ 64 }
+        ensures few { result ≤ MOST_FREQ }
     {
         match self.disks[d as usize].freq {
             Some(freq) => freq,
@@ -105,7 +106,7 @@ impl Deck {
     /// The number of updaters.
     pub fn updaters(&self) -> u32
         ensures told { result ≡ length self.now.updates }
-        ensures few { result ≤ 16 }
+        ensures few { result ≤ MOST_UPDATERS }
     {
         self.updates.len() as u32
     }
@@ -121,7 +122,7 @@ impl Deck {
     /// The number of readers.
     pub fn readers(&self) -> u32
         ensures told { result ≡ length self.now.readers }
-        ensures few { result ≤ 64 }
+        ensures few { result ≤ MOST_READERS }
     {
         self.readers.len() as u32
     }
@@ -138,7 +139,7 @@ impl Deck {
     pub fn queries(&self, r: u32) -> u32
         requires { r < length self.now.readers }
         ensures told { result ≡ length (get_or self.now.queries r []) }
-        ensures few { result ≤ 10000 }
+        ensures few { result ≤ MOST_QUERIES }
     {
         self.queries[r as usize].len() as u32
     }
@@ -148,7 +149,7 @@ impl Deck {
         requires reader { r < length self.now.readers }
         requires query { q < length (get_or self.now.queries r []) }
         ensures told { result.now ≡ get_or (get_or self.now.queries r []) q [] }
-        ensures few { length result.now ≤ 16 }
+        ensures few { length result.now ≤ MOST_ASKED }
     {
         self.queries[r as usize].as_slice()[q as usize].as_slice()
     }
@@ -156,7 +157,7 @@ impl Deck {
     /// The number of the script's parts.
     pub fn script_len(&self) -> u32
         ensures told { result ≡ length self.now.script }
-        ensures few { result ≤ 200000 }
+        ensures few { result ≤ MOST_EVENTS }
     {
         self.script.len() as u32
     }
@@ -172,7 +173,7 @@ impl Deck {
     /// The number of cycles that the script starts.
     pub fn script_starts(&self) -> u32
         ensures told { result ≡ script_starts self.now }
-        ensures few { result ≤ 10000 }
+        ensures few { result ≤ MOST_STARTS }
     {
         self.starts
     }
@@ -187,8 +188,8 @@ impl Deck {
 
 /// The frequency of a disk that says `-`, by the number of disks after it.
 fn graded_freq(after: u32, delta: u32) -> u32
-    requires few { after ≤ 7 }
-    requires small { delta ≤ 9 }
+    requires few { after < MOST_DISKS }
+    requires small { delta ≤ MOST_DELTA }
     ensures { result ≡ after * delta + 1 }
 {
     after * delta + 1

@@ -1,5 +1,9 @@
 //! Why a text is no deck.
 
+ghost use Rattle.std.specs.Prelude.{◌≡◌};
+ghost use Rattle.item_catalog.specs.Kinds.{code_of};
+
+use crate::kinds::FaultKind;
 use std::alloc::AllocError;
 use std::error::Error;
 use std::fmt;
@@ -41,6 +45,18 @@ pub enum DeckError {
     Fault(DeckFault),
     /// There was no memory.
     NoMemory,
+}
+
+impl DeckError {
+    /// The fault of this kind at this record.
+    pub(crate) fn at(row: u32, kind: FaultKind) -> DeckError
+        ensures { result ≡ DeckError.Fault (record { row = row; kind = code_of kind }) }
+    {
+        DeckError::Fault(DeckFault {
+            row,
+            kind: kind.code(),
+        })
+    }
 }
 
 impl fmt::Display for DeckError {

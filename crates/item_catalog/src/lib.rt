@@ -2,19 +2,16 @@
 #![tactic(auto)]
 
 pub mod deck;
-mod digits;
+mod events;
 pub mod faults;
 mod fields;
-mod fronts;
-mod item_lists;
+mod kinds;
 pub mod laws;
 mod parts;
-mod plain_fronts;
 pub mod reading;
 mod refusals;
 mod scripts;
 mod settings;
-mod write_lists;
 
 pub use deck::Deck;
 pub use faults::{DeckError, DeckFault};

@@ -1,6 +1,7 @@
 //! Decks read from texts: one pass over the records, each taken once and forgotten.
 
 ghost use Rattle.std.specs.Prelude.{◌≡◌, ◌≤◌, length, IfErr, IfOk, None};
+ghost use Rattle.air_base.specs.declared.limits.TheConstants.{MOST_DECK_BYTES};
 ghost use Rattle.item_catalog.specs.Drafts.{deck_from};
 ghost use Rattle.item_catalog.specs.Ends.{CanEnd, EndsBy};
 ghost use Rattle.item_catalog.specs.Faults.{end_tests, first_of};
@@ -8,7 +9,7 @@ ghost use Rattle.item_catalog.specs.Grammar.{IsAnswer, Spells};
 
 use crate::deck::Deck;
 use crate::deck::draft::Draft;
-use crate::faults::{DeckError, DeckFault};
+use crate::faults::DeckError;
 use crate::refusals::Refusal;
 use csv::{ByteRecord, ReaderBuilder};
 use std::alloc::Global;
@@ -20,14 +21,14 @@ fn finish(draft: Draft, row: u32) -> Result<Deck, DeckError>
     ensures fault { IfErr result (EndsBy row (first_of (end_tests (length draft.items) draft.disks))) }
 {
     match draft.end_kind() {
-        Some(kind) => Err(DeckError::Fault(DeckFault { row, kind })),
+        Some(kind) => Err(DeckError::at(row, kind)),
         None => Ok(draft.into_deck()),
     }
 }
 
 /// The deck that a text spells, or the first faulty record of the text with the least kind that applies there.
 pub fn read_deck(alloc: Global, bytes: &[u8]) -> Result<Deck, DeckError>
-    requires limit { length bytes.now ≤ 67108864 }
+    requires limit { length bytes.now ≤ MOST_DECK_BYTES }
     ensures deck { IfOk result (Spells bytes.now) }
     ensures fault { IfErr result (IsAnswer bytes.now) }
 {
@@ -45,7 +46,7 @@ pub fn read_deck(alloc: Global, bytes: &[u8]) -> Result<Deck, DeckError>
         }
         match draft.add(alloc, &record) {
             Ok(()) => {}
-            Err(Refusal::Kind(kind)) => return Err(DeckError::Fault(DeckFault { row, kind })),
+            Err(Refusal::Kind(kind)) => return Err(DeckError::at(row, kind)),
             Err(Refusal::NoMemory) => return Err(DeckError::NoMemory),
         }
     }

@@ -1,12 +1,13 @@
 //! Why a record adds nothing to a deck that is read.
 
+use crate::kinds::FaultKind;
 use air_base::NoMemory;
 use std::alloc::{AllocError, AllocFailed};
 
 /// A fault of this kind applies, or there was no memory.
 #[derive(Clone, Copy, Debug, PartialEq, Eq)]
 pub enum Refusal {
-    Kind(u8),
+    Kind(FaultKind),
     NoMemory,
 }
 

@@ -8,10 +8,11 @@ ghost use Rattle.air_base.specs.NumberLists.{list_of};
 ghost use Rattle.air_model.specs.Decks.{count_parts};
 ghost use Rattle.item_catalog.specs.Fields.{event_of};
 ghost use Rattle.item_catalog.specs.Faults.{count_starts, script_passes, some_below};
-ghost use Rattle.item_catalog.specs.Seen.{EventsRead};
+ghost use Rattle.item_catalog.specs.ScriptView.{EventsRead};
 
-use crate::fronts::event_front;
+use crate::events::event_front;
 use crate::parts::Updates;
+use air_base::limits::{MOST_EVENTS, MOST_STARTS, MOST_UPDATERS};
 use std::alloc::{AllocFailed, Global};
 use std::marker::Model;
 
@@ -20,7 +21,7 @@ use std::marker::Model;
 pub struct Script {
     events: Vec<Option<u32>>,
     starts: u32,
-    commits: [u32; 16],
+    commits: [u32; MOST_UPDATERS],
 }
 
 impl Model for Script {
@@ -42,14 +43,14 @@ impl Script {
         Script {
             events: Vec::new(alloc),
             starts: 0,
-            commits: [0; 16],
+            commits: [0; MOST_UPDATERS],
         }
     }
 
     /// Hands the limits of its type to a caller's proof; it does nothing.
     fn keeps_limits(&self)
-        ensures events { length self.now ≤ 200000 }
-        ensures starts { count_starts self.now ≤ 10000 }
+        ensures events { length self.now ≤ MOST_EVENTS }
+        ensures starts { count_starts self.now ≤ MOST_STARTS }
     {
         let _events = &self.events;
     }
@@ -58,10 +59,10 @@ impl Script {
     fn passes(&self, event: Option<u64>) -> bool
         ensures { result ≡ script_passes self.now (event ∷ []) }
     {
-        self.events.len() >= 200_000
+        self.events.len() >= MOST_EVENTS
             || match event {
-                None => self.starts >= 10_000,
-                Some(by) => by >= 16,
+                None => self.starts >= MOST_STARTS,
+                Some(by) => by >= MOST_UPDATERS as u64,
             }
     }
 
@@ -102,10 +103,10 @@ impl Script {
 
     /// Whether an updater commits more updates than it has.
     pub fn overdraws(&self, updates: &[Updates]) -> bool
-        requires { length updates.now ≡ 16 }
-        ensures { result ≡ some_below 16 (λ by. nat_lt (length (get_or updates.now by [])) (count_parts by self.now)) }
+        requires { length updates.now ≡ MOST_UPDATERS }
+        ensures { result ≡ some_below MOST_UPDATERS (λ by. nat_lt (length (get_or updates.now by [])) (count_parts by self.now)) }
     {
-        for by in 0..16_usize {
+        for by in 0..MOST_UPDATERS {
             if updates[by].len() < self.commits[by] as usize {
                 return true;
             }

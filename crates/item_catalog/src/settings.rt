@@ -5,6 +5,7 @@ ghost use Rattle.std.specs.List.{list_any};
 ghost use Rattle.item_catalog.specs.DeckLimits.{SettingsWithin};
 ghost use Rattle.item_catalog.specs.Settings.{default_of, name_of, number_in, number_said, number_set, policy_in, policy_of, range_of, same_setting, setting_of, settings_in};
 
+use air_base::limits::{MOST_CYCLES, MOST_DELTA, MOST_HEARS, MOST_MONITORS, MOST_SHARE};
 use air_base::{Policy, read_u64};
 use air_model::deck::Settings;
 
@@ -73,12 +74,12 @@ fn range_of(name: Name) -> (u64, u64)
     ensures { result ≡ range_of name }
 {
     match name {
-        Name::Delta => (0, 9),
-        Name::Cycles => (0, 10_000),
+        Name::Delta => (0, MOST_DELTA),
+        Name::Cycles => (0, MOST_CYCLES),
         Name::Seed => (0, u64::MAX),
-        Name::Loss | Name::Again | Name::Late => (0, 100),
-        Name::Monitors => (0, 16),
-        Name::Hears => (1, 100_000_000),
+        Name::Loss | Name::Again | Name::Late => (0, MOST_SHARE),
+        Name::Monitors => (0, MOST_MONITORS),
+        Name::Hears => (1, MOST_HEARS),
     }
 }
 
@@ -195,7 +196,7 @@ pub fn settings_in(set: &[Setting]) -> Settings
 
 /// By how much the frequencies of disks that say none differ.
 pub fn delta_in(set: &[Setting]) -> u32
-    requires { number_in Name.Delta set.now ≤ 9 }
+    requires { number_in Name.Delta set.now ≤ MOST_DELTA }
     ensures { result ≡ number_in Name.Delta set.now }
 {
     number_in(Name::Delta, set) as u32

@@ -42,62 +42,175 @@ pub enum Part<'a> {
     Settings(Settings),
 }
 
-/// Whether an update of a number has these reads and writes.
-fn has_update(deck: &Deck, by: u32, seq: usize, reads: &[u16], writes: &[Write]) -> bool {
+/// In what a deck answers a question otherwise than told: what came in its place.
+#[derive(Clone, Copy, Debug, PartialEq, Eq)]
+pub enum Other {
+    /// There is none of that number.
+    Missing,
+    Items(u16),
+    Value(u64),
+    Rate(u32),
+    Disks(u32),
+    Size(u16),
+    Freq(u32),
+    Updaters(u32),
+    Updates(usize),
+    /// The update has other reads, so many.
+    Reads(usize),
+    /// The update has other writes, so many.
+    Writes(usize),
+    Readers(u32),
+    Plan(ReaderPlan),
+    Queries(u32),
+    /// The query asks for other items, so many.
+    Asked(usize),
+    ScriptParts(u32),
+    ScriptStarts(u32),
+    Event(Option<u32>),
+    Policy(Policy),
+    Settings(Settings),
+}
+
+/// In what an item differs.
+fn item_other(deck: &Deck, i: u16, value: u64, rate: u32) -> Option<Other> {
+    if i >= deck.items() {
+        return Some(Other::Missing);
+    }
+    if deck.value(i) != value {
+        return Some(Other::Value(deck.value(i)));
+    }
+    (deck.rate(i) != rate).then_some(Other::Rate(deck.rate(i)))
+}
+
+/// In what a disk differs.
+fn disk_other(deck: &Deck, d: u32, size: u16, freq: u32) -> Option<Other> {
+    if d >= deck.disks() {
+        return Some(Other::Missing);
+    }
+    if deck.size(d) != size {
+        return Some(Other::Size(deck.size(d)));
+    }
+    (deck.freq(d) != freq).then_some(Other::Freq(deck.freq(d)))
+}
+
+/// In what the number of an updater's updates differs.
+fn updates_other(deck: &Deck, by: u32, told: usize) -> Option<Other> {
     if by >= deck.updaters() {
-        return false;
+        return Some(Other::Missing);
     }
-    match deck.updates(by).get(seq) {
-        Some(update) => update.reads() == reads && update.writes() == writes,
-        None => false,
-    }
+    let count = deck.updates(by).len();
+    (count != told).then_some(Other::Updates(count))
 }
 
-/// Whether the deck's answer is the told one.
-fn holds(deck: &Deck, part: &Part<'_>) -> bool {
+/// In what an update differs.
+fn update_other(
+    deck: &Deck,
+    by: u32,
+    seq: usize,
+    reads: &[u16],
+    writes: &[Write],
+) -> Option<Other> {
+    if by >= deck.updaters() {
+        return Some(Other::Missing);
+    }
+    let Some(update) = deck.updates(by).get(seq) else {
+        return Some(Other::Missing);
+    };
+    if update.reads() != reads {
+        return Some(Other::Reads(update.reads().len()));
+    }
+    (update.writes() != writes).then_some(Other::Writes(update.writes().len()))
+}
+
+/// In what a reader's number of queries differs.
+fn queries_other(deck: &Deck, r: u32, told: u32) -> Option<Other> {
+    if r >= deck.readers() {
+        return Some(Other::Missing);
+    }
+    let count = deck.queries(r);
+    (count != told).then_some(Other::Queries(count))
+}
+
+/// In what a reader differs.
+fn reader_other(deck: &Deck, r: u32, plan: ReaderPlan, queries: u32) -> Option<Other> {
+    if r >= deck.readers() {
+        return Some(Other::Missing);
+    }
+    if deck.reader(r) != plan {
+        return Some(Other::Plan(deck.reader(r)));
+    }
+    queries_other(deck, r, queries)
+}
+
+/// In what a query differs.
+fn query_other(deck: &Deck, r: u32, q: u32, items: &[u16]) -> Option<Other> {
+    if r >= deck.readers() || q >= deck.queries(r) {
+        return Some(Other::Missing);
+    }
+    let asked = deck.query(r, q);
+    (asked != items).then_some(Other::Asked(asked.len()))
+}
+
+/// In what the script's numbers differ.
+fn script_other(deck: &Deck, parts: u32, starts: u32) -> Option<Other> {
+    if deck.script_len() != parts {
+        return Some(Other::ScriptParts(deck.script_len()));
+    }
+    (deck.script_starts() != starts).then_some(Other::ScriptStarts(deck.script_starts()))
+}
+
+/// In what a part of the script differs.
+fn event_other(deck: &Deck, k: u32, told: Option<u32>) -> Option<Other> {
+    if k >= deck.script_len() {
+        return Some(Other::Missing);
+    }
+    let event = deck.script(k);
+    (event != told).then_some(Other::Event(event))
+}
+
+/// In what the deck's answer differs from the told one.
+fn difference(deck: &Deck, part: &Part<'_>) -> Option<Other> {
     match part {
-        Part::Items(told) => deck.items() == *told,
-        Part::Item(i, value, rate) => {
-            *i < deck.items() && deck.value(*i) == *value && deck.rate(*i) == *rate
+        Part::Items(told) => (deck.items() != *told).then_some(Other::Items(deck.items())),
+        Part::Item(i, value, rate) => item_other(deck, *i, *value, *rate),
+        Part::Disks(told) => (deck.disks() != *told).then_some(Other::Disks(deck.disks())),
+        Part::Disk(d, size, freq) => disk_other(deck, *d, *size, *freq),
+        Part::Updaters(told) => {
+            (deck.updaters() != *told).then_some(Other::Updaters(deck.updaters()))
         }
-        Part::Disks(told) => deck.disks() == *told,
-        Part::Disk(d, size, freq) => {
-            *d < deck.disks() && deck.size(*d) == *size && deck.freq(*d) == *freq
+        Part::Updates(by, told) => updates_other(deck, *by, *told),
+        Part::Update(by, seq, reads, writes) => update_other(deck, *by, *seq, reads, writes),
+        Part::Readers(told) => (deck.readers() != *told).then_some(Other::Readers(deck.readers())),
+        Part::Reader(r, plan, told) => reader_other(deck, *r, *plan, *told),
+        Part::Queries(r, told) => queries_other(deck, *r, *told),
+        Part::Query(r, q, items) => query_other(deck, *r, *q, items),
+        Part::Script(parts, starts) => script_other(deck, *parts, *starts),
+        Part::Event(k, told) => event_other(deck, *k, *told),
+        Part::Policy(told) => {
+            let policy = deck.settings().policy;
+            (policy != *told).then_some(Other::Policy(policy))
         }
-        Part::Updaters(told) => deck.updaters() == *told,
-        Part::Updates(by, told) => *by < deck.updaters() && deck.updates(*by).len() == *told,
-        Part::Update(by, seq, reads, writes) => has_update(deck, *by, *seq, reads, writes),
-        Part::Readers(told) => deck.readers() == *told,
-        Part::Reader(r, plan, told) => {
-            *r < deck.readers() && deck.reader(*r) == *plan && deck.queries(*r) == *told
+        Part::Settings(told) => {
+            let settings = deck.settings();
+            (settings != *told).then_some(Other::Settings(settings))
         }
-        Part::Queries(r, told) => *r < deck.readers() && deck.queries(*r) == *told,
-        Part::Query(r, q, items) => {
-            *r < deck.readers() && *q < deck.queries(*r) && deck.query(*r, *q) == *items
-        }
-        Part::Script(parts, starts) => {
-            deck.script_len() == *parts && deck.script_starts() == *starts
-        }
-        Part::Event(k, told) => *k < deck.script_len() && deck.script(*k) == *told,
-        Part::Policy(told) => deck.settings().policy == *told,
-        Part::Settings(told) => deck.settings() == *told,
     }
 }
 
-/// The place of the first question that the text's deck answers otherwise.
+/// The place of the first question that the text's deck answers otherwise, and in what.
 pub fn first_other_part(
     alloc: Global,
     text: &[u8],
     parts: &[Part<'_>],
-) -> Result<Option<usize>, Fail> {
+) -> Result<Option<(usize, Other)>, Fail> {
     if text.len() > 67_108_864 {
         return Err("too long a text".into());
     }
     let deck = read_deck(alloc, text)?;
     deck.well_made();
     for (place, part) in parts.iter().enumerate() {
-        if !holds(&deck, part) {
-            return Ok(Some(place));
+        if let Some(other) = difference(&deck, part) {
+            return Ok(Some((place, other)));
         }
     }
     Ok(None)

@@ -17,18 +17,38 @@ const TWO_READERS: (&[u8], u32) = (b"reader,0,0,1\n", 2);
 
 const UPDATES: (&[u8], u32) = (b"update,0,,0=1\n", 100_000);
 
+/// Script records that commit each of these updates.
+const COMMITS: (&[u8], u32) = (b"script,0\n", 100_000);
+
+/// What begins a long script record, and its last commit.
+const SCRIPT: (&[u8], u32) = (b"script,", 1);
+
+const LAST_COMMIT: (&[u8], u32) = (b"0\n", 1);
+
+/// Adds so many items.
+fn add_items(text: &mut Vec<u8>, items: u64) -> Result<(), Fail> {
+    for id in 0..items {
+        text.extend_from_slice(b"item,")?;
+        write_u64(id, text)?;
+        text.extend_from_slice(b",1,1\n")?;
+    }
+    Ok(())
+}
+
+/// Adds a part so many times.
+fn add_times(text: &mut Vec<u8>, part: &[u8], times: u32) -> Result<(), Fail> {
+    for _ in 0..times {
+        text.extend_from_slice(part)?;
+    }
+    Ok(())
+}
+
 /// A text: so many items, then each part so many times.
 fn text_of(alloc: Global, items: u64, parts: Parts<'_>) -> Result<Vec<u8>, Fail> {
     let mut text = Vec::new(alloc);
-    for id in 0..items {
-        text.extend_from_slice(b"item,")?;
-        write_u64(id, &mut text)?;
-        text.extend_from_slice(b",1,1\n")?;
-    }
+    add_items(&mut text, items)?;
     for (part, times) in parts {
-        for _ in 0..*times {
-            text.extend_from_slice(part)?;
-        }
+        add_times(&mut text, part, *times)?;
     }
     Ok(text)
 }
@@ -147,14 +167,10 @@ fn queries_have_their_total(rt: HostRuntime) -> Result<(), Fail> {
 #[test]
 fn starts_have_their_total(rt: HostRuntime) -> Result<(), Fail> {
     let rows: &[(u64, Parts<'_>, Text)] = &[
+        (1, &[DISK, SCRIPT, (b"s ", 9_999), (b"s\n", 1)], Deck),
         (
             1,
-            &[DISK, (b"script,", 1), (b"s ", 9_999), (b"s\n", 1)],
-            Deck,
-        ),
-        (
-            1,
-            &[DISK, (b"script,", 1), (b"s ", 10_000), (b"s\n", 1)],
+            &[DISK, SCRIPT, (b"s ", 10_000), (b"s\n", 1)],
             Fault(3, 7),
         ),
         (1, &[DISK, (b"script,s\n", 10_000)], Deck),
@@ -172,12 +188,12 @@ fn script_events_have_their_total(rt: HostRuntime) -> Result<(), Fail> {
         // more than 200,000 parts, most of them commits of updates that no record gave: the least kind
         (
             1,
-            &[DISK, (b"script,", 1), (b"0 ", 200_000), (b"0\n", 1)],
+            &[DISK, SCRIPT, (b"0 ", 200_000), LAST_COMMIT],
             Fault(3, 7),
         ),
         (
             1,
-            &[DISK, (b"script,", 1), (b"0 ", 199_999), (b"0\n", 1)],
+            &[DISK, SCRIPT, (b"0 ", 199_999), LAST_COMMIT],
             Fault(3, 11),
         ),
         // the parts of earlier script records are counted
@@ -186,23 +202,16 @@ fn script_events_have_their_total(rt: HostRuntime) -> Result<(), Fail> {
             &[
                 DISK,
                 UPDATES,
-                (b"script,0\n", 100_000),
-                (b"script,", 1),
+                COMMITS,
+                SCRIPT,
                 (b"0 ", 100_000),
-                (b"0\n", 1),
+                LAST_COMMIT,
             ],
             Fault(200_003, 7),
         ),
         (
             1,
-            &[
-                DISK,
-                UPDATES,
-                (b"script,0\n", 100_000),
-                (b"script,", 1),
-                (b"0 ", 99_999),
-                (b"0\n", 1),
-            ],
+            &[DISK, UPDATES, COMMITS, SCRIPT, (b"0 ", 99_999), LAST_COMMIT],
             Fault(200_003, 11),
         ),
     ];

@@ -3,32 +3,37 @@
 //! Each call takes a record of one tag, and adds what it spells where no kind of fault applies; else it answers the least
 //! kind. What a draft is after a fault is told by no clause: it is thrown away.
 
-ghost use Rattle.std.specs.Prelude.{◌≡◌, ◌<◌, ◌≤◌, [], IfOk, drop, false, length, replicate, sum_by};
+ghost use Rattle.std.specs.Prelude.{◌≡◌, ◌<◌, ◌≤◌, [], IfOk, drop, length, replicate};
 ghost use Rattle.csv.specs.Records.{fields_of};
 ghost use Rattle.air_model.specs.Decks.{IsDeck};
 ghost use Rattle.item_catalog.specs.DeckLimits.{WithinLimits};
 ghost use Rattle.item_catalog.specs.Drafts.{Adds, deck_from, draft_of};
 ghost use Rattle.item_catalog.specs.Settings.{number_in};
 ghost use Rattle.item_catalog.specs.Entries.{disk_by, entry_of, item_by, reader_by, set_by};
-ghost use Rattle.item_catalog.specs.Faults.{end_tests, first_of, option_any};
-ghost use Rattle.item_catalog.specs.Fields.{freq_of, three_of, two_of};
-ghost use Rattle.item_catalog.specs.Limits.{outside};
+ghost use Rattle.item_catalog.specs.Faults.{end_tests, first_of};
+ghost use Rattle.air_base.specs.Pieces.{three_of, two_of};
 
+mod disks;
 mod lists;
 
 use crate::deck::Deck;
+use crate::deck::draft::disks::{is_no_freq, narrow_freq, read_freq, sizes_of};
 use crate::fields::{Tag, read_tag, three, two};
-use crate::item_lists::ItemList;
+use crate::kinds::FaultKind;
 use crate::parts::{DiskPart, ItemPart, Queries, Updates};
 use crate::refusals::Refusal;
 use crate::scripts::Script;
 use crate::settings::{Name, Setting, delta_in, is_set, read_setting, settings_in};
-use crate::write_lists::WriteList;
+use air_base::limits::{
+    MOST_AGE, MOST_DELTA, MOST_DISKS, MOST_ITEMS, MOST_RATE, MOST_READERS, MOST_ROOM, MOST_SIZE,
+    MOST_TRIES, MOST_UPDATERS,
+};
 use air_base::read_u64;
 use air_model::deck::ReaderPlan;
 use csv::ByteRecord;
 use std::alloc::{AllocError, Global};
 use std::marker::Model;
+use update_texts::{ItemList, WriteList};
 
 /// The parts so far, with a list for each updater and each reader that there can be, and the lists of the record at hand.
 #[derive(Debug, Drop)]
@@ -60,10 +65,10 @@ impl Model for Draft {
 
 /// A list for each updater that there can be.
 fn no_updates(alloc: Global) -> Result<Vec<Updates>, AllocError>
-    ensures { IfOk result (λ lists. lists.items ≡ replicate 16 []) }
+    ensures { IfOk result (λ lists. lists.items ≡ replicate MOST_UPDATERS []) }
 {
     let mut lists = Vec::new(alloc);
-    for _by in 0..16_usize {
+    for _by in 0..MOST_UPDATERS {
         lists.push(Updates::new(alloc))?;
     }
     Ok(lists)
@@ -71,56 +76,13 @@ fn no_updates(alloc: Global) -> Result<Vec<Updates>, AllocError>
 
 /// A list for each reader that there can be.
 fn no_queries(alloc: Global) -> Result<Vec<Queries>, AllocError>
-    ensures { IfOk result (λ lists. lists.items ≡ replicate 64 []) }
+    ensures { IfOk result (λ lists. lists.items ≡ replicate MOST_READERS []) }
 {
     let mut lists = Vec::new(alloc);
-    for _reader in 0..64_usize {
+    for _reader in 0..MOST_READERS {
         lists.push(Queries::new(alloc))?;
     }
     Ok(lists)
-}
-
-/// The frequency that the text spells: none is `-`.
-#[tactic(auto, unfolding(crate::specs::Fields::freq_of))]
-fn read_freq(text: &[u8]) -> Option<Option<u64>>
-    ensures { result ≡ freq_of text.now }
-{
-    if text == b"-".as_slice() {
-        return Some(None);
-    }
-    match read_u64(text) {
-        Some(number) => Some(Some(number)),
-        None => None,
-    }
-}
-
-/// Whether a frequency is no frequency of a disk.
-fn is_no_freq(freq: Option<u64>) -> bool
-    ensures { result ≡ option_any (outside 1 64) freq }
-{
-    match freq {
-        Some(number) => number < 1 || 64 < number,
-        None => false,
-    }
-}
-
-/// A frequency of a disk.
-fn narrow_freq(freq: Option<u64>) -> Option<u32>
-    requires { option_any (outside 1 64) freq ≡ false }
-    ensures { result ≡ freq }
-{
-    match freq {
-        Some(number) => Some(number as u32),
-        None => None,
-    }
-}
-
-/// The sum of the sizes of disks.
-fn sizes_of(disks: &[DiskPart]) -> u32
-    requires { length disks.now ≤ 8 }
-    ensures { result ≡ sum_by (λ d. d.size) disks.now }
-{
-    disks.iter().map(|disk| u32::from(disk.size)).sum::<u32>()
 }
 
 impl Draft {
@@ -149,22 +111,22 @@ impl Draft {
         ensures { Adds result (item_by (three_of (drop 1 (fields_of row.now)))) self.old self.new }
     {
         let Some((id, value, rate)) = three(row) else {
-            return Err(Refusal::Kind(1));
+            return Err(Refusal::Kind(FaultKind::Fields));
         };
         let Some(id) = read_u64(id) else {
-            return Err(Refusal::Kind(2));
+            return Err(Refusal::Kind(FaultKind::Form));
         };
         let Some(value) = read_u64(value) else {
-            return Err(Refusal::Kind(2));
+            return Err(Refusal::Kind(FaultKind::Form));
         };
         let Some(rate) = read_u64(rate) else {
-            return Err(Refusal::Kind(2));
+            return Err(Refusal::Kind(FaultKind::Form));
         };
         if id != self.items.len() as u64 {
-            return Err(Refusal::Kind(3));
+            return Err(Refusal::Kind(FaultKind::Id));
         }
-        if 1_000_000 < rate || 256 <= self.items.len() {
-            return Err(Refusal::Kind(7));
+        if MOST_RATE < rate || MOST_ITEMS <= self.items.len() {
+            return Err(Refusal::Kind(FaultKind::Limit));
         }
         let rate = rate as u32;
         self.items.push(ItemPart { value, rate })?;
@@ -176,16 +138,16 @@ impl Draft {
         ensures { Adds result (disk_by (two_of (drop 1 (fields_of row.now)))) self.old self.new }
     {
         let Some((size, freq)) = two(row) else {
-            return Err(Refusal::Kind(1));
+            return Err(Refusal::Kind(FaultKind::Fields));
         };
         let Some(size) = read_u64(size) else {
-            return Err(Refusal::Kind(2));
+            return Err(Refusal::Kind(FaultKind::Form));
         };
         let Some(freq) = read_freq(freq) else {
-            return Err(Refusal::Kind(2));
+            return Err(Refusal::Kind(FaultKind::Form));
         };
-        if size < 1 || 256 < size || is_no_freq(freq) || 8 <= self.disks.len() {
-            return Err(Refusal::Kind(7));
+        if size < 1 || MOST_SIZE < size || is_no_freq(freq) || MOST_DISKS <= self.disks.len() {
+            return Err(Refusal::Kind(FaultKind::Limit));
         }
         self.disks.push(DiskPart {
             size: size as u16,
@@ -199,19 +161,24 @@ impl Draft {
         ensures { Adds result (reader_by (three_of (drop 1 (fields_of row.now)))) self.old self.new }
     {
         let Some((room, age, tries)) = three(row) else {
-            return Err(Refusal::Kind(1));
+            return Err(Refusal::Kind(FaultKind::Fields));
         };
         let Some(room) = read_u64(room) else {
-            return Err(Refusal::Kind(2));
+            return Err(Refusal::Kind(FaultKind::Form));
         };
         let Some(age) = read_u64(age) else {
-            return Err(Refusal::Kind(2));
+            return Err(Refusal::Kind(FaultKind::Form));
         };
         let Some(tries) = read_u64(tries) else {
-            return Err(Refusal::Kind(2));
+            return Err(Refusal::Kind(FaultKind::Form));
         };
-        if 256 < room || 10_000 < age || tries < 1 || 16 < tries || 64 <= self.readers.len() {
-            return Err(Refusal::Kind(7));
+        if MOST_ROOM < room
+            || MOST_AGE < age
+            || tries < 1
+            || MOST_TRIES < tries
+            || MOST_READERS <= self.readers.len()
+        {
+            return Err(Refusal::Kind(FaultKind::Limit));
         }
         self.readers.push(ReaderPlan {
             room: room as u32,
@@ -226,13 +193,13 @@ impl Draft {
         ensures { Adds result (set_by (two_of (drop 1 (fields_of row.now)))) self.old self.new }
     {
         let Some((name, value)) = two(row) else {
-            return Err(Refusal::Kind(1));
+            return Err(Refusal::Kind(FaultKind::Fields));
         };
         let Some(setting) = read_setting(name, value) else {
-            return Err(Refusal::Kind(10));
+            return Err(Refusal::Kind(FaultKind::Setting));
         };
         if is_set(setting, &self.set) {
-            return Err(Refusal::Kind(10));
+            return Err(Refusal::Kind(FaultKind::Setting));
         }
         self.set.push(setting)?;
         Ok(())
@@ -250,19 +217,19 @@ impl Draft {
             Some(Tag::Query) => self.add_query(alloc, row),
             Some(Tag::Script) => self.add_events(row),
             Some(Tag::Set) => self.add_setting(row),
-            None => Err(Refusal::Kind(9)),
+            None => Err(Refusal::Kind(FaultKind::Tag)),
         }
     }
 
     /// The least kind that applies at the end.
-    pub fn end_kind(&self) -> Option<u8>
+    pub fn end_kind(&self) -> Option<FaultKind>
         ensures { result ≡ first_of (end_tests (length self.now.items) self.now.disks) }
     {
         if sizes_of(&self.disks) as usize != self.items.len() {
-            return Some(6);
+            return Some(FaultKind::Sizes);
         }
         if self.items.is_empty() || self.disks.is_empty() {
-            return Some(7);
+            return Some(FaultKind::Limit);
         }
         None
     }
@@ -271,7 +238,7 @@ impl Draft {
     pub fn into_deck(self) -> Deck
         requires made { IsDeck (deck_from self) }
         requires limits { WithinLimits (deck_from self) }
-        requires delta { number_in Name.Delta self.set ≤ 9 }
+        requires delta { number_in Name.Delta self.set ≤ MOST_DELTA }
         ensures { result ≡ deck_from self }
     {
         let mut updates = self.updates;

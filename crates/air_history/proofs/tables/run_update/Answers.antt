@@ -1,4 +1,5 @@
 use Rattle.std.proofs.Common.{arith, ap, sym, ◌∙◌, ◌≤◌, ◌==◌, length, All, find, subst, List}
+use Rattle.air_base.specs.declared.limits.TheConstants.{MOST_WRITES}
 use Rattle.air_history.specs.declared.updates.Write.{Write}
 use Rattle.air_history.specs.Tables.{WriteFits, put, values_of}
 use Rattle.air_history.proofs.RuleFacts.{few_writes, writes_based}
@@ -6,7 +7,7 @@ use Rattle.air_history.proofs.WriteLemmas.{put_all}
 use Rattle.air_history.proofs.tables.run_update.Goals as goal
 
 pub written_values-fresh-requires-clause-few : goal.written_values-fresh-requires-clause-few
-written_values-fresh-requires-clause-few c = subst (λ (ws : List Write). length ws ≤ 16) (sym c.writes.ensures) (few_writes c.args.update.now c.keeps_rules.ensures)
+written_values-fresh-requires-clause-few c = subst (λ (ws : List Write). length ws ≤ MOST_WRITES) (sym c.writes.ensures) (few_writes c.args.update.now c.keeps_rules.ensures)
 
 pub written_values-fresh-requires-clause-fits : goal.written_values-fresh-requires-clause-fits
 written_values-fresh-requires-clause-fits c =
@@ -14,7 +15,7 @@ written_values-fresh-requires-clause-fits c =
 
 pub write_values-requires-clause-few : goal.write_values-requires-clause-few
 write_values-requires-clause-few c =
-    let few : length c.writes-2.result.now ≤ 16 = subst (λ (ws : List Write). length ws ≤ 16) (sym c.writes-2.ensures) (few_writes c.args.update.now c.keeps_rules.ensures) in
+    let few : length c.writes-2.result.now ≤ MOST_WRITES = subst (λ (ws : List Write). length ws ≤ MOST_WRITES) (sym c.writes-2.ensures) (few_writes c.args.update.now c.keeps_rules.ensures) in
     omega (arith, c.written_values-fresh.ensures.sized)
 
 pub write_values-requires-clause-fits : goal.write_values-requires-clause-fits

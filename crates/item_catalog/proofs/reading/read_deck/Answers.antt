@@ -3,6 +3,7 @@ use Rattle.csv.specs.Reading.{Reached, default_config, strip_bom}
 use Rattle.csv.specs.Records.{fields_of}
 use Rattle.csv.specs.declared.parser.State.TheVariants as st
 use Rattle.csv.proofs.ReadFacts.{rows-end, rows-more}
+use Rattle.item_catalog.specs.Kinds.{code_of}
 use Rattle.item_catalog.specs.Drafts.{DraftValue, draft_of, judged, with_spelled}
 use Rattle.item_catalog.specs.Ends.{CanEnd}
 use Rattle.item_catalog.specs.Entries.{entry_of}
@@ -74,10 +75,10 @@ returns-in-Err-Kind-clause-fault c =
     let read = rw c.in-Ok-true.field-0-test at (c.in-Ok-true.ensures.reads inv.0 inv.1) in
     let m = rows-more (λ (s : Bor (List ℕ)). Some s.now) c.loop-row.records c.read_byte_record.new.self row default_config st.StartRecord (strip_bom c.args.bytes.now) inv.3 rows inv.2 inv.4 inv.6 read in
     let told : judged c.loop-row.draft (entry_of row) ≡ Some c.in-Err-Kind.kind = rw c.in-Err-Kind.field-0-is at c.in-Err-Kind.ensures in
-    let P : ℕ → Type 0 = λ r. HasFault c.args.bytes.now r c.in-Err-Kind.kind in
+    let P : ℕ → Type 0 = λ r. HasFault c.args.bytes.now r (code_of c.in-Err-Kind.kind) in
     let fault : P c.loop-row.row = subst P (sym inv.9)
     (read_fault c.args.bytes.now rows inv.7 c.read_byte_record.new.self.state m.0 row c.in-Err-Kind.kind m.2 (ap (λ d. judged d (entry_of row)) (sym inv.8) ∙ told)) in
-    rw c.in-Err-Kind.kind-is fault
+    subst (IsAnswer c.args.bytes.now) (sym c.at.ensures) (rw c.in-Err-Kind.kind-is fault)
 
 pub unreachable-requires : goal.unreachable-requires
 unreachable-requires c =

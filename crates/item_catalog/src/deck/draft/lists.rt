@@ -4,54 +4,62 @@ ghost use Rattle.std.specs.Prelude.{◌≡◌, OnOk, drop};
 ghost use Rattle.csv.specs.Records.{fields_of};
 ghost use Rattle.item_catalog.specs.Drafts.{Adds, QueryRead, UpdateRead};
 ghost use Rattle.item_catalog.specs.Entries.{query_by, script_by, update_by};
-ghost use Rattle.item_catalog.specs.Fields.{one_of, three_of, two_of};
-ghost use Rattle.item_catalog.specs.Seen.{seen_query_kind, seen_update_kind};
+ghost use Rattle.air_base.specs.Pieces.{one_of, three_of, two_of};
+ghost use Rattle.item_catalog.specs.ListKinds.{seen_query_kind, seen_update_kind};
 
 use crate::deck::draft::Draft;
 use crate::fields::{one, three, two};
-use crate::item_lists::ItemList;
+use crate::kinds::FaultKind;
 use crate::parts::Query;
 use crate::refusals::Refusal;
-use crate::write_lists::WriteList;
+use air_base::limits::{
+    MOST_ASKED, MOST_QUERIES, MOST_READS, MOST_UPDATERS, MOST_UPDATES, MOST_WRITES,
+};
 use air_base::read_u64;
 use air_history::Update;
 use csv::ByteRecord;
 use std::alloc::Global;
+use update_texts::{ItemList, WriteList};
 
 /// The least kind that applies to an update, where so many updates were given before it.
 #[inline(always)]
-fn update_kind(reads: &ItemList, writes: &WriteList, by: u64, given: u32) -> Option<u8>
+fn update_kind(reads: &ItemList, writes: &WriteList, by: u64, given: u32) -> Option<FaultKind>
     ensures { result ≡ seen_update_kind reads.now writes.now by given }
 {
-    if reads.undeclared() || writes.undeclared() {
-        return Some(4);
+    if reads.has_undeclared() || writes.has_undeclared() {
+        return Some(FaultKind::Undeclared);
     }
-    if reads.repeated() || writes.repeated() {
-        return Some(5);
+    if reads.has_repeated() || writes.has_repeated() {
+        return Some(FaultKind::Twice);
     }
     let count = writes.writes().len();
-    if 16 <= by || 16 < reads.items().len() || count < 1 || 16 < count || 100_000 <= given {
-        return Some(7);
+    if MOST_UPDATERS as u64 <= by
+        || MOST_READS < reads.items().len()
+        || count < 1
+        || MOST_WRITES < count
+        || MOST_UPDATES <= given
+    {
+        return Some(FaultKind::Limit);
     }
     if writes.unread() {
-        return Some(8);
+        return Some(FaultKind::Unread);
     }
     None
 }
 
 /// The least kind that applies to a query, where so many readers and queries were declared before it.
-fn query_kind(asked: &ItemList, readers: usize, reader: u64, given: u32) -> Option<u8>
+fn query_kind(asked: &ItemList, readers: usize, reader: u64, given: u32) -> Option<FaultKind>
     ensures { result ≡ seen_query_kind asked.now readers reader given }
 {
-    if readers as u64 <= reader || asked.undeclared() {
-        return Some(4);
+    if readers as u64 <= reader || asked.has_undeclared() {
+        return Some(FaultKind::Undeclared);
     }
-    if asked.repeated() {
-        return Some(5);
+    if asked.has_repeated() {
+        return Some(FaultKind::Twice);
     }
     let count = asked.items().len();
-    if count < 1 || 16 < count || 10_000 <= given {
-        return Some(7);
+    if count < 1 || MOST_ASKED < count || MOST_QUERIES <= given {
+        return Some(FaultKind::Limit);
     }
     None
 }
@@ -63,17 +71,17 @@ impl Draft {
         ensures read { UpdateRead result (update_by (three_of (drop 1 (fields_of row.now)))) self.old }
     {
         let Some((by, reads, writes)) = three(row) else {
-            return Err(Refusal::Kind(1));
+            return Err(Refusal::Kind(FaultKind::Fields));
         };
         let Some(by) = read_u64(by) else {
-            return Err(Refusal::Kind(2));
+            return Err(Refusal::Kind(FaultKind::Form));
         };
         let declared = self.items.len() as u16;
         if !self.item_list.read(declared, reads) {
-            return Err(Refusal::Kind(2));
+            return Err(Refusal::Kind(FaultKind::Form));
         }
         if !self.write_list.read(declared, &self.item_list, writes) {
-            return Err(Refusal::Kind(2));
+            return Err(Refusal::Kind(FaultKind::Form));
         }
         if let Some(kind) = update_kind(&self.item_list, &self.write_list, by, self.update_count) {
             return Err(Refusal::Kind(kind));
@@ -99,14 +107,14 @@ impl Draft {
         ensures read { QueryRead result (query_by (two_of (drop 1 (fields_of row.now)))) self.old }
     {
         let Some((reader, asked)) = two(row) else {
-            return Err(Refusal::Kind(1));
+            return Err(Refusal::Kind(FaultKind::Fields));
         };
         let Some(reader) = read_u64(reader) else {
-            return Err(Refusal::Kind(2));
+            return Err(Refusal::Kind(FaultKind::Form));
         };
         let declared = self.items.len() as u16;
         if !self.item_list.read(declared, asked) {
-            return Err(Refusal::Kind(2));
+            return Err(Refusal::Kind(FaultKind::Form));
         }
         if let Some(kind) = query_kind(
             &self.item_list,
@@ -135,15 +143,15 @@ impl Draft {
         ensures { Adds result (script_by (one_of (drop 1 (fields_of row.now)))) self.old self.new }
     {
         let Some(events) = one(row) else {
-            return Err(Refusal::Kind(1));
+            return Err(Refusal::Kind(FaultKind::Fields));
         };
         match self.script.read(events)? {
-            None => return Err(Refusal::Kind(2)),
-            Some(true) => return Err(Refusal::Kind(7)),
+            None => return Err(Refusal::Kind(FaultKind::Form)),
+            Some(true) => return Err(Refusal::Kind(FaultKind::Limit)),
             Some(false) => {}
         }
         if self.script.overdraws(&self.updates) {
-            return Err(Refusal::Kind(11));
+            return Err(Refusal::Kind(FaultKind::Overdrawn));
         }
         Ok(())
     }

@@ -1,5 +1,6 @@
 use Rattle.std.proofs.Common.{◌≡◌, ◌≤◌, ◌<◌, List, length, slice_get, arith, ap, subst, sym, ◌∙◌}
 use Rattle.std.specs.Prelude.{IfSome}
+use Rattle.air_base.specs.declared.limits.TheConstants.{MOST_SLOTS}
 use Rattle.air_model.specs.Disks.{Disk}
 use Rattle.air_model.specs.Programs.{chunk_len, num_minors, program}
 use Rattle.chunk_program.proofs.ProgramFacts.{of_read, read_disk}
@@ -11,7 +12,7 @@ chunk_len-requires-clause-some c =
     let disks = c.self.inside.disks.items in
     let minors = c.from.ensures ∙ always.minors in
     let below = subst (λ (l : List Disk). n < length l) (sym view) c.requires in
-    let short : length (program disks) ≤ 16384 = (let same = ap length always.slots in let few = always.short in omega arith) in
+    let short : length (program disks) ≤ MOST_SLOTS = (let same = ap length always.slots in let few = always.short in omega arith) in
     let own = read_disk disks m n d always.limits short minors below c.index.ensures in
     own.some
 
@@ -21,7 +22,7 @@ overflow_cast-result c =
     let disks = c.self.inside.disks.items in
     let minors = c.from.ensures ∙ always.minors in
     let below = subst (λ (l : List Disk). n < length l) (sym view) c.requires in
-    let short : length (program disks) ≤ 16384 = (let same = ap length always.slots in let few = always.short in omega arith) in
+    let short : length (program disks) ≤ MOST_SLOTS = (let same = ap length always.slots in let few = always.short in omega arith) in
     let own = read_disk disks m n d always.limits short minors below c.index.ensures in
     let few = own.len in let is = c.chunk_len.ensures in omega arith
 
@@ -31,7 +32,7 @@ returns c =
     let disks = c.self.inside.disks.items in
     let minors = c.from.ensures ∙ always.minors in
     let below = subst (λ (l : List Disk). n < length l) (sym view) c.requires in
-    let short : length (program disks) ≤ 16384 = (let same = ap length always.slots in let few = always.short in omega arith) in
+    let short : length (program disks) ≤ MOST_SLOTS = (let same = ap length always.slots in let few = always.short in omega arith) in
     let own = read_disk disks m n d always.limits short minors below c.index.ensures in
     let r = c.chunk_len.result in
     subst (λ (l : List Disk). IfSome (slice_get l n) (λ disk. r ≡ chunk_len (num_minors l) disk)) view

@@ -1,5 +1,6 @@
 use Rattle.std.proofs.Common.{◌≡◌, ◌≤◌, ◌<◌, List, length, slice_get, arith, ap, subst, sym, ◌∙◌}
 use Rattle.std.specs.Prelude.{IfSome}
+use Rattle.air_base.specs.declared.limits.TheConstants.{MOST_SLOTS}
 use Rattle.air_model.specs.Disks.{Disk}
 use Rattle.air_model.specs.Programs.{num_chunks, num_minors, program}
 use Rattle.chunk_program.proofs.ProgramFacts.{of_read, read_disk}
@@ -11,7 +12,7 @@ overflow_cast-result c =
     let disks = c.self.inside.disks.items in
     let minors = c.from.ensures ∙ always.minors in
     let below = subst (λ (l : List Disk). n < length l) (sym view) c.requires in
-    let short : length (program disks) ≤ 16384 = (let same = ap length always.slots in let few = always.short in omega arith) in
+    let short : length (program disks) ≤ MOST_SLOTS = (let same = ap length always.slots in let few = always.short in omega arith) in
     let own = read_disk disks m n d always.limits short minors below c.index.ensures in
     let few = own.chunks in let is = c.chunks.ensures in omega arith
 
@@ -21,7 +22,7 @@ returns c =
     let disks = c.self.inside.disks.items in
     let minors = c.from.ensures ∙ always.minors in
     let below = subst (λ (l : List Disk). n < length l) (sym view) c.requires in
-    let short : length (program disks) ≤ 16384 = (let same = ap length always.slots in let few = always.short in omega arith) in
+    let short : length (program disks) ≤ MOST_SLOTS = (let same = ap length always.slots in let few = always.short in omega arith) in
     let own = read_disk disks m n d always.limits short minors below c.index.ensures in
     let r = c.chunks.result in
     subst (λ (l : List Disk). IfSome (slice_get l n) (λ disk. r ≡ num_chunks (num_minors l) disk)) view

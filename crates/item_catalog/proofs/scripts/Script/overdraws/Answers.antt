@@ -1,5 +1,6 @@
 use Rattle.std.proofs.Common.{◌≡◌, ◌∙◌, sym, ap, arith, get_or, length, nat_lt, true, false, []}
 use Rattle.std.proofs.lemmas.List.{get_or_default}
+use Rattle.air_base.specs.declared.limits.TheConstants.{MOST_UPDATERS}
 use Rattle.air_model.specs.Decks.{count_parts}
 use Rattle.item_catalog.proofs.ScriptFacts.{some_at, some_more, some_none}
 use Rattle.item_catalog.proofs.scripts.Script.overdraws.Goals as goal
@@ -12,7 +13,7 @@ returns-then-len-self c =
     let at = c.index-updates-by.is ∙ get_or_default c.args.updates.now c.loop-by.by c.index-updates-by.result [] (omega arith) in
     let counted = c.self.invariant.commits c.loop-by.by (omega arith) ∙ ap (count_parts c.loop-by.by) c.self.view_is in
     let less : nat_lt (length (get_or c.args.updates.now c.loop-by.by [])) (count_parts c.loop-by.by c.args.self.now) ≡ true = grind (arith, ap length at, counted) in
-    sym (some_at 16 c.loop-by.by (λ by. nat_lt (length (get_or c.args.updates.now by [])) (count_parts by c.args.self.now)) (omega arith) less)
+    sym (some_at MOST_UPDATERS c.loop-by.by (λ by. nat_lt (length (get_or c.args.updates.now by [])) (count_parts by c.args.self.now)) (omega arith) less)
 
 pub loop-by-preserved : goal.loop-by-preserved
 loop-by-preserved c =

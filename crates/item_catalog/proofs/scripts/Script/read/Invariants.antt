@@ -2,7 +2,7 @@ use Rattle.std.proofs.Common.{◌≡◌, ◌++◌, ℕ, List, Option, false, len
 use Rattle.air_base.specs.NumberLists.{list_of}
 use Rattle.item_catalog.specs.Fields.{event_of}
 use Rattle.item_catalog.specs.Faults.{script_passes}
-use Rattle.item_catalog.specs.Fronts.{joined, spelled}
+use Rattle.air_base.specs.ReadParts.{joined, spelled}
 use Rattle.item_catalog.proofs.scripts.Script.read.Given as goal
 
 -- Some events were read, they were added unless they pass a limit, and what the rest spells with them is what the text spells.

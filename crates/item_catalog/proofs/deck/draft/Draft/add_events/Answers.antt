@@ -1,5 +1,6 @@
 use Rattle.std.proofs.Common.{◌≡◌, ◌∙◌, ◌++◌, List, ℕ, Option, None, Some, Ok, Bool, true, false, [], ap, drop, get_or, length, nat_lt, refl, sym, cond}
 use Rattle.csv.specs.Records.{fields_of}
+use Rattle.air_base.specs.declared.limits.TheConstants.{MOST_UPDATERS}
 use Rattle.air_base.specs.NumberLists.{list_of}
 use Rattle.air_history.specs.UpdateLists.{UpdateLists}
 use Rattle.air_model.specs.Decks.{count_parts}
@@ -7,7 +8,9 @@ use Rattle.item_catalog.specs.Drafts.{DraftValue, judged, with_spelled}
 use Rattle.item_catalog.specs.Entries as e
 use Rattle.item_catalog.specs.Entries.{script_by}
 use Rattle.item_catalog.specs.Faults.{script_passes, some_below}
-use Rattle.item_catalog.specs.Fields.{event_of, one_of}
+use Rattle.item_catalog.specs.Fields.{event_of}
+use Rattle.item_catalog.specs.declared.kinds.FaultKind.TheVariants as fault
+use Rattle.air_base.specs.Pieces.{one_of}
 use Rattle.item_catalog.proofs.EntryFacts.{events_are, script_spelled}
 use Rattle.item_catalog.proofs.deck.draft.Draft.add_events.Goals as goal
 use Rattle.item_catalog.proofs.deck.draft.Draft.add_events.Goals.{After-overdraws}
@@ -18,7 +21,7 @@ record Events (c : After-overdraws) : Type 0 where
   spelled : script_by (one_of (drop 1 (fields_of c.args.row.now))) ≡ Ok (e.Script events)
   within : script_passes c.args.self.now.script events ≡ false
   added : c.read.new.self ≡ c.args.self.now.script ++ events
-  told : c.overdraws.result ≡ some_below 16 (λ by. nat_lt (length (get_or c.args.self.now.updates by [])) (count_parts by (c.args.self.now.script ++ events)))
+  told : c.overdraws.result ≡ some_below MOST_UPDATERS (λ by. nat_lt (length (get_or c.args.self.now.updates by [])) (count_parts by (c.args.self.now.script ++ events)))
 
 read_events : (c : After-overdraws) → Events c
 read_events c =
@@ -33,15 +36,15 @@ read_events c =
       spelled = script_spelled (one_of (drop 1 (fields_of c.args.row.now))) c.in-Some.events.now r.0 c.in-Some.ensures r.1;
       within = within;
       added = added;
-      told = c.overdraws.ensures ∙ ap (λ (u : List (List UpdateLists)). some_below 16 (λ by. nat_lt (length (get_or u by [])) (count_parts by c.read.new.self))) (c.deref.ensures.value ∙ updates)
-          ∙ ap (λ s. some_below 16 (λ by. nat_lt (length (get_or c.args.self.now.updates by [])) (count_parts by s))) added;
+      told = c.overdraws.ensures ∙ ap (λ (u : List (List UpdateLists)). some_below MOST_UPDATERS (λ by. nat_lt (length (get_or u by [])) (count_parts by c.read.new.self))) (c.deref.ensures.value ∙ updates)
+          ∙ ap (λ s. some_below MOST_UPDATERS (λ by. nat_lt (length (get_or c.args.self.now.updates by [])) (count_parts by s))) added;
     }
 
 abbrev with_script : DraftValue → List (Option ℕ) → DraftValue
 with_script d script = record d { script = script }
 
 judged_by : (d : DraftValue) (events : List (Option ℕ)) (b : Bool) → script_passes d.script events ≡ false
-    → b ≡ some_below 16 (λ by. nat_lt (length (get_or d.updates by [])) (count_parts by (d.script ++ events))) → judged d (Ok (e.Script events)) ≡ cond b (Some 11) None
+    → b ≡ some_below MOST_UPDATERS (λ by. nat_lt (length (get_or d.updates by [])) (count_parts by (d.script ++ events))) → judged d (Ok (e.Script events)) ≡ cond b (Some fault.Overdrawn) None
 judged_by d events b within over = rw (within, ← over) refl
 
 pub returns-then-overdraws : goal.returns-then-overdraws

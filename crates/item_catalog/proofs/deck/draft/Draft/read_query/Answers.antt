@@ -2,12 +2,14 @@ use Rattle.std.proofs.Common.{◌≡◌, ◌∙◌, List, ℕ, Ok, Result, ap, d
 use Rattle.csv.specs.Records.{fields_of}
 use Rattle.air_base.specs.Numbers.{number_of}
 use Rattle.air_base.specs.NumberLists.{list_of}
+use Rattle.item_catalog.specs.declared.kinds.FaultKind.{FaultKind}
 use Rattle.item_catalog.specs.Drafts.{DraftValue, judged}
 use Rattle.item_catalog.specs.Entries as e
 use Rattle.item_catalog.specs.Entries.{Entry, query_by}
 use Rattle.item_catalog.specs.Faults.{first_of, query_tests}
-use Rattle.item_catalog.specs.Fields.{two_of}
-use Rattle.item_catalog.specs.Seen.{ItemsSeen, items_seen, seen_query_kind}
+use Rattle.air_base.specs.Pieces.{two_of}
+use Rattle.update_texts.specs.KeptLists.{ItemsSeen, items_seen}
+use Rattle.item_catalog.specs.ListKinds.{seen_query_kind}
 use Rattle.item_catalog.proofs.EntryFacts.{query_spelled, read_is_some}
 use Rattle.item_catalog.proofs.WriteFacts.{query_kept, query_seen}
 use Rattle.item_catalog.proofs.deck.draft.Draft.read_query.Goals as goal
@@ -41,7 +43,7 @@ returns-in-Some-query_kind-clause-read c =
     let l = list (goal.at.returns-in-Some-query_kind-clause-read c).After-query_kind in
     ap (judged c.args.self.now) l.spelled ∙ sym l.told ∙ c.in-Some-query_kind.is
 
-abbrev result_of : ℕ → List ℕ → Result Entry ℕ
+abbrev result_of : ℕ → List ℕ → Result Entry FaultKind
 result_of reader asked = Ok (e.Query reader asked)
 
 pub returns-clause-read : goal.returns-clause-read

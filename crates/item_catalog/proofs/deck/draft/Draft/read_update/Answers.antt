@@ -5,12 +5,15 @@ use Rattle.air_base.specs.NumberLists.{list_of}
 use Rattle.air_history.specs.declared.updates.Write.{Write}
 use Rattle.air_history.specs.UpdateLists.{UpdateLists}
 use Rattle.air_history.specs.UpdateRules.{update_fault}
+use Rattle.item_catalog.specs.declared.kinds.FaultKind.{FaultKind}
 use Rattle.item_catalog.specs.Drafts.{DraftValue, judged}
 use Rattle.item_catalog.specs.Entries as e
 use Rattle.item_catalog.specs.Entries.{Entry, update_by}
 use Rattle.item_catalog.specs.Faults.{first_of, update_tests}
-use Rattle.item_catalog.specs.Fields.{three_of, write_of}
-use Rattle.item_catalog.specs.Seen.{ItemsSeen, WritesSeen, items_seen, seen_update_kind, writes_seen}
+use Rattle.air_base.specs.Pieces.{three_of}
+use Rattle.update_texts.specs.Writes.{write_of}
+use Rattle.update_texts.specs.KeptLists.{ItemsSeen, WritesSeen, items_seen, writes_seen}
+use Rattle.item_catalog.specs.ListKinds.{seen_update_kind}
 use Rattle.item_catalog.proofs.EntryFacts.{read_is_some, rules_kept, update_spelled, writes_signed}
 use Rattle.item_catalog.proofs.WriteFacts.{update_kept, update_seen}
 use Rattle.item_catalog.proofs.deck.draft.Draft.read_update.Goals as goal
@@ -56,7 +59,7 @@ returns-in-Some-update_kind-clause-read c =
 abbrev lists_of : List ℕ → List Write → UpdateLists
 lists_of reads writes = record { reads = reads; writes = writes }
 
-abbrev result_of : ℕ → UpdateLists → Result Entry ℕ
+abbrev result_of : ℕ → UpdateLists → Result Entry FaultKind
 result_of by u = Ok (e.Update by u.reads u.writes)
 
 -- No kind applies where none was told, and the lists that were kept are those of the record.

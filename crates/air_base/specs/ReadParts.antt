@@ -1,0 +1,34 @@
+-- Parts of a list that are read by their places in it, and how much of the list was read.
+use Rattle.std.specs.Prelude.{◌≡◌, ◌<◌, ◌≤◌, ◌+◌, ◌++◌, ℕ, List, Option, Some, None, map, drop, get_or, length}
+use Rattle.air_base.specs.Fronts.{DigitsRead, FrontIs}
+use Rattle.air_base.specs.NumberLists.{all_some, list_of}
+use Rattle.air_base.specs.Pieces.{cut_at}
+
+-- The digits at the front of a text, one to three of them, are a number: with no zero before others.
+abbrev pub ShortRead : List ℕ → ℕ → ℕ → Type 0
+ShortRead text few n = (0 < few) × (few ≤ 3) × DigitsRead text few n × (get_or text 0 0 ≡ 48 → few ≡ 1)
+
+-- Such a number stands at a place, with the place behind it.
+abbrev pub ShortAt : List ℕ → ℕ → ℕ × ℕ → Type 0
+ShortAt text place f = (few : ℕ) × (f.1 ≡ place + few) × ShortRead (drop place text) few f.0
+
+-- The value of the part at a place, with the place at which the part ends.
+abbrev pub PlainAt : {A : Type 0} → (List ℕ → Option A) → List ℕ → ℕ → A × ℕ → Type 0
+PlainAt value text place f = FrontIs value (drop place text) (Some (f.0, drop f.1 text)) × (f.1 ≤ length text)
+
+-- What the parts between spaces spell, of a text that isn't empty.
+abbrev pub spelled : {A : Type 0} → (List ℕ → Option A) → List ℕ → Option (List A)
+spelled value text = all_some (map value (cut_at 32 text))
+
+-- These elements, and then those.
+abbrev pub joined : {A : Type 0} → List A → Option (List A) → Option (List A)
+joined done None = None
+joined done (Some more) = Some (done ++ more)
+
+-- A list is told by the values of the parts up to a place and what the rest spells; behind the end there is no rest.
+abbrev pub Told : {A : Type 0} → (List ℕ → Option A) → List ℕ → List A → ℕ → Type 0
+Told value text done place = (place ≤ length text → joined done (spelled value (drop place text)) ≡ list_of value text) × (length text < place → list_of value text ≡ Some done)
+
+-- Parts of a list were read up to a place: of their values this holds, and they tell the list.
+abbrev pub ReadsTo : {A : Type 0} → (List ℕ → Option A) → List ℕ → (List A → Type 0) → ℕ → Type 0
+ReadsTo value text Holds place = (done : List _) × Holds done × Told value text done place

@@ -1,0 +1,76 @@
+//! The limits of decks, programs and files, each written here alone: clauses and definitions cite them from here.
+
+/// The most items of a deck.
+pub const MOST_ITEMS: usize = 256;
+
+/// The greatest rate of an item.
+pub const MOST_RATE: u64 = 1_000_000;
+
+/// The most disks.
+pub const MOST_DISKS: usize = 8;
+
+/// The most items of a disk.
+pub const MOST_SIZE: u64 = 256;
+
+/// How often a cycle airs an item of a disk at most.
+pub const MOST_FREQ: u64 = 64;
+
+/// The most updaters: each has a number below this one.
+pub const MOST_UPDATERS: usize = 16;
+
+/// The most updates of a deck, all updaters' together.
+pub const MOST_UPDATES: u32 = 100_000;
+
+/// The most reads of an update.
+pub const MOST_READS: usize = 16;
+
+/// The most writes of an update.
+pub const MOST_WRITES: usize = 16;
+
+/// The most readers.
+pub const MOST_READERS: usize = 64;
+
+/// The most copies that a reader keeps.
+pub const MOST_ROOM: u64 = 256;
+
+/// The most cycles after which a kept copy is too old.
+pub const MOST_AGE: u64 = 10_000;
+
+/// How often a reader tries a query at most.
+pub const MOST_TRIES: u64 = 16;
+
+/// The most queries of a deck, all readers' together.
+pub const MOST_QUERIES: u32 = 10_000;
+
+/// The most items of a query.
+pub const MOST_ASKED: usize = 16;
+
+/// The most events of a script.
+pub const MOST_EVENTS: usize = 200_000;
+
+/// The most cycles that a script starts.
+pub const MOST_STARTS: u32 = 10_000;
+
+/// By how much the frequencies of two disks that say none differ at most.
+pub const MOST_DELTA: u64 = 9;
+
+/// The most cycles of a run.
+pub const MOST_CYCLES: u64 = 10_000;
+
+/// The greatest share of buckets that are lost, heard again or late, in a hundred.
+pub const MOST_SHARE: u64 = 100;
+
+/// The most monitors.
+pub const MOST_MONITORS: u64 = 16;
+
+/// The most calls of `hear`.
+pub const MOST_HEARS: u64 = 100_000_000;
+
+/// The most slots of a program.
+pub const MOST_SLOTS: u64 = 16_384;
+
+/// The most bytes of a deck's text.
+pub const MOST_DECK_BYTES: usize = 67_108_864;
+
+/// The most bytes of a tape.
+pub const MOST_TAPE_BYTES: usize = 1_073_741_824;

@@ -1,9 +1,0 @@
-use Rattle.std.proofs.Common.{◌≤◌, ◌-◌, length}
-use Rattle.air_base.proofs.NumberFacts.{DigitsRead}
-use Rattle.item_catalog.proofs.digits.with_fours.Given as goal
-
-abbrev pub invariant-loop-place : goal.invariant-loop-place
-invariant-loop-place l = (l.fn.from ≤ l.place) × (l.place ≤ length l.text) × DigitsRead l.text l.place l.number
-
-abbrev pub decreases-loop-place : goal.decreases-loop-place
-decreases-loop-place l = length l.text - l.place

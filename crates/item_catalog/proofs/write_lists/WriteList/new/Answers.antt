@@ -1,6 +1,0 @@
-use Rattle.std.proofs.Common.{arith, refl}
-use Rattle.item_catalog.proofs.KeptOnceFacts.{kept_none}
-use Rattle.item_catalog.proofs.write_lists.WriteList.new.Goals as goal
-
-pub invariant_of-result : goal.invariant_of-result
-invariant_of-result c = (refl, omega arith, kept_none)

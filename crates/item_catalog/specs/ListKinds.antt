@@ -1,0 +1,23 @@
+-- The first kind that an update or a query has, by what was kept of its lists.
+use Rattle.std.specs.Prelude.{◌||◌, ℕ, [], ◌∷◌, Option, length, nat_le, nat_lt}
+use Rattle.air_base.specs.declared.limits.TheConstants.{MOST_ASKED, MOST_QUERIES, MOST_READS, MOST_UPDATERS, MOST_UPDATES, MOST_WRITES}
+use Rattle.update_texts.specs.KeptLists.{ItemsSeen, WritesSeen}
+use Rattle.item_catalog.specs.Limits.{outside}
+use Rattle.item_catalog.specs.Faults.{first_of}
+use Rattle.item_catalog.specs.declared.kinds.FaultKind.{FaultKind}
+use Rattle.item_catalog.specs.declared.kinds.FaultKind.TheVariants as fault
+
+-- The first kind that an update has, after so many updates.
+abbrev pub seen_update_kind : ItemsSeen → WritesSeen → ℕ → ℕ → Option FaultKind
+seen_update_kind reads writes by given = first_of (
+    (fault.Undeclared, reads.undeclared || writes.undeclared) ∷
+    (fault.Twice, reads.repeated || writes.repeated) ∷
+    (fault.Limit, nat_le MOST_UPDATERS by || nat_lt MOST_READS (length reads.items) || outside 1 MOST_WRITES (length writes.writes) || nat_le MOST_UPDATES given) ∷
+    (fault.Unread, writes.unread) ∷ [])
+
+-- The first kind that a query has, after so many readers and queries.
+abbrev pub seen_query_kind : ItemsSeen → ℕ → ℕ → ℕ → Option FaultKind
+seen_query_kind asked readers reader given = first_of (
+    (fault.Undeclared, nat_le readers reader || asked.undeclared) ∷
+    (fault.Twice, asked.repeated) ∷
+    (fault.Limit, outside 1 MOST_ASKED (length asked.items) || nat_le MOST_QUERIES given) ∷ [])

@@ -1,0 +1,6 @@
+pub mod WriteFronts
+pub mod PartFronts
+pub mod WritePlaces
+pub mod RepeatFacts
+pub mod SeenFacts
+pub mod KeptOnceFacts

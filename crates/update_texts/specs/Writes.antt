@@ -1,0 +1,34 @@
+-- Which write a text spells.
+use Rattle.std.specs.Prelude.{ℕ, List, Bool, true, false, Option, Some, None}
+use Rattle.air_base.specs.Numbers.{number_of}
+use Rattle.air_base.specs.Pieces.{cut_at, two_of}
+use Rattle.air_history.specs.declared.updates.Write.{Write}
+
+-- The write of an amount to an item.
+abbrev pub constant : Option ℕ → Option ℕ → Option Write
+constant (Some item) (Some amount) = Some (record { item = item; base = None; minus = false; amount = amount })
+constant item amount = None
+
+-- The write to an item of a base and an amount more, or of a base less an amount.
+abbrev pub changed : Bool → Option ℕ → Option ℕ → Option ℕ → Option Write
+changed minus (Some item) (Some base) (Some amount) = Some (record { item = item; base = Some base; minus = minus; amount = amount })
+changed minus item base amount = None
+
+-- The write of a value to an item: by the two pieces of the value at a `+`, by those at a `-`, or by the whole of it.
+abbrev pub write_by : Option ℕ → Option (List ℕ × List ℕ) → Option (List ℕ × List ℕ) → List ℕ → Option Write
+write_by item (Some plus) minus value = changed false item (number_of plus.0) (number_of plus.1)
+write_by item None (Some minus) value = changed true item (number_of minus.0) (number_of minus.1)
+write_by item None None value = constant item (number_of value)
+
+-- The write of a value to an item.
+unfoldable pub value_of : Option ℕ → List ℕ → Option Write
+value_of item value = write_by item (two_of (cut_at 43 value)) (two_of (cut_at 45 value)) value
+
+-- The write of the two sides of an `=`.
+abbrev pub write_from : Option (List ℕ × List ℕ) → Option Write
+write_from None = None
+write_from (Some sides) = value_of (number_of sides.0) sides.1
+
+-- A write: `<item>=<amount>`, `<item>=<base>+<amount>` or `<item>=<base>-<amount>`.
+unfoldable pub write_of : List ℕ → Option Write
+write_of text = write_from (two_of (cut_at 61 text))
