@@ -39,3 +39,4 @@ pub mod OutputExamples
 pub mod RelationExamples
 pub mod LineExamples
 pub mod RowLemmas
+pub mod ClosingExamples

@@ -92,12 +92,12 @@ pub record Printed : Type 0 where
   tape_of_its_own : length (run_tape pair two_starts) ≡ 144
   -- Monitors that saw the catalog and the first cycle.
   run : let H = script_history pair in
-      run_output pair H (record { cycle = 0; total = total_at (values_in pair) H 0 } ∷ []) (record { cycle = 1; total = total_at (values_in pair) H 1 } ∷ [])
+      run_output pair H (record { monitor = 0; cycle = 0; total = total_at (values_in pair) H 0 } ∷ []) (record { monitor = 0; cycle = 1; total = total_at (values_in pair) H 1 } ∷ [])
       ≡ codes "start\naccept,0,0,1,0@1=10 1@1=20\ncounts,0,2,0,0,0,0,0\nglance,0,0,30\nlook,0,1,30\n"
   -- The tape of that run is that of the script.
   run_tape : run_tape pair (script_history pair) ≡ 0 ∷ 0 ∷ 0 ∷ 32 ∷ first ++ 0 ∷ 0 ∷ 0 ∷ 32 ∷ second
   -- A cast has no verdicts and no counts.
-  cast : cast_output (script_history pair) (record { cycle = 0; total = 30 } ∷ []) [] ≡ codes "start\nglance,0,0,30\n"
+  cast : cast_output (script_history pair) (record { monitor = 0; cycle = 0; total = 30 } ∷ []) [] ≡ codes "start\nglance,0,0,30\n"
   plan : plan_output pair ≡ codes "program,2,1,2\ndisk,0,1,1,2\nminor,0,0 1\nitem,0,0,1,2,0,1\nitem,1,0,1,2,1,1\n"
   -- Of two readers each has its own queries; all verdicts stand before all counts.
   readers : script_output (two_readers ((0 ∷ []) ∷ []) ((1 ∷ []) ∷ (0 ∷ []) ∷ []))
@@ -111,8 +111,9 @@ pub record Printed : Type 0 where
   -- A commit is told by its updater and by that updater's number for it.
   updaters : script_output two_updaters ≡ codes "commit,0,0\ncommit,1,0\nstart\ncommit,0,1\naccept,0,0,1,0@1=11 1@1=21\ncounts,0,2,0,0,0,0,0\n"
   -- Each monitor has its own number.
-  monitors : cast_output (script_history pair) (record { cycle = 0; total = 30 } ∷ record { cycle = 1; total = 30 } ∷ []) (record { cycle = 1; total = 30 } ∷ record { cycle = 1; total = 30 } ∷ [])
-      ≡ codes "start\nglance,0,0,30\nglance,1,1,30\nlook,0,1,30\nlook,1,1,30\n"
+  monitors : cast_output (script_history pair) (record { monitor = 0; cycle = 0; total = 30 } ∷ record { monitor = 1; cycle = 1; total = 30 } ∷ [])
+      (record { monitor = 0; cycle = 1; total = 31 } ∷ record { monitor = 1; cycle = 1; total = 32 } ∷ [])
+      ≡ codes "start\nglance,0,0,30\nglance,1,1,30\nlook,0,1,31\nlook,1,1,32\n"
   -- Cycle 0 has the catalog's total; a commit before the first start is in that of cycle 1, and one in cycle 1 isn't.
   total_of_the_catalog : total_at (10 ∷ []) raised_first 0 ≡ 10
   total_at_the_start : total_at (10 ∷ []) raised_first 1 ≡ 11

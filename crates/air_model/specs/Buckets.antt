@@ -5,6 +5,7 @@ use Rattle.std.specs.Prelude.{◌≡◌, ◌<◌, ◌≤◌, ◌⊎◌, ℕ, zer
 use Rattle.std.specs.List.{list_all, range_with_len}
 use Rattle.std.specs.Result.{result_ok, result_err}
 use Rattle.byteorder.specs.Endian.{big_bytes, big_number}
+use Rattle.air_base.specs.declared.limits.TheConstants.{MOST_ITEMS}
 use Rattle.air_model.specs.declared.bucket.BucketFault.{BucketFault}
 use Rattle.air_model.specs.declared.bucket.BucketFault.TheVariants.{Short, Magic, Version, Kind, Length, Shape}
 
@@ -62,7 +63,7 @@ spelling b =
 pub record IsInRange (b : Bucket) : Type 0 where
   pub edition : b.edition < 2 ^ 16
   pub some : 1 ≤ count_of b.body
-  pub count : count_of b.body ≤ 256
+  pub count : count_of b.body ≤ MOST_ITEMS
   pub started : 1 ≤ b.cycle
   pub cycle : b.cycle < 2 ^ 32
   pub slot : b.slot < 2 ^ 16
@@ -112,7 +113,7 @@ is_placed kind item value count = if kind == 0 then (item == 65535) && (value ==
 -- Whether count, cycle, item, value and entries are in range.
 unfoldable pub is_shaped : List ℕ → Bool
 is_shaped bytes =
-    nat_le 1 (number_at 6 2 bytes) && nat_le (number_at 6 2 bytes) 256 && nat_le 1 (number_at 8 4 bytes)
+    nat_le 1 (number_at 6 2 bytes) && nat_le (number_at 6 2 bytes) MOST_ITEMS && nat_le 1 (number_at 8 4 bytes)
     && is_placed (slice_index bytes 3) (number_at 14 2 bytes) (number_at 16 8 bytes) (number_at 6 2 bytes)
     && list_all (λ e. nat_lt e (number_at 8 4 bytes)) (entries_at (entry_count (slice_index bytes 3) (number_at 6 2 bytes)) bytes)
 

@@ -3,6 +3,7 @@
 use Rattle.std.specs.Prelude.{◌≡◌, ℕ, ◌^◌, ◌<◌, ◌≤◌, Bool, false, ◌==◌, List, [], length, map, take, get_or, count_by, sum_by, slice_get, All, Option, Some, None}
 use Rattle.std.specs.List.{range_with_len}
 use Rattle.std.specs.Option.{option_map_or}
+use Rattle.air_base.specs.declared.limits.TheConstants.{MOST_ITEMS}
 use Rattle.air_history.specs.declared.histories.Event.{Event}
 use Rattle.air_history.specs.declared.histories.Event.TheVariants.{Commit, Start}
 use Rattle.air_history.specs.UpdateLists.{UpdateLists}
@@ -108,11 +109,11 @@ pub record IsQuery (n : ℕ) (items : List ℕ) : Type 0 where
   pub distinct : has_repeat items ≡ false
   pub within : All (λ i. i < n) items
 
--- A deck is well made where it has 1 to 256 items with values of 64 bits, its disks take all of them, each disk is aired,
+-- A deck is well made where it has items, as many as a deck may have at most, with values of 64 bits, its disks take all of them, each disk is aired,
 -- and updates, readers, queries and script are right.
 pub record IsDeck (deck : Deck) : Type 0 where
   pub some : 0 < length deck.items
-  pub most : length deck.items ≤ 256
+  pub most : length deck.items ≤ MOST_ITEMS
   pub values : All (λ i. i.value < 2 ^ 64) deck.items
   pub sizes : sum_by (λ d. d.size) deck.disks ≡ length deck.items
   pub aired : All (λ d. (0 < d.size) × (0 < d.freq)) deck.disks

@@ -8,6 +8,7 @@ pub mod Buckets
 pub mod Tapes
 pub mod Decks
 pub mod DeckLaws
+pub mod Closings
 pub mod Aired
 pub mod AiredLaws
 pub mod Reads

@@ -11,7 +11,8 @@ use Rattle.air_model.specs.Aired.{scheme_in, air_of, buckets_of, history_tape}
 use Rattle.air_model.specs.Judges.{Judge, by_entries, by_history}
 use Rattle.air_model.specs.Sessions.{State}
 use Rattle.air_model.specs.ReceiverLaws.{session_of}
-use Rattle.air_model.specs.Reports.{Seen, report_text, script_text, tune_text}
+use Rattle.air_model.specs.declared.reports.LookLine.{LookLine}
+use Rattle.air_model.specs.Reports.{report_text, script_text, session_report, tune_text}
 
 -- ---- what readers hear
 
@@ -51,13 +52,13 @@ abbrev pub tune_output : Deck → List (List ℕ) → List ℕ
 tune_output deck records = tune_text (sessions_over (by_entries (scheme_in deck)) deck (λ r. records))
 
 -- What `run` prints, where its threads made this history and its monitors saw these glances and looks.
-abbrev pub run_output : Deck → List Event → List Seen → List Seen → List ℕ
-run_output deck H glances looks = report_text H (true_sessions deck H) glances looks
+abbrev pub run_output : Deck → List Event → List LookLine → List LookLine → List ℕ
+run_output deck H glances looks = report_text (record (session_report H (true_sessions deck H)) { glances = glances; looks = looks })
 
 -- The tape that `run` writes.
 abbrev pub run_tape : Deck → List Event → List ℕ
 run_tape deck H = history_tape (values_in deck) (air_of deck) H
 
 -- What `cast` prints.
-abbrev pub cast_output : List Event → List Seen → List Seen → List ℕ
-cast_output H glances looks = report_text H [] glances looks
+abbrev pub cast_output : List Event → List LookLine → List LookLine → List ℕ
+cast_output H glances looks = report_text (record { history = H; verdicts = []; counts = []; glances = glances; looks = looks })

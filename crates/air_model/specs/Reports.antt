@@ -1,10 +1,8 @@
--- The text of a report: the rows of a history, of verdicts, of counts, and of what monitors saw; and fault lines.
--- `script`, `tune`, `run`, `cast` and `listen` print reports, some with no row in a section.
+-- The text of a report: the rows of a history, of verdicts, of counts, and of what monitors saw; what the sessions of readers
+-- tell, as lines; and fault lines. `script`, `tune`, `run`, `cast` and `listen` print reports, some with no row in a section.
 use Rattle.std.specs.Prelude.{ℕ, ◌%◌, ◌^◌, List, [], ◌∷◌, ◌++◌, codes, map, sum}
 use Rattle.std.specs.List.{enumerate_from, flat_map}
 use Rattle.air_base.specs.declared.verdicts.ReadOf.{ReadOf}
-use Rattle.air_base.specs.declared.verdicts.Counts.{Counts}
-use Rattle.air_base.specs.declared.verdicts.Verdict.{Verdict}
 use Rattle.air_base.specs.declared.verdicts.VerdictKind.{VerdictKind}
 use Rattle.air_base.specs.declared.verdicts.VerdictKind.TheVariants.{Accept, Abort, Unfinished}
 use Rattle.air_history.specs.declared.histories.Event.{Event}
@@ -13,8 +11,11 @@ use Rattle.air_history.specs.Histories.{front}
 use Rattle.air_history.specs.Tables.{table_list}
 use Rattle.air_base.specs.Numbers.{number_text}
 use Rattle.air_base.specs.NumberLists.{list_text}
+use Rattle.air_model.specs.declared.reports.CountsLine.{CountsLine}
+use Rattle.air_model.specs.declared.reports.LookLine.{LookLine}
+use Rattle.air_model.specs.declared.reports.VerdictLine.{VerdictLine}
 use Rattle.air_model.specs.Rows.{rows_text}
-use Rattle.air_model.specs.Sessions.{State}
+use Rattle.air_model.specs.Sessions.{Line, State}
 
 -- The row of an event.
 abbrev pub event_row : Event → List (List ℕ)
@@ -29,62 +30,77 @@ place_text item cycle = number_text item ++ codes "@" ++ number_text cycle
 abbrev pub read_text : ReadOf → List ℕ
 read_text r = place_text r.item r.cycle ++ codes "=" ++ number_text r.value
 
--- The row of a verdict of a reader: what it is, the reader, the query, the attempt and the reads.
-abbrev pub attempt_row : List ℕ → ℕ → Verdict → List ReadOf → List (List ℕ)
-attempt_row tag reader v reads =
-    tag ∷ number_text reader ∷ number_text v.query ∷ number_text v.attempt ∷ list_text (map read_text reads) ∷ []
+-- The fields that the row of each verdict begins with: what it is, the reader, the query, the attempt and the reads.
+abbrev pub attempt_row : List ℕ → VerdictLine → List (List ℕ)
+attempt_row tag l =
+    tag ∷ number_text l.reader ∷ number_text l.verdict.query ∷ number_text l.verdict.attempt ∷ list_text (map read_text l.reads) ∷ []
 
 -- An abort's row ends with the read that was refused, and the item of the held read with which it clashed.
-abbrev pub kind_row : VerdictKind → ℕ → Verdict → List ReadOf → List (List ℕ)
-kind_row Accept reader v reads = attempt_row (codes "accept") reader v reads
-kind_row (Abort item cycle clash) reader v reads = attempt_row (codes "abort") reader v reads ++ place_text item cycle ∷ number_text clash ∷ []
-kind_row Unfinished reader v reads = attempt_row (codes "unfinished") reader v reads
+abbrev pub kind_row : VerdictKind → VerdictLine → List (List ℕ)
+kind_row Accept l = attempt_row (codes "accept") l
+kind_row (Abort item cycle clash) l = attempt_row (codes "abort") l ++ place_text item cycle ∷ number_text clash ∷ []
+kind_row Unfinished l = attempt_row (codes "unfinished") l
 
 -- The row of a verdict and its reads.
-abbrev pub verdict_row : ℕ → Verdict → List ReadOf → List (List ℕ)
-verdict_row reader v reads = kind_row v.kind reader v reads
+abbrev pub verdict_row : VerdictLine → List (List ℕ)
+verdict_row l = kind_row l.verdict.kind l
 
 -- The row of a reader's counts.
-abbrev pub counts_row : ℕ → Counts → List (List ℕ)
-counts_row reader c = codes "counts" ∷ map number_text (reader ∷ c.opened ∷ c.dozed ∷ c.late ∷ c.refused ∷ c.foreign ∷ c.copied ∷ [])
+abbrev pub counts_row : CountsLine → List (List ℕ)
+counts_row l = codes "counts" ∷ map number_text (l.reader ∷ l.counts.opened ∷ l.counts.dozed ∷ l.counts.late ∷ l.counts.refused
+    ∷ l.counts.foreign ∷ l.counts.copied ∷ [])
 
--- A monitor saw a cycle and the total of its values.
-pub record Seen : Type 0 where
-  pub cycle : ℕ
-  pub total : ℕ
+-- The row of what a monitor saw, as a glance or as a look.
+abbrev pub look_row : List ℕ → LookLine → List (List ℕ)
+look_row tag l = tag ∷ map number_text (l.monitor ∷ l.cycle ∷ l.total ∷ [])
 
 -- The total of a cycle is the sum of the values at its start, modulo 2^64; cycle 0 is the catalog.
 unfoldable pub total_at : List ℕ → List Event → ℕ → ℕ
 total_at values H c = sum (table_list values (front H c)) % 2 ^ 64
 
--- The row of what a monitor saw.
-abbrev pub seen_row : List ℕ → ℕ × Seen → List (List ℕ)
-seen_row tag (monitor, s) = tag ∷ map number_text (monitor ∷ s.cycle ∷ s.total ∷ [])
+-- A report has a history, the lines of verdicts and of counts, and what monitors saw: in glances beside the run, and in looks
+-- at its end.
+pub record Report : Type 0 where
+  pub history : List Event
+  pub verdicts : List VerdictLine
+  pub counts : List CountsLine
+  pub glances : List LookLine
+  pub looks : List LookLine
 
--- The rows of the verdicts of sessions, each of the reader of its place.
-abbrev pub verdict_rows : List State → List (List (List ℕ))
-verdict_rows sessions = flat_map (λ p. map (λ l. verdict_row p.0 l.verdict l.reads) p.1.lines) (enumerate_from 0 sessions)
+-- The rows of a report stand section by section, each line's in its section's order.
+abbrev pub report_rows : Report → List (List (List ℕ))
+report_rows r = map event_row r.history ++ map verdict_row r.verdicts ++ map counts_row r.counts
+    ++ map (look_row (codes "glance")) r.glances ++ map (look_row (codes "look")) r.looks
 
--- The rows of the counts of sessions.
-abbrev pub counts_rows : List State → List (List (List ℕ))
-counts_rows sessions = map (λ p. counts_row p.0 p.1.counts) (enumerate_from 0 sessions)
+-- The text of a report.
+unfoldable pub report_text : Report → List ℕ
+report_text r = rows_text (report_rows r)
 
--- The rows of what monitors saw, each of the monitor of its place.
-abbrev pub seen_rows : List ℕ → List Seen → List (List (List ℕ))
-seen_rows tag seen = map (seen_row tag) (enumerate_from 0 seen)
+-- ---- what sessions tell
 
--- The text of a report: history, verdicts, counts, glances and looks.
-unfoldable pub report_text : List Event → List State → List Seen → List Seen → List ℕ
-report_text H sessions glances looks = rows_text (map event_row H ++ verdict_rows sessions ++ counts_rows sessions
-    ++ seen_rows (codes "glance") glances ++ seen_rows (codes "look") looks)
+-- The line of a reader of this number.
+abbrev pub line_by : ℕ → Line → VerdictLine
+line_by reader l = record { reader = reader; verdict = l.verdict; reads = l.reads }
+
+-- The verdict lines of sessions, each of the reader of its place: all of the first reader's, then all of the second's.
+abbrev pub verdict_lines : List State → List VerdictLine
+verdict_lines sessions = flat_map (λ p. map (line_by p.0) p.1.lines) (enumerate_from 0 sessions)
+
+-- The counts of sessions, each of the reader of its place.
+abbrev pub counts_lines : List State → List CountsLine
+counts_lines sessions = map (λ p. record { reader = p.0; counts = p.1.counts }) (enumerate_from 0 sessions)
+
+-- The report of a history and its readers' sessions: no monitor saw it.
+abbrev pub session_report : List Event → List State → Report
+session_report H sessions = record { history = H; verdicts = verdict_lines sessions; counts = counts_lines sessions; glances = []; looks = [] }
 
 -- The text of `script`: a history and its readers' sessions.
 abbrev pub script_text : List Event → List State → List ℕ
-script_text H sessions = report_text H sessions [] []
+script_text H sessions = report_text (session_report H sessions)
 
 -- The text of `tune` and `listen`: the readers' sessions alone.
 abbrev pub tune_text : List State → List ℕ
-tune_text sessions = report_text [] sessions [] []
+tune_text sessions = report_text (session_report [] sessions)
 
 -- ---- fault lines
 

@@ -42,7 +42,7 @@ impl fmt::Display for BucketFault {
 
 impl Error for BucketFault {}
 
-/// Bytes are a bucket exactly where that bucket is read from them. So a fault is found exactly where they are none.
+/// Bytes are a bucket exactly if that bucket is read from them. So a fault is found exactly if they are none.
 pub fn reading_law()
     ensures { (bytes : List ℕ) (b : Bucket) → AreBytes bytes → IsBucket bytes b ↔ (reading bytes ≡ Ok b) }
 {}

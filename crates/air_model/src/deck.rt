@@ -46,13 +46,13 @@ pub struct Settings {
     pub hears: u32,
 }
 
-/// A history is legal exactly where each updater's commits are of its first updates, in order, numbered from 0.
+/// A history is legal exactly if each updater's commits are of its first updates, in order, numbered from 0.
 pub fn legal_law()
     ensures { (deck : Deck) (H : List Event) → IsLegal deck H ↔
         ((by : ℕ) → made_by by H ≡ commits_from by 0 (take (count_made by H) (updates_by deck by))) }
 {}
 
-/// A history is whole exactly where each updater's commits are of all its updates so, and it starts the deck's cycles.
+/// A history is whole exactly if each updater's commits are of all its updates so, and it starts the deck's cycles.
 pub fn whole_law()
     ensures { (deck : Deck) (H : List Event) → IsWhole deck H ↔
         (((by : ℕ) → made_by by H ≡ commits_from by 0 (updates_by deck by)) × (starts H ≡ deck.settings.cycles)) }

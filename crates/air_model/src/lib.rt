@@ -11,5 +11,6 @@ pub mod copies;
 pub mod deck;
 pub mod ether;
 pub mod program;
+pub mod reports;
 pub mod sessions;
 pub mod tape;

@@ -6,13 +6,13 @@ ghost use Rattle.std.specs.Prelude.{◌≡◌, ◌↔◌, ℕ, List, Some, None}
 ghost use Rattle.air_model.specs.Buckets.{AreBytes};
 ghost use Rattle.air_model.specs.Tapes.{IsCut, IsTape, tape_read};
 
-/// Bytes are the tape of these records exactly where they are read and nothing is cut. So a tape has one list of records.
+/// Bytes are the tape of these records exactly if they are read and nothing is cut. So a tape has one list of records.
 pub fn whole_tape_law()
     ensures { (bytes : List ℕ) (records : List (List ℕ)) → AreBytes bytes →
         IsTape bytes records ↔ (tape_read bytes ≡ record { records = records; cut = None }) }
 {}
 
-/// Bytes are cut at a byte exactly where they are read so. So a tape is cut, and at one byte, exactly where it is no
+/// Bytes are cut at a byte exactly if they are read so. So a tape is cut, and at one byte, exactly if it is no
 /// list of whole records.
 pub fn cut_tape_law()
     ensures { (bytes : List ℕ) (records : List (List ℕ)) (at : ℕ) → AreBytes bytes →

@@ -1,0 +1,2 @@
+pub mod RowWriters
+pub mod BegunRows
