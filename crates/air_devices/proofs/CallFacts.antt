@@ -3,8 +3,8 @@
 use Rattle.std.proofs.Common.{◌≡◌, ◌≢◌, ◌∙◌, ◌-◌, ◌++◌, ℕ, List, Option, Some, false, length, take, refl, sym, ap, subst}
 use Rattle.std.specs.Prelude.{IfSome}
 use Rattle.air_devices.specs.Calls.{IsNextCall, is_next_listed, next_call}
-use Rattle.air_devices.specs.Frames.{KeepsButLeft, KeepsButOutput}
-use Rattle.air_devices.specs.Memory.{added, contents_of, told_of, file_bytes, file_named, left_bytes, output_bytes, output_named}
+use Rattle.air_devices.specs.Unchanged.{KeepsButLeft, KeepsButOutput}
+use Rattle.air_devices.specs.Memory.{added, contents_with, file_bytes, file_named, left_bytes, output_bytes, output_named, told_by}
 use Rattle.air_devices.specs.declared.calls.Calls.{Calls}
 use Rattle.air_devices.specs.declared.memory_shelf.MemFile.{MemFile}
 use Rattle.air_devices.specs.declared.memory_shelf.MemOutput.{MemOutput}
@@ -29,7 +29,7 @@ is_failed_call before mid now numbered counted = record {
 pub keeps_but_left : (s : MemShelf) (files : List MemFile) (n : List ℕ)
     → ((m : List ℕ) → file_bytes (file_named m files) ≡ file_bytes (file_named m s.files.items))
     → ((m : List ℕ) → m ≢ n → left_bytes (file_named m files) ≡ left_bytes (file_named m s.files.items))
-    → KeepsButLeft n (contents_of s) (told_of files s.outputs.items s.printed.bytes)
+    → KeepsButLeft n (told_by s) (contents_with files s.outputs.items s.printed.bytes)
 keeps_but_left s files n bytes others = record {
   files = λ m. ap (λ b. Some b) (bytes m);
   other_left = λ m other. ap (λ b. Some b) (others m other);
@@ -40,7 +40,7 @@ keeps_but_left s files n bytes others = record {
 -- the outputs are now these, of which one name alone was written
 pub keeps_but_output : (s : MemShelf) (outputs : List MemOutput) (n : List ℕ)
     → ((m : List ℕ) → m ≢ n → output_bytes (output_named m outputs) ≡ output_bytes (output_named m s.outputs.items))
-    → KeepsButOutput n (contents_of s) (told_of s.files.items outputs s.printed.bytes)
+    → KeepsButOutput n (told_by s) (contents_with s.files.items outputs s.printed.bytes)
 keeps_but_output s outputs n others = record {
   files = λ m. refl;
   left = λ m. refl;

@@ -1,5 +1,5 @@
 -- One more record behind a tape: what the tape is read as, how long it is, and what the fields then hold.
--- `record_put`, `tape_room` and `recording_is` are what a room of fixed size needs.
+-- `tape_more`, `tape_room` and `recording_is` are what a room of fixed size needs.
 use Rattle.std.proofs.Common.{◌≡◌, ◌≤◌, ◌<◌, ◌+◌, ◌*◌, ◌^◌, ◌++◌, ◌∙◌, ℕ, List, [], ◌∷◌, length, sym, ap, arith, append_assoc, length-append, vec_capacity}
 use Rattle.std.proofs.lemmas.List.{append-nil}
 use Rattle.std.proofs.lemmas.List.Elements.{All-append, All-cons, All-nil}
@@ -35,11 +35,9 @@ tape_more tape after rs r is short e = (
 )
 
 -- the four bytes of the length and then the record were put behind the tape
-pub record_put : (tape first after frame : List ℕ) (rs : List (List ℕ)) (r : List ℕ) → IsTape tape rs → length r < 2 ^ 32
-    → frame ≡ bytes_high_first 4 (length r) → first ≡ tape ++ frame → after ≡ first ++ r → IsTape after (rs ++ r ∷ [])
+pub record_put : (tape first after frame r : List ℕ) → frame ≡ bytes_high_first 4 (length r) → first ≡ tape ++ frame → after ≡ first ++ r → after ≡ tape ++ record_bytes r
 unfolding record_bytes
-record_put tape first after frame rs r is short framed one two =
-    tape_more tape after rs r is short (two ∙ ap (λ l. l ++ r) (one ∙ ap (λ l. tape ++ l) framed) ∙ append_assoc tape (bytes_high_first 4 (length r)) r)
+record_put tape first after frame r framed one two = two ∙ ap (λ l. l ++ r) (one ∙ ap (λ l. tape ++ l) framed) ∙ append_assoc tape (bytes_high_first 4 (length r)) r
 
 -- the fields of a room whose tape is that of these records
 pub tape_room : (t : Inside) (rs : List (List ℕ)) → IsTape t.tape.items rs → t.count ≡ length rs → length t.tape.items ≤ t.room → t.room ≤ vec_capacity t.tape → IsTapeRoom t

@@ -39,14 +39,14 @@ pub record KeepsCounts (before now : Faults) : Type 0 where
   pub writing : (n : List ℕ) → now.writing n ≡ before.writing n
   pub printing : now.printing ≡ before.printing
 
--- a call fails only where its own count rose, and otherwise leaves every count; no count falls
-pub record HasCause {T E : Type 0} (own : Faults → ℕ) (before now : Faults) (result : Result T E) : Type 0 where
-  pub rose : OnErr result (Rose (own before) (own now))
-  pub later : NoCountFalls before now
-  pub calm : OnOk result (KeepsCounts before now)
-
--- the same of a device with one count
-pub record HasDeviceCause {T E : Type 0} (before now : ℕ) (result : Result T E) : Type 0 where
+-- a call of a device with one count fails only where the count rose, and otherwise leaves it; it never falls
+pub record HasCause {T E : Type 0} (before now : ℕ) (result : Result T E) : Type 0 where
   pub rose : OnErr result (Rose before now)
   pub later : before ≤ now
   pub calm : OnOk result (now ≡ before)
+
+-- a call of a device with several counts fails only where its own count rose, and otherwise leaves every count; none falls
+pub record HasCauseIn {T E : Type 0} (own : Faults → ℕ) (before now : Faults) (result : Result T E) : Type 0 where
+  pub rose : OnErr result (Rose (own before) (own now))
+  pub later : NoCountFalls before now
+  pub calm : OnOk result (KeepsCounts before now)

@@ -1,8 +1,8 @@
 pub mod Contents
 pub mod Counts
 pub mod Shelves
-pub mod Frames
-pub mod Known
+pub mod Unchanged
+pub mod Told
 pub mod Reading
 pub mod Calls
 pub mod Memory
@@ -11,3 +11,4 @@ pub mod Masts
 pub mod Recordings
 pub mod MemoryMasts
 pub mod ReadFiles
+pub mod FileFailures

@@ -17,6 +17,10 @@ pub record Masted : Type 0 where
 abbrev pub nothing_sent : Sent
 nothing_sent = record { buckets = []; ended = None }
 
+-- a mast that has just been made, and tells all: it sent nothing, no call failed, and it was not aimed
+abbrev pub fresh_mast : Masted
+fresh_mast = record { told = Some nothing_sent; faults = 0; port = None }
+
 -- these buckets were sent too
 abbrev pub with_buckets : List (List ℕ) → Sent → Sent
 with_buckets more s = record s { buckets = s.buckets ++ more }
@@ -24,11 +28,6 @@ with_buckets more s = record s { buckets = s.buckets ++ more }
 -- the end was sent too
 abbrev pub with_end : Sent → Sent
 with_end s = record s { ended = Some (unwrap_or s.ended (length s.buckets)) }
-
--- what was sent, where told, has this property
-abbrev pub WhereTold : Option Sent → (Sent → Type 0) → Type 0
-WhereTold None P = ⊤
-WhereTold (Some s) P = P s
 
 -- what was told is told again, changed so
 abbrev pub Changes : (Sent → Sent) → Option Sent → Option Sent → Type 0

@@ -51,8 +51,8 @@ given_bytes None = []
 given_bytes (Some f) = f.1.items
 
 -- what these files, these outputs and these printed bytes tell
-abbrev pub told_of : List MemFile → List MemOutput → List ℕ → Contents
-told_of files outputs printed = record {
+abbrev pub contents_with : List MemFile → List MemOutput → List ℕ → Contents
+contents_with files outputs printed = record {
   file = λ name. Some (file_bytes (file_named name files));
   left = λ name. Some (left_bytes (file_named name files));
   output = λ name. Some (output_bytes (output_named name outputs));
@@ -60,8 +60,8 @@ told_of files outputs printed = record {
 }
 
 -- what a shelf in memory tells
-abbrev pub contents_of : MemShelf → Contents
-contents_of s = told_of s.files.items s.outputs.items s.printed.bytes
+abbrev pub told_by : MemShelf → Contents
+told_by s = contents_with s.files.items s.outputs.items s.printed.bytes
 
 -- a given file, of which nothing is left to read before it is picked
 abbrev pub unpicked : String Global × Vec ℕ Global → MemFile
@@ -77,7 +77,7 @@ faults_of s = one_count s.calls.faults
 
 -- a shelf in memory, as a call finds or leaves it
 abbrev pub shelved_of : MemShelf → Shelved
-shelved_of s = record { told = contents_of s; faults = faults_of s }
+shelved_of s = record { told = told_by s; faults = faults_of s }
 
 -- the file of this name on a shelf
 abbrev pub file_in : List ℕ → MemShelf → Option MemFile

@@ -5,17 +5,17 @@ use Rattle.air_devices.specs.Masts.{Masted, Sent, nothing_sent}
 use Rattle.air_devices.specs.Recordings.{overflows_record}
 use Rattle.air_devices.specs.declared.memory_mast.MemMast.{MemMast}
 
--- what a mast in memory sent
-abbrev pub sent_of : MemMast → Sent
-sent_of m = record { buckets = m.tape.records; ended = m.ended }
+-- what a mast in memory tells
+abbrev pub told_by : MemMast → Sent
+told_by m = record { buckets = m.tape.records; ended = m.ended }
 
 -- a mast in memory, as a call finds or leaves it
 abbrev pub masted_of : MemMast → Masted
-masted_of m = record { told = Some (sent_of m); faults = m.calls.faults; port = m.port }
+masted_of m = record { told = Some (told_by m); faults = m.calls.faults; port = m.port }
 
 -- a mast has just been made, with this room and these numbers of calls that fail
 pub record IsNewMast (size : ℕ) (listed : List ℕ) (m : MemMast) : Type 0 where
-  pub sent : sent_of m ≡ nothing_sent
+  pub sent : told_by m ≡ nothing_sent
   pub room : m.tape.room ≡ size
   pub calls : AreNew listed m.calls
   pub port : m.port ≡ None

@@ -2,7 +2,7 @@
 //!
 //! Nothing of it takes memory: the name is kept in room of its own, as far as it fits.
 
-ghost use Rattle.std.specs.Prelude.{◌≡◌, ◌≤◌, length};
+ghost use Rattle.std.specs.Prelude.{◌≡◌, ◌≤◌, length, take};
 
 use arrayvec::ArrayString;
 use std::{fmt, io};
@@ -44,7 +44,8 @@ impl FileFailure {
     /// The failure of a call that was given this name.
     pub(crate) fn new(call: FileCall, name: &str, error: io::Error) -> FileFailure
         ensures call { result.call ≡ call }
-        ensures name { length name.now ≤ 4096 → result.name.bytes ≡ name.now }
+        ensures name { length name.now ≤ NAME_ROOM → result.name.bytes ≡ name.now }
+        ensures front { result.name.bytes ≡ take (length result.name.bytes) name.now }
         ensures error { result.error ≡ error }
     {
         let mut kept = ArrayString::new();
@@ -80,14 +81,18 @@ impl FileFailure {
 
 impl fmt::Display for FileFailure {
     fn fmt<W: fmt::Write>(&self, f: &mut fmt::Formatter<W>) -> fmt::Result {
+        if self.name.as_str().is_empty() {
+            return write!(f, "{}: {}", self.call, self.error);
+        }
         write!(f, "{} {}: {}", self.call, self.name.as_str(), self.error)
     }
 }
 
 /// As much of a name as there is room for, up to the end of a character.
 fn front(name: &str) -> &str
-    ensures whole { length name.now ≤ 4096 → result.now ≡ name.now }
-    ensures fits { length result.now ≤ 4096 }
+    ensures whole { length name.now ≤ NAME_ROOM → result.now ≡ name.now }
+    ensures front { result.now ≡ take (length result.now) name.now }
+    ensures fits { length result.now ≤ NAME_ROOM }
 {
     if name.len() <= NAME_ROOM {
         return name;

@@ -1,15 +1,16 @@
 //! A shelf over real files and standard output.
 //!
-//! It tells nothing of what it holds, since no contract can say what a file keeps. One number stands for all of
-//! its counts, and rises at each failure; what the system said of the last one is kept. It reads on in the file that
-//! was picked last, and of another name it reads nothing. It changes no file that it has read, whatever the name: such
-//! an output is refused before it is touched. It has room for sixteen such files, and for names of 4,096 bytes: a pick
-//! past either fails. No call takes memory.
+//! It tells nothing of what it holds, since no contract can say what a file keeps. One number stands for all of its
+//! counts; what the system said of the last failure is kept. It reads on in the file that was picked last, and of another
+//! name it reads nothing. No output of it changes a file that it has read, whatever the name: such an output is refused
+//! before it is touched. It has room for sixteen such files, and for names of 4,096 bytes: a pick past either fails.
+//! No call takes memory.
 
-ghost use Rattle.std.specs.Prelude.{◌≡◌, ◌≢◌, ◌≤◌, ◌<◌, None, Some, length, IsErr, IsSome, OnErr, OnOk};
+ghost use Rattle.std.specs.Prelude.{◌≡◌, ◌≢◌, ◌≤◌, ◌<◌, [], None, Some, length, IsErr, IsSome, OnErr, OnOk};
 ghost use Rattle.std.specs.Io.{ReadsAtMost};
 ghost use Rattle.std.specs.Option.{option_map};
-ghost use Rattle.air_devices.specs.Counts.{Rose};
+ghost use Rattle.air_devices.specs.Counts.{HasCauseIn, Rose, one_count, printing_of, reading_of, writing_of};
+ghost use Rattle.air_devices.specs.FileFailures.{IsLastFailure, KeepsLast};
 ghost use Rattle.air_devices.specs.Shelves.{untold_with};
 
 use crate::file_failures::{FileCall, FileFailure, NAME_ROOM};
@@ -59,28 +60,41 @@ impl<R: Files + Print + Drop> FileShelf<R> {
     fn fault(&mut self, call: FileCall, name: &str, error: io::Error) -> Failed
         ensures rose { Rose self.old.faults self.new.faults }
         ensures later { self.old.faults ≤ self.new.faults }
-        ensures last { option_map (λ failure. failure.call) self.new.last ≡ Some call }
+        ensures last { IsLastFailure call name.now self.new.last }
         ensures error { option_map (λ failure. failure.error) self.new.last ≡ Some error }
+        ensures rest { self.new ≡ record self.old { faults = self.new.faults; last = self.new.last } }
     {
         self.faults = self.faults.saturating_add(1);
         self.last = Some(FileFailure::new(call, name, error));
         Failed
     }
 
-    /// Opens a file, and remembers which file it is and its name.
-    fn open_to_read(&mut self, name: &str) -> io::Result<R::File>
+    /// From now on this file is the one that is picked, by this name.
+    fn set_picked(&mut self, file: R::File, name: &str)
+        requires { length name.now ≤ NAME_ROOM }
+        ensures picked { self.new.picked ≡ Some file }
+        ensures named { self.new.name.bytes ≡ name.now }
+        ensures rest { self.new ≡ record self.old { picked = self.new.picked; name = self.new.name } }
+    {
+        self.picked = Some(file);
+        self.name.clear();
+        self.name.push_str(name);
+    }
+
+    /// Opens a file and picks it, and remembers which file it is.
+    fn open_to_read(&mut self, name: &str) -> io::Result<()>
+        ensures picked { OnOk result (IsSome self.new.picked) }
         ensures named { OnOk result (self.new.name.bytes ≡ name.now) }
-        ensures kept { OnErr result (self.new.name ≡ self.old.name) }
-        ensures rest { self.new ≡ record self.old { name = self.new.name; read = self.new.read } }
+        ensures kept { OnErr result ((self.new.picked ≡ self.old.picked) × (self.new.name ≡ self.old.name)) }
+        ensures rest { self.new ≡ record self.old { picked = self.new.picked; name = self.new.name; read = self.new.read } }
     {
         let file = fs::open(&self.rt, name)?;
         if name.len() > NAME_ROOM {
             return Err(io::Error::from(io::ErrorKind::InvalidFilename));
         }
         self.read.add(FileId::of(&file)?)?;
-        self.name.clear();
-        self.name.push_str(name);
-        Ok(file)
+        self.set_picked(file, name);
+        Ok(())
     }
 
     /// Reads on in the file that was picked last, where it has this name; nothing before any was picked.
@@ -88,6 +102,7 @@ impl<R: Files + Print + Drop> FileShelf<R> {
         requires { 0 < length buf.old }
         ensures bound { ReadsAtMost result buf.new }
         ensures other { IsSome self.old.picked → self.old.name.bytes ≢ name.now → IsErr result }
+        ensures picked { IsSome self.old.picked → IsSome self.new.picked }
         ensures rest { self.new ≡ record self.old { picked = self.new.picked } }
     {
         let Some(file) = &mut self.picked else {
@@ -127,38 +142,61 @@ impl<R: Files + Print + Drop> FileShelf<R> {
 impl<R: Files + Print + Drop> Shelf for FileShelf<R> {
     ghost state = { λ shelf. untold_with shelf.faults };
 
-    fn pick(&mut self, name: &str) -> Result<(), Failed> {
+    fn pick(&mut self, name: &str) -> Result<(), Failed>
+        ensures picked { OnOk result (IsSome self.new.picked) }
+        ensures named { OnOk result (self.new.name.bytes ≡ name.now) }
+        ensures kept { OnErr result ((self.new.picked ≡ self.old.picked) × (self.new.name ≡ self.old.name)) }
+        ensures cause { HasCauseIn (reading_of name.now) (one_count self.old.faults) (one_count self.new.faults) result }
+        ensures last { KeepsLast FileCall.Pick name.now self.old.last self.new.last result }
+    {
         match self.open_to_read(name) {
-            Ok(file) => {
-                self.picked = Some(file);
-                Ok(())
-            }
+            Ok(()) => Ok(()),
             Err(error) => Err(self.fault(FileCall::Pick, name, error)),
         }
     }
 
-    fn read(&mut self, name: &str, buf: &mut [u8]) -> Result<usize, Failed> {
+    fn read(&mut self, name: &str, buf: &mut [u8]) -> Result<usize, Failed>
+        requires { 0 < length buf.old }
+        ensures bound { ReadsAtMost result buf.new }
+        ensures other { IsSome self.old.picked → self.old.name.bytes ≢ name.now → IsErr result }
+        ensures cause { HasCauseIn (reading_of name.now) (one_count self.old.faults) (one_count self.new.faults) result }
+        ensures last { KeepsLast FileCall.Read name.now self.old.last self.new.last result }
+        ensures picked { IsSome self.old.picked → IsSome self.new.picked }
+        ensures rest { self.new ≡ record self.old { picked = self.new.picked; faults = self.new.faults; last = self.new.last } }
+    {
         match self.read_picked(name, buf) {
             Ok(count) => Ok(count),
             Err(error) => Err(self.fault(FileCall::Read, name, error)),
         }
     }
 
-    fn create(&mut self, name: &str) -> Result<(), Failed> {
+    fn create(&mut self, name: &str) -> Result<(), Failed>
+        ensures cause { HasCauseIn (writing_of name.now) (one_count self.old.faults) (one_count self.new.faults) result }
+        ensures last { KeepsLast FileCall.Create name.now self.old.last self.new.last result }
+        ensures rest { self.new ≡ record self.old { faults = self.new.faults; last = self.new.last } }
+    {
         match self.empty_output(name) {
             Ok(()) => Ok(()),
             Err(error) => Err(self.fault(FileCall::Create, name, error)),
         }
     }
 
-    fn append(&mut self, name: &str, bytes: &[u8]) -> Result<(), Failed> {
+    fn append(&mut self, name: &str, bytes: &[u8]) -> Result<(), Failed>
+        ensures cause { HasCauseIn (writing_of name.now) (one_count self.old.faults) (one_count self.new.faults) result }
+        ensures last { KeepsLast FileCall.Append name.now self.old.last self.new.last result }
+        ensures rest { self.new ≡ record self.old { faults = self.new.faults; last = self.new.last } }
+    {
         match self.add_to_output(name, bytes) {
             Ok(()) => Ok(()),
             Err(error) => Err(self.fault(FileCall::Append, name, error)),
         }
     }
 
-    fn print(&mut self, bytes: &[u8]) -> Result<(), Failed> {
+    fn print(&mut self, bytes: &[u8]) -> Result<(), Failed>
+        ensures cause { HasCauseIn printing_of (one_count self.old.faults) (one_count self.new.faults) result }
+        ensures last { KeepsLast FileCall.Print [] self.old.last self.new.last result }
+        ensures rest { self.new ≡ record self.old { faults = self.new.faults; last = self.new.last } }
+    {
         match io::writer(&self.rt).write_all(bytes) {
             Ok(()) => Ok(()),
             Err(error) => Err(self.fault(FileCall::Print, "", error)),

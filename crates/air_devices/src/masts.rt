@@ -1,10 +1,12 @@
 //! The trait of a device that sends buckets to whoever listens, and an end mark.
 //!
-//! A form tells what it sent, or nothing. A call answers `Failed` only where the mast's count rose.
+//! A form tells what it sent, or nothing. Each call changes one thing, and leaves all else. A call answers `Failed`
+//! only where its count rose, and else leaves the count.
 
 ghost use Rattle.std.specs.Prelude.{◌≡◌, ◌≤◌, [], ◌∷◌, length, Some, None, OnErr, OnOk};
-ghost use Rattle.air_devices.specs.Counts.{HasDeviceCause};
-ghost use Rattle.air_devices.specs.Masts.{Changes, Masted, WhereTold, nothing_sent, with_buckets, with_end};
+ghost use Rattle.air_devices.specs.Counts.{HasCause};
+ghost use Rattle.air_devices.specs.Masts.{Changes, Masted, nothing_sent, with_buckets, with_end};
+ghost use Rattle.air_devices.specs.Told.{WhereTold};
 
 use crate::shelves::Failed;
 
@@ -19,7 +21,7 @@ pub trait Mast {
         requires unsent { WhereTold (state self.old).told (λ s. s ≡ nothing_sent) }
         ensures aimed { (state self.new).port ≡ Some port }
         ensures kept { (state self.new).told ≡ (state self.old).told }
-        ensures cause { HasDeviceCause (state self.old).faults (state self.new).faults result };
+        ensures cause { HasCause (state self.old).faults (state self.new).faults result };
 
     /// Sends one bucket.
     fn send(&mut self, bytes: &[u8]) -> Result<(), Failed>
@@ -28,12 +30,12 @@ pub trait Mast {
         ensures added { OnOk result (Changes (with_buckets (bytes.now ∷ [])) (state self.old).told (state self.new).told) }
         ensures refused { OnErr result ((state self.new).told ≡ (state self.old).told) }
         ensures port { (state self.new).port ≡ (state self.old).port }
-        ensures cause { HasDeviceCause (state self.old).faults (state self.new).faults result };
+        ensures cause { HasCause (state self.old).faults (state self.new).faults result };
 
     /// Sends the end mark.
     fn finish(&mut self) -> Result<(), Failed>
         ensures ended { OnOk result (Changes with_end (state self.old).told (state self.new).told) }
         ensures refused { OnErr result ((state self.new).told ≡ (state self.old).told) }
         ensures port { (state self.new).port ≡ (state self.old).port }
-        ensures cause { HasDeviceCause (state self.old).faults (state self.new).faults result };
+        ensures cause { HasCause (state self.old).faults (state self.new).faults result };
 }

@@ -7,9 +7,9 @@ ghost use Rattle.std.specs.Prelude.{◌≡◌, ◌<◌, ◌^◌, ◌↔◌, [], 
 ghost use Rattle.std.specs.Option.{is_some};
 ghost use Rattle.air_model.specs.Tapes.{tape_of};
 ghost use Rattle.air_devices.specs.Calls.{is_next_listed};
-ghost use Rattle.air_devices.specs.Counts.{HasDeviceCause};
+ghost use Rattle.air_devices.specs.Counts.{HasCause};
 ghost use Rattle.air_devices.specs.Masts.{Changes, with_buckets, with_end};
-ghost use Rattle.air_devices.specs.MemoryMasts.{IsNewMast, MadeCall, is_send_refused, masted_of, sent_of};
+ghost use Rattle.air_devices.specs.MemoryMasts.{IsNewMast, MadeCall, is_send_refused, masted_of, told_by};
 
 use crate::calls::Calls;
 use crate::masts::Mast;
@@ -43,14 +43,14 @@ impl MemMast {
 
     /// The sent buckets as a tape.
     pub fn sent(&self) -> &[u8]
-        ensures { result.now ≡ tape_of (sent_of self.now).buckets }
+        ensures { result.now ≡ tape_of (told_by self.now).buckets }
     {
         self.tape.as_slice()
     }
 
     /// Whether the end was sent.
     pub fn ended(&self) -> bool
-        ensures { result ≡ is_some (sent_of self.now).ended }
+        ensures { result ≡ is_some (told_by self.now).ended }
     {
         self.ended.is_some()
     }
@@ -63,8 +63,8 @@ impl Mast for MemMast {
         ensures fails { IsErr result ↔ IsTrue (is_next_listed self.old.calls) }
         ensures call { MadeCall self.old self.new }
         ensures aimed { self.new.port ≡ Some port }
-        ensures kept { sent_of self.new ≡ sent_of self.old }
-        ensures cause { HasDeviceCause self.old.calls.faults self.new.calls.faults result }
+        ensures kept { told_by self.new ≡ told_by self.old }
+        ensures cause { HasCause self.old.calls.faults self.new.calls.faults result }
     {
         self.port = Some(port);
         if self.calls.is_to_fail() {
@@ -77,10 +77,10 @@ impl Mast for MemMast {
         requires { length bytes.now < 2 ^ 32 }
         ensures fails { IsErr result ↔ IsTrue (is_send_refused self.old bytes.now) }
         ensures call { MadeCall self.old self.new }
-        ensures added { OnOk result (Changes (with_buckets (bytes.now ∷ [])) (Some (sent_of self.old)) (Some (sent_of self.new))) }
-        ensures refused { OnErr result (sent_of self.new ≡ sent_of self.old) }
+        ensures added { OnOk result (Changes (with_buckets (bytes.now ∷ [])) (Some (told_by self.old)) (Some (told_by self.new))) }
+        ensures refused { OnErr result (told_by self.new ≡ told_by self.old) }
         ensures port { self.new.port ≡ self.old.port }
-        ensures cause { HasDeviceCause self.old.calls.faults self.new.calls.faults result }
+        ensures cause { HasCause self.old.calls.faults self.new.calls.faults result }
     {
         if self.calls.is_to_fail() || !self.tape.add(bytes) {
             return Err(self.calls.fault());
@@ -91,10 +91,10 @@ impl Mast for MemMast {
     fn finish(&mut self) -> Result<(), Failed>
         ensures fails { IsErr result ↔ IsTrue (is_next_listed self.old.calls) }
         ensures call { MadeCall self.old self.new }
-        ensures ended { OnOk result (Changes with_end (Some (sent_of self.old)) (Some (sent_of self.new))) }
-        ensures refused { OnErr result (sent_of self.new ≡ sent_of self.old) }
+        ensures ended { OnOk result (Changes with_end (Some (told_by self.old)) (Some (told_by self.new))) }
+        ensures refused { OnErr result (told_by self.new ≡ told_by self.old) }
         ensures port { self.new.port ≡ self.old.port }
-        ensures cause { HasDeviceCause self.old.calls.faults self.new.calls.faults result }
+        ensures cause { HasCause self.old.calls.faults self.new.calls.faults result }
     {
         if self.calls.is_to_fail() {
             return Err(self.calls.fault());

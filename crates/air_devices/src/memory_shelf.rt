@@ -9,10 +9,10 @@ ghost use Rattle.std.specs.Io.{ReadsAtMost};
 ghost use Rattle.std.specs.Io.KnownBytes.{Appends, ReadConsumes};
 ghost use Rattle.std.specs.Option.{is_none, option_map};
 ghost use Rattle.air_devices.specs.Calls.{is_next_listed};
-ghost use Rattle.air_devices.specs.Counts.{HasCause, printing_of, reading_of, writing_of};
-ghost use Rattle.air_devices.specs.Frames.{KeepsButLeft, KeepsButOutput, KeepsButPrinted};
-ghost use Rattle.air_devices.specs.Known.{AppendsPart, Becomes};
-ghost use Rattle.air_devices.specs.Memory.{IsNewShelf, MadeCall, added, contents_of, empty_output, faults_of, file_in, given_bytes, given_named, output_in, overflows_output, overflows_print, shelved_of, spells, unpicked};
+ghost use Rattle.air_devices.specs.Counts.{HasCauseIn, printing_of, reading_of, writing_of};
+ghost use Rattle.air_devices.specs.Unchanged.{KeepsButLeft, KeepsButOutput, KeepsButPrinted};
+ghost use Rattle.air_devices.specs.Told.{AppendsPart, Becomes};
+ghost use Rattle.air_devices.specs.Memory.{IsNewShelf, MadeCall, added, empty_output, faults_of, file_in, given_bytes, given_named, output_in, overflows_output, overflows_print, shelved_of, spells, told_by, unpicked};
 
 use crate::calls::Calls;
 use crate::fixed_bytes::FixedBytes;
@@ -54,9 +54,9 @@ impl MemShelf {
         room: usize,
         fail: Vec<u64>,
     ) -> Result<MemShelf, NoMemory>
-        ensures told { IfOk result (λ s. (name : List ℕ) → (contents_of s).file name ≡ Some (given_bytes (given_named name files.items))) }
-        ensures left { IfOk result (λ s. (name : List ℕ) → (contents_of s).left name ≡ Some []) }
-        ensures empty { IfOk result (λ s. (name : List ℕ) → (contents_of s).output name ≡ Some []) }
+        ensures told { IfOk result (λ s. (name : List ℕ) → (told_by s).file name ≡ Some (given_bytes (given_named name files.items))) }
+        ensures left { IfOk result (λ s. (name : List ℕ) → (told_by s).left name ≡ Some []) }
+        ensures empty { IfOk result (λ s. (name : List ℕ) → (told_by s).output name ≡ Some []) }
         ensures fresh { IfOk result (λ s. IsNewShelf files.items outputs.items room fail.items s) }
     {
         let files = unpicked_files(alloc, files)?;
@@ -70,7 +70,7 @@ impl MemShelf {
         })
     }
 
-    /// The bytes of the output of this name, and None exactly where no output has the name.
+    /// The bytes of the output of this name, and None exactly if no output has the name.
     pub fn output(&self, name: &str) -> Option<&[u8]>
         ensures { option_map (λ bytes. bytes.now) result ≡ option_map (λ o. o.written.bytes) (output_in name.now self.now) }
     {
@@ -80,7 +80,7 @@ impl MemShelf {
 
     /// What was printed.
     pub fn printed(&self) -> &[u8]
-        ensures { (contents_of self.now).printed ≡ Some result.now }
+        ensures { (told_by self.now).printed ≡ Some result.now }
     {
         self.printed.as_slice()
     }
@@ -106,10 +106,10 @@ impl Shelf for MemShelf {
     fn pick(&mut self, name: &str) -> Result<(), Failed>
         ensures fails { IsErr result ↔ IsTrue (is_next_listed self.old.calls || is_none (file_in name.now self.old)) }
         ensures call { MadeCall self.old self.new }
-        ensures picked { OnOk result ((contents_of self.new).left name.now ≡ (contents_of self.old).file name.now) }
-        ensures refused { OnErr result ((contents_of self.new).left name.now ≡ (contents_of self.old).left name.now) }
-        ensures rest { KeepsButLeft name.now (contents_of self.old) (contents_of self.new) }
-        ensures cause { HasCause (reading_of name.now) (faults_of self.old) (faults_of self.new) result }
+        ensures picked { OnOk result ((told_by self.new).left name.now ≡ (told_by self.old).file name.now) }
+        ensures refused { OnErr result ((told_by self.new).left name.now ≡ (told_by self.old).left name.now) }
+        ensures rest { KeepsButLeft name.now (told_by self.old) (told_by self.new) }
+        ensures cause { HasCauseIn (reading_of name.now) (faults_of self.old) (faults_of self.new) result }
     {
         if self.calls.is_to_fail() {
             return Err(self.calls.fault());
@@ -125,10 +125,10 @@ impl Shelf for MemShelf {
         ensures fails { IsErr result ↔ IsTrue (is_next_listed self.old.calls) }
         ensures call { MadeCall self.old self.new }
         ensures bound { ReadsAtMost result buf.new }
-        ensures moved { ReadConsumes ((contents_of self.old).left name.now) ((contents_of self.new).left name.now) result buf.new }
-        ensures refused { OnErr result ((contents_of self.new).left name.now ≡ (contents_of self.old).left name.now) }
-        ensures rest { KeepsButLeft name.now (contents_of self.old) (contents_of self.new) }
-        ensures cause { HasCause (reading_of name.now) (faults_of self.old) (faults_of self.new) result }
+        ensures moved { ReadConsumes ((told_by self.old).left name.now) ((told_by self.new).left name.now) result buf.new }
+        ensures refused { OnErr result ((told_by self.new).left name.now ≡ (told_by self.old).left name.now) }
+        ensures rest { KeepsButLeft name.now (told_by self.old) (told_by self.new) }
+        ensures cause { HasCauseIn (reading_of name.now) (faults_of self.old) (faults_of self.new) result }
     {
         if self.calls.is_to_fail() {
             return Err(self.calls.fault());
@@ -145,10 +145,10 @@ impl Shelf for MemShelf {
     fn create(&mut self, name: &str) -> Result<(), Failed>
         ensures fails { IsErr result ↔ IsTrue (is_next_listed self.old.calls || is_none (output_in name.now self.old)) }
         ensures call { MadeCall self.old self.new }
-        ensures emptied { OnOk result (Becomes ((contents_of self.old).output name.now) ((contents_of self.new).output name.now) []) }
-        ensures refused { OnErr result ((contents_of self.new).output name.now ≡ (contents_of self.old).output name.now) }
-        ensures rest { KeepsButOutput name.now (contents_of self.old) (contents_of self.new) }
-        ensures cause { HasCause (writing_of name.now) (faults_of self.old) (faults_of self.new) result }
+        ensures emptied { OnOk result (Becomes ((told_by self.old).output name.now) ((told_by self.new).output name.now) []) }
+        ensures refused { OnErr result ((told_by self.new).output name.now ≡ (told_by self.old).output name.now) }
+        ensures rest { KeepsButOutput name.now (told_by self.old) (told_by self.new) }
+        ensures cause { HasCauseIn (writing_of name.now) (faults_of self.old) (faults_of self.new) result }
     {
         if self.calls.is_to_fail() {
             return Err(self.calls.fault());
@@ -163,11 +163,11 @@ impl Shelf for MemShelf {
     fn append(&mut self, name: &str, bytes: &[u8]) -> Result<(), Failed>
         ensures fails { IsErr result ↔ IsTrue (is_next_listed self.old.calls || overflows_output (output_in name.now self.old) bytes.now) }
         ensures call { MadeCall self.old self.new }
-        ensures fitting { IfSome (output_in name.now self.old) (λ o. (contents_of self.new).output name.now ≡ Some (o.written.bytes ++ added self.old.calls o.written bytes.now)) }
-        ensures all { OnOk result (Appends ((contents_of self.old).output name.now) ((contents_of self.new).output name.now) bytes.now) }
-        ensures part { OnErr result (AppendsPart ((contents_of self.old).output name.now) ((contents_of self.new).output name.now) bytes.now) }
-        ensures rest { KeepsButOutput name.now (contents_of self.old) (contents_of self.new) }
-        ensures cause { HasCause (writing_of name.now) (faults_of self.old) (faults_of self.new) result }
+        ensures fitting { IfSome (output_in name.now self.old) (λ o. (told_by self.new).output name.now ≡ Some (o.written.bytes ++ added self.old.calls o.written bytes.now)) }
+        ensures all { OnOk result (Appends ((told_by self.old).output name.now) ((told_by self.new).output name.now) bytes.now) }
+        ensures part { OnErr result (AppendsPart ((told_by self.old).output name.now) ((told_by self.new).output name.now) bytes.now) }
+        ensures rest { KeepsButOutput name.now (told_by self.old) (told_by self.new) }
+        ensures cause { HasCauseIn (writing_of name.now) (faults_of self.old) (faults_of self.new) result }
     {
         if self.calls.is_to_fail() {
             return Err(self.calls.fault());
@@ -184,11 +184,11 @@ impl Shelf for MemShelf {
     fn print(&mut self, bytes: &[u8]) -> Result<(), Failed>
         ensures fails { IsErr result ↔ IsTrue (is_next_listed self.old.calls || overflows_print self.old bytes.now) }
         ensures call { MadeCall self.old self.new }
-        ensures fitting { (contents_of self.new).printed ≡ Some (self.old.printed.bytes ++ added self.old.calls self.old.printed bytes.now) }
-        ensures all { OnOk result (Appends (contents_of self.old).printed (contents_of self.new).printed bytes.now) }
-        ensures part { OnErr result (AppendsPart (contents_of self.old).printed (contents_of self.new).printed bytes.now) }
-        ensures rest { KeepsButPrinted (contents_of self.old) (contents_of self.new) }
-        ensures cause { HasCause printing_of (faults_of self.old) (faults_of self.new) result }
+        ensures fitting { (told_by self.new).printed ≡ Some (self.old.printed.bytes ++ added self.old.calls self.old.printed bytes.now) }
+        ensures all { OnOk result (Appends (told_by self.old).printed (told_by self.new).printed bytes.now) }
+        ensures part { OnErr result (AppendsPart (told_by self.old).printed (told_by self.new).printed bytes.now) }
+        ensures rest { KeepsButPrinted (told_by self.old) (told_by self.new) }
+        ensures cause { HasCauseIn printing_of (faults_of self.old) (faults_of self.new) result }
     {
         if self.calls.is_to_fail() || !self.printed.add(bytes) {
             return Err(self.calls.fault());

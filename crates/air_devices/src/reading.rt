@@ -6,8 +6,8 @@
 ghost use Rattle.std.specs.Prelude.{◌≡◌, ◌≢◌, ◌≤◌, Err, length, IfOk, OnOk};
 ghost use Rattle.std.specs.Io.KnownBytes.{IsAtEnd};
 ghost use Rattle.air_devices.specs.Counts.{KeepsCounts, NoCountFalls, Rose};
-ghost use Rattle.air_devices.specs.Frames.{KeepsButLeft};
-ghost use Rattle.air_devices.specs.Known.{KnownIs};
+ghost use Rattle.air_devices.specs.Unchanged.{KeepsButLeft};
+ghost use Rattle.air_devices.specs.Told.{ToldIs};
 ghost use Rattle.air_devices.specs.Reading.{IsTooLarge};
 
 use crate::shelves::Shelf;
@@ -48,7 +48,7 @@ pub fn read_file<S: Shelf>(
     name: &str,
     limit: usize,
 ) -> Result<Vec<u8>, ReadFileError>
-    ensures bytes { IfOk result (λ v. KnownIs ((S.state shelf.old).told.file name.now) v.items) }
+    ensures bytes { IfOk result (λ v. ToldIs ((S.state shelf.old).told.file name.now) v.items) }
     ensures fits { IfOk result (λ v. length v.items ≤ limit) }
     ensures end { OnOk result (IsAtEnd ((S.state shelf.new).told.left name.now)) }
     ensures large { result ≡ Err ReadFileError.TooLarge → IsTooLarge limit name.now (S.state shelf.old).told (S.state shelf.new).told }

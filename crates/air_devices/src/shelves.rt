@@ -1,14 +1,14 @@
 //! The trait of a device that holds files and outputs by name, and takes printed text.
 //!
-//! A form tells what it holds, or nothing. Each call changes one thing that is told, and leaves all else. A
-//! call answers `Failed` only where the count of its own kind and name rose, and else leaves every count.
+//! A form tells what it holds, or nothing. Each call changes one thing, and leaves all else. A call answers `Failed`
+//! only where its own count rose, and else leaves every count.
 
 ghost use Rattle.std.specs.Prelude.{◌≡◌, ◌<◌, [], length, OnErr, OnOk};
 ghost use Rattle.std.specs.Io.{ReadsAtMost};
 ghost use Rattle.std.specs.Io.KnownBytes.{Appends, ReadConsumes};
-ghost use Rattle.air_devices.specs.Counts.{HasCause, printing_of, reading_of, writing_of};
-ghost use Rattle.air_devices.specs.Frames.{KeepsButLeft, KeepsButOutput, KeepsButPrinted};
-ghost use Rattle.air_devices.specs.Known.{AppendsPart, Becomes};
+ghost use Rattle.air_devices.specs.Counts.{HasCauseIn, printing_of, reading_of, writing_of};
+ghost use Rattle.air_devices.specs.Unchanged.{KeepsButLeft, KeepsButOutput, KeepsButPrinted};
+ghost use Rattle.air_devices.specs.Told.{AppendsPart, Becomes};
 ghost use Rattle.air_devices.specs.Shelves.{Shelved};
 
 use std::error::Error;
@@ -36,7 +36,7 @@ pub trait Shelf {
         ensures picked { OnOk result ((state self.new).told.left name.now ≡ (state self.old).told.file name.now) }
         ensures refused { OnErr result ((state self.new).told.left name.now ≡ (state self.old).told.left name.now) }
         ensures rest { KeepsButLeft name.now (state self.old).told (state self.new).told }
-        ensures cause { HasCause (reading_of name.now) (state self.old).faults (state self.new).faults result };
+        ensures cause { HasCauseIn (reading_of name.now) (state self.old).faults (state self.new).faults result };
 
     /// Moves as many bytes as it answers from the front of what is left of the named file to the front of the
     /// buffer: none only where nothing is left, as before the file was ever picked.
@@ -46,26 +46,26 @@ pub trait Shelf {
         ensures moved { ReadConsumes ((state self.old).told.left name.now) ((state self.new).told.left name.now) result buf.new }
         ensures refused { OnErr result ((state self.new).told.left name.now ≡ (state self.old).told.left name.now) }
         ensures rest { KeepsButLeft name.now (state self.old).told (state self.new).told }
-        ensures cause { HasCause (reading_of name.now) (state self.old).faults (state self.new).faults result };
+        ensures cause { HasCauseIn (reading_of name.now) (state self.old).faults (state self.new).faults result };
 
     /// Makes the named output empty.
     fn create(&mut self, name: &str) -> Result<(), Failed>
         ensures emptied { OnOk result (Becomes ((state self.old).told.output name.now) ((state self.new).told.output name.now) []) }
         ensures refused { OnErr result ((state self.new).told.output name.now ≡ (state self.old).told.output name.now) }
         ensures rest { KeepsButOutput name.now (state self.old).told (state self.new).told }
-        ensures cause { HasCause (writing_of name.now) (state self.old).faults (state self.new).faults result };
+        ensures cause { HasCauseIn (writing_of name.now) (state self.old).faults (state self.new).faults result };
 
     /// Adds all of the bytes to the named output. Where it fails, the first of them may have been added.
     fn append(&mut self, name: &str, bytes: &[u8]) -> Result<(), Failed>
         ensures all { OnOk result (Appends ((state self.old).told.output name.now) ((state self.new).told.output name.now) bytes.now) }
         ensures part { OnErr result (AppendsPart ((state self.old).told.output name.now) ((state self.new).told.output name.now) bytes.now) }
         ensures rest { KeepsButOutput name.now (state self.old).told (state self.new).told }
-        ensures cause { HasCause (writing_of name.now) (state self.old).faults (state self.new).faults result };
+        ensures cause { HasCauseIn (writing_of name.now) (state self.old).faults (state self.new).faults result };
 
     /// Adds all of the bytes to what was printed. Where it fails, the first of them may have been added.
     fn print(&mut self, bytes: &[u8]) -> Result<(), Failed>
         ensures all { OnOk result (Appends (state self.old).told.printed (state self.new).told.printed bytes.now) }
         ensures part { OnErr result (AppendsPart (state self.old).told.printed (state self.new).told.printed bytes.now) }
         ensures rest { KeepsButPrinted (state self.old).told (state self.new).told }
-        ensures cause { HasCause printing_of (state self.old).faults (state self.new).faults result };
+        ensures cause { HasCauseIn printing_of (state self.old).faults (state self.new).faults result };
 }

@@ -4,7 +4,7 @@
 //! there is no room for all of it, isn't added at all, and the answer says so.
 
 ghost use Rattle.std.specs.Prelude.{◌≡◌, ◌≤◌, ◌<◌, ◌+◌, ◌^◌, ◌++◌, [], ◌∷◌, length, not, if◌then◌else◌, vec_capacity, vec_len, IfOk};
-ghost use Rattle.air_model.specs.Tapes.{tape_of};
+ghost use Rattle.air_model.specs.Tapes.{record_bytes, tape_of};
 ghost use Rattle.air_devices.specs.Recordings.{no_records, overflows_record};
 
 use air_base::NoMemory;
@@ -66,11 +66,22 @@ impl TapeRoom {
         if left < 4 || left - 4 < bytes.len() {
             return false;
         }
-        put(&mut self.tape, &(bytes.len() as u32).to_be_bytes());
-        put(&mut self.tape, bytes);
+        put_record(&mut self.tape, bytes);
         self.count += 1;
         true
     }
+}
+
+/// Adds a record for which there is memory: its length in four bytes, then its own.
+#[tactic(auto, using(crate::proofs::RecordFacts::record_put))]
+fn put_record(tape: &mut Vec<u8>, bytes: &[u8])
+    requires short { length bytes.now < 2 ^ 32 }
+    requires room { vec_len tape.old + 4 + length bytes.now ≤ vec_capacity tape.old }
+    ensures items { tape.new.items ≡ tape.old.items ++ record_bytes bytes.now }
+    ensures capacity { vec_capacity tape.old ≤ vec_capacity tape.new }
+{
+    put(tape, &(bytes.len() as u32).to_be_bytes());
+    put(tape, bytes);
 }
 
 /// Adds bytes for which there is memory.

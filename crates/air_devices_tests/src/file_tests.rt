@@ -1,16 +1,15 @@
 //! Calls of the shelf over files with their answers, and what the files hold after them.
 //!
 //! The files stand where the test runs, each with a name of its own, and are removed at the end. No contract tells what a
-//! file keeps, so that the shelf reads the file it is asked for, and changes none that it has read, is shown here.
+//! file keeps, so that the shelf reads the file it is asked for, and no output changes one that was read, is shown here.
 
-use crate::shelves::{Call, first_other};
-use air_devices::{Failed, FileCall, FileFailure, FileShelf};
+use crate::shelves::{Answer, Call, first_other};
+use air_devices::{Failed, FileShelf};
 use std::alloc::Global;
-use std::io::ErrorKind;
+use std::fs;
 use std::os::unix::fs::symlink;
 use std::rt::Files;
 use std::test::Fail;
-use std::{fs, slice};
 
 #[test]
 fn files_are_written_and_read_back(rt: HostRuntime) -> Result<(), Fail> {
@@ -88,11 +87,11 @@ fn a_read_of_another_name_than_the_one_picked_last_fails(rt: HostRuntime) -> Res
 const NAMES: [&str; 4] = ["kept.deck", "./kept.deck", "kept.symlink", "kept.hard"];
 
 /// The first two of these names such that the file is read by the one, and not left as it was where it is to be
-/// written by the other.
+/// written by the other; with the place of the call that is answered otherwise, and the answer.
 fn first_not_kept<R: Files + Print + Clone + Drop>(
     rt: &R,
     alloc: Global,
-) -> Result<Option<(usize, usize)>, Fail> {
+) -> Result<Option<(usize, usize, usize, Answer)>, Fail> {
     for place in 0..16 {
         let (read, written) = (place / 4, place % 4);
         let calls = [
@@ -105,8 +104,8 @@ fn first_not_kept<R: Files + Print + Clone + Drop>(
             Call::Create("kept.other", Ok(())),
         ];
         let mut shelf = FileShelf::new(rt.clone()?);
-        if first_other(alloc, &mut shelf, &calls).is_some() {
-            return Ok(Some((read, written)));
+        if let Some((call, answer)) = first_other(alloc, &mut shelf, &calls) {
+            return Ok(Some((read, written, call, answer)));
         }
     }
     Ok(None)
@@ -129,107 +128,5 @@ fn an_output_that_is_a_file_that_was_read_is_left_as_it_was(rt: HostRuntime) -> 
         fs::remove_file(&rt, name)?;
     }
     assert_eq!(rt; other, None);
-    Ok(())
-}
-
-/// A call, and what the shelf then says of its last failure: what was done, the name, the error, and all as a text.
-#[derive(Drop)]
-struct Said<'a> {
-    call: Call<'a>,
-    done: FileCall,
-    name: &'a str,
-    kind: ErrorKind,
-    text: &'a str,
-}
-
-/// Whether a failure is the one that is told.
-fn is_said(alloc: Global, failure: &FileFailure, said: &Said<'_>) -> Result<bool, Fail> {
-    let text = format!(in alloc; "{failure}")?;
-    Ok(
-        failure.call() == said.done
-            && failure.name() == said.name
-            && failure.error().kind() == said.kind
-            && text.as_str() == said.text,
-    )
-}
-
-/// The place of the first call after which the shelf says something else.
-fn first_said_otherwise<R: Files + Print + Drop>(
-    alloc: Global,
-    shelf: &mut FileShelf<R>,
-    said: &[Said<'_>],
-) -> Result<Option<usize>, Fail> {
-    for (place, said) in said.iter().enumerate() {
-        if first_other(alloc, shelf, slice::from_ref(&said.call)).is_some() {
-            return Ok(Some(place));
-        }
-        let Some(failure) = shelf.last_failure() else {
-            return Ok(Some(place));
-        };
-        if !is_said(alloc, failure, said)? {
-            return Ok(Some(place));
-        }
-    }
-    Ok(None)
-}
-
-#[test]
-fn a_shelf_keeps_what_the_system_said_of_its_last_failure(rt: HostRuntime) -> Result<(), Fail> {
-    fs::write(&rt, "failed.deck", b"item,0\n")?;
-    let none = "opening failed.none: No such file or directory (os error 2)";
-    let said = [
-        Said {
-            call: Call::Pick("failed.none", Err(Failed)),
-            done: FileCall::Pick,
-            name: "failed.none",
-            kind: ErrorKind::NotFound,
-            text: none,
-        },
-        Said {
-            call: Call::Pick("failed.deck", Ok(())),
-            done: FileCall::Pick,
-            name: "failed.none",
-            kind: ErrorKind::NotFound,
-            text: none,
-        },
-        Said {
-            call: Call::Read("failed.tape", Err(Failed)),
-            done: FileCall::Read,
-            name: "failed.tape",
-            kind: ErrorKind::Other,
-            text: "reading failed.tape: another file was opened last",
-        },
-        Said {
-            call: Call::Create("failed.deck", Err(Failed)),
-            done: FileCall::Create,
-            name: "failed.deck",
-            kind: ErrorKind::Other,
-            text: "creating failed.deck: it is a file that was read",
-        },
-    ];
-    let mut shelf = FileShelf::new(rt.clone()?);
-    let fresh = shelf.last_failure().is_none();
-    let other = first_said_otherwise(rt.alloc(), &mut shelf, &said)?;
-    fs::remove_file(&rt, "failed.deck")?;
-    assert_eq!(rt; (fresh, other), (true, None));
-    Ok(())
-}
-
-#[test]
-fn a_name_past_4096_bytes_fails(rt: HostRuntime) -> Result<(), Fail> {
-    let mut name = String::new(rt.alloc());
-    for _ in 0..4097 {
-        name.push('a')?;
-    }
-    let mut shelf = FileShelf::new(rt.clone()?);
-    let calls = [
-        Call::Pick(name.as_str(), Err(Failed)),
-        Call::Read(name.as_str(), Ok(b"")),
-        Call::Append(name.as_str(), b"a", Err(Failed)),
-        Call::Create(name.as_str(), Err(Failed)),
-    ];
-    let other = first_other(rt.alloc(), &mut shelf, &calls);
-    let kept = shelf.last_failure().map(|failure| failure.name().len());
-    assert_eq!(rt; (other, kept), (None, Some(4096)));
     Ok(())
 }

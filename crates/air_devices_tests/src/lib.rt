@@ -1,15 +1,22 @@
 //! Tests of the devices as tables: calls with their answers, and what a device holds after them.
 //!
-//! `shelves` has the calls of a shelf and their checker; `shelf_tests` plays them on the shelf in memory, `file_tests` on
-//! the one over files. `mast_tests` plays calls on the mast in memory, and adds to a tape; `refusal_tests` prints refusals.
+//! `shelves` has the calls of a shelf and their checker; `shelf_tests` plays them on the shelf in memory, `file_tests` and
+//! `room_tests` on the one over files, `failure_tests` also where each call fails (`broken`). `mast_tests` plays calls on
+//! the mast in memory, and adds to a tape; `refusal_tests` prints refusals.
 #![tactic(auto)]
 
+#[cfg(test)]
+mod broken;
+#[cfg(test)]
+mod failure_tests;
 #[cfg(test)]
 mod file_tests;
 #[cfg(test)]
 mod mast_tests;
 #[cfg(test)]
 mod refusal_tests;
+#[cfg(test)]
+mod room_tests;
 #[cfg(test)]
 mod shelf_tests;
 #[cfg(test)]

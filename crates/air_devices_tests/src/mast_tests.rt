@@ -27,29 +27,30 @@ struct Case<'a> {
 /// In what a case went otherwise than told.
 #[derive(Clone, Copy, Debug, PartialEq, Eq)]
 enum Other {
-    Aim,
-    Call(usize),
+    Aim(Result<(), Failed>),
+    /// The call at this place, and its answer; none where it may not be made.
+    Call(usize, Option<Result<(), Failed>>),
     Sent,
-    Ended,
+    Ended(bool),
 }
 
-/// Whether the mast takes the bucket so; an empty one, or one past the longest, may not be sent.
-fn sends<M: Mast>(mast: &mut M, bytes: &[u8], told: Result<(), Failed>) -> bool {
+/// The mast's answer to a send; none where the bucket is empty or past the longest, and may not be sent.
+fn send<M: Mast>(mast: &mut M, bytes: &[u8]) -> Option<Result<(), Failed>> {
     if bytes.is_empty() || bytes.len() > 65507 {
-        return false;
+        return None;
     }
-    mast.send(bytes) == told
+    Some(mast.send(bytes))
 }
 
-/// The place of the first call that isn't answered as told.
-fn first_other<M: Mast>(mast: &mut M, calls: &[Call<'_>]) -> Option<usize> {
+/// The first call that isn't answered as told.
+fn first_other<M: Mast>(mast: &mut M, calls: &[Call<'_>]) -> Option<Other> {
     for (place, call) in calls.iter().enumerate() {
-        let held = match call {
-            Call::Send(bytes, told) => sends(mast, bytes, *told),
-            Call::Finish(told) => mast.finish() == *told,
+        let (answer, told) = match call {
+            Call::Send(bytes, told) => (send(mast, bytes), *told),
+            Call::Finish(told) => (Some(mast.finish()), *told),
         };
-        if !held {
-            return Some(place);
+        if answer != Some(told) {
+            return Some(Other::Call(place, answer));
         }
     }
     None
@@ -59,21 +60,20 @@ fn first_other<M: Mast>(mast: &mut M, calls: &[Call<'_>]) -> Option<usize> {
 fn other_in(alloc: Global, case: &Case<'_>) -> Result<Option<Other>, Fail> {
     let fail = Vec::from_slice(alloc, case.fail)?;
     let mut mast = MemMast::new(alloc, case.room, fail)?;
-    if let Some(told) = case.aim
-        && mast.aim(4000) != told
-    {
-        return Ok(Some(Other::Aim));
+    if let Some(told) = case.aim {
+        let answer = mast.aim(4000);
+        if answer != told {
+            return Ok(Some(Other::Aim(answer)));
+        }
     }
-    if let Some(place) = first_other(&mut mast, case.calls) {
-        return Ok(Some(Other::Call(place)));
+    let other = first_other(&mut mast, case.calls);
+    if other.is_some() {
+        return Ok(other);
     }
     if mast.sent() != case.sent {
         return Ok(Some(Other::Sent));
     }
-    if mast.ended() != case.ended {
-        return Ok(Some(Other::Ended));
-    }
-    Ok(None)
+    Ok((mast.ended() != case.ended).then_some(Other::Ended(mast.ended())))
 }
 
 /// The place of the first case that goes otherwise than told, and in what.
@@ -211,11 +211,19 @@ fn a_send_past_the_room_keeps_nothing(rt: HostRuntime) -> Result<(), Fail> {
     Ok(())
 }
 
-/// The place of the first record that isn't taken, or left out, as told.
-fn first_other_record(tape: &mut TapeRoom, records: &[(&[u8], bool)]) -> Option<usize> {
+/// The place of the first record that isn't taken, or left out, as told, and whether it was taken; none where it is past
+/// the longest, and may not be added.
+fn first_other_record(
+    tape: &mut TapeRoom,
+    records: &[(&[u8], bool)],
+) -> Option<(usize, Option<bool>)> {
     for (place, (bytes, told)) in records.iter().enumerate() {
-        if bytes.len() > 65507 || tape.add(bytes) != *told {
-            return Some(place);
+        if bytes.len() > 65507 {
+            return Some((place, None));
+        }
+        let taken = tape.add(bytes);
+        if taken != *told {
+            return Some((place, Some(taken)));
         }
     }
     None

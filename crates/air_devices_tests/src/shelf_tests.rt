@@ -2,7 +2,7 @@
 //!
 //! The shelf has the file `deck` of seven bytes, and the outputs `tape` and `report`.
 
-use crate::shelves::{Call, first_other};
+use crate::shelves::{Answer, Call, first_other};
 use air_devices::{Failed, MemShelf, ReadFileError};
 use std::alloc::Global;
 use std::test::Fail;
@@ -21,7 +21,7 @@ struct Case<'a> {
 /// In what a case went otherwise than told.
 #[derive(Clone, Copy, Debug, PartialEq, Eq)]
 enum Other {
-    Call(usize),
+    Call(usize, Answer),
     Tape,
     Report,
     Printed,
@@ -50,8 +50,8 @@ fn holds(shelf: &MemShelf, name: &str, bytes: &[u8]) -> bool {
 /// Plays a case, and tells in what it went otherwise.
 fn other_in(alloc: Global, case: &Case<'_>) -> Result<Option<Other>, Fail> {
     let mut shelf = shelf(alloc, case.room, case.fail)?;
-    if let Some(place) = first_other(alloc, &mut shelf, case.calls) {
-        return Ok(Some(Other::Call(place)));
+    if let Some((place, answer)) = first_other(alloc, &mut shelf, case.calls) {
+        return Ok(Some(Other::Call(place, answer)));
     }
     if !holds(&shelf, "tape", case.tape) {
         return Ok(Some(Other::Tape));
@@ -245,5 +245,23 @@ fn a_file_past_the_limit_or_torn_is_refused(rt: HostRuntime) -> Result<(), Fail>
         printed: b"",
     };
     assert_eq!(rt; first_other_case(rt.alloc(), &[limited, torn])?, None);
+    Ok(())
+}
+
+#[test]
+fn a_failing_pick_leaves_what_was_left(rt: HostRuntime) -> Result<(), Fail> {
+    let case = Case {
+        room: 0,
+        fail: &[3],
+        calls: &[
+            Call::RefuseWhole("deck", 2, ReadFileError::TooLarge),
+            Call::Pick("deck", Err(Failed)),
+            Call::Read("deck", Ok(b"m,0\n")),
+        ],
+        tape: b"",
+        report: b"",
+        printed: b"",
+    };
+    assert_eq!(rt; other_in(rt.alloc(), &case)?, None);
     Ok(())
 }

@@ -1,4 +1,4 @@
-//! Calls of a shelf as data, and the first of them that isn't answered as told.
+//! Calls of a shelf as data, and the first of them that isn't answered as told, with the answer.
 //!
 //! Any shelf serves: each call goes through the trait alone.
 
@@ -17,59 +17,81 @@ pub enum Call<'a> {
     RefuseWhole(&'a str, usize, ReadFileError),
 }
 
-/// Whether the shelf's next read gives this.
-fn reads<S: Shelf>(shelf: &mut S, name: &str, told: &Result<&[u8], Failed>) -> bool {
+/// What a call answered in place of what is told.
+#[derive(Clone, Copy, Debug, PartialEq, Eq)]
+pub enum Answer {
+    /// It was done, or failed.
+    Done(Result<(), Failed>),
+    /// It read so many bytes, which are others or more or fewer than told, or failed.
+    Read(Result<usize, Failed>),
+    /// It read a whole file of so many bytes, others or more or fewer than told, or refused.
+    Whole(Result<usize, ReadFileError>),
+}
+
+/// What comes in place of the told answer to a call.
+fn done_other(answer: Result<(), Failed>, told: Result<(), Failed>) -> Option<Answer> {
+    (answer != told).then_some(Answer::Done(answer))
+}
+
+/// What comes in place of the told bytes of the shelf's next read.
+fn read_other<S: Shelf>(shelf: &mut S, name: &str, told: &Result<&[u8], Failed>) -> Option<Answer> {
     let mut buf = [0; 4];
     match shelf.read(name, &mut buf) {
-        Ok(count) => *told == Ok(&buf[..count]),
-        Err(failed) => *told == Err(failed),
+        Ok(count) => (*told != Ok(&buf[..count])).then_some(Answer::Read(Ok(count))),
+        Err(failed) => (*told != Err(failed)).then_some(Answer::Read(Err(failed))),
     }
 }
 
-/// Whether the file is read whole, up to the limit, and is this.
-fn reads_whole<S: Shelf>(
+/// What comes where the file is to be read whole, up to the limit, and to be this.
+fn whole_other<S: Shelf>(
     alloc: Global,
     shelf: &mut S,
     name: &str,
     limit: usize,
     told: &[u8],
-) -> bool {
+) -> Option<Answer> {
     match read_file(alloc, shelf, name, limit) {
-        Ok(bytes) => bytes.as_slice() == told,
-        Err(_) => false,
+        Ok(bytes) => (bytes.as_slice() != told).then_some(Answer::Whole(Ok(bytes.len()))),
+        Err(fault) => Some(Answer::Whole(Err(fault))),
     }
 }
 
-/// Whether reading the file up to the limit is refused so.
-fn refuses_whole<S: Shelf>(
+/// What comes where reading the file up to the limit is to be refused so.
+fn refusal_other<S: Shelf>(
     alloc: Global,
     shelf: &mut S,
     name: &str,
     limit: usize,
     told: ReadFileError,
-) -> bool {
+) -> Option<Answer> {
     match read_file(alloc, shelf, name, limit) {
-        Ok(_) => false,
-        Err(fault) => fault == told,
+        Ok(bytes) => Some(Answer::Whole(Ok(bytes.len()))),
+        Err(fault) => (fault != told).then_some(Answer::Whole(Err(fault))),
     }
 }
 
-/// The place of the first call that isn't answered as told.
-pub fn first_other<S: Shelf>(alloc: Global, shelf: &mut S, calls: &[Call<'_>]) -> Option<usize> {
+/// What comes in place of the told answer to a call.
+fn difference<S: Shelf>(alloc: Global, shelf: &mut S, call: &Call<'_>) -> Option<Answer> {
+    match call {
+        Call::Pick(name, told) => done_other(shelf.pick(name), *told),
+        Call::Read(name, told) => read_other(shelf, name, told),
+        Call::Create(name, told) => done_other(shelf.create(name), *told),
+        Call::Append(name, bytes, told) => done_other(shelf.append(name, bytes), *told),
+        Call::Print(bytes, told) => done_other(shelf.print(bytes), *told),
+        Call::ReadWhole(name, limit, told) => whole_other(alloc, shelf, name, *limit, told),
+        Call::RefuseWhole(name, limit, told) => refusal_other(alloc, shelf, name, *limit, *told),
+    }
+}
+
+/// The place of the first call that isn't answered as told, and the answer.
+pub fn first_other<S: Shelf>(
+    alloc: Global,
+    shelf: &mut S,
+    calls: &[Call<'_>],
+) -> Option<(usize, Answer)> {
     for (place, call) in calls.iter().enumerate() {
-        let held = match call {
-            Call::Pick(name, told) => shelf.pick(name) == *told,
-            Call::Read(name, told) => reads(shelf, name, told),
-            Call::Create(name, told) => shelf.create(name) == *told,
-            Call::Append(name, bytes, told) => shelf.append(name, bytes) == *told,
-            Call::Print(bytes, told) => shelf.print(bytes) == *told,
-            Call::ReadWhole(name, limit, told) => reads_whole(alloc, shelf, name, *limit, told),
-            Call::RefuseWhole(name, limit, told) => refuses_whole(
-                alloc, shelf, name, *limit, *told,
-            ),
-        };
-        if !held {
-            return Some(place);
+        if let Some(answer) = difference(alloc, shelf, call) {
+            return Some((place, answer));
         }
     }
     None

@@ -38,13 +38,14 @@ fn apply(rt: &impl Abort, board: &mut Board, event: &Event) {
     board.apply(event);
 }
 
-/// Returns the first item whose value or column isn't as told.
-fn first_other_item(board: &Board, said: &Said<'_>) -> Option<u16> {
+/// In what an item of the board differs from what is told: its value or its column.
+fn item_difference(board: &Board, said: &Said<'_>) -> Option<&'static str> {
     for item in 0..board.n() {
-        let value = said.values.get(item as usize);
-        let column = said.columns.get(item as usize);
-        if value != Some(&board.value(item)) || column != Some(&board.column(item)) {
-            return Some(item);
+        if said.values.get(item as usize) != Some(&board.value(item)) {
+            return Some("a value");
+        }
+        if said.columns.get(item as usize) != Some(&board.column(item)) {
+            return Some("a column");
         }
     }
     None
@@ -58,10 +59,8 @@ fn difference(board: &Board, said: &Said<'_>) -> Option<&'static str> {
         Some("the cycle")
     } else if board.vector() != said.vector {
         Some("the vector")
-    } else if first_other_item(board, said).is_some() {
-        Some("a value or a column")
     } else {
-        None
+        item_difference(board, said)
     }
 }
 

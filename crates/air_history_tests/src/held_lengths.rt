@@ -1,19 +1,18 @@
-//! `Held` beside the definition of a clash, at lengths around a block of eight and at larger ones.
+//! `Held` beside a plain program, at lengths around a block of eight and at larger ones, with up to sixteen reads held.
 //!
-//! Two reads are held and a third one is tried; the plain program tests each held read in both directions, and names the one
-//! of lesser item. The array of held cycles is compared with one that is filled by hand.
+//! The plain program tests each held read in both directions, and names the clash of least item; it fills the array of held
+//! cycles read by read. A read that clashes with none is held by both, and the next one is tried.
 
-ghost use Rattle.std.specs.Prelude.{◌≡◌, ◌≢◌, ◌<◌, [], ◌∷◌, ◌++◌, All, IfOk, IsTrue, length};
-ghost use Rattle.column_check.specs.HeardReads.{heard};
-ghost use Rattle.air_history.specs.HeldReads.{IsNew};
-
-use air_base::{Clash, NoMemory};
-use column_check::{Held, ROOM};
+use crate::attempts::{Attempt, Unheld};
+use air_base::Clash;
 use std::alloc::Global;
 use std::test::Fail;
 
-/// The lengths of the columns.
-const LENGTHS: [u16; 7] = [1, 7, 8, 9, 16, 255, 256];
+/// How many attempts are played at each length.
+const SEEDS: u32 = 680;
+
+/// How many reads an attempt tries.
+const TRIES: u16 = 20;
 
 /// A read: its item, its cycle and its column.
 #[derive(Drop)]
@@ -23,40 +22,32 @@ struct Read {
     column: Vec<u32>,
 }
 
-/// A read of an item in a cycle, over `n` items, with entries below the cycle by a linear congruence.
-fn made(alloc: Global, n: u16, item: u16, cycle: u32, seed: u32) -> Result<Read, NoMemory>
-    requires { 0 < cycle }
-    ensures item { IfOk result (λ r. r.item ≡ item) }
-    ensures cycle { IfOk result (λ r. r.cycle ≡ cycle) }
-    ensures long { IfOk result (λ r. length r.column.items ≡ n) }
-    ensures below { IfOk result (λ r. All (λ entry. entry < cycle) r.column.items) }
-{
-    let mut column = Vec::new(alloc);
+/// A row of `n` entries below the limit, by a linear congruence.
+fn row(alloc: Global, n: u16, limit: u32, seed: u32) -> Result<Vec<u32>, Fail> {
+    let mut row = Vec::new(alloc);
     let mut state = seed;
     for _ in 0..n {
         state = state.wrapping_mul(1664525).wrapping_add(1013904223);
-        let Ok(()) = column.push((state >> 8) % cycle) else {
-            return Err(NoMemory);
-        };
+        row.push((state >> 8) % limit.max(1))?;
     }
-    Ok(Read {
-        item,
-        cycle,
-        column,
-    })
+    Ok(row)
 }
 
-/// Holds the read, if it clashes with none; whether it is held.
-fn hold(held: &mut Held, item: u16, cycle: u32, column: &[u32]) -> bool
-    requires room { length held.old.reads < ROOM }
-    requires new { IsNew held.old (heard item cycle column.now) }
-    ensures { IsTrue result → held.new ≡ record held.old { reads = held.old.reads ++ heard item cycle column.now ∷ [] } }
-{
-    if held.clashes(item, cycle, column).is_some() {
-        return false;
-    }
-    held.hold(item, cycle, column);
-    true
+/// The read of a number in the attempt of a seed, over `n` items, in a cycle from 3 to 9. The first `seed` modulo 17 reads have
+/// entries below 3, so that they go together; those of the others are below their cycle.
+fn made(alloc: Global, n: u16, seed: u32, number: u16) -> Result<Read, Fail> {
+    let number = u32::from(number);
+    let dice = seed
+        .wrapping_mul(2654435761)
+        .wrapping_add(number.wrapping_mul(40503));
+    let item = seed.wrapping_add(number.wrapping_mul(5)) % u32::from(n).max(1);
+    let cycle = 3 + (dice >> 16) % 7;
+    let limit = if number < seed % 17 { 3 } else { cycle };
+    Ok(Read {
+        item: item as u16,
+        cycle,
+        column: row(alloc, n, limit, dice)?,
+    })
 }
 
 /// The entry of an item in the read's column.
@@ -84,8 +75,20 @@ fn lesser(one: Option<Clash>, other: Option<Clash>) -> Option<Clash> {
     }
 }
 
+/// What the plain program answers of the new read; none may be tried whose item is held.
+fn plain(reads: &[Read], new: &Read) -> Result<Option<Clash>, Unheld> {
+    let mut least = None;
+    for read in reads {
+        if read.item == new.item {
+            return Err(Unheld::NotNew);
+        }
+        least = lesser(least, clash(read, new));
+    }
+    Ok(least)
+}
+
 /// The array over `n` items with the cycles of these reads.
-fn array(alloc: Global, n: u16, reads: &[&Read]) -> Result<Vec<u32>, Fail> {
+fn array(alloc: Global, n: u16, reads: &[Read]) -> Result<Vec<u32>, Fail> {
     let mut row = vec![in alloc; u32::MAX; n as usize]?;
     for read in reads {
         if let Some(entry) = row.get_mut(read.item as usize) {
@@ -95,124 +98,174 @@ fn array(alloc: Global, n: u16, reads: &[&Read]) -> Result<Vec<u32>, Fail> {
     Ok(row)
 }
 
-/// How often a third read was tried, how often it clashed, and how often answer or array was another one than told.
-#[derive(Debug, Drop)]
-struct Tally {
-    tried: u32,
-    clashed: u32,
-    other: u32,
+/// What `Held` and the plain program do differently.
+#[derive(Clone, Copy, Debug, PartialEq, Eq)]
+enum Other {
+    /// The answer to a try.
+    Clashes(Result<Option<Clash>, Unheld>),
+    /// The read isn't held.
+    Unheld(Unheld),
+    Cycles,
+    ClearedCycles,
 }
 
-/// Whether the three items are below `n` and different.
-fn are_apart(n: u16, p: u16, q: u16, r: u16) -> bool
-    ensures { IsTrue result → (p < n) × (q < n) × (r < n) × (p ≢ q) × (p ≢ r) × (q ≢ r) }
-{
-    p < n && q < n && r < n && p != q && p != r && q != r
-}
-
-/// Holds the first two reads over `n` items, if they go together, and tries the third.
-fn try_third(
-    alloc: Global,
+/// Held reads, those of the plain program, and what came of tries beside them.
+#[derive(Drop)]
+struct Pair {
     n: u16,
-    first: &Read,
-    second: &Read,
-    third: &Read,
-    tally: &mut Tally,
-) -> Result<(), Fail>
-    requires first { (length first.now.column.items ≡ n) × All (λ entry. entry < first.now.cycle) first.now.column.items }
-    requires second { (length second.now.column.items ≡ n) × All (λ entry. entry < second.now.cycle) second.now.column.items }
-    requires third { (length third.now.column.items ≡ n) × All (λ entry. entry < third.now.cycle) third.now.column.items }
-{
-    let mut held = Held::new(alloc, n)?;
-    let (p, q, r) = (first.item, second.item, third.item);
-    if !are_apart(n, p, q, r) {
-        return Ok(());
-    }
-    if !hold(&mut held, p, first.cycle, &first.column) {
-        return Ok(());
-    }
-    if !hold(&mut held, q, second.cycle, &second.column) {
-        return Ok(());
-    }
-    let told = lesser(clash(first, third), clash(second, third));
-    let answer = held.clashes(r, third.cycle, &third.column);
-    let cycles = array(alloc, n, &[first, second])?;
-    tally.tried = tally.tried.wrapping_add(1);
-    if answer.is_some() {
-        tally.clashed = tally.clashed.wrapping_add(1);
-    }
-    if answer != told || held.cycles() != cycles.as_slice() {
-        tally.other = tally.other.wrapping_add(1);
-    }
-    held.clear();
-    if held.cycles() != array(alloc, n, &[])?.as_slice() {
-        tally.other = tally.other.wrapping_add(1);
-    }
-    Ok(())
+    held: Attempt,
+    plain: Vec<Read>,
 }
 
-/// Tries three reads of cycles from 3 to 9, at items by the seed.
-fn try_seed(alloc: Global, n: u16, seed: u32, tally: &mut Tally) -> Result<(), Fail> {
-    let items = u32::from(n);
-    if items == 0 {
-        return Ok(());
-    }
-    let first = made(alloc, n, (seed % items) as u16, 3 + seed % 7, seed)?;
-    let second = made(
-        alloc,
-        n,
-        (seed / 3 % items) as u16,
-        3 + seed / 7 % 7,
-        seed ^ 65535,
-    )?;
-    let third = made(
-        alloc,
-        n,
-        (seed / 11 % items) as u16,
-        3 + seed / 49 % 7,
-        seed ^ 4294901760,
-    )?;
-    try_third(alloc, n, &first, &second, &third, tally)
+/// How often a read was tried beside held ones and went with them, how often it clashed, and the most held at once.
+#[derive(Clone, Copy)]
+struct Tally {
+    went: u32,
+    clashed: u32,
+    most: usize,
 }
 
-/// What comes of two thousand seeds at that length.
-fn tallied(alloc: Global, n: u16) -> Result<Tally, Fail> {
-    let mut tally = Tally {
-        tried: 0,
-        clashed: 0,
-        other: 0,
+impl Tally {
+    /// One more answer beside so many held reads.
+    fn add(&mut self, beside: usize, answer: Result<Option<Clash>, Unheld>) {
+        match answer {
+            Ok(None) if beside > 0 => self.went = self.went.wrapping_add(1),
+            Ok(Some(_)) => self.clashed = self.clashed.wrapping_add(1),
+            _ => {}
+        }
+        self.most = self.most.max(beside);
+    }
+}
+
+impl Pair {
+    /// Tries the read, and holds it where there is room and it goes with all.
+    fn try_read(&mut self, read: Read, tally: &mut Tally) -> Result<Option<Other>, Fail> {
+        let told = plain(&self.plain, &read);
+        let new = (read.item, read.cycle, read.column.as_slice());
+        let answer = self.held.clashes(&new);
+        if answer != told {
+            return Ok(Some(Other::Clashes(answer)));
+        }
+        tally.add(self.plain.len(), answer);
+        if answer != Ok(None) || self.plain.len() >= 16 {
+            return Ok(None);
+        }
+        if let Err(unheld) = self.held.hold(&new) {
+            return Ok(Some(Other::Unheld(unheld)));
+        }
+        self.plain.push(read)?;
+        Ok(None)
+    }
+
+    /// Compares the held cycles, then clears all and compares them again.
+    fn clear(&mut self, alloc: Global) -> Result<Option<Other>, Fail> {
+        if self.held.cycles() != array(alloc, self.n, &self.plain)?.as_slice() {
+            return Ok(Some(Other::Cycles));
+        }
+        self.held.clear();
+        self.plain.clear();
+        if self.held.cycles() != array(alloc, self.n, &[])?.as_slice() {
+            return Ok(Some(Other::ClearedCycles));
+        }
+        Ok(None)
+    }
+
+    /// Plays the attempt of a seed.
+    fn play(&mut self, alloc: Global, seed: u32, tally: &mut Tally) -> Result<Option<Other>, Fail> {
+        for number in 0..TRIES {
+            let read = made(alloc, self.n, seed, number)?;
+            if let Some(other) = self.try_read(read, tally)? {
+                return Ok(Some(other));
+            }
+        }
+        self.clear(alloc)
+    }
+}
+
+/// A length, the most reads that are held at once there, and whether one is tried beside another.
+#[derive(Drop)]
+struct Case<'a> {
+    shows: &'a str,
+    n: u16,
+    most: usize,
+    beside: bool,
+}
+
+/// In what a length differs: what differs in the attempt of a seed, or another number of reads that were held at once, or how
+/// often a read went with others and how often it clashed.
+#[derive(Clone, Copy, Debug, PartialEq, Eq)]
+enum Apart {
+    Attempt(u32, Other),
+    Most(usize),
+    Answers(u32, u32),
+}
+
+/// In what the answers at a length differ from what is told of it.
+fn difference(alloc: Global, case: &Case<'_>) -> Result<Option<Apart>, Fail> {
+    let mut pair = Pair {
+        n: case.n,
+        held: Attempt::new(alloc, case.n)?,
+        plain: Vec::new(alloc),
     };
-    for seed in 0..2000u32 {
-        try_seed(alloc, n, seed.wrapping_mul(2654435761), &mut tally)?;
+    let mut tally = Tally {
+        went: 0,
+        clashed: 0,
+        most: 0,
+    };
+    for seed in 0..SEEDS {
+        if let Some(other) = pair.play(alloc, seed, &mut tally)? {
+            return Ok(Some(Apart::Attempt(seed, other)));
+        }
     }
-    Ok(tally)
+    let (went, clashed) = (tally.went, tally.clashed);
+    if tally.most != case.most {
+        return Ok(Some(Apart::Most(tally.most)));
+    }
+    let told = if case.beside {
+        went > 1000 && clashed > 1000
+    } else {
+        went == 0 && clashed == 0
+    };
+    Ok((!told).then_some(Apart::Answers(went, clashed)))
 }
 
-/// The first length at which something was told otherwise, or at which not both answers came more than a hundred times.
-fn first_apart(alloc: Global) -> Result<Option<u16>, Fail> {
-    for n in LENGTHS {
-        let tally = tallied(alloc, n)?;
-        let few = tally.clashed < 100 || tally.tried.wrapping_sub(tally.clashed) < 100;
-        if tally.other != 0 || (n > 1 && few) {
-            return Ok(Some(n));
+/// The first length at which something differs, and in what.
+fn first_apart<'a>(alloc: Global, cases: &[Case<'a>]) -> Result<Option<(&'a str, Apart)>, Fail> {
+    for case in cases {
+        if let Some(apart) = difference(alloc, case)? {
+            return Ok(Some((case.shows, apart)));
         }
     }
     Ok(None)
 }
 
-#[test]
-fn each_clash_is_by_the_definition(rt: HostRuntime) -> Result<(), Fail> {
-    assert_eq!(rt; first_apart(rt.alloc())?, None);
-    Ok(())
+/// A length at which as many reads are held at once as there are items, at most sixteen.
+fn many(shows: &str, n: u16, most: usize) -> Case<'_> {
+    Case {
+        shows,
+        n,
+        most,
+        beside: true,
+    }
 }
 
 #[test]
-fn one_item_alone_has_its_cycle(rt: HostRuntime) -> Result<(), Fail> {
-    let mut held = Held::new(rt.alloc(), 1)?;
-    assert_eq!(rt; held.cycles(), [4294967295].as_slice());
-    assert!(rt; hold(&mut held, 0, 5, [4].as_slice()));
-    assert_eq!(rt; held.cycles(), [5].as_slice());
-    held.clear();
-    assert_eq!(rt; held.cycles(), [4294967295].as_slice());
+fn each_answer_is_the_plain_programs(rt: HostRuntime) -> Result<(), Fail> {
+    let alone = Case {
+        shows: "one item: one read, and none to try beside it",
+        n: 1,
+        most: 1,
+        beside: false,
+    };
+    let cases = [
+        alone,
+        many("7 items", 7, 7),
+        many("8 items", 8, 8),
+        many("9 items", 9, 9),
+        many("16 items: all of them held at once", 16, 16),
+        many("255 items: sixteen held at once, and others tried", 255, 16),
+        many("256 items: sixteen held at once, and others tried", 256, 16),
+    ];
+    assert_eq!(rt; first_apart(rt.alloc(), &cases)?, None);
     Ok(())
 }

@@ -40,67 +40,121 @@ enum Ask<'a> {
     },
 }
 
-/// Whether the control column is found as told.
-fn has_column(
+/// In what a question is answered otherwise than told: what came in its place.
+#[derive(Debug, PartialEq, Eq, Drop)]
+enum Other {
+    /// The history has no such place, cycle or number of items.
+    NotAsked,
+    Events(u64),
+    Starts(u32),
+    Start(bool),
+    Writer(Option<u64>),
+    Descends(Vec<bool>),
+    Column(Vec<u32>),
+    Table(Vec<u64>),
+}
+
+/// In what the marks of descent are found otherwise.
+fn descent_other(
+    alloc: Global,
+    history: &History,
+    place: u64,
+    told: &[bool],
+) -> Result<Option<Other>, Fail> {
+    if place >= history.len() {
+        return Ok(Some(Other::NotAsked));
+    }
+    let marks = descends(alloc, history, place)?;
+    if marks.as_slice() != told {
+        return Ok(Some(Other::Descends(marks)));
+    }
+    Ok(None)
+}
+
+/// In what the control column is found otherwise.
+fn column_other(
     alloc: Global,
     history: &History,
     cycle: u32,
     item: u16,
     told: &[u32],
-) -> Result<bool, Fail> {
+) -> Result<Option<Other>, Fail> {
     let mut column = vec![in alloc; 7; told.len()]?;
     if cycle > history.starts() || told.len() > 1000 || !history.fits(told.len() as u16) {
-        return Ok(false);
+        return Ok(Some(Other::NotAsked));
     }
     column_scan(alloc, history, cycle, item, &mut column)?;
-    Ok(column.as_slice() == told)
+    if column.as_slice() != told {
+        return Ok(Some(Other::Column(column)));
+    }
+    Ok(None)
 }
 
-/// Whether the values are found as told.
-fn has_table(
+/// In what the values are found otherwise.
+fn table_other(
     alloc: Global,
     history: &History,
     upto: u64,
     from: &[u64],
     told: &[u64],
-) -> Result<bool, Fail> {
+) -> Result<Option<Other>, Fail> {
     let mut values = from.to_vec(alloc)?;
     if upto > history.len() || from.len() > 1000 || !history.fits(from.len() as u16) {
-        return Ok(false);
+        return Ok(Some(Other::NotAsked));
     }
     table_of(history, upto, &mut values);
-    Ok(values.as_slice() == told)
+    if values.as_slice() != told {
+        return Ok(Some(Other::Table(values)));
+    }
+    Ok(None)
 }
 
-/// Whether the history answers as told.
-fn holds(alloc: Global, history: &History, ask: &Ask<'_>) -> Result<bool, Fail> {
-    Ok(match ask {
-        Ask::Events(told) => history.len() == *told,
-        Ask::Starts(told) => history.starts() == *told,
-        Ask::Start(place, told) => *place < history.len()
-            && history.event(*place).is_start() == *told,
-        Ask::Writer { cycle, item, told } => {
-            *cycle <= history.starts() && writer_at(history, *cycle, *item) == *told
-        }
-        Ask::Descends { place, told } => {
-            *place < history.len() && descends(alloc, history, *place)?.as_slice() == *told
-        }
-        Ask::Column { cycle, item, told } => has_column(alloc, history, *cycle, *item, told)?,
-        Ask::Table { upto, from, told } => has_table(alloc, history, *upto, from, told)?,
-    })
+/// In what the event at the place is otherwise.
+fn start_other(history: &History, place: u64, told: bool) -> Option<Other> {
+    if place >= history.len() {
+        return Some(Other::NotAsked);
+    }
+    let start = history.event(place).is_start();
+    (start != told).then_some(Other::Start(start))
 }
 
-/// Returns the place of the first question that isn't answered as told.
+/// In what the last writer is found otherwise.
+fn writer_other(history: &History, cycle: u32, item: u16, told: Option<u64>) -> Option<Other> {
+    if cycle > history.starts() {
+        return Some(Other::NotAsked);
+    }
+    let writer = writer_at(history, cycle, item);
+    (writer != told).then_some(Other::Writer(writer))
+}
+
+/// In what the history answers otherwise than told.
+fn difference(alloc: Global, history: &History, ask: &Ask<'_>) -> Result<Option<Other>, Fail> {
+    match ask {
+        Ask::Events(told) => {
+            Ok((history.len() != *told).then_some(Other::Events(history.len())))
+        }
+        Ask::Starts(told) => {
+            Ok((history.starts() != *told).then_some(Other::Starts(history.starts())))
+        }
+        Ask::Start(place, told) => Ok(start_other(history, *place, *told)),
+        Ask::Writer { cycle, item, told } => Ok(writer_other(history, *cycle, *item, *told)),
+        Ask::Descends { place, told } => descent_other(alloc, history, *place, told),
+        Ask::Column { cycle, item, told } => column_other(alloc, history, *cycle, *item, told),
+        Ask::Table { upto, from, told } => table_other(alloc, history, *upto, from, told),
+    }
+}
+
+/// Returns the place of the first question that isn't answered as told, and in what.
 fn first_other(
     rt: &impl Abort,
     alloc: Global,
     rows: &[Row<'_>],
     asks: &[Ask<'_>],
-) -> Result<Option<usize>, Fail> {
+) -> Result<Option<(usize, Other)>, Fail> {
     let history = history(rt, alloc, rows)?;
     for (place, ask) in asks.iter().enumerate() {
-        if !holds(alloc, &history, ask)? {
-            return Ok(Some(place));
+        if let Some(other) = difference(alloc, &history, ask)? {
+            return Ok(Some((place, other)));
         }
     }
     Ok(None)

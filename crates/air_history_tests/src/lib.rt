@@ -6,6 +6,8 @@
 #![tactic(auto)]
 
 #[cfg(test)]
+mod attempts;
+#[cfg(test)]
 mod board_lengths;
 #[cfg(test)]
 mod boards;

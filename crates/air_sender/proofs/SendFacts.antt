@@ -1,5 +1,6 @@
 -- Buckets that were sent one after the other: what the mast tells then.
--- `sent_none`, `sent_more` and `sent_all` are the loop over the slots; `last_bytes_are` says of which history the buckets are.
+-- `sent_none`, `sent_more` and `sent_all` are the loop over the slots; `last_bytes_are` says of which history the buckets
+-- are, and `sent_up_to` what was sent where the mast failed.
 use Rattle.std.proofs.Common.{◌≡◌, ◌<◌, ◌+◌, ◌++◌, ◌∙◌, ℕ, Bool, true, false, Option, Some, None, List, [], ◌∷◌, length, map, take, get_or, sym, ap, subst, arith, append_assoc}
 use Rattle.std.specs.Prelude.{Result, Ok, Err, OnErr, OnOk}
 use Rattle.std.specs.Result.{is_err}
@@ -14,7 +15,10 @@ use Rattle.air_history.specs.Boards.{Board, board_of}
 use Rattle.air_history.specs.Tables.{table, values_of}
 use Rattle.air_model.specs.Buckets.{Bucket, spelling}
 use Rattle.air_model.specs.Aired.{Air, SlotsFit}
-use Rattle.air_devices.specs.Masts.{Changes, Sent, with_buckets}
+use Rattle.air_devices.specs.Masts.{Changes, Masted, Sent, with_buckets}
+use Rattle.air_sender.specs.AirFaults.{IsAirAnswer, failed_slot}
+use Rattle.air_sender.specs.declared.airing.AirFault.{AirFault}
+use Rattle.air_sender.specs.declared.airing.AirFault.TheVariants as fault
 use Rattle.air_sender.specs.BoardBuckets.{IsLastBoard, body_on, bucket_on, cycle_buckets, cycle_bytes, last_bytes}
 use Rattle.air_sender.proofs.StartedBoards.{own_cycle}
 
@@ -84,3 +88,12 @@ last_is values air G by slots board is fit =
 pub last_bytes_are : (values : List ℕ) (air : Air) (G : List Event) (by : Policy) (slots : List (Option ℕ)) (board : Board) (n : ℕ) → IsLastBoard values air G by slots board
     → n ≡ length board.values → All (λ o. IfSome o (λ i. i < n)) slots → cycle_bytes by slots board ≡ last_bytes values air G
 last_bytes_are values air G by slots board n is e fit = last_is values air G by slots board is (subst (λ n. All (λ (o : Option ℕ). IfSome o (λ i. i < n)) slots) e fit)
+
+-- ---- a fault
+
+-- the buckets of the slots before that of the fault were sent, and no more
+pub sent_up_to : {M : Type 0} (state : M → Masted) (xs ys : List (List ℕ)) (before now : M) (e : AirFault) → xs ≡ ys → IsAirAnswer state xs before now e
+    → Changes (with_buckets (take (failed_slot e) ys)) (state before).told (state now).told
+sent_up_to state xs ys before now (fault.Mast slot) same failed =
+    subst (λ bs. Changes (with_buckets (take slot bs)) (state before).told (state now).told) same
+    (subst (λ told. Changes (with_buckets (take slot xs)) (state before).told told) (sym failed.kept) failed.sent)

@@ -1,4 +1,4 @@
 pub mod BoardBuckets
-pub mod Tapings
+pub mod TapeMasts
 pub mod AirFaults
 pub mod TapeSizes

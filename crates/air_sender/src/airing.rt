@@ -4,13 +4,14 @@
 //! board's buckets, and so those of the history of which the board is.
 
 ghost use Rattle.std.specs.Prelude.{◌≡◌, ℕ, ◌<◌, ◌≤◌, ◌+◌, ◌*◌, List, [], ◌∷◌, length, map, IfErr, OnErr, OnOk};
+ghost use Rattle.air_base.specs.declared.limits.TheConstants.{MOST_ITEMS, MOST_SLOTS};
 ghost use Rattle.air_history.specs.declared.histories.Event.{Event};
 ghost use Rattle.air_history.specs.declared.histories.Event.TheVariants.{Start};
 ghost use Rattle.air_model.specs.Disks.{all_items};
 ghost use Rattle.air_model.specs.Programs.{program as slots_of};
 ghost use Rattle.air_model.specs.Buckets.{spelling};
 ghost use Rattle.air_model.specs.Aired.{Air};
-ghost use Rattle.air_devices.specs.Counts.{HasDeviceCause};
+ghost use Rattle.air_devices.specs.Counts.{HasCause};
 ghost use Rattle.air_devices.specs.Masts.{Changes, with_buckets};
 ghost use Rattle.air_sender.specs.BoardBuckets.{EntriesBelow, IsLastBoard, bucket_on, cycle_bytes, last_bytes};
 ghost use Rattle.air_sender.specs.AirFaults.{IsAirAnswer, SendsUpToFault};
@@ -26,7 +27,8 @@ use control_matrix::Board;
 /// Why a cycle wasn't aired whole.
 #[derive(Clone, Copy, Debug, PartialEq, Eq)]
 pub enum AirFault {
-    /// The mast failed at the send of this slot; the slots before it were sent, and no other call failed.
+    /// The mast failed at the send of this slot. There is a mast, as it may have stood just before, by which the slots before had
+    /// been sent and the count was as at first; then the count rose, and what the mast tells stayed.
     Mast { slot: u32 },
 }
 
@@ -69,8 +71,8 @@ fn air_slot<M: Mast>(
     buf: &mut [u8],
 ) -> Result<(), Failed>
     requires slot { slot < length (slots_of program.now) }
-    requires short { slot < 16384 }
-    requires few { length board.now.values ≤ 256 }
+    requires short { slot < MOST_SLOTS }
+    requires few { length board.now.values ≤ MOST_ITEMS }
     requires started { 1 ≤ board.now.cycle }
     requires below { EntriesBelow board.now }
     requires items { length (all_items program.now) ≡ length board.now.values }
@@ -78,7 +80,7 @@ fn air_slot<M: Mast>(
     ensures sent { OnOk result (Changes (with_buckets (spelling (bucket_on policy (slots_of program.now) board.now slot) ∷ [])) (M.state mast.old).told (M.state mast.new).told) }
     ensures refused { OnErr result ((M.state mast.new).told ≡ (M.state mast.old).told) }
     ensures port { (M.state mast.new).port ≡ (M.state mast.old).port }
-    ensures cause { HasDeviceCause (M.state mast.old).faults (M.state mast.new).faults result }
+    ensures cause { HasCause (M.state mast.old).faults (M.state mast.new).faults result }
 {
     let bucket = slot_bucket(board, policy, slot, program.slot_item(slot));
     let len = encode(&bucket, buf);
@@ -96,9 +98,9 @@ pub fn tape_bytes(program: &Program, n: u16, cycles: u32) -> u64
 
 /// The length of the records of one cycle.
 fn cycle_len(program: &Program, n: u16) -> u64
-    requires { n ≤ 256 }
+    requires { n ≤ MOST_ITEMS }
     ensures len { result ≡ cycle_size n (slots_of program.now) }
-    ensures few { result ≤ 1052 * 16384 }
+    ensures few { result ≤ 1052 * MOST_SLOTS }
 {
     let mut len = 0;
     for slot in 0..program.slots() {

@@ -1,26 +1,27 @@
 //! The bucket of a slot in the board's cycle: its entries are lent from the board, and nothing is copied.
 
 ghost use Rattle.std.specs.Prelude.{◌≡◌, ◌<◌, ◌≤◌, ◌+◌, ◌*◌, ◌^◌, length, IfSome};
+ghost use Rattle.air_model.specs.Aired.{aired_as};
 ghost use Rattle.air_model.specs.Buckets.{IsInRange, spelling};
-ghost use Rattle.bucket_codec.specs.Said.{said};
-ghost use Rattle.air_sender.specs.BoardBuckets.{EntriesBelow, body_on};
+ghost use Rattle.bucket_codec.specs.BucketsToAir.{body_to_air, bucket_to_air};
+ghost use Rattle.air_sender.specs.BoardBuckets.{EntriesBelow, body_on, entries_on};
 
 use air_base::Policy;
 use bucket_codec::{Body, Bucket};
 use control_matrix::Board;
 
 /// The bucket of a slot that has this item, or is idle.
-#[tactic(auto, using(crate::proofs::RangeFacts::spelling_long), unfolding(crate::specs::BoardBuckets::body_on, bucket_codec::specs::Said::body_said))]
+#[tactic(auto, using(crate::proofs::RangeFacts::spelling_long), unfolding(crate::specs::BoardBuckets::body_on, bucket_codec::specs::BucketsToAir::body_to_air))]
 pub fn slot_bucket<'a>(board: &'a Board, policy: Policy, slot: u32, item: Option<u16>) -> Bucket<'a>
     requires within { IfSome item (λ i. i < length board.now.values) }
     requires slot { slot < 2 ^ 16 }
     requires few { length board.now.values ≤ 256 }
     requires started { 1 ≤ board.now.cycle }
     requires below { EntriesBelow board.now }
-    ensures bucket { said result ≡ record { edition = 0; cycle = board.now.cycle; slot = slot; body = body_on policy board.now item } }
-    ensures range { IsInRange (said result) }
-    ensures long { 24 ≤ length (spelling (said result)) }
-    ensures sized { length (spelling (said result)) ≤ 24 + 4 * length board.now.values }
+    ensures bucket { bucket_to_air result ≡ record { edition = 0; cycle = board.now.cycle; slot = slot; body = body_on policy board.now item } }
+    ensures range { IsInRange (bucket_to_air result) }
+    ensures long { 24 ≤ length (spelling (bucket_to_air result)) }
+    ensures sized { length (spelling (bucket_to_air result)) ≤ 24 + 4 * length board.now.values }
 {
     let cycle = board.cycle();
     let slot = slot as u16;
@@ -35,33 +36,37 @@ pub fn slot_bucket<'a>(board: &'a Board, policy: Policy, slot: u32, item: Option
         };
     };
     let value = board.value(item);
+    let body = item_body(board, policy, item, value);
+    Bucket {
+        edition,
+        cycle,
+        slot,
+        body,
+    }
+}
+
+/// What a slot with this item and value carries under the policy.
+#[tactic(auto, unfolding(bucket_codec::specs::BucketsToAir::body_to_air))]
+fn item_body<'a>(board: &'a Board, policy: Policy, item: u16, value: u64) -> Body<'a>
+    requires within { item < length board.now.values }
+    ensures body { body_to_air result ≡ aired_as policy item value (entries_on policy board.now item) }
+    ensures sized { length (entries_on policy board.now item) ≡ length board.now.values }
+{
     match policy {
         Policy::FMatrix => {
             let entries = board.column(item);
-            let body = Body::Column {
+            Body::Column {
                 item,
                 value,
                 entries,
-            };
-            Bucket {
-                edition,
-                cycle,
-                slot,
-                body,
             }
         }
         Policy::Datacycle | Policy::RMatrix => {
             let entries = board.vector();
-            let body = Body::Vector {
+            Body::Vector {
                 item,
                 value,
                 entries,
-            };
-            Bucket {
-                edition,
-                cycle,
-                slot,
-                body,
             }
         }
     }

@@ -1,17 +1,17 @@
 //! A mast that gathers what is sent as a tape, in room that is taken at once.
 //!
-//! A send fails exactly where its record has no room; aiming and finishing never fail. No call takes memory.
+//! A send fails exactly if its record has no room; aiming and finishing never fail. No call takes memory.
 
 ghost use Rattle.std.specs.Prelude.{◌≡◌, ◌<◌, ◌^◌, ◌↔◌, [], ◌∷◌, length, Some, IfOk, IsErr, IsOk, IsTrue, OnErr, OnOk};
 ghost use Rattle.air_model.specs.Tapes.{tape_of};
-ghost use Rattle.air_devices.specs.Counts.{HasDeviceCause};
-ghost use Rattle.air_devices.specs.Masts.{Changes, with_buckets, with_end};
-ghost use Rattle.air_sender.specs.Tapings.{masted_of, new_taping, overflows};
+ghost use Rattle.air_devices.specs.Counts.{HasCause};
+ghost use Rattle.air_devices.specs.Masts.{Changes, fresh_mast, with_buckets, with_end};
+ghost use Rattle.air_devices.specs.Recordings.{overflows_record};
+ghost use Rattle.air_sender.specs.TapeMasts.{masted_of, told_by};
 
 use air_base::NoMemory;
 use air_devices::{Failed, Mast, TapeRoom};
 use std::alloc::Global;
-use std::marker::Model;
 
 /// A tape of the sent buckets, and the room for it.
 #[derive(Drop)]
@@ -22,18 +22,11 @@ pub struct TapeMast {
     port: Option<u16>,
 }
 
-impl Model for TapeMast {
-    ghost use Rattle.air_sender.specs.Tapings.{Taping, taping_in};
-
-    ghost Value = { Taping };
-
-    ghost view = { taping_in };
-}
-
 impl TapeMast {
     /// Nothing sent yet, with room for a tape of so many bytes.
     pub fn new(alloc: Global, bytes: u64) -> Result<TapeMast, NoMemory>
-        ensures { IfOk result (λ t. t ≡ new_taping bytes) }
+        ensures fresh { IfOk result (λ t. masted_of t ≡ fresh_mast) }
+        ensures room { IfOk result (λ t. t.tape.room ≡ bytes) }
     {
         let tape = TapeRoom::new(alloc, bytes as usize)?;
         Ok(TapeMast {
@@ -46,7 +39,7 @@ impl TapeMast {
 
     /// The tape of what was sent.
     pub fn tape(&self) -> &[u8]
-        ensures { result.now ≡ tape_of self.now.sent.buckets }
+        ensures { result.now ≡ tape_of (told_by self.now).buckets }
     {
         self.tape.as_slice()
     }
@@ -57,9 +50,8 @@ impl Mast for TapeMast {
 
     fn aim(&mut self, port: u16) -> Result<(), Failed>
         ensures done { IsOk result }
-        ensures aimed { self.new.port ≡ Some port }
-        ensures kept { self.new ≡ record self.old { port = self.new.port } }
-        ensures cause { HasDeviceCause self.old.faults self.new.faults result }
+        ensures aimed { self.new ≡ record self.old { port = Some port } }
+        ensures cause { HasCause self.old.faults self.new.faults result }
     {
         self.port = Some(port);
         Ok(())
@@ -67,12 +59,12 @@ impl Mast for TapeMast {
 
     fn send(&mut self, bytes: &[u8]) -> Result<(), Failed>
         requires { length bytes.now < 2 ^ 32 }
-        ensures fails { IsErr result ↔ IsTrue (overflows self.old bytes.now) }
-        ensures room { self.new.room ≡ self.old.room }
-        ensures added { OnOk result (Changes (with_buckets (bytes.now ∷ [])) (Some self.old.sent) (Some self.new.sent)) }
-        ensures refused { OnErr result (self.new.sent ≡ self.old.sent) }
+        ensures fails { IsErr result ↔ IsTrue (overflows_record self.old.tape bytes.now) }
+        ensures room { self.new.tape.room ≡ self.old.tape.room }
+        ensures added { OnOk result (Changes (with_buckets (bytes.now ∷ [])) (Some (told_by self.old)) (Some (told_by self.new))) }
+        ensures refused { OnErr result (told_by self.new ≡ told_by self.old) }
         ensures port { self.new.port ≡ self.old.port }
-        ensures cause { HasDeviceCause self.old.faults self.new.faults result }
+        ensures cause { HasCause self.old.faults self.new.faults result }
     {
         if !self.tape.add(bytes) {
             self.faults = self.faults.saturating_add(1);
@@ -83,8 +75,9 @@ impl Mast for TapeMast {
 
     fn finish(&mut self) -> Result<(), Failed>
         ensures done { IsOk result }
-        ensures ended { self.new ≡ record self.old { sent = with_end self.old.sent } }
-        ensures cause { HasDeviceCause self.old.faults self.new.faults result }
+        ensures ended { told_by self.new ≡ with_end (told_by self.old) }
+        ensures rest { self.new ≡ record self.old { ended = self.new.ended } }
+        ensures cause { HasCause self.old.faults self.new.faults result }
     {
         let sent = self.tape.count();
         self.ended = Some(self.ended.unwrap_or(sent));

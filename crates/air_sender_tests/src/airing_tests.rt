@@ -149,7 +149,19 @@ fn two_items_make_a_tape_of_72_bytes_and_a_mast_that_fails_names_its_slot(
         answer: Err(AirFault::Mast { slot: 1 }),
         sent: &TWO_TAPE[..36],
     };
-    assert_eq!(rt; first_other(&rt, rt.alloc(), &[gathered, refused])?, None);
+    let refused_at_once = Case {
+        deck: TWO,
+        steps: &[],
+        policy: Policy::FMatrix,
+        on: On::Memory(&[1]),
+        room: 72,
+        answer: Err(AirFault::Mast { slot: 0 }),
+        sent: &[],
+    };
+    assert_eq!(rt;
+        first_other(&rt, rt.alloc(), &[gathered, refused, refused_at_once])?,
+        None
+    );
     Ok(())
 }
 

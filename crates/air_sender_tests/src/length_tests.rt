@@ -9,16 +9,27 @@ use std::alloc::Global;
 use std::process::Abort;
 use std::test::Fail;
 
-/// The place of the first row of deck, number of items, cycles and bytes that doesn't hold.
+/// In what a row differs: the number of items, or that of bytes, that came.
+#[derive(Clone, Copy, Debug, PartialEq, Eq)]
+enum Other {
+    Items(u16),
+    Bytes(u64),
+}
+
+/// The place of the first row of deck, number of items, cycles and bytes that doesn't hold, and in what.
 fn first_other_length(
     rt: &impl Abort,
     alloc: Global,
     rows: &[(&str, u16, u32, u64)],
-) -> Result<Option<usize>, Fail> {
-    for (place, (deck, n, cycles, bytes)) in rows.iter().enumerate() {
+) -> Result<Option<(usize, Other)>, Fail> {
+    for (place, (deck, n, cycles, told)) in rows.iter().enumerate() {
         let (program, board) = made(rt, alloc, deck, &[])?;
-        if board.n() != *n || tape_bytes(&program, board.n(), *cycles) != *bytes {
-            return Ok(Some(place));
+        if board.n() != *n {
+            return Ok(Some((place, Other::Items(board.n()))));
+        }
+        let bytes = tape_bytes(&program, board.n(), *cycles);
+        if bytes != *told {
+            return Ok(Some((place, Other::Bytes(bytes))));
         }
     }
     Ok(None)

@@ -14,21 +14,45 @@ enum Call<'a> {
     Finish(Result<(), Failed>),
 }
 
-/// Whether the mast takes the bucket so; one past the longest may not be sent.
-fn sends(mast: &mut TapeMast, bytes: &[u8], told: Result<(), Failed>) -> bool {
-    bytes.len() <= 65507 && mast.send(bytes) == told
+/// What a call answered in place of what is told.
+#[derive(Clone, Copy, Debug, PartialEq, Eq)]
+enum Other {
+    Aim(Result<(), Failed>),
+    Send(Result<(), Failed>),
+    Finish(Result<(), Failed>),
+    /// The bucket is past the longest, and may not be sent.
+    NotSent,
 }
 
-/// The place of the first call that isn't answered as told.
-fn first_other(mast: &mut TapeMast, calls: &[Call<'_>]) -> Option<usize> {
+/// What comes in place of the told answer to a send.
+fn send_other(mast: &mut TapeMast, bytes: &[u8], told: Result<(), Failed>) -> Option<Other> {
+    if bytes.len() > 65507 {
+        return Some(Other::NotSent);
+    }
+    let answer = mast.send(bytes);
+    (answer != told).then_some(Other::Send(answer))
+}
+
+/// What comes in place of the told answer to a call.
+fn difference(mast: &mut TapeMast, call: &Call<'_>) -> Option<Other> {
+    match call {
+        Call::Aim(port, told) => {
+            let answer = mast.aim(*port);
+            (answer != *told).then_some(Other::Aim(answer))
+        }
+        Call::Send(bytes, told) => send_other(mast, bytes, *told),
+        Call::Finish(told) => {
+            let answer = mast.finish();
+            (answer != *told).then_some(Other::Finish(answer))
+        }
+    }
+}
+
+/// The place of the first call that isn't answered as told, and the answer.
+fn first_other(mast: &mut TapeMast, calls: &[Call<'_>]) -> Option<(usize, Other)> {
     for (place, call) in calls.iter().enumerate() {
-        let held = match call {
-            Call::Aim(port, told) => mast.aim(*port) == *told,
-            Call::Send(bytes, told) => sends(mast, bytes, *told),
-            Call::Finish(told) => mast.finish() == *told,
-        };
-        if !held {
-            return Some(place);
+        if let Some(other) = difference(mast, call) {
+            return Some((place, other));
         }
     }
     None

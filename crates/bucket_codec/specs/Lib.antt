@@ -1,4 +1,4 @@
-pub mod Said
+pub mod BucketsToAir
 pub mod Heads
 pub mod Views
 pub mod Readers

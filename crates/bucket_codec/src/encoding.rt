@@ -8,7 +8,7 @@ ghost use Rattle.std.specs.List.{flat_map};
 ghost use Rattle.byteorder.specs.Endian.{big_bytes};
 ghost use Rattle.air_model.specs.Buckets.{IsBucket, IsInRange, entries_of, reading, spelling};
 ghost use Rattle.bucket_codec.specs.Heads.{head_bytes, head_of};
-ghost use Rattle.bucket_codec.specs.Said.{said};
+ghost use Rattle.bucket_codec.specs.BucketsToAir.{bucket_to_air};
 
 use byteorder::{BigEndian, ByteOrder};
 
@@ -59,9 +59,9 @@ struct Head {
 }
 
 /// The entries of a bucket.
-#[tactic(auto, unfolding(crate::specs::Said::body_said, air_model::specs::Buckets::entries_of))]
+#[tactic(auto, unfolding(crate::specs::BucketsToAir::body_to_air, air_model::specs::Buckets::entries_of))]
 fn entries<'a>(bucket: &Bucket<'a>) -> &'a [u32]
-    ensures { result.now ≡ entries_of (said bucket.now).body }
+    ensures { result.now ≡ entries_of (bucket_to_air bucket.now).body }
 {
     match bucket.body {
         Body::Idle { .. } => &[],
@@ -71,10 +71,10 @@ fn entries<'a>(bucket: &Bucket<'a>) -> &'a [u32]
 }
 
 /// The head of a bucket.
-#[tactic(auto, unfolding(crate::specs::Heads::head_of, crate::specs::Said::body_said, air_model::specs::Buckets::kind_of, air_model::specs::Buckets::count_of, air_model::specs::Buckets::item_of, air_model::specs::Buckets::value_of))]
+#[tactic(auto, unfolding(crate::specs::Heads::head_of, crate::specs::BucketsToAir::body_to_air, air_model::specs::Buckets::kind_of, air_model::specs::Buckets::count_of, air_model::specs::Buckets::item_of, air_model::specs::Buckets::value_of))]
 fn head_numbers(bucket: &Bucket<'_>) -> Head
-    requires { IsInRange (said bucket.now) }
-    ensures { result ≡ head_of (said bucket.now) }
+    requires { IsInRange (bucket_to_air bucket.now) }
+    ensures { result ≡ head_of (bucket_to_air bucket.now) }
 {
     let (kind, count, item, value) = match bucket.body {
         Body::Idle { count } => (0, count, u16::MAX, 0),
@@ -153,18 +153,18 @@ fn put_entries(out: &mut [u8], entries: &[u32])
 
 /// How many bytes a bucket has: 24, and four for each entry.
 pub fn size_of(bucket: &Bucket<'_>) -> usize
-    ensures { result ≡ length (spelling (said bucket.now)) }
+    ensures { result ≡ length (spelling (bucket_to_air bucket.now)) }
 {
     24 + 4 * entries(bucket).len()
 }
 
 /// Writes a bucket's bytes to the front of `out` and answers how many there are.
 pub fn encode(bucket: &Bucket<'_>, out: &mut [u8]) -> usize
-    requires range { IsInRange (said bucket.now) }
-    requires room { length (spelling (said bucket.now)) ≤ length out.old }
-    ensures len { result ≡ length (spelling (said bucket.now)) }
-    ensures bytes { out.new ≡ spelling (said bucket.now) ++ drop result out.old }
-    ensures decodes { reading (take result out.new) ≡ Ok (said bucket.now) }
+    requires range { IsInRange (bucket_to_air bucket.now) }
+    requires room { length (spelling (bucket_to_air bucket.now)) ≤ length out.old }
+    ensures len { result ≡ length (spelling (bucket_to_air bucket.now)) }
+    ensures bytes { out.new ≡ spelling (bucket_to_air bucket.now) ++ drop result out.old }
+    ensures decodes { reading (take result out.new) ≡ Ok (bucket_to_air bucket.now) }
 {
     let entries = entries(bucket);
     put_head(out, &head_numbers(bucket));

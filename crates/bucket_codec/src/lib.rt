@@ -11,5 +11,5 @@ pub mod view;
 
 pub use air_model::bucket::BucketFault;
 pub use encoding::{Body, Bucket, encode, size_of};
-pub use tape::{TapeFault, TapeReader, tape_record};
+pub use tape::{TapeFault, TapeReader, check_tape, tape_record};
 pub use view::{BucketView, ViewKind, decode};

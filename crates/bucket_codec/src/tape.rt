@@ -4,7 +4,7 @@
 //! is cut, if it is. A reader that gave its last record stays as it is, so it answers the same at each later call.
 //! The sender writes records, `tune` reads them.
 
-ghost use Rattle.std.specs.Prelude.{◌≡◌, ◌≤◌, ◌<◌, ◌+◌, ◌++◌, ◌^◌, true, MatchOption, MatchResult, IfSome, drop, length};
+ghost use Rattle.std.specs.Prelude.{◌≡◌, ◌≤◌, ◌<◌, ◌+◌, ◌++◌, ◌^◌, true, None, MatchOption, MatchResult, IfErr, IfSome, OnOk, drop, length};
 ghost use Rattle.air_model.specs.Tapes.{ends_inside, record_bytes, tape_read, with_record};
 ghost use Rattle.bucket_codec.specs.Readers.{nothing_left, only_cut_at};
 
@@ -106,4 +106,25 @@ impl<'a> TapeReader<'a> {
             }
         }
     }
+
+    /// The next record of a tape that isn't cut; none at its end.
+    pub fn next_whole(&mut self) -> Option<&'a [u8]>
+        requires { self.old.cut ≡ None }
+        ensures { MatchOption result ((self.old ≡ nothing_left) × (self.new ≡ self.old)) (λ r. self.old ≡ with_record r.now self.new) }
+    {
+        match self.next() {
+            Ok(record) => record,
+            Err(_) => unreachable!(),
+        }
+    }
+}
+
+/// Reads a tape to its end, or to the record in which it is cut.
+pub fn check_tape(tape: &[u8]) -> Result<(), TapeFault>
+    ensures whole { OnOk result ((tape_read tape.now).cut ≡ None) }
+    ensures cut { IfErr result (λ fault. (tape_read tape.now).cut ≡ (only_cut_at fault).cut) }
+{
+    let mut records = TapeReader::new(tape);
+    while let Some(_record) = records.next()? {}
+    Ok(())
 }

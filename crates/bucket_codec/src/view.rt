@@ -87,7 +87,7 @@ fn entries_below(bytes: &[u8], n: u16, cycle: u32) -> bool
 
 /// Whether item and value are those of the kind.
 #[tactic(auto, unfolding(air_model::specs::Buckets::is_placed))]
-fn placed(kind: u8, item: u16, value: u64, count: u16) -> bool
+fn has_place(kind: u8, item: u16, value: u64, count: u16) -> bool
     ensures { result ≡ is_placed kind item value count }
 {
     if kind == 0 {
@@ -113,7 +113,7 @@ fn entries(kind: u8, count: u16) -> u16
 }
 
 /// Whether each number is in its range.
-fn shaped(bytes: &[u8], kind: u8, count: u16, n: u16) -> bool
+fn has_shape(bytes: &[u8], kind: u8, count: u16, n: u16) -> bool
     requires long { 24 + 4 * n ≤ length bytes.now }
     requires kind { kind ≡ slice_index bytes.now 3 }
     requires count { count ≡ number_at 6 2 bytes.now }
@@ -123,7 +123,7 @@ fn shaped(bytes: &[u8], kind: u8, count: u16, n: u16) -> bool
     let cycle = four_at(bytes, 8);
     let item = two_at(bytes, 14);
     let value = eight_at(bytes, 16);
-    in_limits(count, cycle) & placed(kind, item, value, count) & entries_below(bytes, n, cycle)
+    in_limits(count, cycle) & has_place(kind, item, value, count) & entries_below(bytes, n, cycle)
 }
 
 /// The first fault of the bytes, if they have one.
@@ -150,7 +150,7 @@ fn first_fault(bytes: &[u8]) -> Option<BucketFault>
     if bytes.len() != 24 + 4 * n as usize {
         return Some(BucketFault::Length);
     }
-    if !shaped(bytes, kind, count, n) {
+    if !has_shape(bytes, kind, count, n) {
         return Some(BucketFault::Shape);
     }
     None

@@ -4,7 +4,7 @@ use Rattle.std.proofs.Common.{◌≡◌, ◌<◌, ◌≤◌, ◌^◌, ℕ, List,
 use Rattle.std.specs.Prelude.{All}
 use Rattle.std.proofs.lemmas.List.Elements.{All-nil}
 use Rattle.air_model.specs.Buckets.{Column, Idle, IsInRange, Vector, count_of, entries_of, item_of, kind_of, value_of}
-use Rattle.bucket_codec.specs.Said.{body_said, said}
+use Rattle.bucket_codec.specs.BucketsToAir.{body_to_air, bucket_to_air}
 use Rattle.bucket_codec.specs.declared.encoding.Bucket.{Bucket as BucketToAir}
 use Rattle.bucket_codec.specs.declared.encoding.Body.{Body as BodyToAir}
 
@@ -52,5 +52,5 @@ vector_range m c s i v es edition one wide slot within few value below = record 
   entries = below;
 }
 
-pub said_range : (b : BucketToAir) (given : BodyToAir) → b.body ≡ given → IsInRange (record { edition = b.edition; cycle = b.cycle; slot = b.slot; body = body_said given }) → IsInRange (said b)
-said_range b given e range = subst (λ body. IsInRange (record { edition = b.edition; cycle = b.cycle; slot = b.slot; body = body_said body })) (sym e) range
+pub said_range : (b : BucketToAir) (given : BodyToAir) → b.body ≡ given → IsInRange (record { edition = b.edition; cycle = b.cycle; slot = b.slot; body = body_to_air given }) → IsInRange (bucket_to_air b)
+said_range b given e range = subst (λ body. IsInRange (record { edition = b.edition; cycle = b.cycle; slot = b.slot; body = body_to_air body })) (sym e) range

@@ -2,7 +2,7 @@
 
 ghost use Rattle.std.specs.Prelude.{◌<◌, ◌≤◌, All, IsTrue, length};
 ghost use Rattle.air_model.specs.Buckets.{Column, Idle, IsInRange, Vector};
-ghost use Rattle.bucket_codec.specs.Said.{said};
+ghost use Rattle.bucket_codec.specs.BucketsToAir.{bucket_to_air};
 
 use bucket_codec::{Body, Bucket};
 
@@ -58,7 +58,7 @@ fn is_vector(edition: u16, cycle: u32, slot: u16, item: u16, value: u64, entries
 
 /// Whether the numbers of the bucket are in range.
 pub fn in_range(bucket: &Bucket<'_>) -> bool
-    ensures { IsTrue result → IsInRange (said bucket.now) }
+    ensures { IsTrue result → IsInRange (bucket_to_air bucket.now) }
 {
     let Bucket {
         edition,

@@ -11,15 +11,18 @@ enum Fault {
     Tape(TapeFault),
 }
 
-/// Returns the first text that a fault doesn't show.
-fn first_other<'a>(alloc: Global, cases: &[(Fault, &'a str)]) -> Result<Option<&'a str>, Fail> {
+/// Returns the first text that a fault doesn't show, and what it shows.
+fn first_other<'a>(
+    alloc: Global,
+    cases: &[(Fault, &'a str)],
+) -> Result<Option<(&'a str, String)>, Fail> {
     for (fault, told) in cases {
         let shown = match fault {
             Fault::Bucket(fault) => fault.to_string(alloc)?,
             Fault::Tape(fault) => fault.to_string(alloc)?,
         };
         if shown.as_str() != *told {
-            return Ok(Some(*told));
+            return Ok(Some((*told, shown)));
         }
     }
     Ok(None)

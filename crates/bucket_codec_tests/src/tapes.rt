@@ -27,25 +27,38 @@ fn write_all(records: &[&[u8]], out: &mut [u8]) -> Option<usize> {
     Some(at)
 }
 
-/// Whether the records make the tape, and leave the bytes behind it, of which there are so many, as they are.
-fn make(alloc: Global, records: &[&[u8]], tape: &[u8], behind: u8) -> Result<bool, Fail> {
+/// In what the records make another tape than told, into a slice with so many bytes behind it.
+fn difference(
+    alloc: Global,
+    records: &[&[u8]],
+    tape: &[u8],
+    behind: u8,
+) -> Result<Option<&'static str>, Fail> {
     let mut out = vec![in alloc; 0xee; tape.len() + behind as usize]?;
     let Some(len) = write_all(records, &mut out) else {
-        return Ok(false);
+        return Ok(Some("the room"));
     };
-    let untouched = out.iter().skip(len).all(|byte| *byte == 0xee);
-    Ok(out.get(..len) == Some(tape) && untouched)
+    let found = if len != tape.len() {
+        Some("the number of bytes written")
+    } else if out.get(..len) != Some(tape) {
+        Some("the bytes")
+    } else if out.iter().skip(len).any(|byte| *byte != 0xee) {
+        Some("the bytes behind")
+    } else {
+        None
+    };
+    Ok(found)
 }
 
-/// Returns the place of the first records that don't make the tape.
+/// Returns the place of the first records that make another tape than told, and in what it differs.
 fn first_other(
     alloc: Global,
     cases: &[(&[&[u8]], &[u8])],
     behind: u8,
-) -> Result<Option<usize>, Fail> {
+) -> Result<Option<(usize, &'static str)>, Fail> {
     for (place, (records, tape)) in cases.iter().enumerate() {
-        if !make(alloc, records, tape, behind)? {
-            return Ok(Some(place));
+        if let Some(what) = difference(alloc, records, tape, behind)? {
+            return Ok(Some((place, what)));
         }
     }
     Ok(None)
@@ -64,45 +77,57 @@ fn records_make_the_tape(rt: HostRuntime) -> Result<(), Fail> {
     Ok(())
 }
 
-/// Whether the tape gives these records, and then its end again and again.
-fn gives(tape: &[u8], records: &[&[u8]], cut: Option<TapeFault>) -> bool {
+/// In what a tape is read otherwise than told: the record of a number, or the end when it is asked for once or again.
+#[derive(Clone, Copy, Debug, PartialEq, Eq)]
+enum Other {
+    NoFront,
+    Record(usize),
+    End,
+    EndAgain,
+}
+
+/// In what the tape gives other records than these, or another end behind them, again and again.
+fn misread(tape: &[u8], records: &[&[u8]], cut: Option<TapeFault>) -> Option<Other> {
     let end = match cut {
         None => Ok(None),
         Some(fault) => Err(fault),
     };
     let mut reader = TapeReader::new(tape);
-    for record in records {
+    for (place, record) in records.iter().enumerate() {
         if reader.next() != Ok(Some(*record)) {
-            return false;
+            return Some(Other::Record(place));
         }
     }
-    reader.next() == end && reader.next() == end
+    if reader.next() != end {
+        return Some(Other::End);
+    }
+    (reader.next() != end).then_some(Other::EndAgain)
 }
 
 /// The least and the greatest length of a front of the tape, the whole records that it gives, and where it is cut.
 type Front = (usize, usize, usize, Option<TapeFault>);
 
-/// Returns the first of these lengths at which the front of the tape is read otherwise than told.
-fn first_length_misread(tape: &[u8], records: &[&[u8]], front: Front) -> Option<usize> {
+/// Returns the first of these lengths at which the front of the tape is read otherwise than told, and in what.
+fn first_length_misread(tape: &[u8], records: &[&[u8]], front: Front) -> Option<(usize, Other)> {
     let (least, greatest, whole, cut) = front;
     for len in least..=greatest {
-        let given = match (tape.get(..len), records.get(..whole)) {
-            (Some(bytes), Some(records)) => gives(bytes, records, cut),
-            _ => false,
+        let other = match (tape.get(..len), records.get(..whole)) {
+            (Some(bytes), Some(records)) => misread(bytes, records, cut),
+            _ => Some(Other::NoFront),
         };
-        if !given {
-            return Some(len);
+        if let Some(other) = other {
+            return Some((len, other));
         }
     }
     None
 }
 
-/// Returns the first length at which the front of the tape is read otherwise than told.
-fn first_front_misread(tape: &[u8], records: &[&[u8]], fronts: &[Front]) -> Option<usize> {
+/// Returns the first length at which the front of the tape is read otherwise than told, and in what.
+fn first_front_misread(tape: &[u8], records: &[&[u8]], fronts: &[Front]) -> Option<(usize, Other)> {
     for front in fronts {
-        let misread = first_length_misread(tape, records, *front);
-        if misread.is_some() {
-            return misread;
+        let other = first_length_misread(tape, records, *front);
+        if other.is_some() {
+            return other;
         }
     }
     None
@@ -124,7 +149,7 @@ fn a_tape_is_cut_at_each_of_its_bytes(rt: HostRuntime) {
 fn records_have_any_length(rt: HostRuntime) {
     let mut long = [7; 1057];
     long[..8].copy_from_slice(&[0, 0, 0, 0, 0, 0, 4, 0x19]);
-    let given = gives(&long, &[&[], &long[8..]], None);
-    let cut = gives(&[0xff; 9], &[], Some(TapeFault::Cut { at: 0 }));
-    assert_eq!(rt; (given, cut), (true, true));
+    let whole = misread(&long, &[&[], &long[8..]], None);
+    let cut = misread(&[0xff; 9], &[], Some(TapeFault::Cut { at: 0 }));
+    assert_eq!(rt; (whole, cut), (None, None));
 }

@@ -42,7 +42,7 @@ pub told_by_history : (n : ℕ) (H : List Event) (R : List Heard) (x : Heard) �
     clash_by_entries FMatrix R x ≡ clash_by_history FMatrix H (map read_at R) (read_at x)
 told_by_history n H R x held new = sym (clash (scheme_of FMatrix) n H R x held new tt)
 
--- and there is none exactly where the reads stay consistent
+-- and there is none exactly if the reads stay consistent
 pub none_told : (n : ℕ) (H : List Event) (R : List Heard) (x : Heard) → All (IsHeard (scheme_of FMatrix) n H) R → IsHeard (scheme_of FMatrix) n H x → IsConsistent H (map read_at R) →
     (clash_by_entries FMatrix R x ≡ None) ↔ IsConsistent H (map read_at R ++ read_at x ∷ [])
 none_told n H R x held new consistent =

@@ -2,7 +2,7 @@
 
 ghost use Rattle.column_check.specs.HeldLaws.{NamesLeastLaw, AiredIsNewLaw};
 
-/// A clash is named exactly where a held read disagrees with the new one, and it is that of least item number.
+/// A clash is named exactly if a held read disagrees with the new one, and it is that of least item number.
 pub fn names_least_law()
     ensures { NamesLeastLaw }
 {}

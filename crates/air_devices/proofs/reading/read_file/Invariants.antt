@@ -1,7 +1,7 @@
 use Rattle.std.proofs.Common.{◌≤◌, ◌+◌, ◌-◌, vec_len}
 use Rattle.std.specs.Io.KnownBytes.{Keeps, prepend_known}
 use Rattle.air_devices.specs.Counts.{KeepsCounts}
-use Rattle.air_devices.specs.Frames.{KeepsButLeft}
+use Rattle.air_devices.specs.Unchanged.{KeepsButLeft}
 use Rattle.air_devices.proofs.reading.read_file.Given as goal
 
 abbrev pub invariant-loop-buf : goal.invariant-loop-buf

@@ -1,10 +1,11 @@
-use Rattle.std.proofs.Common.{◌<◌, ◌∙◌, length, take, subst, sym, arith}
+use Rattle.std.proofs.Common.{◌<◌, ◌∙◌, length, subst, arith}
 use Rattle.air_model.specs.Disks.{all_items}
 use Rattle.air_model.specs.Programs.{program as slots_of}
 use Rattle.air_model.specs.Buckets.{spelling}
 use Rattle.air_devices.specs.Masts.{Changes, with_buckets}
 use Rattle.air_sender.specs.BoardBuckets.{bucket_on, cycle_bytes}
-use Rattle.air_sender.proofs.SendFacts.{last_bytes_are, length_cycle, refused, sent_all, sent_more, slot_bytes, well}
+use Rattle.air_sender.specs.declared.airing.AirFault.TheVariants as fault
+use Rattle.air_sender.proofs.SendFacts.{last_bytes_are, length_cycle, refused, sent_all, sent_more, sent_up_to, slot_bytes, well}
 use Rattle.air_sender.proofs.airing.air_cycle.Goals as goal
 
 pub returns-then-is_err-clause-fault : goal.returns-then-is_err-clause-fault
@@ -47,10 +48,6 @@ returns-clause-history g c values air G is =
 
 pub returns-then-is_err-clause-history : goal.returns-then-is_err-clause-history
 returns-then-is_err-clause-history g c values air G is =
-    let failed = returns-then-is_err-clause-fault g c in
-    let before = (g.M.Mast.state c.args.mast.now).told in
-    let bs = cycle_bytes c.args.policy (slots_of c.args.program.now) c.args.board.now in
-    let sent = subst (λ told. Changes (with_buckets (take c.loop-slot.slot bs)) before told) (sym failed.kept) failed.sent in
-    subst (λ bs. Changes (with_buckets (take c.loop-slot.slot bs)) before (g.M.Mast.state c.air_slot.new.mast).told)
+    sent_up_to g.M.Mast.state _ _ c.args.mast.now _ (fault.Mast _)
     (last_bytes_are values air G c.args.policy (slots_of c.args.program.now) c.args.board.now (length (all_items c.args.program.now)) is c.requires.items c.well_made.ensures.slots)
-    sent
+    (returns-then-is_err-clause-fault g c)

@@ -22,8 +22,8 @@ returns-then-kind-gt2 c = sym (fault_kind c.args.bytes.now (omega arith) (search
 pub returns-then-bytes-n : goal.returns-then-bytes-n
 returns-then-bytes-n c = sym (fault_length c.args.bytes.now (omega arith) (search rules) (search rules) (search rules) (search rules) c.entries-n.result (search rules) (search rules))
 
-pub returns-then-not-shaped : goal.returns-then-not-shaped
-returns-then-not-shaped c = sym (fault_shape c.args.bytes.now (omega arith) (search rules) (search rules) (search rules) (search rules) c.entries-n.result (search rules) (search rules) (search rules))
+pub returns-then-not-has_shape : goal.returns-then-not-has_shape
+returns-then-not-has_shape c = sym (fault_shape c.args.bytes.now (omega arith) (search rules) (search rules) (search rules) (search rules) c.entries-n.result (search rules) (search rules) (search rules))
 
 pub returns : goal.returns
 returns c =

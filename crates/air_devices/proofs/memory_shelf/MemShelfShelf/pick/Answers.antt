@@ -16,15 +16,15 @@ returns-clause-fails c =
 
 pub returns-clause-call : goal.returns-clause-call
 returns-clause-call c =
-    let moved = file_moved c.args.self.now.files.items c.in-Some.place 0 c.index_mut.result.now c.args.name.now (sym c.file_place.ensures ∙ c.in-Some.is) c.index_mut.ensures.value in
+    let moved = file_moved c.args.self.now.files.items c.in-Some.place _ c.index_mut.result.now c.args.name.now (sym c.file_place.ensures ∙ c.in-Some.is) c.index_mut.ensures.value in
     record { calls = is_next_call c.args.self.now.calls _ c.is_to_fail.ensures.numbered; files = moved.names; outputs = refl; rooms = refl; room = refl }
 
 pub returns-clause-picked : goal.returns-clause-picked
 returns-clause-picked c =
-    let moved = file_moved c.args.self.now.files.items c.in-Some.place 0 c.index_mut.result.now c.args.name.now (sym c.file_place.ensures ∙ c.in-Some.is) c.index_mut.ensures.value in
+    let moved = file_moved c.args.self.now.files.items c.in-Some.place _ c.index_mut.result.now c.args.name.now (sym c.file_place.ensures ∙ c.in-Some.is) c.index_mut.ensures.value in
     ap (λ b. Some b) (moved.now ∙ sym moved.whole)
 
 pub returns-clause-rest : goal.returns-clause-rest
 returns-clause-rest c =
-    let moved = file_moved c.args.self.now.files.items c.in-Some.place 0 c.index_mut.result.now c.args.name.now (sym c.file_place.ensures ∙ c.in-Some.is) c.index_mut.ensures.value in
+    let moved = file_moved c.args.self.now.files.items c.in-Some.place _ c.index_mut.result.now c.args.name.now (sym c.file_place.ensures ∙ c.in-Some.is) c.index_mut.ensures.value in
     keeps_but_left c.args.self.now _ c.args.name.now moved.bytes moved.others

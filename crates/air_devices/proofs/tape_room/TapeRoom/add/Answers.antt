@@ -1,7 +1,7 @@
 use Rattle.std.proofs.Common.{◌≡◌, ◌∙◌, ◌+◌, ◌++◌, [], ◌∷◌, length, ap, arith, length-append}
 use Rattle.air_model.specs.Tapes.{tape_of, tape_read}
 use Rattle.air_devices.specs.Recordings.{Recording}
-use Rattle.air_devices.proofs.RecordFacts.{length_push, many_bytes, record_put, recording_is, tape_room}
+use Rattle.air_devices.proofs.RecordFacts.{length_push, many_bytes, recording_is, tape_more, tape_room}
 use Rattle.air_devices.proofs.tape_room.TapeRoom.add.Goals as goal
 
 pub overflow_add-self : goal.overflow_add-self
@@ -14,7 +14,7 @@ overflow_add-self c =
 pub invariant_of-self : goal.invariant_of-self
 invariant_of-self c =
     let rs = (tape_read c.self.inside.tape.items).records in
-    let is = record_put c.self.inside.tape.items c.put.new.tape.items c.put-2.new.tape.items _ rs c.args.bytes.now c.self.invariant.whole c.requires c.to_be_bytes.ensures c.put.ensures.items c.put-2.ensures.items in
+    let is = tape_more c.self.inside.tape.items c.put_record.new.tape.items rs c.args.bytes.now c.self.invariant.whole c.requires c.put_record.ensures.items in
     tape_room _ (rs ++ c.args.bytes.now ∷ []) is
     (omega (arith, length-append rs (c.args.bytes.now ∷ [])))
     (omega (arith, ap length is.1, length_push rs c.args.bytes.now, ap length c.self.invariant.whole.1))
@@ -23,6 +23,6 @@ invariant_of-self c =
 pub returns-clause-added : goal.returns-clause-added
 returns-clause-added c =
     let rs = (tape_read c.self.inside.tape.items).records in
-    recording_is (record { tape = c.put-2.new.tape; room = c.self.inside.room; count = c.self.inside.count + 1 }) (rs ++ c.args.bytes.now ∷ [])
-    (record_put c.self.inside.tape.items c.put.new.tape.items c.put-2.new.tape.items _ rs c.args.bytes.now c.self.invariant.whole c.requires c.to_be_bytes.ensures c.put.ensures.items c.put-2.ensures.items)
+    recording_is (record { tape = c.put_record.new.tape; room = c.self.inside.room; count = c.self.inside.count + 1 }) (rs ++ c.args.bytes.now ∷ [])
+    (tape_more c.self.inside.tape.items c.put_record.new.tape.items rs c.args.bytes.now c.self.invariant.whole c.requires c.put_record.ensures.items)
     ∙ ap (λ (r : Recording). let x : Recording = record { records = r.records ++ c.args.bytes.now ∷ []; room = r.room } in x) c.self.view_is

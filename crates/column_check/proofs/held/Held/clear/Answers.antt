@@ -7,9 +7,8 @@ pub invariant_of-self : goal.invariant_of-self
 invariant_of-self c =
     let inside = c.self.inside in
     let long : length inside.cycles.items ≡ inside.n = ap length c.self.invariant.cycles ∙ cycles_len (held_reads inside) in
-    let filled : c.fill.new.self.items ≡ replicate (length inside.cycles.items) 4294967295 = search rules in
     record {
       room = search rules;
-      cycles = filled ∙ ap (λ n. replicate n 4294967295) long ∙ sym (no_cycles inside.n);
+      cycles = (search rules) ∙ ap (λ n. replicate n 4294967295) long ∙ sym (no_cycles inside.n);
       once = λ k d l. absurd (omega arith);
     }

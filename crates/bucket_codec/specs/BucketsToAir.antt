@@ -6,11 +6,11 @@ use Rattle.bucket_codec.specs.declared.encoding.Body.{Body as BodyToAir}
 use Rattle.bucket_codec.specs.declared.encoding.Body.TheVariants as Given
 
 -- What the body of a bucket to be aired carries.
-unfoldable pub body_said : BodyToAir → Body
-body_said (Given.Idle count) = Idle count
-body_said (Given.Column item value entries) = Column item value entries.now
-body_said (Given.Vector item value entries) = Vector item value entries.now
+unfoldable pub body_to_air : BodyToAir → Body
+body_to_air (Given.Idle count) = Idle count
+body_to_air (Given.Column item value entries) = Column item value entries.now
+body_to_air (Given.Vector item value entries) = Vector item value entries.now
 
 -- What a bucket to be aired says.
-abbrev pub said : BucketToAir → Bucket
-said b = record { edition = b.edition; cycle = b.cycle; slot = b.slot; body = body_said b.body }
+abbrev pub bucket_to_air : BucketToAir → Bucket
+bucket_to_air b = record { edition = b.edition; cycle = b.cycle; slot = b.slot; body = body_to_air b.body }

@@ -1,17 +1,17 @@
--- Facts about contents that a form may leave untold: each holds where they are told. `Appends`, `Consumes` and
+-- Facts about what a form may leave untold: each holds where it is told. `Appends`, `Consumes` and
 -- `ReadConsumes` of std stand beside these words.
 use Rattle.std.specs.Prelude.{◌≡◌, ℕ, List, Option, Some, None, ⊤, take}
 use Rattle.std.specs.Io.KnownBytes.{Appends}
 
 -- contents, where told, are these bytes
-abbrev pub KnownIs : Option (List ℕ) → List ℕ → Type 0
-KnownIs None bytes = ⊤
-KnownIs (Some xs) bytes = bytes ≡ xs
+abbrev pub ToldIs : Option (List ℕ) → List ℕ → Type 0
+ToldIs None bytes = ⊤
+ToldIs (Some xs) bytes = bytes ≡ xs
 
--- contents, where told, have this property
-abbrev pub WhereKnown : Option (List ℕ) → (List ℕ → Type 0) → Type 0
-WhereKnown None P = ⊤
-WhereKnown (Some xs) P = P xs
+-- what is told, if anything is, has this property
+abbrev pub WhereTold : {T : Type 0} → Option T → (T → Type 0) → Type 0
+WhereTold None P = ⊤
+WhereTold (Some told) P = P told
 
 -- contents that were told are told again, and are now these bytes
 abbrev pub Becomes : Option (List ℕ) → Option (List ℕ) → List ℕ → Type 0

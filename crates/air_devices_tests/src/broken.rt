@@ -1,0 +1,76 @@
+//! A runtime of which every call fails, as one whose disk and output are gone.
+
+use std::alloc::Allocator;
+use std::fmt::Display;
+use std::fs::{File, Metadata, OpenOptions};
+use std::io::{Error, ErrorKind, Result};
+use std::rt::Files;
+
+/// The runtime.
+#[derive(Drop)]
+pub struct Broken;
+
+/// The error of every call.
+fn failure() -> Error {
+    Error::from(ErrorKind::BrokenPipe)
+}
+
+impl Files for Broken {
+    type File = File;
+
+    type Dir = File;
+
+    fn open_file(&self, _how: &OpenOptions, _path: &str) -> Result<File> {
+        Err(failure())
+    }
+
+    fn open_dir(&self, _path: &str) -> Result<File> {
+        Err(failure())
+    }
+
+    fn metadata(&self, _path: &str) -> Result<Metadata> {
+        Err(failure())
+    }
+
+    fn symlink_metadata(&self, _path: &str) -> Result<Metadata> {
+        Err(failure())
+    }
+
+    fn copy(&self, _from: &str, _to: &str) -> Result<u64> {
+        Err(failure())
+    }
+
+    fn rename(&self, _from: &str, _to: &str) -> Result<()> {
+        Err(failure())
+    }
+
+    fn remove_file(&self, _path: &str) -> Result<()> {
+        Err(failure())
+    }
+
+    fn create_dir(&self, _path: &str) -> Result<()> {
+        Err(failure())
+    }
+
+    fn remove_dir(&self, _path: &str) -> Result<()> {
+        Err(failure())
+    }
+
+    fn remove_dir_all<B: Allocator>(&self, _alloc: B, _path: &str) -> Result<()> {
+        Err(failure())
+    }
+}
+
+impl Print for Broken {
+    fn print<D: Display + Drop>(&self, _value: D) -> Result<()> {
+        Err(failure())
+    }
+
+    fn println<D: Display + Drop>(&self, _value: D) -> Result<()> {
+        Err(failure())
+    }
+
+    fn write_all(&self, _bytes: &[u8]) -> Result<()> {
+        Err(failure())
+    }
+}
