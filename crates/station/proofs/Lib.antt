@@ -1,0 +1,4 @@
+pub mod EntryLemmas
+pub mod TurnLemmas
+pub mod PassLists
+pub mod Joins

@@ -1,0 +1,24 @@
+//! The value behind a station's turnstile.
+use air_base::Values;
+use air_history::Event;
+use turnstile::Chronicle;
+use update_commit::Core;
+
+/// A core, whose events are the entries, each beside the number of the pass that makes such an event. The base is the first
+/// values and the number of updaters.
+#[derive(Drop)]
+pub struct Locked {
+    pub core: Core,
+}
+
+impl Chronicle for Locked {
+    ghost use Rattle.station.specs.Entries.{entries_of};
+
+    type Entry = Event;
+
+    type Base = (Values, u32);
+
+    ghost entries = { λ locked. entries_of locked.core.updaters locked.core.events };
+
+    ghost base = { λ locked. (locked.core.values, locked.core.updaters) };
+}

@@ -1,0 +1,3 @@
+pub mod CoreStates
+pub mod Receipts
+pub mod Inside
