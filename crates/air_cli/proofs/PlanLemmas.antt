@@ -16,8 +16,8 @@ use Rattle.air_model.specs.PlanTexts.{disk_row, item_row, minor_row, plan_rows, 
 use Rattle.air_model.specs.Outputs.{plan_output}
 use Rattle.air_model.specs.Rows.{row_writer, rows_text}
 use Rattle.air_model.proofs.SlotPlaces.{get_or_even, length_minor}
-use Rattle.air_cli.proofs.TapeLemmas.{count_items}
-use Rattle.air_cli.proofs.RowLemmas.{rows_more}
+use Rattle.script_run.proofs.AiredLemmas.{items_aired}
+use Rattle.air_rows.proofs.RowLemmas.{rows_more}
 
 -- ---- disks
 
@@ -62,7 +62,7 @@ disk_text (Some disk) m n f c l before after freq chunks len told =
 
 -- an item of the deck is one of the program's
 pub held_item : (d : Deck) (disks : List Disk) (i : ℕ) → IsDeck d → disks ≡ disks_in d → i < length d.items → i < length (all_items disks)
-held_item d disks i made same below = rw same (omega (arith, count_items d made))
+held_item d disks i made same below = rw same (omega (arith, items_aired d made))
 
 -- ---- rows one after another
 

@@ -1,9 +1,10 @@
--- The script's own tape: it is whole, its records are the history's buckets, and what is told over them is the report that
--- the history judges. `run_script` cites these.
+-- The script's own tape: it is whole, its records are the history's buckets, and the sessions over them are those that the
+-- history judges. `script_report` cites these.
 use Rattle.std.proofs.Common.{◌≡◌, ℕ, ◌*◌, ◌<◌, ◌≤◌, ◌^◌, None, List, [], ◌∷◌, length, map, All, sym, ◌∙◌, ap, arith}
 use Rattle.std.specs.List.{range_with_len}
 use Rattle.std.proofs.lemmas.List.Elements.{All-cons, All-nil}
 use Rattle.air_history.specs.declared.histories.Event.{Event}
+use Rattle.air_history.specs.Histories.{starts}
 use Rattle.air_history.proofs.ScanLemmas.{starts_within}
 use Rattle.air_model.specs.Aired.{scheme_in, air_of}
 use Rattle.air_model.specs.AiredLaws.{CanAir}
@@ -14,16 +15,19 @@ use Rattle.air_model.specs.Ethers.{Odds, heard_by}
 use Rattle.air_model.specs.Judges.{by_entries}
 use Rattle.air_model.specs.Outputs.{ether_of, odds_in, sessions_over, true_sessions}
 use Rattle.air_model.specs.ReceiverLaws.{session_of}
+use Rattle.air_model.specs.Reports.{counts_lines, report_text, script_text, verdict_lines}
+use Rattle.air_model.specs.Sessions.{State}
 use Rattle.air_model.specs.Tapes.{tape_of, tape_read}
+use Rattle.air_model.specs.declared.reports.CountsLine.{CountsLine}
+use Rattle.air_model.specs.declared.reports.VerdictLine.{VerdictLine}
 use Rattle.air_model.proofs.EtherFacts.{clear_ether}
 use Rattle.air_model.proofs.ReceiverLemmas.{true_sessions_are}
 use Rattle.air_model.proofs.ScriptLemmas.{script}
 use Rattle.air_model.proofs.TapeFacts.{length_record, whole_read}
-use Rattle.air_cli.specs.Forms.{CanRun}
-use Rattle.air_cli.specs.Replays.{aired_bytes}
-use Rattle.air_cli.specs.Told.{told_of}
-use Rattle.air_cli.proofs.ReplayAirs.{map_same}
-use Rattle.air_cli.proofs.ReplayLoops.{script_length}
+use Rattle.deck_files.specs.RunnableDecks.{IsSupported}
+use Rattle.script_run.specs.AiredBytes.{aired_bytes}
+use Rattle.script_run.proofs.AiredLemmas.{map_same}
+use Rattle.script_run.proofs.RunLoops.{script_length}
 
 -- ---- the tape
 
@@ -51,25 +55,40 @@ can_air deck made few slots = record {
   slots = omega arith;
 }
 
+-- a script starts few cycles
+pub script_starts_few : (deck : Deck) → length deck.script ≤ 200000 → starts (script_history deck) < 2 ^ 32
+script_starts_few deck few = let most = starts_within (script_history deck) in let long = script_length deck in omega arith
+
 -- nothing is lost, heard again or late
-no_odds : (deck : Deck) → CanRun deck → odds_in deck ≡ record { loss = 0; again = 0; late = 0 }
+no_odds : (deck : Deck) → IsSupported deck → odds_in deck ≡ record { loss = 0; again = 0; late = 0 }
 no_odds deck form =
     ap (λ n. let o : Odds = record { loss = n; again = deck.settings.again; late = deck.settings.late } in o) form.loss
     ∙ ap (λ n. let o : Odds = record { loss = 0; again = n; late = deck.settings.late } in o) form.again ∙ ap (λ n. let o : Odds = record { loss = 0; again = 0; late = n } in o) form.late
 
 -- so each reader hears all buckets
-hears_all : (deck : Deck) (H : List Event) (r : ℕ) → CanRun deck → ether_of deck H r ≡ aired_bytes deck H
+hears_all : (deck : Deck) (H : List Event) (r : ℕ) → IsSupported deck → ether_of deck H r ≡ aired_bytes deck H
 unfolding heard_by
 hears_all deck H r form =
     let pushed = aired_bytes deck H in
     ap (λ odds. heard_by deck.settings.seed r odds pushed) (no_odds deck form) ∙ clear_ether (words_of deck.settings.seed r (3 * length pushed)) pushed
 
--- so what is told over the tape is what the history judges
-pub script_told : (deck : Deck) (records : List (List ℕ)) → CanRun deck → IsDeck deck → length deck.script ≤ 200000 → length ((air_of deck).slots) ≤ 16384 → records ≡ aired_bytes deck (script_history deck)
-    → map told_of (true_sessions deck (script_history deck)) ≡ map told_of (sessions_over (by_entries (scheme_in deck)) deck (λ r. records))
-script_told deck records form made few slots is =
+-- so what is heard of the tape makes the sessions that the history judges
+pub script_heard : (deck : Deck) (records : List (List ℕ)) → IsSupported deck → IsDeck deck → length deck.script ≤ 200000 → length ((air_of deck).slots) ≤ 16384 → records ≡ aired_bytes deck (script_history deck)
+    → true_sessions deck (script_history deck) ≡ sessions_over (by_entries (scheme_in deck)) deck (λ r. records)
+script_heard deck records form made few slots is =
     let H = script_history deck in
     let judge = by_entries (scheme_in deck) in
-    ap (map told_of) (sym (true_sessions_are deck H (can_air deck made few slots))
+    sym (true_sessions_are deck H (can_air deck made few slots))
     ∙ map_same (λ r. session_of judge deck r (map bucket_in (ether_of deck H r))) (λ r. session_of judge deck r (map bucket_in records)) (range_with_len 0 (length deck.readers))
-    (λ r. ap (λ l. session_of judge deck r (map bucket_in l)) (hears_all deck H r form ∙ sym is)))
+    (λ r. ap (λ l. session_of judge deck r (map bucket_in l)) (hears_all deck H r form ∙ sym is))
+
+-- ---- the report
+
+-- the report of lines that sessions tell is that of the sessions
+pub report_same : (events H : List Event) (verdicts : List VerdictLine) (counts : List CountsLine) (told judged : List State) → events ≡ H → judged ≡ told
+    → verdicts ≡ verdict_lines told → counts ≡ counts_lines told
+    → report_text (record { history = events; verdicts = verdicts; counts = counts; glances = []; looks = [] }) ≡ script_text H judged
+report_same events H verdicts counts told judged same judges lines counted =
+    ap (λ h. report_text (record { history = h; verdicts = verdicts; counts = counts; glances = []; looks = [] })) same
+    ∙ ap (λ v. report_text (record { history = H; verdicts = v; counts = counts; glances = []; looks = [] })) (lines ∙ ap verdict_lines (sym judges))
+    ∙ ap (λ n. report_text (record { history = H; verdicts = verdict_lines judged; counts = n; glances = []; looks = [] })) (counted ∙ ap counts_lines (sym judges))

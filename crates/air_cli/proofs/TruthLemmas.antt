@@ -20,7 +20,7 @@ use Rattle.air_model.specs.ReceiverLaws.{session_of}
 use Rattle.air_model.specs.Reports.{tune_text}
 use Rattle.air_model.specs.Outputs.{ether_of, odds_in}
 use Rattle.air_cli.proofs.ModelLaws.{BytesLaw, EventsLaw, HeardWasPushedLaw, ReceiverLaw, ScriptLaw}
-use Rattle.air_cli.specs.Causes.{IsShort}
+use Rattle.deck_files.specs.RunnableDecks.{IsShort}
 use Rattle.air_cli.specs.Truths.{IsTrueScript, IsTrueTape}
 
 -- ---- the starts of a script

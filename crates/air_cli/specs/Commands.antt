@@ -1,7 +1,12 @@
--- What a command of the code asks for.
+-- The commands: what a command of the code asks for, and what each means.
+use Rattle.std.specs.Prelude.{Option, Some, None}
 use Rattle.std.specs.Option.{option_map}
 use Rattle.air_cli.specs.declared.words.Command.{Command}
 use Rattle.air_cli.specs.declared.words.Command.TheVariants as command
+use Rattle.air_cli.specs.Meanings.{Meaning, no_form}
+use Rattle.air_cli.specs.Plan.{plan_meaning}
+use Rattle.air_cli.specs.Script.{script_meaning}
+use Rattle.air_cli.specs.Tune.{tune_meaning}
 use Rattle.air_cli.specs.Words.{Asked, AsksPlan, AsksScript, AsksTune}
 
 -- The same files, each by the bytes of its name.
@@ -9,3 +14,14 @@ abbrev pub asked_by : Command → Asked
 asked_by (command.Plan deck) = AsksPlan deck.now
 asked_by (command.Script deck tape) = AsksScript deck.now (option_map (λ name. name.now) tape)
 asked_by (command.Tune deck tape) = AsksTune deck.now tape.now
+
+-- What each command means.
+abbrev pub meaning_of : Asked → Meaning
+meaning_of (AsksPlan deck) = plan_meaning deck
+meaning_of (AsksScript deck tape) = script_meaning deck tape
+meaning_of (AsksTune deck tape) = tune_meaning deck tape
+
+-- What words mean that ask for this, or for nothing.
+abbrev pub words_meaning : Option Asked → Meaning
+words_meaning None = no_form
+words_meaning (Some asked) = meaning_of asked

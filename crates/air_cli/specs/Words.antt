@@ -1,6 +1,6 @@
 -- The forms of the words of a command: which of them the words are, if they are one. A name is the list of its bytes; a
 -- file's name is any word that isn't empty.
-use Rattle.std.specs.Prelude.{◌≡◌, ◌⊎◌, ℕ, ◌||◌, ◌==◌, if◌then◌else◌, List, [], ◌∷◌, length, Option, Some, None, codes, nat_eq}
+use Rattle.std.specs.Prelude.{ℕ, ◌||◌, ◌==◌, if◌then◌else◌, List, [], ◌∷◌, length, Option, Some, None, codes, nat_eq}
 use Rattle.std.specs.Cmp.Lexicographic.{pointwise}
 
 -- What is asked for: to plan a deck; to do a deck's script, and to write its tape where one is named; to let a deck's
@@ -31,17 +31,3 @@ asked_of (name ∷ []) = None
 asked_of (name ∷ deck ∷ []) = if length deck == 0 then None else asked_of_one name deck
 asked_of (name ∷ deck ∷ tape ∷ []) = if length deck == 0 || length tape == 0 then None else asked_of_two name deck tape
 asked_of (name ∷ deck ∷ tape ∷ more ∷ words) = None
-
--- The words name this input file.
-abbrev pub IsInput : Option Asked → List ℕ → Type 0
-IsInput None name = ⊥
-IsInput (Some (AsksPlan deck)) name = name ≡ deck
-IsInput (Some (AsksScript deck tape)) name = name ≡ deck
-IsInput (Some (AsksTune deck tape)) name = (name ≡ deck) ⊎ (name ≡ tape)
-
--- The output that the words name, if they name one.
-abbrev pub output_of : Option Asked → Option (List ℕ)
-output_of None = None
-output_of (Some (AsksPlan deck)) = None
-output_of (Some (AsksScript deck tape)) = tape
-output_of (Some (AsksTune deck tape)) = None

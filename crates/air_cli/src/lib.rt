@@ -3,23 +3,14 @@
 //! `air_quiet` is the top call.
 #![tactic(auto)]
 
-mod audience;
-mod decks;
-mod delivery;
-mod files;
-mod hearing;
+mod plan;
 mod plan_rows;
-mod plans;
 mod quiet;
-mod replay;
-mod report;
-mod runs;
-mod scripts;
-pub mod status;
+mod reports;
+mod script;
 mod truths;
-mod tuning;
+mod tune;
 pub mod words;
-mod works;
 
+pub use air_status::Status;
 pub use quiet::air_quiet;
-pub use status::Status;

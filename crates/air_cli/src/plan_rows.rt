@@ -12,11 +12,11 @@ ghost use Rattle.air_model.specs.Programs.{minor_cycle, minor_len, num_minors};
 ghost use Rattle.air_model.specs.PlanTexts.{disk_row, item_row, minor_row, program_row, slot_text};
 ghost use Rattle.air_model.specs.Outputs.{plan_output};
 ghost use Rattle.air_model.specs.Rows.{row_writer, rows_text};
-ghost use Rattle.air_cli.specs.ReportTexts.{IsReady, written};
+ghost use Rattle.air_rows.specs.RowWriters.{IsReady, written};
 
-use crate::report::{finish, put_numbers, put_row, row_writer};
 use air_base::{NoMemory, write_u64};
 use air_model::program::slots_law;
+use air_rows::{finish, put_numbers, put_row, row_writer};
 use chunk_program::{Cut, Program};
 use csv::Writer;
 use item_catalog::Deck;

@@ -3,69 +3,62 @@
 //! Whatever a command prints and writes is made before anything is printed or written. The contract is one
 //! definition by cases of the status: its cause, what was printed and written, and what is left.
 
-ghost use Rattle.std.specs.Prelude.{◌≡◌, ◌≢◌, ℕ, List, Some, map, string_bytes, IfErr, IfOk, OnOk};
-ghost use Rattle.std.specs.Io.KnownBytes.{IsAtEnd};
-ghost use Rattle.air_devices.specs.Counts.{KeepsCounts};
-ghost use Rattle.air_cli.specs.Words.{IsInput, asked_of};
-ghost use Rattle.air_cli.specs.Commands.{asked_by};
-ghost use Rattle.air_cli.specs.Outcomes.{Leaves};
-ghost use Rattle.air_cli.specs.Readings.{Reads};
-ghost use Rattle.air_cli.specs.Answers.{Cause, Gives, QuietAnswers};
+ghost use Rattle.std.specs.Prelude.{map, string_bytes, IfErr, IfOk};
+ghost use Rattle.air_cli.specs.Words.{asked_of};
+ghost use Rattle.air_cli.specs.Commands.{asked_by, meaning_of, words_meaning};
+ghost use Rattle.air_cli.specs.Making.{IsMade, IsUnmade, Reads};
+ghost use Rattle.air_cli.specs.Answers.{Leaves, QuietAnswers};
 
-use crate::delivery::{delivered, refused};
-use crate::plans::plan_of;
-use crate::scripts::script_of;
-use crate::status::Status;
-use crate::tuning::tuning_of;
+use crate::plan::plan;
+use crate::script::script;
+use crate::tune::tune;
 use crate::words::{Command, command_of};
-use crate::works::Work;
 use air_devices::Shelf;
+use air_status::Status;
+use delivery::{Given, deliver, refuse};
 use std::alloc::Global;
 use std::thread::Threads;
 
-/// Does what the words ask for: `plan DECK`, `script DECK`, `script DECK TAPE` or `tune DECK TAPE`.
+/// Runs what the words ask for: `plan DECK`, `script DECK`, `script DECK TAPE` or `tune DECK TAPE`.
 pub fn air_quiet<T: Threads + Sync, S: Shelf>(
     _threads: &T,
     alloc: Global,
     words: &[String],
     shelf: &mut S,
 ) -> Status
-    ensures answers { QuietAnswers (asked_of (map (λ w. string_bytes w) words.now)) (S.state shelf.old) (S.state shelf.new) result }
-    ensures leaves { Leaves (asked_of (map (λ w. string_bytes w) words.now)) (S.state shelf.old) (S.state shelf.new) }
+    ensures answers { QuietAnswers (words_meaning (asked_of (map (λ w. string_bytes w) words.now))) (S.state shelf.old) (S.state shelf.new) result }
+    ensures leaves { Leaves (words_meaning (asked_of (map (λ w. string_bytes w) words.now))) (S.state shelf.old) (S.state shelf.new) }
 {
     match command_of(words) {
-        Some(command) => done(alloc, shelf, &command),
-        None => refused(alloc, shelf, Status::Words),
+        Some(command) => run(alloc, shelf, &command),
+        None => refuse(alloc, shelf, Status::Words),
     }
 }
 
-/// Does a command.
-fn done<S: Shelf>(alloc: Global, shelf: &mut S, command: &Command) -> Status
-    ensures answers { QuietAnswers (Some (asked_by command.now)) (S.state shelf.old) (S.state shelf.new) result }
-    ensures leaves { Leaves (Some (asked_by command.now)) (S.state shelf.old) (S.state shelf.new) }
+/// Runs a command: makes what it gives, and delivers it; or refuses.
+fn run<S: Shelf>(alloc: Global, shelf: &mut S, command: &Command) -> Status
+    ensures answers { QuietAnswers (meaning_of (asked_by command.now)) (S.state shelf.old) (S.state shelf.new) result }
+    ensures leaves { Leaves (meaning_of (asked_by command.now)) (S.state shelf.old) (S.state shelf.new) }
 {
-    match work_of(alloc, shelf, command) {
-        Ok(work) => delivered(shelf, command.output(), &work),
+    match make(alloc, shelf, command) {
+        Ok(given) => deliver(shelf, command.output(), &given),
         Err(status) => match status {
             Status::NoMemory => Status::NoMemory,
-            _ => refused(alloc, shelf, status),
+            _ => refuse(alloc, shelf, status),
         },
     }
 }
 
 /// What a command gives; nothing is printed or written yet.
-#[tactic(auto, unfolding(crate::specs::Answers::Cause, crate::specs::Answers::Gives))]
-fn work_of<S: Shelf>(alloc: Global, shelf: &mut S, command: &Command) -> Result<Work, Status>
-    ensures given { IfOk result (λ work. Gives (Some (asked_by command.now)) (S.state shelf.old) (λ g. work ≡ g)) }
-    ensures read { OnOk result ((name : List ℕ) → IsInput (Some (asked_by command.now)) name → IsAtEnd ((S.state shelf.new).told.left name)) }
-    ensures calm { OnOk result (KeepsCounts (S.state shelf.old).faults (S.state shelf.new).faults) }
-    ensures kept { IfErr result (λ s. s ≢ Status.ReadFault → KeepsCounts (S.state shelf.old).faults (S.state shelf.new).faults) }
-    ensures refused { IfErr result (Cause (Some (asked_by command.now)) (S.state shelf.old) (S.state shelf.new)) }
-    ensures rest { Reads (Some (asked_by command.now)) (S.state shelf.old) (S.state shelf.new) }
+#[tactic(auto, using(crate::proofs::ScriptFacts::made_for, crate::proofs::ScriptFacts::unmade_for, crate::proofs::ScriptFacts::reads_for))]
+fn make<S: Shelf>(alloc: Global, shelf: &mut S, command: &Command) -> Result<Given, Status>
+    ensures made { IfOk result (IsMade (meaning_of (asked_by command.now)) (S.state shelf.old) (S.state shelf.new)) }
+    ensures unmade { IfErr result (IsUnmade (meaning_of (asked_by command.now)) (S.state shelf.old) (S.state shelf.new)) }
+    ensures reads { Reads (meaning_of (asked_by command.now)) (S.state shelf.old) (S.state shelf.new) }
 {
     match command {
-        Command::Plan { deck } => plan_of(alloc, shelf, deck),
-        Command::Script { deck, .. } => script_of(alloc, shelf, deck),
-        Command::Tune { deck, tape } => tuning_of(alloc, shelf, deck, tape),
+        Command::Plan { deck } => plan(alloc, shelf, deck),
+        Command::Script { deck, .. } => script(alloc, shelf, deck),
+        Command::Tune { deck, tape } => tune(alloc, shelf, deck, tape),
     }
 }

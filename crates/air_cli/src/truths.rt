@@ -1,7 +1,7 @@
 //! What is true of the sessions that are printed, by the laws of the model. The calls do nothing.
 
 ghost use Rattle.std.specs.Prelude.{ℕ, List};
-ghost use Rattle.air_cli.specs.Causes.{IsShort};
+ghost use Rattle.deck_files.specs.RunnableDecks.{IsShort};
 ghost use Rattle.air_cli.specs.Truths.{IsTrueScript, IsTrueTape};
 
 use air_model::aired::bytes_law;

@@ -1,8 +1,8 @@
 //! The words of a command.
 
-ghost use Rattle.std.specs.Prelude.{◌≡◌, Some, option_map, map, string_bytes};
-ghost use Rattle.air_cli.specs.Words.{asked_of, asked_of_one, asked_of_two, output_of};
-ghost use Rattle.air_cli.specs.Commands.{asked_by};
+ghost use Rattle.std.specs.Prelude.{◌≡◌, option_map, map, string_bytes};
+ghost use Rattle.air_cli.specs.Words.{asked_of, asked_of_one, asked_of_two};
+ghost use Rattle.air_cli.specs.Commands.{asked_by, meaning_of};
 
 /// What the words ask for.
 #[derive(Clone, Copy, Debug)]
@@ -26,7 +26,7 @@ pub enum Command<'a> {
 impl<'a> Command<'a> {
     /// The output that is named, if one is.
     pub fn output(&self) -> Option<&'a str>
-        ensures { option_map (λ name. name.now) result ≡ output_of (Some (asked_by self.now)) }
+        ensures { option_map (λ name. name.now) result ≡ (meaning_of (asked_by self.now)).output }
     {
         match self {
             Command::Script { tape, .. } => *tape,
@@ -35,7 +35,7 @@ impl<'a> Command<'a> {
     }
 }
 
-/// What the words ask for, and `None` exactly where they are of no form.
+/// What the words ask for, and `None` exactly if they are of no form.
 pub fn command_of<'a>(words: &'a [String]) -> Option<Command<'a>>
     ensures { option_map asked_by result ≡ asked_of (map (λ w. string_bytes w) words.now) }
 {

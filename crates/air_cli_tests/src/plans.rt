@@ -1,6 +1,6 @@
 //! The command `plan`.
 
-use crate::cases::{Case, Part, Parts, first_other};
+use crate::cases::{Case, Part, first_other};
 use crate::first::{FIRST_CASE, PLAN};
 use air_cli::Status;
 
@@ -21,113 +21,106 @@ const ALL_ITEMS: &str =
 /// What makes the row of an item of rate 1 and value 0.
 const FLAT: &[&str] = &["item,", ",0,1\n"];
 
-/// A plan of this deck ends with the status, and prints the text.
-fn planned<'a>(shows: &'a str, deck: Parts<'a>, status: Status, printed: Parts<'a>) -> Case<'a> {
-    Case {
-        shows,
-        words: PLAN,
-        deck,
-        room: 100_000,
-        status,
-        printed,
-        ..FIRST_CASE
-    }
-}
+/// A plan with room for a long text.
+const PLANNED: Case<'static> = Case {
+    words: PLAN,
+    room: 100_000,
+    ..FIRST_CASE
+};
 
-#[test]
-fn a_plan_tells_the_program_its_disks_minor_cycles_and_items(rt: HostRuntime) {
-    let eleven: Parts<'_> = &[
+const THREE_DISKS: Case<'static> = Case {
+    shows: "three disks are interleaved",
+    deck: &[
         Part::Rows(11, FLAT),
         Part::Text("disk,1,4\ndisk,2,2\ndisk,8,1\n"),
-    ];
-    let interleaved: Parts<'_> = &[Part::Text(
+    ],
+    printed: &[Part::Text(
         "program,16,4,4\ndisk,0,4,1,1\ndisk,1,2,2,1\ndisk,2,1,4,2\n\
         minor,0,0 1 3 4\nminor,1,0 2 5 6\nminor,2,0 1 7 8\nminor,3,0 2 9 10\n\
         item,0,0,4,4,0,1\nitem,1,1,2,8,1,2\nitem,2,1,2,8,5,2\nitem,3,2,1,16,2,4\n\
         item,4,2,1,16,3,4\nitem,5,2,1,16,6,4\nitem,6,2,1,16,7,4\nitem,7,2,1,16,10,4\n\
         item,8,2,1,16,11,4\nitem,9,2,1,16,14,4\nitem,10,2,1,16,15,4\n",
-    )];
-    let six: Parts<'_> = &[Part::Rows(6, FLAT), Part::Text("disk,1,3\ndisk,5,2\n")];
-    let idle: Parts<'_> = &[Part::Text(
+    )],
+    ..PLANNED
+};
+
+const SIX_ITEMS: Case<'static> = Case {
+    shows: "idle slots are dashes",
+    deck: &[Part::Rows(6, FLAT), Part::Text("disk,1,3\ndisk,5,2\n")],
+    printed: &[Part::Text(
         "program,18,6,3\ndisk,0,3,2,1\ndisk,1,2,3,2\n\
         minor,0,0 1 2\nminor,1,- 3 4\nminor,2,0 5 -\nminor,3,- 1 2\nminor,4,0 3 4\nminor,5,- 5 -\n\
         item,0,0,3,6,0,2\nitem,1,1,2,9,1,3\nitem,2,1,2,9,2,3\nitem,3,1,2,9,4,3\n\
         item,4,1,2,9,5,3\nitem,5,1,2,9,7,3\n",
-    )];
-    let delta: Parts<'_> = &[
+    )],
+    ..PLANNED
+};
+
+const BY_DELTA: Case<'static> = Case {
+    shows: "a dash takes its frequency from delta",
+    deck: &[
         Part::Rows(11, FLAT),
         Part::Text("disk,2,-\ndisk,3,-\ndisk,6,-\nset,delta,1\n"),
-    ];
-    let by_delta: Parts<'_> = &[Part::Text(
+    ],
+    printed: &[Part::Text(
         "program,18,6,3\ndisk,0,3,2,1\ndisk,1,2,3,1\ndisk,2,1,6,1\n\
         minor,0,0 2 5\nminor,1,1 3 6\nminor,2,0 4 7\nminor,3,1 2 8\nminor,4,0 3 9\nminor,5,1 4 10\n\
         item,0,0,3,6,0,2\nitem,1,0,3,6,3,2\nitem,2,1,2,9,1,3\nitem,3,1,2,9,4,3\nitem,4,1,2,9,7,3\n\
         item,5,2,1,18,2,6\nitem,6,2,1,18,5,6\nitem,7,2,1,18,8,6\nitem,8,2,1,18,11,6\n\
         item,9,2,1,18,14,6\nitem,10,2,1,18,17,6\n",
-    )];
-    let rates: Parts<'_> = &[Part::Text(
-        "item,0,1,5\nitem,1,1,7\nitem,2,1,5\nitem,3,1,0\ndisk,2,2\ndisk,2,1\n",
-    )];
-    let by_rate: Parts<'_> = &[Part::Text(
+    )],
+    ..PLANNED
+};
+
+const EQUAL_RATES: Case<'static> = Case {
+    shows: "equal rates go by the smaller number",
+    deck: &[Part::Text("item,0,1,5\nitem,1,1,7\nitem,2,1,5\nitem,3,1,0\ndisk,2,2\ndisk,2,1\n")],
+    printed: &[Part::Text(
         "program,6,2,3\ndisk,0,2,1,2\ndisk,1,1,2,1\nminor,0,1 0 2\nminor,1,1 0 3\n\
         item,0,0,2,3,1,5\nitem,1,0,2,3,0,7\nitem,2,1,1,6,2,10\nitem,3,1,1,6,5,0\n",
-    )];
-    let small: Parts<'_> = &[Part::Rows(2, FLAT), Part::Text("disk,1,1\ndisk,1,4\n")];
-    let mostly_idle: Parts<'_> = &[Part::Text(
+    )],
+    ..PLANNED
+};
+
+const SMALL_DISK: Case<'static> = Case {
+    shows: "a disk smaller than its chunks idles",
+    deck: &[Part::Rows(2, FLAT), Part::Text("disk,1,1\ndisk,1,4\n")],
+    printed: &[Part::Text(
         "program,8,4,2\ndisk,0,1,4,1\ndisk,1,4,1,1\n\
         minor,0,0 1\nminor,1,- 1\nminor,2,- 1\nminor,3,- 1\nitem,0,0,1,8,0,4\nitem,1,1,4,2,1,1\n",
-    )];
-    let cases = [
-        planned(
-            "three disks are interleaved",
-            eleven,
-            Status::Ok,
-            interleaved,
-        ),
-        planned("idle slots are dashes", six, Status::Ok, idle),
-        planned(
-            "a dash takes its frequency from delta",
-            delta,
-            Status::Ok,
-            by_delta,
-        ),
-        planned(
-            "equal rates go by the smaller number",
-            rates,
-            Status::Ok,
-            by_rate,
-        ),
-        planned(
-            "a disk smaller than its chunks idles",
-            small,
-            Status::Ok,
-            mostly_idle,
-        ),
-    ];
+    )],
+    ..PLANNED
+};
+
+#[test]
+fn a_plan_tells_the_program_its_disks_minor_cycles_and_items(rt: HostRuntime) {
+    let cases = [THREE_DISKS, SIX_ITEMS, BY_DELTA, EQUAL_RATES, SMALL_DISK];
     assert_eq!(rt; first_other(&rt, rt.alloc(), &cases), None);
 }
 
 #[test]
 fn a_program_of_at_most_16384_slots_is_planned(rt: HostRuntime) {
-    let most: Parts<'_> = &[Part::Rows(256, FLAT), Part::Text("disk,256,64\n")];
-    let plan: Parts<'_> = &[
-        Part::Text("program,16384,64,256\ndisk,0,64,1,256\n"),
-        Part::Rows(64, &["minor,", ALL_ITEMS]),
-        Part::Rows(256, &["item,", ",0,64,256,", ",1\n"]),
-    ];
-    let more: Parts<'_> = &[
-        Part::Rows(3, FLAT),
-        Part::Text("disk,1,64\ndisk,1,63\ndisk,1,61\n"),
-    ];
-    let long = Status::PlanTooLong { slots: 737_856 };
     let cases = [
-        planned("16384 slots", most, Status::Ok, plan),
-        planned(
-            "737856 slots",
-            more,
-            long,
-            &[Part::Text("fault,13,737856\n")],
-        ),
+        Case {
+            shows: "16384 slots",
+            deck: &[Part::Rows(256, FLAT), Part::Text("disk,256,64\n")],
+            printed: &[
+                Part::Text("program,16384,64,256\ndisk,0,64,1,256\n"),
+                Part::Rows(64, &["minor,", ALL_ITEMS]),
+                Part::Rows(256, &["item,", ",0,64,256,", ",1\n"]),
+            ],
+            ..PLANNED
+        },
+        Case {
+            shows: "737856 slots",
+            deck: &[
+                Part::Rows(3, FLAT),
+                Part::Text("disk,1,64\ndisk,1,63\ndisk,1,61\n"),
+            ],
+            status: Status::PlanTooLong { slots: 737_856 },
+            printed: &[Part::Text("fault,13,737856\n")],
+            ..PLANNED
+        },
     ];
     assert_eq!(rt; first_other(&rt, rt.alloc(), &cases), None);
 }

@@ -1,7 +1,6 @@
 //! The rows of a report: the history, then the verdicts of all readers, then the counts of all readers.
 //!
-//! No command tells late buckets or copied reads yet; the row of all six counts is computed in
-//! `proofs/CountsExample.antt`.
+//! No command tells late buckets or copied reads yet; the tests of `air_report` show the row of all six counts.
 
 use crate::cases::{Case, Part, Parts, first_other};
 use crate::first::{FIRST_CASE, FIRST_TAPE, SCRIPT, TUNE};
@@ -17,6 +16,33 @@ const FOUR_READERS: Part<'static> = Part::Text(
 const FOREIGN: [u8; 28] = [
     0, 0, 0, 24, 0x41, 0x44, 1, 0, 0, 1, 0, 2, 0, 0, 0, 1, 0, 0, 255, 255, 0, 0, 0, 0, 0, 0, 0, 0,
 ];
+
+/// Eight readers over a tape with all that is counted of a tape.
+const ALL_COUNTS: Case<'static> = Case {
+    shows: "1 opened, 2 dozed, 4 refused, 5 foreign",
+    words: TUNE,
+    deck: &[
+        Part::Text("item,0,10,1\nitem,1,20,1\ndisk,2,1\n"),
+        Part::Times(8, "reader,0,0,1\n"),
+        Part::Text("query,7,1\n"),
+    ],
+    tape: &[
+        Part::Bytes(&FIRST_TAPE),
+        Part::Front(36, &FIRST_TAPE),
+        Part::Bytes(&[0; 16]),
+        Part::Bytes(&FOREIGN),
+        Part::Bytes(&FOREIGN),
+        Part::Bytes(&FOREIGN),
+        Part::Bytes(&FOREIGN),
+        Part::Bytes(&FOREIGN),
+    ],
+    printed: &[
+        Part::Text("accept,7,0,1,1@1=20\n"),
+        Part::Rows(7, &["counts,", ",0,3,0,4,5,0\n"]),
+        Part::Text("counts,7,1,2,0,4,5,0\n"),
+    ],
+    ..FIRST_CASE
+};
 
 /// A script of this deck prints this report.
 fn reported<'a>(shows: &'a str, deck: Parts<'a>, printed: Parts<'a>) -> Case<'a> {
@@ -70,36 +96,11 @@ fn a_report_has_the_history_then_all_verdicts_then_all_counts(rt: HostRuntime) {
         accept,1,0,1,1@1=20\naccept,1,1,1,1@2=21 0@3=21\nunfinished,1,2,1,\n\
         counts,0,4,2,0,0,0,0\ncounts,1,3,3,0,0,0,0\n",
     )];
-    let counts = Case {
-        shows: "1 opened, 2 dozed, 4 refused, 5 foreign",
-        words: TUNE,
-        deck: &[
-            Part::Text("item,0,10,1\nitem,1,20,1\ndisk,2,1\n"),
-            Part::Times(8, "reader,0,0,1\n"),
-            Part::Text("query,7,1\n"),
-        ],
-        tape: &[
-            Part::Bytes(&FIRST_TAPE),
-            Part::Front(36, &FIRST_TAPE),
-            Part::Bytes(&[0; 16]),
-            Part::Bytes(&FOREIGN),
-            Part::Bytes(&FOREIGN),
-            Part::Bytes(&FOREIGN),
-            Part::Bytes(&FOREIGN),
-            Part::Bytes(&FOREIGN),
-        ],
-        printed: &[
-            Part::Text("accept,7,0,1,1@1=20\n"),
-            Part::Rows(7, &["counts,", ",0,3,0,4,5,0\n"]),
-            Part::Text("counts,7,1,2,0,4,5,0\n"),
-        ],
-        ..FIRST_CASE
-    };
     let nothing: Parts<'_> = &[Part::Text("item,0,10,1\ndisk,1,1\n")];
     let cases = [
         reported("all three", deck, report),
         reported("none of them", nothing, &[]),
-        counts,
+        ALL_COUNTS,
     ];
     assert_eq!(rt; first_other(&rt, rt.alloc(), &cases), None);
 }

@@ -14,6 +14,43 @@ const THREE: Part<'static> = Part::Text(
     update,0,,0=11\nupdate,0,0,2=0+1\nupdate,0,2,1=2+1\n",
 );
 
+/// Two starts, and a query that asks for the last item first.
+const IN_ORDER: Parts<'static> = &[
+    Part::Rows(3, &["item,", ",0,1\n"]),
+    Part::Text("disk,3,1\nreader,0,0,1\nquery,0,2 0\nscript,s s\n"),
+];
+
+const IN_ORDER_REPORT: Parts<'static> = &[Part::Text(
+    "start\nstart\naccept,0,0,1,2@1=0 0@2=0\ncounts,0,2,4,0,0,0,0\n",
+)];
+
+/// A script of no event.
+const NO_START: Parts<'static> = &[Part::Text(
+    "item,0,10,1\ndisk,1,1\nreader,0,0,1\nquery,0,0\nscript,\n",
+)];
+
+const NO_START_REPORT: Parts<'static> = &[Part::Text("unfinished,0,0,1,\ncounts,0,0,0,0,0,0,0\n")];
+
+/// An update that adds one to the greatest value.
+const SUMS: Parts<'static> = &[Part::Text(
+    "item,0,18446744073709551615,1\ndisk,1,1\nupdate,0,0,0=0+1\n\
+    reader,0,0,1\nquery,0,0\nscript,0 s\n",
+)];
+
+const SUMS_REPORT: Parts<'static> = &[Part::Text(
+    "commit,0,0\nstart\naccept,0,0,1,0@1=0\ncounts,0,1,0,0,0,0,0\n",
+)];
+
+/// Two disks, the first of which is aired twice a cycle.
+const DISKS: Parts<'static> = &[Part::Text(
+    "item,0,7,5\nitem,1,8,1\nitem,2,9,1\ndisk,1,2\ndisk,2,1\n\
+    reader,0,0,1\nquery,0,2 0\nquery,0,1\nscript,s s\n",
+)];
+
+const DISKS_REPORT: Parts<'static> = &[Part::Text(
+    "start\nstart\naccept,0,0,1,2@1=9 0@2=7\naccept,0,1,1,1@2=8\ncounts,0,3,5,0,0,0,0\n",
+)];
+
 /// A script of this deck prints this report.
 fn reported<'a>(shows: &'a str, deck: Parts<'a>, printed: Parts<'a>) -> Case<'a> {
     Case {
@@ -29,52 +66,22 @@ fn reported<'a>(shows: &'a str, deck: Parts<'a>, printed: Parts<'a>) -> Case<'a>
 fn a_script_airs_its_program_and_prints_what_the_reader_hears(rt: HostRuntime) {
     let first: Parts<'_> = &[Part::Bytes(FIRST_REPORT)];
     let printed = reported("the first deck", FIRST_CASE.deck, first);
-    let in_order: Parts<'_> = &[
-        Part::Rows(3, &["item,", ",0,1\n"]),
-        Part::Text("disk,3,1\nreader,0,0,1\nquery,0,2 0\nscript,s s\n"),
-    ];
-    let in_order_report: Parts<'_> = &[Part::Text(
-        "start\nstart\naccept,0,0,1,2@1=0 0@2=0\ncounts,0,2,4,0,0,0,0\n",
-    )];
-    let no_start: Parts<'_> = &[Part::Text(
-        "item,0,10,1\ndisk,1,1\nreader,0,0,1\nquery,0,0\nscript,\n",
-    )];
-    let no_start_report: Parts<'_> = &[Part::Text("unfinished,0,0,1,\ncounts,0,0,0,0,0,0,0\n")];
-    let sums: Parts<'_> = &[Part::Text(
-        "item,0,18446744073709551615,1\ndisk,1,1\nupdate,0,0,0=0+1\n\
-        reader,0,0,1\nquery,0,0\nscript,0 s\n",
-    )];
-    let sums_report: Parts<'_> = &[Part::Text(
-        "commit,0,0\nstart\naccept,0,0,1,0@1=0\ncounts,0,1,0,0,0,0,0\n",
-    )];
-    let disks: Parts<'_> = &[Part::Text(
-        "item,0,7,5\nitem,1,8,1\nitem,2,9,1\ndisk,1,2\ndisk,2,1\n\
-        reader,0,0,1\nquery,0,2 0\nquery,0,1\nscript,s s\n",
-    )];
-    let disks_report: Parts<'_> = &[Part::Text(
-        "start\nstart\naccept,0,0,1,2@1=9 0@2=7\naccept,0,1,1,1@2=8\ncounts,0,3,5,0,0,0,0\n",
-    )];
+    let taped = Case {
+        shows: "the first deck's tape",
+        words: SCRIPT_TAPE,
+        tape: &[],
+        output: &[Part::Bytes(&FIRST_TAPE)],
+        ..printed
+    };
+    let order = "items are read in the query's order";
+    let unfinished = "without starts the query is unfinished";
     let cases = [
         printed,
-        Case {
-            shows: "the first deck's tape",
-            words: SCRIPT_TAPE,
-            tape: &[],
-            output: &[Part::Bytes(&FIRST_TAPE)],
-            ..printed
-        },
-        reported(
-            "items are read in the query's order",
-            in_order,
-            in_order_report,
-        ),
-        reported(
-            "without starts the query is unfinished",
-            no_start,
-            no_start_report,
-        ),
-        reported("sums go around", sums, sums_report),
-        reported("disks of any frequency are aired", disks, disks_report),
+        taped,
+        reported(order, IN_ORDER, IN_ORDER_REPORT),
+        reported(unfinished, NO_START, NO_START_REPORT),
+        reported("sums go around", SUMS, SUMS_REPORT),
+        reported("disks of any frequency are aired", DISKS, DISKS_REPORT),
     ];
     assert_eq!(rt; first_other(&rt, rt.alloc(), &cases), None);
 }
@@ -101,6 +108,16 @@ fn reads_clash_exactly_where_one_is_overwritten_by_an_ancestor_of_another(rt: Ho
         "start\ncommit,0,0\ncommit,0,1\ncommit,0,2\nstart\n\
         abort,0,0,1,0@1=10,1@2,0\ncounts,0,2,4,0,0,0,0\n",
     )];
+    let cases = [
+        reported("updates that read nothing", both, both_report),
+        reported("an update of the older read", one, one_report),
+        reported("an ancestor of the newer read", clash, clash_report),
+    ];
+    assert_eq!(rt; first_other(&rt, rt.alloc(), &cases), None);
+}
+
+#[test]
+fn no_commit_before_a_try_clashes_with_its_reads(rt: HostRuntime) {
     let early: Parts<'_> = &[
         THREE,
         Part::Text("reader,0,0,1\nquery,0,0 1\nscript,0 0 0 s s\n"),
@@ -118,9 +135,6 @@ fn reads_clash_exactly_where_one_is_overwritten_by_an_ancestor_of_another(rt: Ho
         abort,0,0,1,0@1=10,1@2,0\naccept,0,0,2,0@2=11 1@3=13\ncounts,0,4,5,0,0,0,0\n",
     )];
     let cases = [
-        reported("updates that read nothing", both, both_report),
-        reported("an update of the older read", one, one_report),
-        reported("an ancestor of the newer read", clash, clash_report),
         reported("updates before the first start", early, early_report),
         reported("a second try holds nothing", again, again_report),
     ];

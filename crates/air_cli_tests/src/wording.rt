@@ -49,11 +49,12 @@ fn words_of_no_form_are_refused(rt: HostRuntime) {
     assert_eq!(rt; first_taken(&rt, rt.alloc(), &forms), None);
 }
 
-/// The first status whose number isn't its place.
-fn first_of_another_number(statuses: &[Status]) -> Option<Status> {
-    for (number, status) in statuses.iter().enumerate() {
-        if usize::from(status.code()) != number {
-            return Some(*status);
+/// The first status whose number isn't its place, and that number.
+fn first_of_another_number(statuses: &[Status]) -> Option<(Status, u8)> {
+    for (place, status) in statuses.iter().enumerate() {
+        let number = status.code();
+        if usize::from(number) != place {
+            return Some((*status, number));
         }
     }
     None

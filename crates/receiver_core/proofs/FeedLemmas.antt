@@ -9,13 +9,13 @@ use Rattle.air_model.specs.Judges.{Judge}
 use Rattle.air_model.specs.Reads.{Read}
 use Rattle.air_model.specs.Sessions.{State, abort, accept_if_whole, comes_late, count_dozed, count_foreign, count_late, count_opened, count_refused, decide, drop_copy, hear, hear_read, hold, is_wanted, next_attempt, next_query, offer, open_bucket, query_of, read_in, wanted, with_line}
 use Rattle.air_model.proofs.MomentLemmas.{cond_keeps}
-use Rattle.receiver_core.specs.Hearings.{ChangesItsCountAlone, counted, fed_of, fed_read}
+use Rattle.receiver_core.specs.FeedAnswers.{ChangesItsCountAlone, counted, fed_of, fed_read}
 use Rattle.receiver_core.specs.LastReads.{in_state}
-use Rattle.receiver_core.specs.Receivings.{Receiving}
+use Rattle.receiver_core.specs.Receivers.{Receiver}
 use Rattle.receiver_core.specs.declared.receivers.Fed.TheVariants as fed
 use Rattle.receiver_core.proofs.HearLemmas.{at_cycle, quiet}
 
-module _ (judge : Judge) (r : Receiving) where
+module _ (judge : Judge) (r : Receiver) where
   -- ---- the count that rises
 
   decide_counts : (x : Read) (o : Option Clash) (s : State) → (decide judge r.air r.reader x o s).counts ≡ s.counts
@@ -52,7 +52,7 @@ module _ (judge : Judge) (r : Receiving) where
 
   -- ---- and nothing else
 
-  read_alone : (o : Option Read) (now : Receiving) → ChangesItsCountAlone (fed_read r o) r now
+  read_alone : (o : Option Read) (now : Receiver) → ChangesItsCountAlone (fed_read r o) r now
   unfolding fed_read
   read_alone None now = tt
   read_alone (Some x) now = by (is_wanted (wanted r.reader r.state) x.item) (comes_late r.air r.state x)
@@ -74,7 +74,7 @@ module _ (judge : Judge) (r : Receiving) where
 
 -- ---- a bucket isn't refused
 
-read_not_refused : (r : Receiving) (o : Option Read) → fed_read r o ≡ fed.Refused → ⊥
+read_not_refused : (r : Receiver) (o : Option Read) → fed_read r o ≡ fed.Refused → ⊥
 unfolding fed_read
 read_not_refused r None e = cc
 read_not_refused r (Some x) e = by (is_wanted (wanted r.reader r.state) x.item) (comes_late r.air r.state x) e
@@ -84,7 +84,7 @@ read_not_refused r (Some x) e = by (is_wanted (wanted r.reader r.state) x.item) 
     by true false e = cc
     by false l e = cc
 
-pub bucket_not_refused : (r : Receiving) (b : Bucket) → fed_of r (Some b) ≡ fed.Refused → ⊥
+pub bucket_not_refused : (r : Receiver) (b : Bucket) → fed_of r (Some b) ≡ fed.Refused → ⊥
 unfolding fed_of
 bucket_not_refused r b e = by (fits r.air b) e
   where

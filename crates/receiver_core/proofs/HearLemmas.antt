@@ -12,9 +12,9 @@ use Rattle.air_model.specs.Reads.{Read}
 use Rattle.air_model.specs.Sessions.{Reader, State, comes_late, count_dozed, count_foreign, hear, hear_read, is_wanted, open_bucket, query_of, read_in, wanted}
 use Rattle.air_model.proofs.MomentLemmas.{wanted_from}
 use Rattle.receiver_core.specs.Attempts.{is_read_wanted, read_of}
-use Rattle.receiver_core.specs.Hearings.{fed_of, fed_read}
+use Rattle.receiver_core.specs.FeedAnswers.{fed_of, fed_read}
 use Rattle.receiver_core.specs.LastReads.{in_state, last_reads}
-use Rattle.receiver_core.specs.Receivings.{Receiving}
+use Rattle.receiver_core.specs.Receivers.{Receiver}
 use Rattle.receiver_core.specs.declared.receivers.Fed.TheVariants as fed
 
 abbrev J : Judge
@@ -66,11 +66,11 @@ fits_counted air b f = fitting_count air (get_or air.slots b.slot None) b.body (
 
 -- ---- what is answered
 
-pub fed_foreign : (r : Receiving) (b : Bucket) → fits r.air b ≡ false → fed.Foreign ≡ fed_of r (Some b)
+pub fed_foreign : (r : Receiver) (b : Bucket) → fits r.air b ≡ false → fed.Foreign ≡ fed_of r (Some b)
 unfolding fed_of
 fed_foreign r b f = sym (cond-false (fits r.air b) _ _ f)
 
-pub fed_dozed : (r : Receiving) (b : Bucket) → fits r.air b ≡ true → is_read_wanted (wanted r.reader r.state) (read_in b.cycle b.body) ≡ false → fed.Dozed ≡ fed_of r (Some b)
+pub fed_dozed : (r : Receiver) (b : Bucket) → fits r.air b ≡ true → is_read_wanted (wanted r.reader r.state) (read_in b.cycle b.body) ≡ false → fed.Dozed ≡ fed_of r (Some b)
 unfolding fed_of fed_read
 fed_dozed r b f w = sym (cond-true (fits r.air b) _ _ f ∙ by (read_in b.cycle b.body) w)
   where
@@ -82,7 +82,7 @@ in_time : (air : Air) (s : State) (x : Read) → air.scheme.policy ≡ FMatrix �
 unfolding is_late
 in_time air s x p = ap (λ q. is_late q (map place_of s.held) (place_of x)) p
 
-pub fed_opened : (r : Receiving) (b : Bucket) → r.air.scheme.policy ≡ FMatrix → fits r.air b ≡ true → is_read_wanted (wanted r.reader r.state) (read_in b.cycle b.body) ≡ true → fed.Opened ≡ fed_of r (Some b)
+pub fed_opened : (r : Receiver) (b : Bucket) → r.air.scheme.policy ≡ FMatrix → fits r.air b ≡ true → is_read_wanted (wanted r.reader r.state) (read_in b.cycle b.body) ≡ true → fed.Opened ≡ fed_of r (Some b)
 unfolding fed_of fed_read
 fed_opened r b p f w = sym (cond-true (fits r.air b) _ _ f ∙ by (read_in b.cycle b.body) w)
   where
@@ -121,22 +121,22 @@ hear_opened air reader b m s e p f w =
 -- ---- the receiver after it
 
 -- no line waits before or after
-pub quiet : (v : Receiving) (s : State) → s.lines ≡ [] → (let t : Receiving = record v { state = s } in t) ≡ in_state v s
+pub quiet : (v : Receiver) (s : State) → s.lines ≡ [] → (let t : Receiver = record v { state = s } in t) ≡ in_state v s
 unfolding last_reads
-quiet v s e = ap (λ L. let t : Receiving = record v { state = s; last = last_reads L v.last } in t) (sym e)
+quiet v s e = ap (λ L. let t : Receiver = record v { state = s; last = last_reads L v.last } in t) (sym e)
 
-module _ (v : Receiving) (b : Bucket) (p : v.air.scheme.policy ≡ FMatrix) where
+module _ (v : Receiver) (b : Bucket) (p : v.air.scheme.policy ≡ FMatrix) where
   -- by the policy's entries as by F-Matrix
   by_policy : in_state v (hear J v.air v.reader (Some b) v.state) ≡ in_state v (hear (by_entries v.air.scheme) v.air v.reader (Some b) v.state)
   by_policy = ap (λ q. in_state v (hear (by_entries (scheme_of q)) v.air v.reader (Some b) v.state)) (sym p)
 
   pub foreign_heard : v.state.lines ≡ [] → fits v.air b ≡ false →
-      (let t : Receiving = record v { state = count_foreign v.state } in t) ≡ in_state v (hear (by_entries v.air.scheme) v.air v.reader (Some b) v.state)
+      (let t : Receiver = record v { state = count_foreign v.state } in t) ≡ in_state v (hear (by_entries v.air.scheme) v.air v.reader (Some b) v.state)
   unfolding count_foreign
   foreign_heard free f = quiet v (count_foreign v.state) free ∙ ap (in_state v) (hear_foreign v.air v.reader b v.state f) ∙ by_policy
 
   pub dozed_heard : (m : ℕ) → v.state.lines ≡ [] → m ≡ max v.state.now b.cycle → fits v.air b ≡ true → is_read_wanted (wanted v.reader v.state) (read_in b.cycle b.body) ≡ false →
-      (let t : Receiving = record v { state = count_dozed (at_cycle m v.state) } in t) ≡ in_state v (hear (by_entries v.air.scheme) v.air v.reader (Some b) v.state)
+      (let t : Receiver = record v { state = count_dozed (at_cycle m v.state) } in t) ≡ in_state v (hear (by_entries v.air.scheme) v.air v.reader (Some b) v.state)
   unfolding count_dozed
   dozed_heard m free e f w = quiet v (count_dozed (at_cycle m v.state)) free ∙ ap (in_state v) (hear_dozed v.air v.reader b m v.state e f w) ∙ by_policy
 

@@ -16,8 +16,8 @@ use Rattle.air_model.specs.Sessions.{Reader, State, accept_if_whole, line_of, ne
 use Rattle.air_model.proofs.MomentLemmas.{cond_keeps}
 use Rattle.receiver_core.specs.Attempts.{shown_of}
 use Rattle.receiver_core.specs.LastReads.{in_state, last_reads}
-use Rattle.receiver_core.specs.Handing.{lines_of}
-use Rattle.receiver_core.specs.Receivings.{IsSettled, Receiving}
+use Rattle.receiver_core.specs.LinesGiven.{lines_of}
+use Rattle.receiver_core.specs.Receivers.{IsSettled, Receiver}
 use Rattle.receiver_core.specs.ReceiverView.{receiver_in}
 use Rattle.receiver_core.specs.declared.receivers.Receiver.TheInside.{Inside}
 use Rattle.receiver_core.proofs.WordLemmas.{copy_none}
@@ -26,16 +26,16 @@ abbrev J : Judge
 J = by_entries (scheme_of FMatrix)
 
 -- with no line waiting the receiver is in its own state
-pub in_own_state : (r : Receiving) → r.state.lines ≡ [] → r ≡ in_state r r.state
+pub in_own_state : (r : Receiver) → r.state.lines ≡ [] → r ≡ in_state r r.state
 unfolding last_reads
-in_own_state r e = ap (λ L. let t : Receiving = record r { last = last_reads L r.last } in t) (sym e)
+in_own_state r e = ap (λ L. let t : Receiver = record r { last = last_reads L r.last } in t) (sym e)
 
 -- a word that adds no line, after one that may
-pub goes_on : (old given now : Receiving) (word : Reader → State → State) (s t : State) → given ≡ in_state old s → now ≡ record given { state = word given.reader given.state } →
+pub goes_on : (old given now : Receiver) (word : Reader → State → State) (s t : State) → given ≡ in_state old s → now ≡ record given { state = word given.reader given.state } →
     (word old.reader s).lines ≡ s.lines → word old.reader s ≡ t → now ≡ in_state old t
 goes_on old given now word s t g n same is =
-    n ∙ ap (λ (r : Receiving). let u : Receiving = record r { state = word r.reader r.state } in u) g
-    ∙ ap (λ L. let u : Receiving = record old { state = word old.reader s; last = last_reads L old.last } in u) (sym same)
+    n ∙ ap (λ (r : Receiver). let u : Receiver = record r { state = word r.reader r.state } in u) g
+    ∙ ap (λ L. let u : Receiver = record old { state = word old.reader s; last = last_reads L old.last } in u) (sym same)
     ∙ ap (in_state old) is
 
 pub next_query_lines : (s : State) → (next_query s).lines ≡ s.lines
@@ -75,10 +75,10 @@ give_is r last kind free e =
     ∙ ap (λ L. in_state v (record v.state { lines = L ++ l ∷ [] })) (sym free)
 
 -- the query at hand is still at hand after its verdict
-pub still_left : (old given : Receiving) (kind : VerdictKind) → given ≡ in_state old (with_line J kind old.state) → old.state.query < length old.reader.queries →
+pub still_left : (old given : Receiver) (kind : VerdictKind) → given ≡ in_state old (with_line J kind old.state) → old.state.query < length old.reader.queries →
     given.state.query < length given.reader.queries
 unfolding with_line
-still_left old given kind e l = subst (λ (r : Receiving). r.state.query < length r.reader.queries) (sym e) l
+still_left old given kind e l = subst (λ (r : Receiver). r.state.query < length r.reader.queries) (sym e) l
 
 none_waits : (o : Option Verdict) (last : List ReadOf) (b : Bool) → is_some o ≡ not b → (IsTrue b → lines_of o last ≡ []) × (lines_of o last ≡ [] → IsTrue b)
 none_waits None last true e = (λ t. refl, λ f. refl)

@@ -9,9 +9,9 @@ use Rattle.air_base.specs.declared.verdicts.VerdictKind.TheVariants.{Unfinished}
 use Rattle.air_model.specs.Judges.{by_entries}
 use Rattle.air_model.specs.Sessions.{Line, State, end_query, next_query, wanted, with_line}
 use Rattle.air_model.proofs.MomentLemmas.{cond_keeps}
-use Rattle.receiver_core.specs.Handing.{lines_given, lines_of}
+use Rattle.receiver_core.specs.LinesGiven.{lines_given, lines_of}
 use Rattle.receiver_core.specs.LastReads.{in_state, last_reads}
-use Rattle.receiver_core.specs.Receivings.{IsSettled, Receiving, steps_left, stepped}
+use Rattle.receiver_core.specs.Receivers.{IsSettled, Receiver, steps_left, stepped}
 use Rattle.receiver_core.specs.ReceiverView.{receiver_in}
 use Rattle.receiver_core.specs.declared.receivers.Receiver.TheInside.{Inside}
 use Rattle.receiver_core.specs.declared.receivers.Step.{Step}
@@ -56,29 +56,29 @@ unfolding last_reads
 last_ended None last before same = same refl
 last_ended (Some v) last before same = refl
 
-pub ended_past : (old : Receiving) → IsSettled old → old.state.copies ≡ [] → length old.reader.queries ≤ old.state.query →
+pub ended_past : (old : Receiver) → IsSettled old → old.state.copies ≡ [] → length old.reader.queries ≤ old.state.query →
     (let t : State = record old.state { lines = [] } in t) ≡ end_query (by_entries old.air.scheme) old.air old.reader old.state
 ended_past old settled free past =
     ap (λ L. let t : State = record old.state { lines = L } in t) (sym settled.given) ∙ end_past (by_entries old.air.scheme) old.air old.reader old.state free past
 
 -- the receiver after the last verdict of a query at the end
-pub ended : (old given now : Receiving) → given ≡ in_state old (with_line (by_entries (scheme_of FMatrix)) Unfinished old.state) → now ≡ record given { state = next_query given.state } →
+pub ended : (old given now : Receiver) → given ≡ in_state old (with_line (by_entries (scheme_of FMatrix)) Unfinished old.state) → now ≡ record given { state = next_query given.state } →
     now ≡ in_state old (next_query (with_line (by_entries (scheme_of FMatrix)) Unfinished old.state))
 ended old given now g n = goes_on old given now (λ reader s. next_query s) (with_line (by_entries (scheme_of FMatrix)) Unfinished old.state) _ g n (next_query_lines (with_line (by_entries (scheme_of FMatrix)) Unfinished old.state)) refl
 
-pub ended_left : (old now : Receiving) → now ≡ in_state old (next_query (with_line (by_entries (scheme_of FMatrix)) Unfinished old.state)) → old.air.scheme.policy ≡ FMatrix → old.state.copies ≡ [] →
+pub ended_left : (old now : Receiver) → now ≡ in_state old (next_query (with_line (by_entries (scheme_of FMatrix)) Unfinished old.state)) → old.air.scheme.policy ≡ FMatrix → old.state.copies ≡ [] →
     old.state.query < length old.reader.queries → now.state ≡ end_query (by_entries old.air.scheme) old.air old.reader old.state
 ended_left old now e p free here =
-    ap (λ (r : Receiving). r.state) e ∙ ap (λ q. next_query (with_line (by_entries (scheme_of q)) Unfinished old.state)) (sym p) ∙ end_left (by_entries old.air.scheme) old.air old.reader old.state free here
+    ap (λ (r : Receiver). r.state) e ∙ ap (λ q. next_query (with_line (by_entries (scheme_of q)) Unfinished old.state)) (sym p) ∙ end_left (by_entries old.air.scheme) old.air old.reader old.state free here
 
 no_line_pushed : (L : List Line) (l : Line) → [] ≡ L ++ l ∷ [] → ⊥
 no_line_pushed [] l e = cc
 no_line_pushed (k ∷ L) l e = cc
 
 -- that verdict waits
-pub ended_waits : (old : Receiving) (r : Inside) → receiver_in r ≡ in_state old (next_query (with_line (by_entries (scheme_of FMatrix)) Unfinished old.state)) → r.waiting ≡ None → ⊥
+pub ended_waits : (old : Receiver) (r : Inside) → receiver_in r ≡ in_state old (next_query (with_line (by_entries (scheme_of FMatrix)) Unfinished old.state)) → r.waiting ≡ None → ⊥
 unfolding next_query with_line
-ended_waits old r e none = no_line_pushed old.state.lines _ (sym (ap (λ o. lines_of o r.last) none) ∙ ap (λ (t : Receiving). t.state.lines) e)
+ended_waits old r e none = no_line_pushed old.state.lines _ (sym (ap (λ o. lines_of o r.last) none) ∙ ap (λ (t : Receiver). t.state.lines) e)
 
 -- the test for a query says that none is left
 pub past : (b : Bool) (q n : ℕ) → (q < n → IsTrue b) → b ≡ false → n ≤ q

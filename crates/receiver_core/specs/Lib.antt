@@ -4,8 +4,8 @@ pub mod AirView
 pub mod SlotKinds
 pub mod ReaderView
 pub mod Steps
-pub mod Receivings
-pub mod Handing
+pub mod Receivers
+pub mod LinesGiven
 pub mod LastReads
-pub mod Hearings
+pub mod FeedAnswers
 pub mod ReceiverView

@@ -2,12 +2,12 @@
 use Rattle.std.specs.Prelude.{◌≡◌, [], get_or, length, map, take}
 use Rattle.air_base.specs.declared.verdicts.Policy.TheVariants.{FMatrix}
 use Rattle.receiver_core.specs.declared.receivers.Receiver.TheInside.{Inside}
-use Rattle.receiver_core.specs.Handing.{lines_of}
+use Rattle.receiver_core.specs.LinesGiven.{lines_of}
 use Rattle.receiver_core.specs.ReaderView.{AreDistinct, IsShort}
-use Rattle.receiver_core.specs.Receivings.{Receiving}
+use Rattle.receiver_core.specs.Receivers.{Receiver}
 
 -- The receiver of the fields.
-abbrev pub receiver_in : Inside → Receiving
+abbrev pub receiver_in : Inside → Receiver
 receiver_in r = record {
   air = r.air;
   reader = r.reader;

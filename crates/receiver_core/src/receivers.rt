@@ -8,10 +8,10 @@ ghost use Rattle.air_model.specs.Decks.{disks_in};
 ghost use Rattle.air_model.specs.Judges.{by_entries};
 ghost use Rattle.air_model.specs.Sessions.{end_query, hear, wanted};
 ghost use Rattle.bucket_codec.specs.Views.{IsNoBucket};
-ghost use Rattle.receiver_core.specs.Handing.{StepTells, lines_given, lines_of};
-ghost use Rattle.receiver_core.specs.Hearings.{ChangesItsCountAlone, counted, fed_of};
+ghost use Rattle.receiver_core.specs.LinesGiven.{StepTells, lines_given, lines_of};
+ghost use Rattle.receiver_core.specs.FeedAnswers.{ChangesItsCountAlone, counted, fed_of};
 ghost use Rattle.receiver_core.specs.LastReads.{last_reads};
-ghost use Rattle.receiver_core.specs.Receivings.{IsSettled, heard_count, receiving_of, stepped};
+ghost use Rattle.receiver_core.specs.Receivers.{IsSettled, heard_count, receiver_of, stepped};
 
 mod rules;
 
@@ -67,9 +67,9 @@ pub struct Receiver {
 }
 
 impl Model for Receiver {
-    ghost use Rattle.receiver_core.specs.Receivings.{Receiving};
+    ghost use Rattle.receiver_core.specs.Receivers.{Receiver};
 
-    ghost Value = { Receiving };
+    ghost Value = { Receiver };
 
     ghost use Rattle.receiver_core.specs.ReceiverView.{IsReceiver, receiver_in};
 
@@ -90,7 +90,7 @@ impl Receiver {
         requires program { program.now ≡ disks_in deck.now }
         requires room { IfSome (slice_get deck.now.readers number) (λ plan. plan.room ≡ 0) }
         requires policy { deck.now.settings.policy ≡ FMatrix }
-        ensures { IfOk result (λ r. r ≡ receiving_of deck.now number) }
+        ensures { IfOk result (λ r. r ≡ receiver_of deck.now number) }
     {
         let air = Air::new(alloc, deck, program)?;
         let reader = Reader::new(alloc, deck, number)?;

@@ -1,7 +1,7 @@
 //! A receiver that hears bytes of other origin: no bucket, a bucket that doesn't fit, and each byte changed.
 
 use crate::buckets::{DECK, FIRST, SECOND, with};
-use crate::calls::{Call, NONE, first_other, read, verdict};
+use crate::calls::{Call, NONE, Other, first_other, read, verdict};
 use air_base::{Counts, VerdictKind};
 use receiver_core::{Fed, Step};
 use std::alloc::Global;
@@ -121,41 +121,52 @@ const FLIPPED: [Flipped; 32] = [
     Not(Fed::Refused),
 ];
 
-/// The first byte and the place of the call that is answered otherwise when that byte is changed: the bucket is heard, and
-/// then that of item 1.
-fn first_other_byte(alloc: Global, rows: &[Flipped]) -> Result<Option<(usize, usize)>, Fail> {
+/// What is answered otherwise when this byte is changed: the bucket is heard, and then that of item 1. Gives the place of the
+/// call, and in what it differs.
+fn other_with(
+    alloc: Global,
+    byte: usize,
+    flipped: Flipped,
+) -> Result<Option<(usize, Other)>, Fail> {
+    let Some(old) = FIRST.get(byte) else {
+        return Err("no such byte".into());
+    };
+    let first = with(&FIRST, &[(byte, *old ^ 0x80)]);
+    match flipped {
+        Not(fed) => first_other(
+            alloc,
+            DECK,
+            0,
+            &[
+                Call::Hear(&first, fed, Step::Waiting),
+                Call::Hear(&SECOND, Fed::Dozed, Step::Waiting),
+            ],
+        ),
+        Read(cycle, value) => first_other(
+            alloc,
+            DECK,
+            0,
+            &[
+                Call::Hear(&first, Fed::Opened, Step::Waiting),
+                Call::Hear(
+                    &SECOND,
+                    Fed::Opened,
+                    Step::Verdict(verdict(0, 1, VerdictKind::Accept)),
+                ),
+                Call::Reads(&[read(0, cycle, value), read(1, 1, 20)]),
+            ],
+        ),
+    }
+}
+
+/// The first byte that makes another difference than told, the place of the call that differs, and in what.
+fn first_other_byte(
+    alloc: Global,
+    rows: &[Flipped],
+) -> Result<Option<(usize, usize, Other)>, Fail> {
     for (byte, flipped) in rows.iter().enumerate() {
-        let Some(old) = FIRST.get(byte) else {
-            return Ok(Some((byte, 0)));
-        };
-        let first = with(&FIRST, &[(byte, *old ^ 0x80)]);
-        let other = match *flipped {
-            Not(fed) => first_other(
-                alloc,
-                DECK,
-                0,
-                &[
-                    Call::Hear(&first, fed, Step::Waiting),
-                    Call::Hear(&SECOND, Fed::Dozed, Step::Waiting),
-                ],
-            )?,
-            Read(cycle, value) => first_other(
-                alloc,
-                DECK,
-                0,
-                &[
-                    Call::Hear(&first, Fed::Opened, Step::Waiting),
-                    Call::Hear(
-                        &SECOND,
-                        Fed::Opened,
-                        Step::Verdict(verdict(0, 1, VerdictKind::Accept)),
-                    ),
-                    Call::Reads(&[read(0, cycle, value), read(1, 1, 20)]),
-                ],
-            )?,
-        };
-        if let Some(place) = other {
-            return Ok(Some((byte, place)));
+        if let Some((place, other)) = other_with(alloc, byte, *flipped)? {
+            return Ok(Some((byte, place, other)));
         }
     }
     Ok(None)

@@ -24,6 +24,25 @@ pub enum Call<'a> {
     Counts(Counts),
 }
 
+/// In what a call is answered otherwise than told: what came in its place.
+#[derive(Clone, Copy, Debug, PartialEq, Eq)]
+pub enum Other {
+    /// The receiver is unsettled, or has counted too much, so that the call can't be made.
+    NotReady,
+    /// This became of the bytes.
+    Fed(Fed),
+    /// The step came to this.
+    Step(Step),
+    /// The query ended with this.
+    End(Option<Verdict>),
+    /// This item is wanted.
+    Wanted(Option<u16>),
+    /// So many reads, of which one at least is another, or there are more or fewer than told.
+    Reads(usize),
+    /// This was counted.
+    Counts(Counts),
+}
+
 /// Nothing was heard.
 pub const NONE: Counts = Counts {
     opened: 0,
@@ -83,34 +102,64 @@ fn hear(receiver: &mut Receiver, bytes: &[u8]) -> Option<(Fed, Step)> {
     Some((fed, receiver.step()))
 }
 
-/// Whether the receiver is settled, and ends its query with this answer.
-fn ends(receiver: &mut Receiver, told: Option<Verdict>) -> bool {
-    receiver.settled() && receiver.end() == told
+/// Hears the bytes and makes a step: in what either comes to something else than told.
+fn heard_other(receiver: &mut Receiver, bytes: &[u8], told: (Fed, Step)) -> Option<Other> {
+    let Some((fed, step)) = hear(receiver, bytes) else {
+        return Some(Other::NotReady);
+    };
+    if fed != told.0 {
+        return Some(Other::Fed(fed));
+    }
+    (step != told.1).then_some(Other::Step(step))
 }
 
-/// Whether a call is answered as told.
-fn holds(receiver: &mut Receiver, call: &Call<'_>) -> bool {
+/// Ends the query at hand: in what that comes to something else than told.
+fn end_other(receiver: &mut Receiver, told: Option<Verdict>) -> Option<Other> {
+    if !receiver.settled() {
+        return Some(Other::NotReady);
+    }
+    let end = receiver.end();
+    (end != told).then_some(Other::End(end))
+}
+
+/// In what the reads of the last verdict are others than told.
+fn reads_other(receiver: &Receiver, told: &[ReadOf]) -> Option<Other> {
+    let reads = receiver.last_reads();
+    (reads != told).then_some(Other::Reads(reads.len()))
+}
+
+/// In what the call is answered otherwise than told.
+fn difference(receiver: &mut Receiver, call: &Call<'_>) -> Option<Other> {
     match call {
-        Call::Hear(bytes, fed, step) => hear(receiver, bytes) == Some((*fed, *step)),
-        Call::Step(told) => receiver.step() == *told,
-        Call::End(told) => ends(receiver, *told),
-        Call::Wanted(told) => receiver.wanted() == *told,
-        Call::Reads(told) => receiver.last_reads() == *told,
-        Call::Counts(told) => receiver.counts() == *told,
+        Call::Hear(bytes, fed, step) => heard_other(receiver, bytes, (*fed, *step)),
+        Call::Step(told) => {
+            let step = receiver.step();
+            (step != *told).then_some(Other::Step(step))
+        }
+        Call::End(told) => end_other(receiver, *told),
+        Call::Wanted(told) => {
+            let wanted = receiver.wanted();
+            (wanted != *told).then_some(Other::Wanted(wanted))
+        }
+        Call::Reads(told) => reads_other(receiver, told),
+        Call::Counts(told) => {
+            let counts = receiver.counts();
+            (counts != *told).then_some(Other::Counts(counts))
+        }
     }
 }
 
-/// The place of the first call of the text's receiver of this number that is answered otherwise than told.
+/// The place of the first call of the text's receiver of this number that is answered otherwise than told, and in what.
 pub fn first_other(
     alloc: Global,
     text: &[u8],
     number: u32,
     calls: &[Call<'_>],
-) -> Result<Option<usize>, Fail> {
+) -> Result<Option<(usize, Other)>, Fail> {
     let mut receiver = receiver(alloc, text, number)?;
     for (place, call) in calls.iter().enumerate() {
-        if !holds(&mut receiver, call) {
-            return Ok(Some(place));
+        if let Some(other) = difference(&mut receiver, call) {
+            return Ok(Some((place, other)));
         }
     }
     Ok(None)

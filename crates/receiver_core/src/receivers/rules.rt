@@ -10,9 +10,9 @@ ghost use Rattle.air_model.specs.Buckets.{IsInRange, count_of, item_of, kind_of}
 ghost use Rattle.air_model.specs.Judges.{by_entries};
 ghost use Rattle.air_model.specs.Sessions.{abort, accept_if_whole, hear, next_attempt, next_query, open_bucket, read_in, wanted, with_line};
 ghost use Rattle.receiver_core.specs.Attempts.{is_read_wanted, read_of};
-ghost use Rattle.receiver_core.specs.Hearings.{fed_of};
+ghost use Rattle.receiver_core.specs.FeedAnswers.{fed_of};
 ghost use Rattle.receiver_core.specs.LastReads.{in_state};
-ghost use Rattle.receiver_core.specs.Receivings.{heard_count};
+ghost use Rattle.receiver_core.specs.Receivers.{heard_count};
 
 use super::{Fed, Receiver};
 use air_base::{Verdict, VerdictKind};

@@ -2,7 +2,7 @@ use Rattle.std.proofs.Common.{◌≡◌, length, sym, ap, subst, arith}
 use Rattle.std.specs.List.{slice_get}
 use Rattle.std.specs.Prelude.{IfSome}
 use Rattle.air_model.specs.Programs.{num_minors}
-use Rattle.air_cli.specs.ReportTexts.{written}
+use Rattle.air_rows.specs.RowWriters.{written}
 use Rattle.air_cli.proofs.PlanLemmas.{disk_freq, disk_text, length-disks_in}
 use Rattle.air_cli.proofs.plan_rows.put_disk.Goals as goal
 

@@ -3,8 +3,8 @@ use Rattle.std.specs.List.{enumerate_from}
 use Rattle.std.proofs.lemmas.List.FromFn.{length-enumerate_from}
 use Rattle.air_model.specs.Programs.{num_minors}
 use Rattle.air_model.specs.PlanTexts.{disk_row}
-use Rattle.air_cli.specs.ReportTexts.{written}
-use Rattle.air_cli.proofs.RowLemmas.{rows_none}
+use Rattle.air_rows.specs.RowWriters.{written}
+use Rattle.air_rows.proofs.RowLemmas.{rows_none}
 use Rattle.air_cli.proofs.PlanLemmas.{all_rows, disks_more, length-disks_in}
 use Rattle.air_cli.proofs.plan_rows.put_disks.Goals as goal
 

@@ -4,8 +4,8 @@ use Rattle.std.proofs.lemmas.List.{length-map}
 use Rattle.std.proofs.lemmas.List.FromFn.{length-enumerate_from}
 use Rattle.air_model.specs.Decks.{rates_in}
 use Rattle.air_model.specs.PlanTexts.{item_row}
-use Rattle.air_cli.specs.ReportTexts.{written}
-use Rattle.air_cli.proofs.RowLemmas.{rows_none}
+use Rattle.air_rows.specs.RowWriters.{written}
+use Rattle.air_rows.proofs.RowLemmas.{rows_none}
 use Rattle.air_cli.proofs.PlanLemmas.{all_rows, items_more}
 use Rattle.air_cli.proofs.plan_rows.put_items.Goals as goal
 

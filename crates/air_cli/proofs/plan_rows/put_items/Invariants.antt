@@ -3,7 +3,7 @@ use Rattle.std.specs.List.{enumerate_from}
 use Rattle.air_model.specs.Decks.{rates_in}
 use Rattle.air_model.specs.PlanTexts.{item_row}
 use Rattle.air_model.specs.Rows.{rows_text}
-use Rattle.air_cli.specs.ReportTexts.{IsReady, written}
+use Rattle.air_rows.specs.RowWriters.{IsReady, written}
 use Rattle.air_cli.proofs.plan_rows.put_items.Given as goal
 
 abbrev pub invariant-loop-i : goal.invariant-loop-i

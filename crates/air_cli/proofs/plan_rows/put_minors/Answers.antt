@@ -3,8 +3,8 @@ use Rattle.std.specs.List.{range_with_len}
 use Rattle.std.proofs.lemmas.List.FromFn.{length-range_with_len}
 use Rattle.air_model.specs.Programs.{num_minors}
 use Rattle.air_model.specs.PlanTexts.{minor_row}
-use Rattle.air_cli.specs.ReportTexts.{written}
-use Rattle.air_cli.proofs.RowLemmas.{rows_none}
+use Rattle.air_rows.specs.RowWriters.{written}
+use Rattle.air_rows.proofs.RowLemmas.{rows_none}
 use Rattle.air_cli.proofs.PlanLemmas.{all_rows, minors_more}
 use Rattle.air_cli.proofs.plan_rows.put_minors.Goals as goal
 

@@ -3,7 +3,7 @@ use Rattle.std.specs.List.{range_with_len}
 use Rattle.air_model.specs.Programs.{num_minors}
 use Rattle.air_model.specs.PlanTexts.{minor_row}
 use Rattle.air_model.specs.Rows.{rows_text}
-use Rattle.air_cli.specs.ReportTexts.{IsReady, written}
+use Rattle.air_rows.specs.RowWriters.{IsReady, written}
 use Rattle.air_cli.proofs.plan_rows.put_minors.Given as goal
 
 abbrev pub invariant-loop-k : goal.invariant-loop-k

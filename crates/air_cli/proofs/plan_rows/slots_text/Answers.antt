@@ -4,7 +4,7 @@ use Rattle.air_base.specs.NumberLists.{list_text}
 use Rattle.air_model.specs.Programs.{minor_cycle, num_minors}
 use Rattle.air_model.specs.PlanTexts.{slot_text}
 use Rattle.air_model.proofs.SlotPlaces.{length_minor}
-use Rattle.air_cli.proofs.RowLemmas.{parts_first, parts_more}
+use Rattle.air_rows.proofs.RowLemmas.{parts_first, parts_more}
 use Rattle.air_cli.proofs.plan_rows.slots_text.Goals as goal
 use Rattle.air_cli.proofs.plan_rows.slots_text.Goals.{then-j-gt0+in_ok-extend_from_slice, else-j-gt0}
 

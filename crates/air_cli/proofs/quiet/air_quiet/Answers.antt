@@ -1,13 +1,15 @@
-use Rattle.std.proofs.Common.{None, subst}
-use Rattle.air_cli.specs.declared.status.Status.TheVariants as status
+use Rattle.std.proofs.Common.{subst}
+use Rattle.air_status.specs.declared.status.Status.TheVariants as status
 use Rattle.air_cli.specs.Answers.{QuietAnswers}
-use Rattle.air_cli.proofs.RefusalFacts.{answers_refused, keeps_all, reads_nothing, words_refused}
+use Rattle.air_cli.specs.Commands.{words_meaning}
+use Rattle.air_cli.specs.Meanings.{no_form}
+use Rattle.air_cli.proofs.RefusalFacts.{answers_refused, keeps_all, no_form_sound, reads_nothing, words_refused}
 use Rattle.air_cli.proofs.quiet.air_quiet.Goals as goal
 
 pub returns-in-None-clause-answers : goal.returns-in-None-clause-answers
 returns-in-None-clause-answers g c =
     let S = g.S.Shelf in
     let before = S.state c.args.shelf.now in
-    let now = S.state c.refused.new.shelf in
-    subst (λ asked. QuietAnswers asked before now c.refused.result) c.in-None.ensures
-    (answers_refused None before before now status.Words c.refused.result (λ e. cc) (reads_nothing before) (words_refused before) (λ read. keeps_all before) c.refused.ensures.gives c.refused.ensures.rest c.refused.ensures.counts)
+    let now = S.state c.refuse.new.shelf in
+    subst (λ asked. QuietAnswers (words_meaning asked) before now c.refuse.result) c.in-None.ensures
+    (answers_refused no_form no_form_sound before before now status.Words c.refuse.result (λ e. cc) (reads_nothing before) words_refused (λ read. keeps_all before) c.refuse.ensures.gives c.refuse.ensures.rest c.refuse.ensures.counts)

@@ -2,9 +2,9 @@ use Rattle.std.proofs.Common.{Some, IsErr, ◌∙◌, ap, sym, subst}
 use Rattle.std.specs.Result.{result_ok}
 use Rattle.air_model.specs.Judges.{by_entries}
 use Rattle.air_model.specs.Sessions.{count_refused, hear}
-use Rattle.receiver_core.specs.Hearings.{ChangesItsCountAlone, counted, fed_of}
+use Rattle.receiver_core.specs.FeedAnswers.{ChangesItsCountAlone, counted, fed_of}
 use Rattle.receiver_core.specs.LastReads.{last_reads}
-use Rattle.receiver_core.specs.Receivings.{Receiving}
+use Rattle.receiver_core.specs.Receivers.{Receiver}
 use Rattle.receiver_core.proofs.FeedLemmas.{alone, bucket_not_refused, hear_counts}
 use Rattle.receiver_core.proofs.receivers.Receiver.hear.Goals as goal
 
@@ -12,14 +12,14 @@ pub returns-in-Err-clause-state : goal.returns-in-Err-clause-state
 unfolding hear count_refused
 returns-in-Err-clause-state c =
     let old = c.args.self.now in
-    ap (λ (t : Receiving). count_refused t.state) c.self.view_is
+    ap (λ (t : Receiver). count_refused t.state) c.self.view_is
     ∙ ap (λ o. hear (by_entries old.air.scheme) old.air old.reader o old.state) (sym (ap result_ok c.in-Err.is))
 
 pub returns-in-Err-clause-last : goal.returns-in-Err-clause-last
 unfolding last_reads
 returns-in-Err-clause-last c =
-    ap (λ (t : Receiving). t.last) c.self.view_is
-    ∙ ap (λ L. last_reads L c.args.self.now.last) (sym (ap (λ (t : Receiving). t.state.lines) c.self.view_is ∙ c.requires.settled.given))
+    ap (λ (t : Receiver). t.last) c.self.view_is
+    ∙ ap (λ L. last_reads L c.args.self.now.last) (sym (ap (λ (t : Receiver). t.state.lines) c.self.view_is ∙ c.requires.settled.given))
 
 pub returns-in-Err-clause-fed : goal.returns-in-Err-clause-fed
 unfolding fed_of
@@ -32,7 +32,7 @@ returns-in-Ok-clause-refused c =
 pub returns-in-Ok-clause-counted : goal.returns-in-Ok-clause-counted
 returns-in-Ok-clause-counted c =
     let old = c.args.self.now in
-    ap (λ (t : Receiving). t.state.counts) c.hear_bucket.ensures.heard ∙ hear_counts (by_entries old.air.scheme) old (Some c.in-Ok.bucket)
+    ap (λ (t : Receiver). t.state.counts) c.hear_bucket.ensures.heard ∙ hear_counts (by_entries old.air.scheme) old (Some c.in-Ok.bucket)
     ∙ ap (λ f. counted f old.state.counts) (sym c.hear_bucket.ensures.fed)
 
 pub returns-in-Ok-clause-alone : goal.returns-in-Ok-clause-alone

@@ -1,9 +1,9 @@
 use Rattle.std.proofs.Common.{Some, max, ◌∙◌, ap, sym}
 use Rattle.air_model.specs.Judges.{by_entries}
 use Rattle.air_model.specs.Sessions.{count_dozed, count_foreign, hear, query_of, wanted}
-use Rattle.receiver_core.specs.Hearings.{fed_of}
+use Rattle.receiver_core.specs.FeedAnswers.{fed_of}
 use Rattle.receiver_core.specs.LastReads.{in_state}
-use Rattle.receiver_core.specs.Receivings.{Receiving}
+use Rattle.receiver_core.specs.Receivers.{Receiver}
 use Rattle.receiver_core.specs.ReceiverView.{receiver_in}
 use Rattle.receiver_core.proofs.HearLemmas.{dozed_heard, fed_dozed, fed_foreign, fed_opened, fits_counted, foreign_heard, opened_heard, wanted_read}
 use Rattle.receiver_core.proofs.receivers.Receiver.hear_bucket.Goals as goal
@@ -15,8 +15,8 @@ returns-then-not-fits-clause-fed c =
 pub returns-then-not-fits-clause-heard : goal.returns-then-not-fits-clause-heard
 unfolding count_foreign
 returns-then-not-fits-clause-heard c =
-    foreign_heard (receiver_in c.self.inside) c.args.bucket.now c.self.invariant.policy (ap (λ (r : Receiving). r.state.lines) c.self.view_is ∙ c.requires.given) (sym c.fits.ensures ∙ c.if-not-fits.true)
-    ∙ ap (λ (r : Receiving). in_state r (hear (by_entries r.air.scheme) r.air r.reader (Some c.args.bucket.now) r.state)) c.self.view_is
+    foreign_heard (receiver_in c.self.inside) c.args.bucket.now c.self.invariant.policy (ap (λ (r : Receiver). r.state.lines) c.self.view_is ∙ c.requires.given) (sym c.fits.ensures ∙ c.if-not-fits.true)
+    ∙ ap (λ (r : Receiver). in_state r (hear (by_entries r.air.scheme) r.air r.reader (Some c.args.bucket.now) r.state)) c.self.view_is
 
 pub returns-then-not-wants-clause-fed : goal.returns-then-not-wants-clause-fed
 unfolding wanted query_of
@@ -26,9 +26,9 @@ returns-then-not-wants-clause-fed c =
 pub returns-then-not-wants-clause-heard : goal.returns-then-not-wants-clause-heard
 unfolding count_dozed wanted query_of
 returns-then-not-wants-clause-heard c =
-    dozed_heard (receiver_in c.self.inside) c.args.bucket.now c.self.invariant.policy c.max-self-inside.result (ap (λ (r : Receiving). r.state.lines) c.self.view_is ∙ c.requires.given)
+    dozed_heard (receiver_in c.self.inside) c.args.bucket.now c.self.invariant.policy c.max-self-inside.result (ap (λ (r : Receiver). r.state.lines) c.self.view_is ∙ c.requires.given)
     (c.max-self-inside.ensures ∙ ap (max c.self.inside.latest) c.cycle.ensures) (sym c.fits.ensures ∙ c.if-not-fits.false) (sym c.wants.ensures ∙ c.if-not-wants.true)
-    ∙ ap (λ (r : Receiving). in_state r (hear (by_entries r.air.scheme) r.air r.reader (Some c.args.bucket.now) r.state)) c.self.view_is
+    ∙ ap (λ (r : Receiver). in_state r (hear (by_entries r.air.scheme) r.air r.reader (Some c.args.bucket.now) r.state)) c.self.view_is
 
 pub open-requires-clause-busy : goal.open-requires-clause-busy
 open-requires-clause-busy c = (wanted_read _ c.args.bucket.now (sym c.wants.ensures ∙ c.if-not-wants.false)).busy
@@ -50,4 +50,4 @@ unfolding wanted query_of
 returns-clause-heard c =
     c.open.ensures ∙ opened_heard (receiver_in c.self.inside) c.args.bucket.now c.self.invariant.policy c.max-self-inside.result (c.max-self-inside.ensures ∙ ap (max c.self.inside.latest) c.cycle.ensures)
     (sym c.fits.ensures ∙ c.if-not-fits.false) (sym c.wants.ensures ∙ c.if-not-wants.false)
-    ∙ ap (λ (r : Receiving). in_state r (hear (by_entries r.air.scheme) r.air r.reader (Some c.args.bucket.now) r.state)) c.self.view_is
+    ∙ ap (λ (r : Receiver). in_state r (hear (by_entries r.air.scheme) r.air r.reader (Some c.args.bucket.now) r.state)) c.self.view_is

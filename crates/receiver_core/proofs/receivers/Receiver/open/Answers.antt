@@ -6,7 +6,7 @@ use Rattle.air_model.specs.Judges.{by_entries}
 use Rattle.air_model.specs.Sessions.{open_bucket, wanted}
 use Rattle.receiver_core.specs.Attempts.{HeldValues, read_of}
 use Rattle.receiver_core.specs.LastReads.{in_state}
-use Rattle.receiver_core.specs.Receivings.{Receiving}
+use Rattle.receiver_core.specs.Receivers.{Receiver}
 use Rattle.receiver_core.specs.ReceiverView.{receiver_in}
 use Rattle.receiver_core.proofs.OpenLemmas.{more_first, new_read, opened_clash, opened_clear, room_left}
 use Rattle.receiver_core.proofs.StateLemmas.{left}
@@ -14,12 +14,12 @@ use Rattle.receiver_core.proofs.receivers.Receiver.open.Goals as goal
 
 pub try_hold-requires-clause-room : goal.try_hold-requires-clause-room
 try_hold-requires-clause-room c =
-    room_left c.self.inside (item_of c.args.bucket.now.body) c.self.invariant (ap (λ (r : Receiving). wanted r.reader r.state) c.self.view_is ∙ c.requires.wanted)
+    room_left c.self.inside (item_of c.args.bucket.now.body) c.self.invariant (ap (λ (r : Receiver). wanted r.reader r.state) c.self.view_is ∙ c.requires.wanted)
 
 pub try_hold-requires-clause-new : goal.try_hold-requires-clause-new
 try_hold-requires-clause-new c =
-    new_read c.self.inside c.args.bucket.now c.self.invariant c.requires.range c.requires.busy (c.requires.counted ∙ sym (ap (λ (r : Receiving). r.air.items) c.self.view_is))
-    (ap (λ (r : Receiving). wanted r.reader r.state) c.self.view_is ∙ c.requires.wanted)
+    new_read c.self.inside c.args.bucket.now c.self.invariant c.requires.range c.requires.busy (c.requires.counted ∙ sym (ap (λ (r : Receiver). r.air.items) c.self.view_is))
+    (ap (λ (r : Receiver). wanted r.reader r.state) c.self.view_is ∙ c.requires.wanted)
 
 pub invariant_of-self : goal.invariant_of-self
 invariant_of-self c =
@@ -30,27 +30,27 @@ invariant_of-self c =
       short = k.short;
       distinct = k.distinct;
       items = ap (λ (h : HeldValues). h.items) c.in-None.ensures.held ∙ k.items;
-      first = more_first c.self.inside c.try_hold.new.self (read_of c.args.bucket.now) k c.in-None.ensures.held (ap (λ (r : Receiving). wanted r.reader r.state) c.self.view_is ∙ c.requires.wanted);
+      first = more_first c.self.inside c.try_hold.new.self (read_of c.args.bucket.now) k c.in-None.ensures.held (ap (λ (r : Receiver). wanted r.reader r.state) c.self.view_is ∙ c.requires.wanted);
     }
 
 pub accept_if_whole-requires-clause-left : goal.accept_if_whole-requires-clause-left
 accept_if_whole-requires-clause-left c =
     let v = receiver_in c.self.inside in
-    left v.reader v.state (item_of c.args.bucket.now.body) (ap (λ (r : Receiving). wanted r.reader r.state) c.self.view_is ∙ c.requires.wanted)
+    left v.reader v.state (item_of c.args.bucket.now.body) (ap (λ (r : Receiver). wanted r.reader r.state) c.self.view_is ∙ c.requires.wanted)
 
 pub abort-requires-clause-left : goal.abort-requires-clause-left
 abort-requires-clause-left c =
     let v = receiver_in c.self.inside in
-    left v.reader v.state (item_of c.args.bucket.now.body) (ap (λ (r : Receiving). wanted r.reader r.state) c.self.view_is ∙ c.requires.wanted)
+    left v.reader v.state (item_of c.args.bucket.now.body) (ap (λ (r : Receiver). wanted r.reader r.state) c.self.view_is ∙ c.requires.wanted)
 
 pub returns-in-None : goal.returns-in-None
 returns-in-None c =
     let x = read_of c.args.bucket.now in
     c.accept_if_whole.ensures ∙ opened_clear c.self.inside c.try_hold.new.self x c.self.invariant c.in-None.ensures.held (sym c.try_hold.ensures.clash ∙ c.in-None.is)
-    ∙ ap (λ (r : Receiving). in_state r (open_bucket (by_entries (scheme_of FMatrix)) r.air r.reader x r.state)) c.self.view_is
+    ∙ ap (λ (r : Receiver). in_state r (open_bucket (by_entries (scheme_of FMatrix)) r.air r.reader x r.state)) c.self.view_is
 
 pub returns-in-Some : goal.returns-in-Some
 returns-in-Some c =
     let x = read_of c.args.bucket.now in
     c.abort.ensures ∙ opened_clash c.self.inside c.try_hold.new.self x c.in-Some.clash c.self.invariant c.in-Some.ensures.held (sym c.try_hold.ensures.clash ∙ c.in-Some.is)
-    ∙ ap (λ (r : Receiving). in_state r (open_bucket (by_entries (scheme_of FMatrix)) r.air r.reader x r.state)) c.self.view_is
+    ∙ ap (λ (r : Receiver). in_state r (open_bucket (by_entries (scheme_of FMatrix)) r.air r.reader x r.state)) c.self.view_is

@@ -1,0 +1,50 @@
+-- What the proofs of `plan` need of its definitions.
+use Rattle.std.proofs.Common.{ℕ, List, refl}
+use Rattle.air_devices.specs.Counts.{NoCountFalls}
+use Rattle.air_devices.specs.Unchanged.{KeepsButLeft, KeepsButPrinted}
+use Rattle.air_devices.specs.Shelves.{Shelved}
+use Rattle.air_status.specs.declared.status.Status.{Status}
+use Rattle.air_status.specs.declared.status.Status.TheVariants as status
+use Rattle.air_cli.specs.Making.{Reads}
+use Rattle.chunk_program.specs.Plans.{IsTooLong}
+use Rattle.air_model.specs.Decks.{Deck, disks_in}
+use Rattle.deck_files.specs.NamedDecks.{DeckCause, SpellsDeck}
+use Rattle.deck_files.specs.NamedFiles.{UnreadCause}
+use Rattle.air_cli.specs.Plan.{PlanCause, plan_meaning}
+use Rattle.deck_files.specs.RunnableDecks.{LengthCause}
+use Rattle.deck_files.proofs.CauseFacts.{of_deck}
+use Rattle.air_cli.proofs.RefusalFacts.{IsSound, deck_still}
+
+-- a deck that isn't had isn't planned
+pub deck_plan : (name : List ℕ) (before now : Shelved) (s : Status) → DeckCause name before now s → PlanCause name before now s
+unfolding PlanCause DeckCause UnreadCause
+deck_plan name before now (status.PlanTooLong slots) h = absurd h
+deck_plan name before now s h = h
+
+-- nor is a deck whose program would be too long
+pub length_plan : (name : List ℕ) (before now : Shelved) (d : Deck) (s : Status) → SpellsDeck name before d → LengthCause d s → PlanCause name before now s
+unfolding PlanCause DeckCause UnreadCause LengthCause
+length_plan name before now d status.NoMemory spells h = h
+length_plan name before now d (status.PlanTooLong slots) spells h = of_deck name before d (λ d. IsTooLong (disks_in d) slots) spells h
+length_plan name before now d s spells h = absurd h
+
+pub wanting_plan : (name : List ℕ) (before now : Shelved) → PlanCause name before now status.NoMemory
+unfolding PlanCause DeckCause UnreadCause
+wanting_plan name before now = tt
+
+pub reads_plan : (deck : List ℕ) (before now : Shelved) → KeepsButLeft deck before.told now.told → NoCountFalls before.faults now.faults → Reads (plan_meaning deck) before now
+reads_plan deck before now rest counts = record { files = rest.files; left = rest.other_left; outputs = rest.outputs; printed = rest.printed; counts = counts }
+
+plan_still : (name : List ℕ) (before mid now : Shelved) (s : Status) → KeepsButPrinted mid.told now.told → NoCountFalls mid.faults now.faults → PlanCause name before mid s → PlanCause name before now s
+unfolding PlanCause
+plan_still name before mid now (status.PlanTooLong slots) rest counts h = h
+plan_still name before mid now s rest counts h = deck_still name before mid now s rest counts h
+
+pub plan_sound : (deck : List ℕ) → IsSound (plan_meaning deck)
+unfolding PlanCause DeckCause UnreadCause
+plan_sound deck = record {
+  still = plan_still deck;
+  not_done = λ before now h. h;
+  not_failed = λ before now h. h;
+  input = λ before now h. record { name = deck; named = refl; rose = h };
+}

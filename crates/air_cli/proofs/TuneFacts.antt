@@ -1,0 +1,96 @@
+-- What the proofs of `tune` need of its definitions.
+use Rattle.std.proofs.Common.{◌≡◌, ℕ, ◌≤◌, List, length, Some, None, refl, sym, ◌∙◌, subst, inl, inr}
+use Rattle.air_devices.specs.Counts.{NoCountFalls, Rose}
+use Rattle.air_devices.specs.Unchanged.{KeepsButLeft, KeepsButPrinted}
+use Rattle.air_devices.specs.Shelves.{Shelved}
+use Rattle.air_status.specs.declared.status.Status.{Status}
+use Rattle.air_status.specs.declared.status.Status.TheVariants as status
+use Rattle.air_cli.specs.Making.{Reads}
+use Rattle.air_devices.specs.Told.{ToldIs, WhereTold}
+use Rattle.air_model.specs.Tapes.{tape_read}
+use Rattle.deck_files.specs.NamedDecks.{DeckCause, OfDeck}
+use Rattle.deck_files.specs.RunnableDecks.{IsRunnable, UnrunnableCause}
+use Rattle.deck_files.specs.NamedFiles.{UnreadCause}
+use Rattle.deck_files.specs.Limits.{tape_limit}
+use Rattle.air_cli.specs.Tune.{IsCutAt, OfTape, TuneCause, tune_meaning}
+use Rattle.air_cli.specs.Answers.{InputFailed}
+use Rattle.deck_files.proofs.CauseFacts.{where_read}
+use Rattle.air_cli.proofs.ReadFacts.{falls_twice}
+use Rattle.air_cli.proofs.RefusalFacts.{IsSound, unrunnable_still, unread_still}
+
+-- nor is a tape heard
+pub unrunnable_tune : (deck tape : List ℕ) (before now : Shelved) (s : Status) → UnrunnableCause deck before now s → TuneCause deck tape before now s
+unfolding TuneCause UnrunnableCause DeckCause UnreadCause
+unrunnable_tune deck tape before now (status.TapeCut at) h = absurd h
+unrunnable_tune deck tape before now s h = inl h
+
+-- a tape that can't be read isn't heard
+pub unread_tune : (deck tape : List ℕ) (before now : Shelved) (s : Status) → OfDeck deck before IsRunnable → UnreadCause tape tape_limit before now s → TuneCause deck tape before now s
+unfolding TuneCause UnreadCause
+unread_tune deck tape before now (status.TapeCut at) can h = absurd h
+unread_tune deck tape before now s can h = inr (can, h)
+
+pub wanting_tune : (deck tape : List ℕ) (before now : Shelved) → TuneCause deck tape before now status.NoMemory
+unfolding TuneCause UnrunnableCause DeckCause UnreadCause
+wanting_tune deck tape before now = inl tt
+
+pub reads_deck : (deck tape : List ℕ) (before now : Shelved) → KeepsButLeft deck before.told now.told → NoCountFalls before.faults now.faults → Reads (tune_meaning deck tape) before now
+reads_deck deck tape before now rest counts = record {
+  files = rest.files;
+  left = λ name other. rest.other_left name (λ same. other (inl same));
+  outputs = rest.outputs;
+  printed = rest.printed;
+  counts = counts;
+}
+
+pub reads_both : (deck tape : List ℕ) (before mid now : Shelved) → KeepsButLeft deck before.told mid.told → NoCountFalls before.faults mid.faults
+    → KeepsButLeft tape mid.told now.told → NoCountFalls mid.faults now.faults → Reads (tune_meaning deck tape) before now
+reads_both deck tape before mid now first counts second later = record {
+  files = λ name. second.files name ∙ first.files name;
+  left = λ name other. second.other_left name (λ same. other (inr same)) ∙ first.other_left name (λ same. other (inl same));
+  outputs = λ name. second.outputs name ∙ first.outputs name;
+  printed = second.printed ∙ first.printed;
+  counts = falls_twice before.faults mid.faults now.faults counts later;
+}
+
+-- what is so of the whole tape that was read is so of the named tape
+pub of_tape : (tape : List ℕ) (before mid : Shelved) (bytes read : List ℕ) (P : List (List ℕ) → Type 0) → ToldIs (mid.told.file tape) bytes → mid.told.file tape ≡ before.told.file tape
+    → read ≡ bytes → length bytes ≤ tape_limit → (tape_read read).cut ≡ None → P (tape_read read).records → OfTape tape before P
+of_tape tape before mid bytes read P known same is few whole p = where_read (before.told.file tape) read
+    (λ bytes. (length bytes ≤ tape_limit) × ((tape_read bytes).cut ≡ None) × P (tape_read bytes).records)
+    (subst (λ file. ToldIs file read) same (subst (ToldIs (mid.told.file tape)) (sym is) known)) (subst (λ b. length b ≤ tape_limit) (sym is) few, whole, p)
+
+-- where a tape that was read is cut, the named tape is
+pub of_cut : (tape : List ℕ) (before mid : Shelved) (bytes read : List ℕ) (at : ℕ) → ToldIs (mid.told.file tape) bytes → mid.told.file tape ≡ before.told.file tape
+    → read ≡ bytes → length bytes ≤ tape_limit → (tape_read read).cut ≡ Some at → WhereTold (before.told.file tape) (IsCutAt at)
+of_cut tape before mid bytes read at known same is few cut = where_read (before.told.file tape) read (IsCutAt at)
+    (subst (λ file. ToldIs file read) same (subst (ToldIs (mid.told.file tape)) (sym is) known)) (subst (λ b. length b ≤ tape_limit) (sym is) few, cut)
+
+tune_still : (deck tape : List ℕ) (before mid now : Shelved) (s : Status) → KeepsButPrinted mid.told now.told → NoCountFalls mid.faults now.faults → TuneCause deck tape before mid s → TuneCause deck tape before now s
+unfolding TuneCause
+tune_still deck tape before mid now (status.TapeCut at) rest counts h = h
+tune_still deck tape before mid now s rest counts (inl h) = inl (unrunnable_still deck before mid now s rest counts h)
+tune_still deck tape before mid now s rest counts (inr h) = inr (h.0, unread_still tape tape_limit before mid now s rest counts h.1)
+
+tune_input : (deck tape : List ℕ) (before now : Shelved) → TuneCause deck tape before now status.ReadFault → InputFailed (tune_meaning deck tape) before now
+unfolding TuneCause UnrunnableCause DeckCause UnreadCause
+tune_input deck tape before now (inl h) = record { name = deck; named = inl refl; rose = h }
+tune_input deck tape before now (inr h) = record { name = tape; named = inr refl; rose = h.1 }
+
+tune_not_done : (deck tape : List ℕ) (before now : Shelved) → TuneCause deck tape before now status.Ok → ⊥
+unfolding TuneCause UnrunnableCause DeckCause UnreadCause
+tune_not_done deck tape before now (inl h) = h
+tune_not_done deck tape before now (inr h) = h.1
+
+tune_not_failed : (deck tape : List ℕ) (before now : Shelved) → TuneCause deck tape before now status.WriteFault → ⊥
+unfolding TuneCause UnrunnableCause DeckCause UnreadCause
+tune_not_failed deck tape before now (inl h) = h
+tune_not_failed deck tape before now (inr h) = h.1
+
+pub tune_sound : (deck tape : List ℕ) → IsSound (tune_meaning deck tape)
+tune_sound deck tape = record {
+  still = tune_still deck tape;
+  not_done = tune_not_done deck tape;
+  not_failed = tune_not_failed deck tape;
+  input = tune_input deck tape;
+}

@@ -1,0 +1,67 @@
+use Rattle.std.proofs.Common.{◌≡◌, ◌≤◌, None, Some, ap₂, length, subst, sym, rules, arith}
+use Rattle.std.specs.Io.KnownBytes.{IsAtEnd}
+use Rattle.air_model.specs.Outputs.{script_tape}
+use Rattle.air_status.specs.declared.status.Status.TheVariants as status
+use Rattle.deck_files.specs.RunnableDecks.{IsRunnable}
+use Rattle.deck_files.specs.Limits.{tape_limit}
+use Rattle.air_cli.specs.Making.{IsMade, IsUnmade}
+use Rattle.delivery.specs.Given.{Given}
+use Rattle.delivery.specs.SentTapes.{tape_sent}
+use Rattle.air_cli.specs.Script.{HasLongTape, ScriptCause, ScriptGives, script_given, script_meaning}
+use Rattle.air_cli.specs.Truths.{IsTrueScript}
+use Rattle.deck_files.proofs.CauseFacts.{of_deck}
+use Rattle.air_cli.proofs.ScriptFacts.{unrunnable_script, wanting_script}
+use Rattle.air_cli.proofs.script.script.Goals as goal
+
+pub returns-in_err-deck-clause-unmade : goal.returns-in_err-deck-clause-unmade
+returns-in_err-deck-clause-unmade g c =
+    let S = g.S.Shelf in
+    let before = S.state c.args.shelf.now in
+    let now = S.state c.read_runnable_deck.new.shelf in
+    let h : IsUnmade (script_meaning c.args.name.now None) before now c.in_err-deck.field-0.0 = record {
+      cause = unrunnable_script c.args.name.now before now c.in_err-deck.field-0.0 c.in_err-deck.ensures.refused;
+      kept = c.in_err-deck.ensures.reads.kept;
+    } in
+    search (rules, h)
+
+pub returns-then-bytes-clause-unmade : goal.returns-then-bytes-clause-unmade
+unfolding ScriptCause
+returns-then-bytes-clause-unmade g c =
+    let S = g.S.Shelf in
+    let before = S.state c.args.shelf.now in
+    record {
+      cause = of_deck c.args.name.now before c.in_ok-deck.deck (λ d. HasLongTape d c.tape_len-bytes.result) c.in_ok-deck.ensures.deck
+          (record { runnable = c.in_ok-deck.ensures.runnable; counted = c.tape_len-bytes.ensures; above = omega (arith, c.if-bytes.true) });
+      kept = λ read. c.in_ok-deck.ensures.reads.calm;
+    }
+
+pub returns-in_err-scripted-clause-unmade : goal.returns-in_err-scripted-clause-unmade
+returns-in_err-scripted-clause-unmade g c =
+    let S = g.S.Shelf in
+    let before = S.state c.args.shelf.now in
+    let now = S.state c.read_runnable_deck.new.shelf in
+    let h : IsUnmade (script_meaning c.args.name.now None) before now status.NoMemory = record {
+      cause = wanting_script c.args.name.now before now;
+      kept = λ read. c.in_ok-deck.ensures.reads.calm;
+    } in
+    search (rules, h)
+
+pub returns-clause-made : goal.returns-clause-made
+unfolding ScriptGives
+returns-clause-made g c =
+    let S = g.S.Shelf in
+    let name = c.args.name.now in
+    let before = S.state c.args.shelf.now in
+    let now = S.state c.read_runnable_deck.new.shelf in
+    let d = c.in_ok-deck.deck in
+    let work : Given = record { text = c.in_ok-scripted.scripted.report.items; tape = tape_sent (Some c.in_ok-scripted.scripted.tape) } in
+    record {
+      gives = of_deck name before d (λ d. IsRunnable d × (length (script_tape d) ≤ tape_limit) × IsTrueScript d × (work ≡ script_given d)) c.in_ok-deck.ensures.deck (
+        c.in_ok-deck.ensures.runnable,
+        omega (arith, c.if-bytes.false, c.tape_len-bytes.ensures),
+        record { legal = c.script_is_true.ensures.legal; bases = c.script_is_true.ensures.bases; sessions = c.script_is_true.ensures.sessions },
+        ap₂ (λ text tape. record { text = text; tape = tape }) c.in_ok-scripted.ensures.report c.in_ok-scripted.ensures.tape,
+      );
+      read = λ other same. subst (λ input. IsAtEnd (now.told.left input)) (sym same) c.in_ok-deck.ensures.reads.end;
+      calm = c.in_ok-deck.ensures.reads.calm;
+    }

@@ -1,0 +1,96 @@
+use Rattle.std.proofs.Common.{◌≡◌, ◌≢◌, ℕ, List, ap, inl, inr, subst, sym, rules}
+use Rattle.std.specs.Io.KnownBytes.{IsAtEnd}
+use Rattle.air_devices.specs.Counts.{KeepsCounts}
+use Rattle.air_model.specs.Tapes.{tape_read}
+use Rattle.air_status.specs.declared.status.Status.TheVariants as status
+use Rattle.deck_files.specs.RunnableDecks.{IsRunnable}
+use Rattle.air_cli.specs.Making.{IsMade, IsUnmade}
+use Rattle.delivery.specs.Given.{Given}
+use Rattle.air_cli.specs.Truths.{IsTrueTape}
+use Rattle.air_cli.specs.Tune.{OfTape, TuneCause, TuneGives, tune_given, tune_meaning}
+use Rattle.air_cli.proofs.AnswerFacts.{only_text}
+use Rattle.deck_files.proofs.CauseFacts.{of_deck}
+use Rattle.air_cli.proofs.ReadFacts.{end_still, unread_since}
+use Rattle.delivery.proofs.CountFacts.{kept_twice}
+use Rattle.air_cli.proofs.TuneFacts.{unrunnable_tune, of_cut, of_tape, unread_tune, wanting_tune}
+use Rattle.air_cli.proofs.tune.tune.Goals as goal
+
+pub returns-in_err-deck-clause-unmade : goal.returns-in_err-deck-clause-unmade
+returns-in_err-deck-clause-unmade g c =
+    let S = g.S.Shelf in
+    let before = S.state c.args.shelf.now in
+    let now = S.state c.read_runnable_deck.new.shelf in
+    let h : IsUnmade (tune_meaning c.args.name.now c.args.tape.now) before now c.in_err-deck.field-0.0 = record {
+      cause = unrunnable_tune c.args.name.now c.args.tape.now before now c.in_err-deck.field-0.0 c.in_err-deck.ensures.refused;
+      kept = c.in_err-deck.ensures.reads.kept;
+    } in
+    search (rules, h)
+
+pub returns-in_err-bytes-clause-unmade : goal.returns-in_err-bytes-clause-unmade
+returns-in_err-bytes-clause-unmade g c =
+    let S = g.S.Shelf in
+    let tape = c.args.tape.now in
+    let before = S.state c.args.shelf.now in
+    let mid = S.state c.read_runnable_deck.new.shelf in
+    let now = S.state c.read_bytes.new.shelf in
+    let can = of_deck c.args.name.now before c.in_ok-deck.deck IsRunnable c.in_ok-deck.ensures.deck c.in_ok-deck.ensures.runnable in
+    let unread = unread_since tape 1073741824 before mid now c.in_err-bytes.field-0.0 (c.read_runnable_deck.ensures.reads.rest.files tape) c.in_ok-deck.ensures.reads.calm c.in_err-bytes.ensures.refused in
+    let h : IsUnmade (tune_meaning c.args.name.now tape) before now c.in_err-bytes.field-0.0 = record {
+      cause = unread_tune c.args.name.now tape before now c.in_err-bytes.field-0.0 can unread;
+      kept = λ read. kept_twice before.faults mid.faults now.faults c.in_ok-deck.ensures.reads.calm (c.in_err-bytes.ensures.reads.kept read);
+    } in
+    search (rules, h)
+
+pub returns-in-Some-clause-unmade : goal.returns-in-Some-clause-unmade
+unfolding TuneCause
+returns-in-Some-clause-unmade g c =
+    let S = g.S.Shelf in
+    let tape = c.args.tape.now in
+    let before = S.state c.args.shelf.now in
+    let mid = S.state c.read_runnable_deck.new.shelf in
+    let now = S.state c.read_bytes.new.shelf in
+    record {
+      cause = (
+        of_deck c.args.name.now before c.in_ok-deck.deck IsRunnable c.in_ok-deck.ensures.deck c.in_ok-deck.ensures.runnable,
+        of_cut tape before mid c.in_ok-bytes.bytes.items c.deref-bytes.result.now c.in-Some.at c.in_ok-bytes.ensures.bytes (c.read_runnable_deck.ensures.reads.rest.files tape) c.deref-bytes.ensures.value
+            c.in_ok-bytes.ensures.fits (sym c.in-Some.ensures),
+      );
+      kept = λ read. kept_twice before.faults mid.faults now.faults c.in_ok-deck.ensures.reads.calm c.in_ok-bytes.ensures.reads.calm;
+    }
+
+pub returns-in_err-text-in-None-clause-unmade : goal.returns-in_err-text-in-None-clause-unmade
+returns-in_err-text-in-None-clause-unmade g c =
+    let S = g.S.Shelf in
+    let before = S.state c.args.shelf.now in
+    let mid = S.state c.read_runnable_deck.new.shelf in
+    let now = S.state c.read_bytes.new.shelf in
+    let h : IsUnmade (tune_meaning c.args.name.now c.args.tape.now) before now status.NoMemory = record {
+      cause = wanting_tune c.args.name.now c.args.tape.now before now;
+      kept = λ read. kept_twice before.faults mid.faults now.faults c.in_ok-deck.ensures.reads.calm c.in_ok-bytes.ensures.reads.calm;
+    } in
+    search (rules, h)
+
+pub returns-clause-made : goal.returns-clause-made
+unfolding TuneGives
+returns-clause-made g c =
+    let S = g.S.Shelf in
+    let tape = c.args.tape.now in
+    let before = S.state c.args.shelf.now in
+    let mid = S.state c.read_runnable_deck.new.shelf in
+    let now = S.state c.read_bytes.new.shelf in
+    let deck = c.in_ok-deck.deck in
+    let read = c.deref-bytes.result.now in
+    let work : Given = only_text c.in_ok-text-in-None.text.items in
+    let deck_end = end_still c.args.name.now tape mid now c.read_bytes.ensures.reads.rest c.in_ok-deck.ensures.reads.end c.in_ok-bytes.ensures.reads.end in
+    record {
+      gives = of_deck c.args.name.now before deck (λ d. IsRunnable d × OfTape tape before (λ records. IsTrueTape d records × (work ≡ tune_given d records))) c.in_ok-deck.ensures.deck (
+        c.in_ok-deck.ensures.runnable,
+        of_tape tape before mid c.in_ok-bytes.bytes.items read (λ records. IsTrueTape deck records × (work ≡ tune_given deck records)) c.in_ok-bytes.ensures.bytes (c.read_runnable_deck.ensures.reads.rest.files tape) c.deref-bytes.ensures.value
+            c.in_ok-bytes.ensures.fits (sym c.in-None.ensures) (c.tapes_are_true.ensures (tape_read read).records, ap only_text c.in_ok-text-in-None.ensures),
+      );
+      read = λ name input. elim input [
+        | inl same ↦ subst (λ input. IsAtEnd (now.told.left input)) (sym same) deck_end
+        | inr same ↦ subst (λ input. IsAtEnd (now.told.left input)) (sym same) c.in_ok-bytes.ensures.reads.end
+      ];
+      calm = kept_twice before.faults mid.faults now.faults c.in_ok-deck.ensures.reads.calm c.in_ok-bytes.ensures.reads.calm;
+    }

@@ -1,0 +1,24 @@
+-- What a command means: what it reads, why it is refused, and what it gives. Each command has one such definition, in a
+-- file of its own; `Answers` says by it what each status tells.
+use Rattle.std.specs.Prelude.{ℕ, List, Option, None, ⊤}
+use Rattle.air_devices.specs.Shelves.{Shelved}
+use Rattle.air_status.specs.declared.status.Status.{Status}
+use Rattle.air_status.specs.declared.status.Status.TheVariants as status
+use Rattle.delivery.specs.Given.{Given}
+
+-- The input files that a command names, the output that it names if any, why it is refused with a status (told of the shelf as
+-- it was and as it is), and what it prints and writes where nothing refuses it.
+pub record Meaning : Type 1 where
+  pub IsInput : List ℕ → Type 0
+  pub output : Option (List ℕ)
+  pub Refuses : Shelved → Shelved → Status → Type 0
+  pub Gives : Shelved → Given → Type 0
+
+-- Words of no form are refused as such.
+unfoldable pub WordsCause : Status → Type 0
+WordsCause status.Words = ⊤
+WordsCause other = ⊥
+
+-- Words of no form name no file, and give nothing.
+abbrev pub no_form : Meaning
+no_form = record { IsInput = λ name. ⊥; output = None; Refuses = λ before now s. WordsCause s; Gives = λ before given. ⊥ }

@@ -1,0 +1,29 @@
+-- The command `plan DECK`.
+use Rattle.std.specs.Prelude.{◌≡◌, ℕ, List, [], None}
+use Rattle.chunk_program.specs.Plans.{IsTooLong}
+use Rattle.air_devices.specs.Shelves.{Shelved}
+use Rattle.air_model.specs.Decks.{Deck, disks_in}
+use Rattle.air_model.specs.Outputs.{plan_output}
+use Rattle.air_status.specs.declared.status.Status.{Status}
+use Rattle.air_status.specs.declared.status.Status.TheVariants as status
+use Rattle.deck_files.specs.NamedDecks.{DeckCause, OfDeck}
+use Rattle.deck_files.specs.RunnableDecks.{IsShort}
+use Rattle.air_cli.specs.Meanings.{Meaning}
+use Rattle.delivery.specs.Given.{Given}
+
+-- Why it is refused: its deck, or the length of the deck's program.
+unfoldable pub PlanCause : List ℕ → Shelved → Shelved → Status → Type 0
+PlanCause deck before now (status.PlanTooLong slots) = OfDeck deck before (λ d. IsTooLong (disks_in d) slots)
+PlanCause deck before now s = DeckCause deck before now s
+
+-- The text of the deck's plan, and no tape.
+abbrev pub plan_given : Deck → Given
+plan_given d = record { text = plan_output d; tape = [] }
+
+-- What it gives: its deck's program is short enough, and this is the plan.
+unfoldable pub PlanGives : List ℕ → Shelved → Given → Type 0
+PlanGives deck before given = OfDeck deck before (λ d. IsShort d × (given ≡ plan_given d))
+
+-- It reads its deck and writes no output.
+abbrev pub plan_meaning : List ℕ → Meaning
+plan_meaning deck = record { IsInput = λ name. name ≡ deck; output = None; Refuses = PlanCause deck; Gives = PlanGives deck }

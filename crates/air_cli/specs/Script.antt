@@ -1,0 +1,37 @@
+-- The commands `script DECK` and `script DECK TAPE`.
+use Rattle.std.specs.Prelude.{◌≡◌, ◌≤◌, ◌<◌, ℕ, List, length, Option}
+use Rattle.air_devices.specs.Shelves.{Shelved}
+use Rattle.air_model.specs.Decks.{Deck}
+use Rattle.air_model.specs.Outputs.{script_output, script_tape}
+use Rattle.air_status.specs.declared.status.Status.{Status}
+use Rattle.air_status.specs.declared.status.Status.TheVariants as status
+use Rattle.deck_files.specs.RunnableDecks.{IsRunnable, UnrunnableCause}
+use Rattle.deck_files.specs.NamedDecks.{OfDeck}
+use Rattle.deck_files.specs.Limits.{tape_limit}
+use Rattle.air_cli.specs.Meanings.{Meaning}
+use Rattle.delivery.specs.Given.{Given}
+use Rattle.air_cli.specs.Truths.{IsTrueScript}
+
+-- The deck can be run, but its tape would have so many bytes, more than a tape may have.
+pub record HasLongTape (d : Deck) (bytes : ℕ) : Type 0 where
+  pub runnable : IsRunnable d
+  pub counted : bytes ≡ length (script_tape d)
+  pub above : tape_limit < bytes
+
+-- Why it is refused: its deck can't be run, or the tape would be too long.
+unfoldable pub ScriptCause : List ℕ → Shelved → Shelved → Status → Type 0
+ScriptCause deck before now (status.TooLong bytes) = OfDeck deck before (λ d. HasLongTape d bytes)
+ScriptCause deck before now s = UnrunnableCause deck before now s
+
+-- The report of the deck's script, and its tape.
+abbrev pub script_given : Deck → Given
+script_given d = record { text = script_output d; tape = script_tape d }
+
+-- What it gives: its deck can be run, the tape is short enough, the sessions in the report are true, and this is report and tape.
+unfoldable pub ScriptGives : List ℕ → Shelved → Given → Type 0
+ScriptGives deck before given =
+    OfDeck deck before (λ d. IsRunnable d × (length (script_tape d) ≤ tape_limit) × IsTrueScript d × (given ≡ script_given d))
+
+-- It reads its deck, and writes the tape where one is named.
+abbrev pub script_meaning : List ℕ → Option (List ℕ) → Meaning
+script_meaning deck tape = record { IsInput = λ name. name ≡ deck; output = tape; Refuses = ScriptCause deck; Gives = ScriptGives deck }

@@ -1,0 +1,43 @@
+-- The command `tune DECK TAPE`.
+use Rattle.std.specs.Prelude.{◌≡◌, ◌⊎◌, ◌≤◌, ℕ, List, [], length, Some, None}
+use Rattle.air_devices.specs.Told.{WhereTold}
+use Rattle.air_devices.specs.Shelves.{Shelved}
+use Rattle.air_model.specs.Decks.{Deck}
+use Rattle.air_model.specs.Outputs.{tune_output}
+use Rattle.air_model.specs.Tapes.{tape_read}
+use Rattle.air_status.specs.declared.status.Status.{Status}
+use Rattle.air_status.specs.declared.status.Status.TheVariants as status
+use Rattle.deck_files.specs.RunnableDecks.{IsRunnable, UnrunnableCause}
+use Rattle.deck_files.specs.NamedDecks.{OfDeck}
+use Rattle.deck_files.specs.NamedFiles.{UnreadCause}
+use Rattle.deck_files.specs.Limits.{tape_limit}
+use Rattle.air_cli.specs.Meanings.{Meaning}
+use Rattle.delivery.specs.Given.{Given}
+use Rattle.air_cli.specs.Truths.{IsTrueTape}
+
+-- The tape is cut at this byte.
+abbrev pub IsCutAt : ℕ → List ℕ → Type 0
+IsCutAt at bytes = (length bytes ≤ tape_limit) × ((tape_read bytes).cut ≡ Some at)
+
+-- Why it is refused: its deck can't be run, or it can, and then the tape can't be heard.
+unfoldable pub TuneCause : List ℕ → List ℕ → Shelved → Shelved → Status → Type 0
+TuneCause deck tape before now (status.TapeCut at) = OfDeck deck before IsRunnable × WhereTold (before.told.file tape) (IsCutAt at)
+TuneCause deck tape before now s = UnrunnableCause deck before now s ⊎ (OfDeck deck before IsRunnable × UnreadCause tape tape_limit before now s)
+
+-- The named file's bytes, where they are told, are a whole tape, and this is so of its records.
+abbrev pub OfTape : List ℕ → Shelved → (List (List ℕ) → Type 0) → Type 0
+OfTape name before P = WhereTold (before.told.file name) (λ bytes. (length bytes ≤ tape_limit) × ((tape_read bytes).cut ≡ None) × P (tape_read bytes).records)
+
+-- The report of the deck's readers over these records, and no tape.
+abbrev pub tune_given : Deck → List (List ℕ) → Given
+tune_given d records = record { text = tune_output d records; tape = [] }
+
+-- What it gives: its deck can be run, its tape is whole, the sessions in the report are true, and this is the report.
+unfoldable pub TuneGives : List ℕ → List ℕ → Shelved → Given → Type 0
+TuneGives deck tape before given =
+    OfDeck deck before (λ d. IsRunnable d × OfTape tape before (λ records. IsTrueTape d records × (given ≡ tune_given d records)))
+
+-- It reads its deck and the tape, and writes no output.
+abbrev pub tune_meaning : List ℕ → List ℕ → Meaning
+tune_meaning deck tape =
+    record { IsInput = λ name. (name ≡ deck) ⊎ (name ≡ tape); output = None; Refuses = TuneCause deck tape; Gives = TuneGives deck tape }

@@ -1,0 +1,24 @@
+//! The command `plan`: what the plan of a named deck gives.
+
+ghost use Rattle.std.specs.Prelude.{IfErr, IfOk};
+ghost use Rattle.air_cli.specs.Making.{IsMade, IsUnmade, Reads};
+ghost use Rattle.air_cli.specs.Plan.{plan_meaning};
+
+use crate::plan_rows::plan_text;
+use air_devices::Shelf;
+use air_status::Status;
+use deck_files::{plan_deck, read_deck_file};
+use delivery::Given;
+use std::alloc::Global;
+
+/// The text of the named deck's plan.
+pub(crate) fn plan<S: Shelf>(alloc: Global, shelf: &mut S, name: &str) -> Result<Given, Status>
+    ensures made { IfOk result (IsMade (plan_meaning name.now) (S.state shelf.old) (S.state shelf.new)) }
+    ensures unmade { IfErr result (IsUnmade (plan_meaning name.now) (S.state shelf.old) (S.state shelf.new)) }
+    ensures reads { Reads (plan_meaning name.now) (S.state shelf.old) (S.state shelf.new) }
+{
+    let deck = read_deck_file(alloc, shelf, name)?;
+    let (cut, program) = plan_deck(alloc, &deck)?;
+    let text = plan_text(alloc, &deck, &cut, &program)?;
+    Ok(Given { text, tape: None })
+}

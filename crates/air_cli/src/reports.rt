@@ -1,0 +1,89 @@
+//! The reports of `script` and `tune`, in memory: what a deck's readers made of a tape.
+//!
+//! `script` runs the deck's script and lets its readers hear the tape of it: over this tape both judges give one
+//! session, so the report is the one that the history judges. `tune` lets them hear a given tape.
+
+ghost use Rattle.std.specs.Prelude.{◌≡◌, ◌<◌, ◌≤◌, ◌^◌, [], length, None, IfOk};
+ghost use Rattle.air_history.specs.Histories.{starts};
+ghost use Rattle.air_model.specs.Decks.{disks_in};
+ghost use Rattle.air_model.specs.Outputs.{script_output, script_tape, tune_output};
+ghost use Rattle.air_model.specs.Reports.{report_text};
+ghost use Rattle.air_model.specs.Tapes.{tape_of, tape_read};
+ghost use Rattle.air_sender.specs.TapeMasts.{told_by};
+ghost use Rattle.deck_files.specs.Limits.{tape_limit};
+ghost use Rattle.deck_files.specs.RunnableDecks.{IsSupported};
+
+use air_base::NoMemory;
+use air_history::{Event, History};
+use air_report::{Report, write_report};
+use air_sender::TapeMast;
+use chunk_program::Program;
+use item_catalog::Deck;
+use listeners::{Sessions, tape_sessions};
+use script_run::run_script;
+use std::alloc::Global;
+
+/// What a script comes to: the report's text, and the tape.
+#[derive(Drop)]
+pub(crate) struct Scripted {
+    pub report: Vec<u8>,
+    pub tape: TapeMast,
+}
+
+/// Runs the script of a deck: the report of its history and of its readers' sessions, and the tape of its history.
+pub(crate) fn script_report(
+    alloc: Global,
+    deck: &Deck,
+    program: &Program,
+) -> Result<Scripted, NoMemory>
+    requires planned { program.now ≡ disks_in deck.now }
+    requires form { IsSupported deck.now }
+    requires size { length (script_tape deck.now) ≤ tape_limit }
+    ensures report { IfOk result (λ s. s.report.items ≡ script_output deck.now) }
+    ensures tape { IfOk result (λ s. tape_of (told_by s.tape).buckets ≡ script_tape deck.now) }
+{
+    deck.well_made();
+    let _slots = program.slots();
+    let scripted = run_script(alloc, deck, program)?;
+    let sessions = tape_sessions(alloc, deck, program, scripted.tape.tape())?;
+    let report = report_of(alloc, scripted.events, sessions)?;
+    Ok(Scripted {
+        report,
+        tape: scripted.tape,
+    })
+}
+
+/// Lets each reader of a deck hear the records of a whole tape: the report of their sessions, judged by the entries.
+pub(crate) fn tune_report(
+    alloc: Global,
+    deck: &Deck,
+    program: &Program,
+    tape: &[u8],
+) -> Result<Vec<u8>, NoMemory>
+    requires planned { program.now ≡ disks_in deck.now }
+    requires form { IsSupported deck.now }
+    requires whole { (tape_read tape.now).cut ≡ None }
+    ensures { IfOk result (λ text. text.items ≡ tune_output deck.now (tape_read tape.now).records) }
+{
+    let sessions = tape_sessions(alloc, deck, program, tape)?;
+    let report = report_of(alloc, Vec::new(alloc), sessions)?;
+    Ok(report)
+}
+
+/// The text of the report of a history and of what the sessions of readers tell; no monitor saw it.
+fn report_of(alloc: Global, events: Vec<Event>, sessions: Sessions) -> Result<Vec<u8>, NoMemory>
+    requires { starts events.items < 2 ^ 32 }
+    ensures { IfOk result (λ text. text.items
+        ≡ report_text (record { history = events.items; verdicts = sessions.verdicts.items; counts = sessions.counts.items; glances = []; looks = [] })) }
+{
+    let report = Report {
+        history: History::from_events(events),
+        verdicts: sessions.verdicts,
+        counts: sessions.counts,
+        glances: Vec::new(alloc),
+        looks: Vec::new(alloc),
+    };
+    let mut text = Vec::new(alloc);
+    write_report(alloc, &report, &mut text)?;
+    Ok(text)
+}

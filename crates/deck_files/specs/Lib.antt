@@ -1,0 +1,4 @@
+pub mod Limits
+pub mod NamedFiles
+pub mod NamedDecks
+pub mod RunnableDecks

@@ -1,0 +1,5 @@
+pub mod Given
+pub mod SentTapes
+pub mod Refusals
+pub mod Outputs
+pub mod Deliveries

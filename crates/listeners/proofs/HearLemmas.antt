@@ -1,0 +1,101 @@
+-- One listener hears member by member: what it is after a list, after its pieces, and at its end.
+-- The methods of `Listener` and the laws cite these.
+use Rattle.std.proofs.Common.{◌≡◌, ℕ, ◌+◌, ◌<◌, ◌^◌, List, [], ◌∷◌, ◌++◌, Option, length, map, take, get_or, refl, sym, ◌∙◌, ap, arith}
+use Rattle.std.proofs.lemmas.List.{append-nil, length-map, length-take, map_more}
+use Rattle.air_model.specs.Aired.{scheme_in}
+use Rattle.air_model.specs.Buckets.{Bucket}
+use Rattle.air_model.specs.Decks.{Deck}
+use Rattle.air_model.specs.Judges.{by_entries}
+use Rattle.air_model.specs.ReceiverLaws.{session_of}
+use Rattle.air_model.specs.Sessions.{Line, end, hear, hear_all, session, settle}
+use Rattle.air_model.specs.SessionLaws.{after}
+use Rattle.air_model.proofs.LineLemmas.{lines}
+use Rattle.receiver_core.specs.Receivers.{Receiver}
+use Rattle.listeners.specs.Endings.{lines_and_counts}
+use Rattle.listeners.specs.Listeners.{Listener, ended, hears, hears_one, listener_of}
+use Rattle.listeners.specs.Listeners as listener
+use Rattle.listeners.proofs.CountLemmas.{heard_by, hear_counts, settle_counts}
+use Rattle.listeners.proofs.EndLemmas.{end_like}
+use Rattle.listeners.proofs.SettlingLemmas.{judge_of}
+
+-- ---- a receiver and its lines
+
+-- the listener of a receiver and its lines
+abbrev pub listening : ℕ → Receiver → List Line → Listener
+listening n r L = record { number = n; air = r.air; reader = r.reader; state = after L r.state }
+
+-- the verdicts before the next member were taken
+pub record Took (r : Receiver) (M : List Line) (mid : Receiver) (N : List Line) : Type 0 where
+  pub air : mid.air ≡ r.air
+  pub reader : mid.reader ≡ r.reader
+  pub state : after N mid.state ≡ settle (judge_of r) r.air r.reader (after M r.state)
+
+pub took_counts : {r : Receiver} {M : List Line} {mid : Receiver} {N : List Line} → Took r M mid N → heard_by mid.state ≡ heard_by r.state
+took_counts {r} {M} {mid} {N} took = ap heard_by took.state ∙ settle_counts (judge_of r) r.air r.reader (after M r.state)
+
+-- a receiver whose verdicts were taken hears one more member
+pub listener_heard : (n : ℕ) {old mid : Receiver} {M N : List Line} (now : Receiver) (o : Option Bucket) → Took old M mid N → now.air ≡ mid.air → now.reader ≡ mid.reader
+    → now.state ≡ hear (judge_of mid) mid.air mid.reader o mid.state → listening n now N ≡ hears_one o (listening n old M)
+unfolding hears_one
+listener_heard n {old} {mid} {M} {N} now o took air reader heard =
+    let J = judge_of old in
+    let told : now.state ≡ hear J old.air old.reader o mid.state =
+    heard ∙ ap (λ x. hear (by_entries x.scheme) x mid.reader o mid.state) took.air ∙ ap (λ x. hear J old.air x o mid.state) took.reader in
+    let state : after N now.state ≡ hear J old.air old.reader o (settle J old.air old.reader (after M old.state)) =
+    ap (after N) told ∙ sym ((lines J old.air old.reader N mid.state).hear o) ∙ ap (hear J old.air old.reader o) took.state in
+    ap (λ a. let l : Listener = record { number = n; air = a; reader = now.reader; state = after N now.state } in l) (air ∙ took.air)
+    ∙ ap (λ d. let l : Listener = record { number = n; air = old.air; reader = d; state = after N now.state } in l) (reader ∙ took.reader)
+    ∙ ap (λ s. let l : Listener = record { number = n; air = old.air; reader = old.reader; state = s } in l) state
+
+-- a receiver whose last verdicts were taken and whose queries were ended has its session's lines and counts
+pub listener_ended : (n : ℕ) {old mid : Receiver} {L M : List Line} (last : Receiver) (N : List Line) → Took old L mid M
+    → lines_and_counts (after N last.state) ≡ lines_and_counts (end (judge_of mid) mid.air mid.reader (after M mid.state)) → last.state.lines ≡ []
+    → (N, last.state.counts) ≡ lines_and_counts (ended (listening n old L))
+unfolding ended
+listener_ended n {old} {mid} {L} {M} last N took over given =
+    let mine : (N, last.state.counts) ≡ lines_and_counts (after N last.state) = ap (λ ls. (ls, last.state.counts)) (sym (ap (λ ls. N ++ ls) given ∙ append-nil N)) in
+    mine ∙ over ∙ ap lines_and_counts (sym (end_like mid old (after M mid.state) took.air took.reader)) ∙ ap (λ s. lines_and_counts (end (judge_of old) old.air old.reader s)) took.state
+
+-- ---- members one after another
+
+pub pieces : (first second : List (Option Bucket)) (l : Listener) → hears (first ++ second) l ≡ hears second (hears first l)
+unfolding hears
+pieces [] second l = refl
+pieces (o ∷ first) second l = pieces first second (hears_one o l)
+
+pub counted_one : (o : Option Bucket) (l : Listener) → heard_by (hears_one o l).state ≡ heard_by l.state + 1
+unfolding hears_one
+counted_one o l =
+    hear_counts (listener.judge_of l) l.air l.reader o (settle (listener.judge_of l) l.air l.reader l.state) ∙ ap (λ n. n + 1) (settle_counts (listener.judge_of l) l.air l.reader l.state)
+
+pub counted_all : (members : List (Option Bucket)) (l : Listener) → heard_by (hears members l).state ≡ heard_by l.state + length members
+unfolding hears
+counted_all [] l = omega arith
+counted_all (o ∷ members) l = let one = counted_one o l in let more = counted_all members (hears_one o l) in omega arith
+
+-- a listener that ends here has heard all, and then settled
+ended_all : (members : List (Option Bucket)) (l : Listener) → ended (hears members l) ≡ end (listener.judge_of l) l.air l.reader (hear_all (listener.judge_of l) l.air l.reader members l.state)
+unfolding ended hears hears_one hear_all
+ended_all [] l = refl
+ended_all (o ∷ members) l = ended_all members (hears_one o l)
+
+pub session_is : (deck : Deck) (r : ℕ) (members : List (Option Bucket)) → ended (hears members (listener_of deck r)) ≡ session_of (by_entries (scheme_in deck)) deck r members
+unfolding session
+session_is deck r members = ended_all members (listener_of deck r)
+
+-- so far the first members of a list were heard
+pub hears_more : {X : Type 0} (member : X → Option Bucket) (xs : List X) (i : ℕ) (x : X) (before now after : Listener) → i < length xs → x ≡ get_or xs i x
+    → now ≡ hears (map member (take i xs)) before → after ≡ hears_one (member x) now → after ≡ hears (map member (take (i + 1) xs)) before
+unfolding hears
+hears_more member xs i x before now after below here so_far heard =
+    heard ∙ ap (hears_one (member x)) so_far ∙ sym (pieces (map member (take i xs)) (member x ∷ []) before)
+    ∙ ap (λ l. hears l before) (ap (λ y. map member (take i xs) ++ member y ∷ []) here ∙ sym (map_more member xs i x below))
+
+-- and there is room to count one more
+pub room_for_next : {X : Type 0} (member : X → Option Bucket) (xs : List X) (i : ℕ) (before now : Listener) → i < length xs → now ≡ hears (map member (take i xs)) before
+    → heard_by before.state + length xs < 2 ^ 64 → heard_by now.state + 1 < 2 ^ 64
+room_for_next member xs i before now below so_far most =
+    let all = ap (λ (l : Listener). heard_by l.state) so_far ∙ counted_all (map member (take i xs)) before in
+    let few = length-map (take i xs) member in
+    let short = length-take i xs in
+    omega arith

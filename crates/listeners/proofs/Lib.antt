@@ -1,0 +1,5 @@
+pub mod SettlingLemmas
+pub mod EndLemmas
+pub mod CountLemmas
+pub mod HearLemmas
+pub mod ReaderLemmas

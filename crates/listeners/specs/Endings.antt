@@ -1,0 +1,8 @@
+-- What is told of a session at its end. Only the private steps that end one speak of it.
+use Rattle.std.specs.Prelude.{List}
+use Rattle.air_base.specs.declared.verdicts.Counts.{Counts}
+use Rattle.air_model.specs.Sessions.{Line, State}
+
+-- The lines of a state, and its counts.
+abbrev pub lines_and_counts : State → List Line × Counts
+lines_and_counts s = (s.lines, s.counts)

@@ -1,0 +1,2 @@
+pub mod Listeners
+pub mod Endings

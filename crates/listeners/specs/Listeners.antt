@@ -1,0 +1,47 @@
+-- What contracts see of a listener, and what becomes of it as it hears: so a deck's readers hear one tape together.
+use Rattle.std.specs.Prelude.{◌≡◌, ℕ, List, [], ◌∷◌, All, Option, length, map}
+use Rattle.std.specs.List.{range_with_len}
+use Rattle.air_base.specs.declared.verdicts.Policy.TheVariants.{FMatrix}
+use Rattle.air_model.specs.Aired.{Air, air_of}
+use Rattle.air_model.specs.Buckets.{Bucket}
+use Rattle.air_model.specs.Decks.{Deck}
+use Rattle.air_model.specs.Judges.{Judge, by_entries}
+use Rattle.air_model.specs.Sessions.{Reader, State, end, hear, reader_of, settle, start}
+
+-- A listener has the number of its reader, what all receivers know, its plan and queries, and its state with every line up
+-- to now, those that it has handed out among them.
+pub record Listener : Type 0 where
+  pub number : ℕ
+  pub air : Air
+  pub reader : Reader
+  pub state : State
+
+-- The deck's reader of a number, before it hears anything.
+abbrev pub listener_of : Deck → ℕ → Listener
+listener_of deck r = record { number = r; air = air_of deck; reader = reader_of deck r; state = start }
+
+-- A listener judges by the entries that it hears.
+abbrev pub judge_of : Listener → Judge
+judge_of l = by_entries l.air.scheme
+
+-- One more member is heard: the listener settles, and hears it.
+unfoldable pub hears_one : Option Bucket → Listener → Listener
+hears_one member l = record l { state = hear (judge_of l) l.air l.reader member (settle (judge_of l) l.air l.reader l.state) }
+
+-- These members are heard, one after another.
+unfoldable pub hears : List (Option Bucket) → Listener → Listener
+hears [] l = l
+hears (member ∷ members) l = hears members (hears_one member l)
+
+-- The state of its session, where that ends here: the listener settles, and what is left stays unfinished.
+unfoldable pub ended : Listener → State
+ended l = end (judge_of l) l.air l.reader (settle (judge_of l) l.air l.reader l.state)
+
+-- Each listener has the number of its place.
+abbrev pub AreNumbered : List Listener → Type 0
+AreNumbered ls = map (λ l. l.number) ls ≡ range_with_len 0 (length ls)
+
+-- Which decks have listeners yet: no reader keeps copies, and F-Matrix judges.
+pub record CanListen (deck : Deck) : Type 0 where
+  pub rooms : All (λ r. r.room ≡ 0) deck.readers
+  pub policy : deck.settings.policy ≡ FMatrix

@@ -1,0 +1,111 @@
+//! A receiver, with the lines of the verdicts that it has handed out.
+//!
+//! It is seen as its reader's state with every line up to now. It takes the verdicts before each member, and hears it.
+
+ghost use Rattle.std.specs.Prelude.{◌≡◌, ◌<◌, ◌+◌, ◌^◌, ◌++◌, ◌∷◌, [], All, IfOk, OnOk, length, map};
+ghost use Rattle.std.specs.Result.{result_ok};
+ghost use Rattle.air_model.specs.Buckets.{IsInRange};
+ghost use Rattle.air_model.specs.Decks.{disks_in};
+ghost use Rattle.air_model.specs.Reports.{line_by};
+ghost use Rattle.receiver_core.specs.Receivers.{heard_count};
+ghost use Rattle.listeners.specs.Listeners.{CanListen, ended, hears, hears_one, listener_of};
+
+use crate::verdicts::{Line, end_queries, take_verdicts};
+use air_base::NoMemory;
+use air_model::reports::{CountsLine, VerdictLine};
+use bucket_codec::{BucketFault, BucketView};
+use chunk_program::Program;
+use item_catalog::Deck;
+use receiver_core::Receiver;
+use std::alloc::Global;
+use std::marker::Model;
+
+/// A receiver of a deck, and its verdict lines so far.
+#[derive(Drop)]
+pub struct Listener {
+    number: u32,
+    receiver: Receiver,
+    lines: Vec<Line>,
+}
+
+impl Model for Listener {
+    ghost use Rattle.air_model.specs.SessionLaws.{after};
+    ghost use Rattle.listeners.specs.Listeners.{Listener};
+
+    ghost Value = { Listener };
+
+    ghost view = { λ l. record { number = l.number; air = l.receiver.air; reader = l.receiver.reader; state = after l.lines.items l.receiver.state } };
+}
+
+impl Listener {
+    /// The deck's reader of a number, before it hears anything.
+    pub fn new(
+        alloc: Global,
+        deck: &Deck,
+        number: u32,
+        program: &Program,
+    ) -> Result<Listener, NoMemory>
+        requires number { number < length deck.now.readers }
+        requires planned { program.now ≡ disks_in deck.now }
+        requires form { CanListen deck.now }
+        ensures { IfOk result (λ l. l ≡ listener_of deck.now number) }
+    {
+        Ok(Listener {
+            number,
+            receiver: Receiver::new(alloc, deck, number, program)?,
+            lines: Vec::new(alloc),
+        })
+    }
+
+    /// Takes the verdicts before the next member, and hears it.
+    pub fn hear(
+        &mut self,
+        alloc: Global,
+        heard: &Result<BucketView<'_>, BucketFault>,
+    ) -> Result<(), NoMemory>
+        requires counts { heard_count self.old.state.counts + 1 < 2 ^ 64 }
+        requires range { IfOk heard.now IsInRange }
+        ensures { OnOk result (self.new ≡ hears_one (result_ok heard.now) self.old) }
+    {
+        take_verdicts(alloc, &mut self.receiver, &mut self.lines)?;
+        self.receiver.hear(heard);
+        Ok(())
+    }
+
+    /// Ends the session: adds its verdict lines to those of the readers before it, and its counts to theirs.
+    pub fn end(
+        self,
+        alloc: Global,
+        verdicts: &mut Vec<VerdictLine>,
+        counts: &mut Vec<CountsLine>,
+    ) -> Result<(), NoMemory>
+        ensures verdicts { OnOk result (verdicts.new.items ≡ verdicts.old.items ++ map (line_by self.number) (ended self).lines) }
+        ensures counts { OnOk result (counts.new.items ≡ counts.old.items ++ record { reader = self.number; counts = (ended self).counts } ∷ []) }
+    {
+        let reader = self.number;
+        let mut receiver = self.receiver;
+        let mut lines = self.lines;
+        take_verdicts(alloc, &mut receiver, &mut lines)?;
+        end_queries(alloc, &mut receiver, &mut lines)?;
+        add_lines(reader, lines, verdicts)?;
+        counts.push(CountsLine {
+            reader,
+            counts: receiver.counts(),
+        })?;
+        Ok(())
+    }
+}
+
+/// Adds a session's lines as those of the reader of a number.
+fn add_lines(reader: u32, lines: Vec<Line>, verdicts: &mut Vec<VerdictLine>) -> Result<(), NoMemory>
+    ensures { OnOk result (verdicts.new.items ≡ verdicts.old.items ++ map (line_by reader) lines.items) }
+{
+    for line in lines {
+        verdicts.push(VerdictLine {
+            reader,
+            verdict: line.verdict,
+            reads: line.reads,
+        })?;
+    }
+    Ok(())
+}

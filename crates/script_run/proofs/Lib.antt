@@ -1,0 +1,3 @@
+pub mod AiredLemmas
+pub mod PartLemmas
+pub mod RunLoops

@@ -1,0 +1,2 @@
+pub mod AiredBytes
+pub mod RunSteps

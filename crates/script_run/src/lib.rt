@@ -1,0 +1,9 @@
+//! A deck's script, run part by part: its events, the board that they leave, and the tape of the cycles that they start.
+//!
+//! `run_script` gives the script's whole history and the buckets that this airs.
+#![tactic(auto)]
+
+mod parts;
+mod runs;
+
+pub use runs::{ScriptRun, run_script};
