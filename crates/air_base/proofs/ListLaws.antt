@@ -15,7 +15,7 @@ use Rattle.air_base.specs.NumberLists.{all_some, bad_part_at, list_of, list_text
 use Rattle.air_base.proofs.NumberFacts.{number_digits, one_spelling, text_spells}
 use Rattle.air_base.proofs.PartFacts.{all_some-Some, parts_of-pieces, pieces}
 
--- a part of a list has a byte, and no space
+-- A part of a list has a byte, and no space.
 pub record IsPart (part : List ℕ) : Type 0 where
   pub some : 0 < length part
   pub no_space : All (λ b. eqb b 32 ≡ false) part
@@ -23,7 +23,7 @@ pub record IsPart (part : List ℕ) : Type 0 where
 part_alone : (part : List ℕ) → IsPart part → pieces part ≡ part ∷ []
 part_alone part is = slice_split_none (λ b. eqb b 32) part is.no_space
 
--- the parts of a text made of parts are these
+-- The parts of a text made of parts are these.
 pieces-list_text : (part : List ℕ) (parts : List (List ℕ)) → All IsPart (part ∷ parts) → pieces (list_text (part ∷ parts)) ≡ part ∷ parts
 pieces-list_text part [] are = part_alone part (All-head IsPart part [] are)
 pieces-list_text part (next ∷ parts) are =
@@ -40,12 +40,12 @@ parts_of-list_text [] are = refl
 parts_of-list_text (part ∷ parts) are =
     parts_of-pieces (list_text (part ∷ parts)) (list_text_some part parts (All-head IsPart part parts are).some) ∙ pieces-list_text part parts are
 
--- a text is that of its parts
+-- A text is that of its parts.
 pub list_text-parts_of : (text : List ℕ) → list_text (parts_of text) ≡ text
 list_text-parts_of [] = refl
 list_text-parts_of (b ∷ bs) = join_with_byte-slice_split 32 (b ∷ bs)
 
--- where all items are there, these are they
+-- Where all items are there, these are they.
 pub Some-all_some : {A : Type 0} (xs : List (Option A)) (items : List A) → all_some xs ≡ Some items → xs ≡ map Some items
 unfolding all_some
 Some-all_some [] [] e = refl
@@ -120,7 +120,7 @@ no_space b h = grind (arith, nat_tests)
 digits_no_space : (ds : List ℕ) → list_all is_ascii_digit ds ≡ true → All (λ b. eqb b 32 ≡ false) ds
 digits_no_space ds h k d below = no_space (get_or ds k d) (AllPass-from_list_all is_ascii_digit ds h k d below)
 
--- the text of a number is a part of a list
+-- The text of a number is a part of a list.
 number_part : (n : ℕ) → n < 2 ^ 64 → IsPart (number_text n)
 number_part n below =
     let digits = number_digits (number_text n) n (text_spells n below) in

@@ -18,11 +18,11 @@ use Rattle.std.proofs.lemmas.Str.Parse.{IsNumeralModel, digits_value-take-le, nu
 use Rattle.air_base.specs.Fronts.{DigitsRead}
 use Rattle.air_base.specs.Numbers.{is_numeral, number_of, number_text, last_digits, TextSpellsLaw, OneSpellingLaw}
 
--- the library's laws on digits, at this test of digits
+-- The library's laws on digits, at this test of digits.
 own : IsNumeralModel (λ ds. list_all is_ascii_digit ds ≡ true) (digits_value 10)
 own = numerals_by_value (λ ds. list_all is_ascii_digit ds ≡ true) (search rules)
 
--- what makes a text a numeral
+-- What makes a text a numeral.
 record NumeralParts (text : List ℕ) : Type 0 where
   digits : list_all is_ascii_digit text ≡ true
   some : 0 < length text
@@ -46,16 +46,16 @@ pub no_numeral : (text : List ℕ) → is_numeral text ≡ false → None ≡ nu
 unfolding number_of
 no_numeral text h = rw h refl
 
--- a text that begins badly spells no number: without a byte, or with a zero before more
+-- A text that begins badly spells no number: without a byte, or with a zero before more.
 pub bad_front : (text : List ℕ) → ((0 < length text) × (get_or text 0 0 ≡ 48 → length text ≡ 1) → ⊥) → None ≡ number_of text
 bad_front text bad = no_numeral text (false_from_ne_true (is_numeral text) (λ is. let parts = parts_of_numeral text is in bad (parts.some, parts.zero_alone)))
 
--- nor does one with another byte than a digit
+-- Nor does one with another byte than a digit.
 pub no_digit : (text : List ℕ) (i : ℕ) → i < length text → is_ascii_digit (get_or text i 0) ≡ false → None ≡ number_of text
 no_digit text i within other = no_numeral text (false_from_ne_true (is_numeral text) (λ is.
     both_ways (list_all is_ascii_digit text) (list_all_at is_ascii_digit text i 0 within other) (parts_of_numeral text is).digits))
 
--- nor one whose first digits have a value above the greatest
+-- Nor one whose first digits have a value above the greatest.
 pub too_great : (text : List ℕ) (i : ℕ) → 2 ^ 64 ≤ digits_value 10 (take i text) → None ≡ number_of text
 unfolding number_of
 too_great text i above = by (is_numeral text) (nat_lt (digits_value 10 text) (2 ^ 64)) refl
@@ -65,7 +65,7 @@ too_great text i above = by (is_numeral text) (nat_lt (digits_value 10 text) (2 
     by true false fits = refl
     by true true fits = absurd (let below = ltb-true (digits_value 10 text) (2 ^ 64) fits in omega (arith, digits_value-take-le 10 text i (omega arith)))
 
--- a numeral spells the value of its digits
+-- A numeral spells the value of its digits.
 pub spelled : (text : List ℕ) (n : ℕ) → 0 < length text → (get_or text 0 0 ≡ 48 → length text ≡ 1) → list_all is_ascii_digit text ≡ true → n ≡ digits_value 10 text → n < 2 ^ 64 → Some n ≡ number_of text
 unfolding number_of
 spelled text n some alone digits value below =
@@ -78,7 +78,7 @@ spelled text n some alone digits value below =
 pub digits_none : (text : List ℕ) → DigitsRead text 0 0
 digits_none text = record { digits = refl; value = refl; below = omega arith }
 
--- the value with one more digit
+-- The value with one more digit.
 pub value_more : (text : List ℕ) (i n : ℕ) → i < length text → is_ascii_digit (get_or text i 0) ≡ true → DigitsRead text i n → digits_value 10 (take (i + 1) text) ≡ n * 10 + (get_or text i 0 - 48)
 value_more text i n within digit reading =
     let range : IsAsciiDigit (get_or text i 0) = grind (arith, nat_tests, digit) in
@@ -94,7 +94,7 @@ digits_more_read text i n m within digit is below reading = record {
 appends : AppendsLastDigit last_digits
 appends = search rules
 
--- the text of a number is what the library prints of it
+-- The text of a number is what the library prints of it.
 pub number_text-decimal : (n : ℕ) → n < 2 ^ 64 → number_text n ≡ decimal n
 unfolding number_text
 number_text-decimal n below = decimal_from_appends last_digits appends 20 n below (length-decimal-le 20 n (omega arith) (omega arith) below)
@@ -131,7 +131,7 @@ one_spelling text n spelled = by (is_numeral text) (nat_lt (digits_value 10 text
         let below : digits_value 10 text < 2 ^ 64 = grind arith in
         sym (decimal-digits_value own text parts.digits parts.some parts.zero_alone below) ∙ ap decimal value ∙ sym (number_text-decimal n (rw value at below))
 
--- a text that spells a number has digits alone, and one at least
+-- A text that spells a number has digits alone, and one at least.
 pub number_digits : (text : List ℕ) (n : ℕ) → number_of text ≡ Some n → (0 < length text) × (list_all is_ascii_digit text ≡ true)
 unfolding number_of
 number_digits text n spelled = by (is_numeral text) (nat_lt (digits_value 10 text) (2 ^ 64)) refl spelled

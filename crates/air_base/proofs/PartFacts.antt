@@ -3,7 +3,7 @@ use Rattle.std.proofs.Common.{◌≡◌, ◌<◌, ◌∷◌, [], ℕ, List, Opti
 use Rattle.std.specs.List.{slice_split}
 use Rattle.air_base.specs.NumberLists.{parts_of, all_some}
 
--- the parts between spaces of a text that may be empty
+-- The parts between spaces of a text that may be empty.
 abbrev pub pieces : List ℕ → List (List ℕ)
 pieces text = slice_split (λ b. eqb b 32) text
 
@@ -11,7 +11,7 @@ pub parts_of-pieces : (text : List ℕ) → 0 < length text → parts_of text �
 parts_of-pieces [] some = absurd (omega arith)
 parts_of-pieces (byte ∷ bytes) some = refl
 
--- items are there at each place where they are
+-- Items are there at each place where they are.
 pub all_some-Some : {A : Type 0} (xs : List (Option A)) (items : List A) → xs ≡ map Some items → all_some xs ≡ Some items
 unfolding all_some
 all_some-Some {A = A} xs items e = rw e (own items)

@@ -1,6 +1,7 @@
 -- The front of a text: its first part and its first digits, and what follows them.
 --
--- Only the steps of readers speak of these, and of `ReadParts`: what a whole text spells is said without them.
+-- The readers that go through a text part by part speak of these, here and in the crates above; what a whole text spells
+-- is said without them.
 use Rattle.std.specs.Prelude.{◌≡◌, ◌==◌, ◌<◌, ◌^◌, ℕ, List, [], ◌∷◌, Bool, true, false, not, Option, Some, None, take, if◌then◌else◌}
 use Rattle.std.specs.Char.{is_ascii_digit}
 use Rattle.std.specs.List.{list_all}

@@ -14,7 +14,7 @@ use Rattle.delivery.specs.Deliveries.{KeepsButDelivered, Delivers}
 use Rattle.air_cli.specs.Answers.{QuietAnswers}
 use Rattle.delivery.proofs.CountFacts.{kept_twice}
 
--- what a command with this text alone gives
+-- What a command with this text alone gives.
 abbrev pub only_text : List ℕ → Given
 only_text text = record { text = text; tape = [] }
 
@@ -31,7 +31,7 @@ holds_part_since name bytes before mid now same (inr (n, part)) = inr (n, subst 
 
 -- ---- statuses
 
--- a command that was made and delivered
+-- A command that was made and delivered.
 pub answers_made : (command : Meaning) (work : Given) (before mid now : Shelved) (s : Status) → IsMade command before mid work → Reads command before mid
     → Delivers command.output work mid now s → KeepsButDelivered command.output mid.told now.told → QuietAnswers command before now s
 unfolding QuietAnswers Delivers

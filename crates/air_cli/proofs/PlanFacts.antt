@@ -15,13 +15,13 @@ use Rattle.deck_files.specs.RunnableDecks.{LengthCause}
 use Rattle.deck_files.proofs.CauseFacts.{of_deck}
 use Rattle.air_cli.proofs.RefusalFacts.{IsSound, deck_still}
 
--- a deck that isn't had isn't planned
+-- A deck that isn't had isn't planned.
 pub deck_plan : (name : List ℕ) (before now : Shelved) (s : Status) → DeckCause name before now s → PlanCause name before now s
 unfolding PlanCause DeckCause UnreadCause
 deck_plan name before now (status.PlanTooLong slots) h = absurd h
 deck_plan name before now s h = h
 
--- nor is a deck whose program would be too long
+-- Nor is a deck whose program would be too long.
 pub length_plan : (name : List ℕ) (before now : Shelved) (d : Deck) (s : Status) → SpellsDeck name before d → LengthCause d s → PlanCause name before now s
 unfolding PlanCause DeckCause UnreadCause LengthCause
 length_plan name before now d status.NoMemory spells h = h

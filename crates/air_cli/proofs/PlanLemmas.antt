@@ -29,7 +29,7 @@ length-cut items (spec ∷ specs) = ap suc (length-cut (drop spec.size items) sp
 pub length-disks_in : (d : Deck) → length (disks_in d) ≡ length d.disks
 length-disks_in d = length-cut (order (rates_in d)) d.disks
 
--- a disk of the program has the frequency of the deck's
+-- A disk of the program has the frequency of the deck's.
 cut_freq : (items : List ℕ) (specs : List DiskSpec) (n f : ℕ) → IfSome (slice_get specs n) (λ spec. f ≡ spec.freq) → IfSome (slice_get (cut items specs) n) (λ disk. f ≡ disk.freq)
 unfolding cut
 cut_freq items [] n f h = h
@@ -41,7 +41,7 @@ disk_freq d n f h = cut_freq (order (rates_in d)) d.disks n f h
 
 -- ---- slots
 
--- slot j of minor cycle k
+-- Slot j of minor cycle k.
 pub minor_slot : (disks : List Disk) (k j : ℕ) → k < num_minors disks → j < minor_len (num_minors disks) disks
     → slot_item (program disks) (k * minor_len (num_minors disks) disks + j) ≡ get_or (minor_cycle (num_minors disks) disks k) j None
 unfolding program
@@ -51,7 +51,7 @@ minor_slot disks k j minor slot =
 
 -- ---- rows
 
--- the row of a disk, from its numbers
+-- The row of a disk, from its numbers.
 pub disk_text : (o : Option Disk) (m n f c l : ℕ) (before after : List ℕ) → IfSome o (λ disk. f ≡ disk.freq) → IfSome o (λ disk. c ≡ num_chunks m disk) → IfSome o (λ disk. l ≡ chunk_len m disk)
     → after ≡ before ++ row_text row_writer (codes "disk" ∷ map number_text (n ∷ f ∷ c ∷ l ∷ [])) → IfSome o (λ disk. after ≡ before ++ row_text row_writer (disk_row m (n, disk)))
 disk_text None m n f c l before after freq chunks len told = tt
@@ -60,17 +60,17 @@ disk_text (Some disk) m n f c l before after freq chunks len told =
     ∙ ap (λ c. before ++ row_text row_writer (codes "disk" ∷ map number_text (n ∷ disk.freq ∷ c ∷ l ∷ []))) chunks
     ∙ ap (λ l. before ++ row_text row_writer (codes "disk" ∷ map number_text (n ∷ disk.freq ∷ num_chunks m disk ∷ l ∷ []))) len
 
--- an item of the deck is one of the program's
+-- An item of the deck is one of the program's.
 pub held_item : (d : Deck) (disks : List Disk) (i : ℕ) → IsDeck d → disks ≡ disks_in d → i < length d.items → i < length (all_items disks)
 held_item d disks i made same below = rw same (omega (arith, items_aired d made))
 
 -- ---- rows one after another
 
--- what is so of the element at a place, if there is one
+-- What is so of the element at a place, if there is one.
 some_at : {X : Type 0} (xs : List X) (i : ℕ) (e : X) (Q : X → Type 0) → i < length xs → IfSome (slice_get xs i) Q → Q (get_or xs i e)
 some_at xs i e Q below h = subst (λ o. IfSome o Q) (slice_get-get_or xs i e below) h
 
--- one more row of an element with its place
+-- One more row of an element with its place.
 numbered_more : {X : Type 0} (row : ℕ × X → List (List ℕ)) (xs : List X) (i : ℕ) (e : X) (before now after : List ℕ) → i < length xs
     → now ≡ before ++ rows_text (map row (take i (enumerate_from 0 xs))) → after ≡ now ++ row_text row_writer (row (i, get_or xs i e))
     → after ≡ before ++ rows_text (map row (take (i + 1) (enumerate_from 0 xs)))
@@ -81,7 +81,7 @@ numbered_more {X} row xs i e before now after below told grew =
     let inside : i < length (enumerate_from 0 xs) = omega arith in
     rows_more row (enumerate_from 0 xs) i line before now after inside (sym here ∙ get_or_default (enumerate_from 0 xs) i (i, e) line inside) told grew
 
--- one more disk
+-- One more disk.
 pub disks_more : (m : ℕ) (disks : List Disk) (i : ℕ) (before now after : List ℕ) → i < length disks → now ≡ before ++ rows_text (map (disk_row m) (take i (enumerate_from 0 disks)))
     → IfSome (slice_get disks i) (λ disk. after ≡ now ++ row_text row_writer (disk_row m (i, disk))) → after ≡ before ++ rows_text (map (disk_row m) (take (i + 1) (enumerate_from 0 disks)))
 disks_more m disks i before now after below told grew =
@@ -89,7 +89,7 @@ disks_more m disks i before now after below told grew =
     numbered_more (disk_row m) disks i e before now after below told
     (some_at disks i e (λ disk. after ≡ now ++ row_text row_writer (disk_row m (i, disk))) below grew)
 
--- one more item
+-- One more item.
 pub items_more : (disks : List Disk) (d : Deck) (i : ℕ) (before now after : List ℕ) → i < length d.items → now ≡ before ++ rows_text (map (item_row disks) (take i (enumerate_from 0 (rates_in d))))
     → IfSome (slice_get d.items i) (λ item. after ≡ now ++ row_text row_writer (item_row disks (i, item.rate)))
     → after ≡ before ++ rows_text (map (item_row disks) (take (i + 1) (enumerate_from 0 (rates_in d))))
@@ -99,13 +99,13 @@ items_more disks d i before now after below told grew =
     numbered_more (item_row disks) (rates_in d) i 0 before now after (omega (arith, length-map d.items (λ item. item.rate))) told
     (some_at d.items i e (λ item. after ≡ now ++ row_text row_writer (item_row disks (i, item.rate))) below grew ∙ ap (λ r. now ++ row_text row_writer (item_row disks (i, r))) rate)
 
--- one more minor cycle
+-- One more minor cycle.
 pub minors_more : (disks : List Disk) (m k : ℕ) (before now after : List ℕ) → k < m → now ≡ before ++ rows_text (map (minor_row disks) (take k (range_with_len 0 m)))
     → after ≡ now ++ row_text row_writer (minor_row disks k) → after ≡ before ++ rows_text (map (minor_row disks) (take (k + 1) (range_with_len 0 m)))
 minors_more disks m k before now after below told grew =
     rows_more (minor_row disks) (range_with_len 0 m) k k before now after (omega (arith, length-range_with_len 0 m)) (sym (get_or-range_with_len 0 m k k below ∙ zero-add k)) told grew
 
--- the rows of all elements, once the last is written
+-- The rows of all elements, once the last is written.
 pub all_rows : {L : Type 0} (row : L → List (List ℕ)) (lines : List L) (n : ℕ) (before now : List ℕ) → length lines ≤ n → now ≡ before ++ rows_text (map row (take n lines))
     → now ≡ before ++ rows_text (map row lines)
 all_rows row lines n before now done told = told ∙ ap (λ l. before ++ rows_text (map row l)) (take_all n lines done)
@@ -118,7 +118,7 @@ rows_first : (row : List (List ℕ)) (rows : List (List (List ℕ))) → rows_te
 unfolding rows_text
 rows_first row rows = refl
 
--- the parts of a plan, written one after another
+-- The parts of a plan, written one after another.
 pub plan_is : (disks : List Disk) (rates : List ℕ) (program disk minor item : List ℕ) → program ≡ row_text row_writer (program_row disks)
     → disk ≡ program ++ rows_text (map (disk_row (num_minors disks)) (enumerate_from 0 disks))
     → minor ≡ disk ++ rows_text (map (minor_row disks) (range_with_len 0 (num_minors disks)))
@@ -133,7 +133,7 @@ plan_is disks rates program disk minor item is_program is_disk is_minor is_item 
     let second : minor ≡ rows_text ((A ∷ B) ++ C) = is_minor ∙ ap (λ t. t ++ rows_text C) first ∙ sym (rows_both (A ∷ B) C) in
     is_item ∙ ap (λ t. t ++ rows_text D) second ∙ sym (rows_both ((A ∷ B) ++ C) D)
 
--- the text of a deck's plan
+-- The text of a deck's plan.
 pub plan_text_is : (d : Deck) (text : List ℕ) → text ≡ rows_text (plan_rows (disks_in d) (rates_in d)) → text ≡ plan_output d
 unfolding plan_text
 plan_text_is d text h = h

@@ -11,7 +11,7 @@ use Rattle.air_status.specs.declared.status.Status.TheVariants as status
 use Rattle.air_devices.specs.Shelves.{Shelved}
 use Rattle.deck_files.specs.NamedFiles.{UnreadCause}
 
--- two names are one or differ
+-- Two names are one or differ.
 pub same_name : (a b : List ℕ) → (a ≡ b) ⊎ (a ≢ b)
 same_name a b = by (pointwise nat_eq a b) refl
   where
@@ -30,14 +30,14 @@ falls_twice before mid now a b = record {
 
 -- ---- a deck, then a tape
 
--- the deck stays read to its end, also where the tape is the same file
+-- The deck stays read to its end, also where the tape is the same file.
 pub end_still : (deck tape : List ℕ) (mid now : Shelved) → KeepsButLeft tape mid.told now.told → IsAtEnd (mid.told.left deck) → IsAtEnd (now.told.left tape) → IsAtEnd (now.told.left deck)
 end_still deck tape mid now second first end = elim (same_name deck tape) [
   | inl same ↦ subst (λ name. IsAtEnd (now.told.left name)) (sym same) end
   | inr other ↦ subst IsAtEnd (sym (second.other_left deck other)) first
 ]
 
--- why a tape wasn't read, told of the moment before the deck was read
+-- Why a tape wasn't read, told of the moment before the deck was read.
 pub unread_since : (tape : List ℕ) (most : ℕ) (before mid now : Shelved) (s : Status) → mid.told.file tape ≡ before.told.file tape → KeepsCounts before.faults mid.faults
     → UnreadCause tape most mid now s → UnreadCause tape most before now s
 unfolding UnreadCause

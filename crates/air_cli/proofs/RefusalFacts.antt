@@ -14,7 +14,7 @@ use Rattle.air_cli.specs.Untouched.{IsRefusal}
 use Rattle.deck_files.specs.NamedDecks.{DeckCause, IsFaulty}
 use Rattle.deck_files.specs.RunnableDecks.{UnrunnableCause, IsOfOtherForm}
 use Rattle.deck_files.specs.NamedFiles.{UnreadCause}
-use Rattle.deck_files.specs.Limits.{deck_limit}
+use Rattle.deck_files.specs.FileLimits.{deck_limit}
 use Rattle.air_cli.specs.Meanings.{Meaning, WordsCause, no_form}
 use Rattle.air_cli.specs.Making.{Reads}
 use Rattle.air_cli.specs.Answers.{InputFailed, Leaves, QuietAnswers}
@@ -30,7 +30,7 @@ rose_still before mid now le (inr last) = let top = last.0 in let stays = last.1
   | inr same ↦ inr (omega arith, omega arith)
 ]
 
--- what is left of a file that was too large stays left
+-- What is left of a file that was too large stays left.
 large_still : (file : Option (List ℕ)) (most : ℕ) (mid now : Option (List ℕ)) → now ≡ mid
     → WhereTold file (λ bytes. (most < length bytes) × (mid ≡ Some (drop (most + 1) bytes))) → WhereTold file (λ bytes. (most < length bytes) × (now ≡ Some (drop (most + 1) bytes)))
 large_still file most mid now same h = subst (λ left. WhereTold file (λ bytes. (most < length bytes) × (left ≡ Some (drop (most + 1) bytes)))) (sym same) h
@@ -81,7 +81,7 @@ no_form_sound = record {
 
 -- ---- what a refusal says
 
--- a refusal with its cause
+-- A refusal with its cause.
 refusal_says : (command : Meaning) → IsSound command → (before now : Shelved) (s : Status) → s ≢ status.NoMemory → command.Refuses before now s → IsRefusal s before now
     → (s ≢ status.ReadFault → IsSteady before now) → QuietAnswers command before now s
 unfolding QuietAnswers
@@ -91,13 +91,13 @@ refusal_says command sound before now status.NoMemory some h line steady = absur
 refusal_says command sound before now status.ReadFault some h line steady = (h, line)
 refusal_says command sound before now s some h line steady = (h, line, steady (λ e. cc))
 
--- nothing but what was read is touched
+-- Nothing but what was read is touched.
 pub untouched : (command : Meaning) (before now : Shelved) → now.told.printed ≡ before.told.printed → ((name : List ℕ) → now.told.output name ≡ before.told.output name)
     → KeepsCounts before.faults now.faults ⊎ InputFailed command before now → QuietAnswers command before now status.NoMemory
 unfolding QuietAnswers
 untouched command before now printed outputs counts = record { untouched = record { printed = printed; outputs = outputs }; counts = counts }
 
--- the counts where there was no memory for a refusal's line: as they were, or reading an input had failed before
+-- The counts where there was no memory for a refusal's line: as they were, or reading an input had failed before.
 counts_wanting : (command : Meaning) → IsSound command → (before mid now : Shelved) (s : Status) → (s ≢ status.ReadFault → KeepsCounts before.faults mid.faults) → command.Refuses before mid s
     → KeepsCounts mid.faults now.faults → KeepsCounts before.faults now.faults ⊎ InputFailed command before now
 counts_wanting command sound before mid now status.ReadFault kept cause calm =
@@ -105,12 +105,12 @@ counts_wanting command sound before mid now status.ReadFault kept cause calm =
     inr (record { name = failed.name; named = failed.named; rose = subst (λ n. Rose (before.faults.reading failed.name) n) (sym (calm.reading failed.name)) failed.rose })
 counts_wanting command sound before mid now s kept cause calm = inl (kept_twice before.faults mid.faults now.faults (kept (λ e. cc)) calm)
 
--- the counts since a moment at which they were as at first
+-- The counts since a moment at which they were as at first.
 steady_since : (before mid now : Shelved) → KeepsCounts before.faults mid.faults → IsSteady mid now → IsSteady before now
 steady_since before mid now kept (inl calm) = inl (kept_twice before.faults mid.faults now.faults kept calm)
 steady_since before mid now kept (inr rose) = inr (subst (λ n. Rose n now.faults.printing) kept.printing rose)
 
--- what was printed since a moment at which nothing was printed yet
+-- What was printed since a moment at which nothing was printed yet.
 prints_since : (text : List ℕ) (before mid now : Shelved) → mid.told.printed ≡ before.told.printed → before.faults.printing ≤ mid.faults.printing →
     PrintsUnlessFailed text mid now → PrintsUnlessFailed text before now
 prints_since text before mid now same le p = record {
@@ -118,7 +118,7 @@ prints_since text before mid now same le p = record {
   whole = λ calm. subst (λ o. Appends o now.told.printed text) same (p.whole (λ rose. calm (rose_since before.faults.printing mid.faults.printing now.faults.printing le rose)));
 }
 
--- a refusal after reading
+-- A refusal after reading.
 pub answers_refused : (command : Meaning) → IsSound command → (before mid now : Shelved) (s answer : Status) → s ≢ status.NoMemory → Reads command before mid → command.Refuses before mid s
     → (s ≢ status.ReadFault → KeepsCounts before.faults mid.faults) → Refuses s mid now answer → KeepsButPrinted mid.told now.told → NoCountFalls mid.faults now.faults
     → QuietAnswers command before now answer
@@ -131,7 +131,7 @@ answers_refused command sound before mid now s answer some reads cause kept refu
       (counts_wanting command sound before mid now s kept cause none.2))
 ]
 
--- words of no form read nothing
+-- Words of no form read nothing.
 pub reads_nothing : (before : Shelved) → Reads no_form before before
 reads_nothing before = record {
   files = λ name. refl;
@@ -148,7 +148,7 @@ pub words_refused : WordsCause status.Words
 unfolding WordsCause
 words_refused = tt
 
--- what a refusal leaves
+-- What a refusal leaves.
 pub leaves_refused : (command : Meaning) (before mid now : Shelved) → Reads command before mid → KeepsButPrinted mid.told now.told → NoCountFalls mid.faults now.faults → Leaves command before now
 leaves_refused command before mid now reads rest counts = record {
   files = λ name. rest.files name ∙ reads.files name;

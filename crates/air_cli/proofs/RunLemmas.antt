@@ -31,7 +31,7 @@ use Rattle.script_run.proofs.RunLoops.{script_length}
 
 -- ---- the tape
 
--- records of a tape that isn't too long are short
+-- Records of a tape that isn't too long are short.
 short_records : (rs : List (List ℕ)) → length (tape_of rs) < 2 ^ 32 → All (λ r. length r < 2 ^ 32) rs
 unfolding tape_of
 short_records [] few = All-nil (λ r. length r < 2 ^ 32)
@@ -39,14 +39,14 @@ short_records (r ∷ rs) few =
     let long = length_record r (tape_of rs) in
     All-cons (λ r. length r < 2 ^ 32) r rs (omega arith) (short_records rs (omega arith))
 
--- such a tape is read back as its records
+-- Such a tape is read back as its records.
 pub tape_back : (tape : List ℕ) (rs : List (List ℕ)) → tape ≡ tape_of rs → length (tape_of rs) < 2 ^ 32 → tape_read tape ≡ record { records = rs; cut = None }
 tape_back tape rs e few =
     ap tape_read e ∙ whole_read rs (length (tape_of rs)) 0 (short_records rs few) (omega arith)
 
 -- ---- the sessions
 
--- a deck's script can be aired with it
+-- A deck's script can be aired with it.
 can_air : (deck : Deck) → IsDeck deck → length deck.script ≤ 200000 → length ((air_of deck).slots) ≤ 16384 → CanAir deck (script_history deck)
 can_air deck made few slots = record {
   made = made;
@@ -55,24 +55,24 @@ can_air deck made few slots = record {
   slots = omega arith;
 }
 
--- a script starts few cycles
+-- A script starts few cycles.
 pub script_starts_few : (deck : Deck) → length deck.script ≤ 200000 → starts (script_history deck) < 2 ^ 32
 script_starts_few deck few = let most = starts_within (script_history deck) in let long = script_length deck in omega arith
 
--- nothing is lost, heard again or late
+-- Nothing is lost, heard again or late.
 no_odds : (deck : Deck) → IsSupported deck → odds_in deck ≡ record { loss = 0; again = 0; late = 0 }
 no_odds deck form =
     ap (λ n. let o : Odds = record { loss = n; again = deck.settings.again; late = deck.settings.late } in o) form.loss
     ∙ ap (λ n. let o : Odds = record { loss = 0; again = n; late = deck.settings.late } in o) form.again ∙ ap (λ n. let o : Odds = record { loss = 0; again = 0; late = n } in o) form.late
 
--- so each reader hears all buckets
+-- So each reader hears all buckets.
 hears_all : (deck : Deck) (H : List Event) (r : ℕ) → IsSupported deck → ether_of deck H r ≡ aired_bytes deck H
 unfolding heard_by
 hears_all deck H r form =
     let pushed = aired_bytes deck H in
     ap (λ odds. heard_by deck.settings.seed r odds pushed) (no_odds deck form) ∙ clear_ether (words_of deck.settings.seed r (3 * length pushed)) pushed
 
--- so what is heard of the tape makes the sessions that the history judges
+-- So what is heard of the tape makes the sessions that the history judges.
 pub script_heard : (deck : Deck) (records : List (List ℕ)) → IsSupported deck → IsDeck deck → length deck.script ≤ 200000 → length ((air_of deck).slots) ≤ 16384 → records ≡ aired_bytes deck (script_history deck)
     → true_sessions deck (script_history deck) ≡ sessions_over (by_entries (scheme_in deck)) deck (λ r. records)
 script_heard deck records form made few slots is =
@@ -84,7 +84,7 @@ script_heard deck records form made few slots is =
 
 -- ---- the report
 
--- the report of lines that sessions tell is that of the sessions
+-- The report of lines that sessions tell is that of the sessions.
 pub report_same : (events H : List Event) (verdicts : List VerdictLine) (counts : List CountsLine) (told judged : List State) → events ≡ H → judged ≡ told
     → verdicts ≡ verdict_lines told → counts ≡ counts_lines told
     → report_text (record { history = events; verdicts = verdicts; counts = counts; glances = []; looks = [] }) ≡ script_text H judged

@@ -13,7 +13,7 @@ use Rattle.deck_files.specs.NamedFiles.{UnreadCause}
 use Rattle.air_cli.specs.Script.{ScriptCause, script_meaning}
 use Rattle.air_cli.proofs.RefusalFacts.{IsSound, unrunnable_still}
 
--- a deck that can't be done has no script done
+-- A deck that can't be done has no script done.
 pub unrunnable_script : (name : List ℕ) (before now : Shelved) (s : Status) → UnrunnableCause name before now s → ScriptCause name before now s
 unfolding ScriptCause UnrunnableCause DeckCause UnreadCause
 unrunnable_script name before now (status.TooLong bytes) h = absurd h
@@ -40,7 +40,7 @@ script_sound deck tape = record {
   input = λ before now h. record { name = deck; named = refl; rose = h };
 }
 
--- what is made doesn't depend on the output that is named
+-- What is made doesn't depend on the output that is named.
 pub made_for : (deck : List ℕ) (tape : Option (List ℕ)) (before now : Shelved) (given : Given) → IsMade (script_meaning deck None) before now given → IsMade (script_meaning deck tape) before now given
 made_for deck tape before now given h = record { gives = h.gives; read = h.read; calm = h.calm }
 

@@ -25,11 +25,11 @@ use Rattle.air_cli.specs.Truths.{IsTrueScript, IsTrueTape}
 
 -- ---- the starts of a script
 
--- the event of the part at a place
+-- The event of the part at a place.
 event_in : Deck → ℕ → Event
 event_in d k = event_of d (take k d.script) (get_or d.script k None)
 
--- one for a start
+-- One for a start.
 of_event : Event → ℕ
 of_event e = cond (is_start e) 1 0
 
@@ -41,7 +41,7 @@ unfolding of_event of_part event_of is_start
 same_one d before None = refl
 same_one d before (Some by) = refl
 
--- the script's history has the starts of the script
+-- The script's history has the starts of the script.
 pub starts_script : (d : Deck) → starts (script_history d) ≡ script_starts d
 unfolding starts script_history of_event of_part event_in
 starts_script d = sym (sum-map of_event H) ∙ ap sum same ∙ sum-map of_part d.script
@@ -91,7 +91,7 @@ true_script d made limits short script events bytes pushed receiver =
 
 -- ---- a tape
 
--- what two functions make of the same numbers
+-- What two functions make of the same numbers.
 map_numbers : {X : Type 0} (f g : ℕ → X) (a n : ℕ) → ((k : ℕ) → a ≤ k → k < a + n → f k ≡ g k) → map f (range_with_len a n) ≡ map g (range_with_len a n)
 map_numbers f g a zero h = refl
 map_numbers f g a (suc n) h =

@@ -11,20 +11,20 @@ use Rattle.air_model.specs.Tapes.{tape_read}
 use Rattle.deck_files.specs.NamedDecks.{DeckCause, OfDeck}
 use Rattle.deck_files.specs.RunnableDecks.{IsRunnable, UnrunnableCause}
 use Rattle.deck_files.specs.NamedFiles.{UnreadCause}
-use Rattle.deck_files.specs.Limits.{tape_limit}
+use Rattle.deck_files.specs.FileLimits.{tape_limit}
 use Rattle.air_cli.specs.Tune.{IsCutAt, OfTape, TuneCause, tune_meaning}
 use Rattle.air_cli.specs.Answers.{InputFailed}
 use Rattle.deck_files.proofs.CauseFacts.{where_read}
 use Rattle.air_cli.proofs.ReadFacts.{falls_twice}
 use Rattle.air_cli.proofs.RefusalFacts.{IsSound, unrunnable_still, unread_still}
 
--- nor is a tape heard
+-- Nor is a tape heard.
 pub unrunnable_tune : (deck tape : List ℕ) (before now : Shelved) (s : Status) → UnrunnableCause deck before now s → TuneCause deck tape before now s
 unfolding TuneCause UnrunnableCause DeckCause UnreadCause
 unrunnable_tune deck tape before now (status.TapeCut at) h = absurd h
 unrunnable_tune deck tape before now s h = inl h
 
--- a tape that can't be read isn't heard
+-- A tape that can't be read isn't heard.
 pub unread_tune : (deck tape : List ℕ) (before now : Shelved) (s : Status) → OfDeck deck before IsRunnable → UnreadCause tape tape_limit before now s → TuneCause deck tape before now s
 unfolding TuneCause UnreadCause
 unread_tune deck tape before now (status.TapeCut at) can h = absurd h
@@ -53,14 +53,14 @@ reads_both deck tape before mid now first counts second later = record {
   counts = falls_twice before.faults mid.faults now.faults counts later;
 }
 
--- what is so of the whole tape that was read is so of the named tape
+-- What is so of the whole tape that was read is so of the named tape.
 pub of_tape : (tape : List ℕ) (before mid : Shelved) (bytes read : List ℕ) (P : List (List ℕ) → Type 0) → ToldIs (mid.told.file tape) bytes → mid.told.file tape ≡ before.told.file tape
     → read ≡ bytes → length bytes ≤ tape_limit → (tape_read read).cut ≡ None → P (tape_read read).records → OfTape tape before P
 of_tape tape before mid bytes read P known same is few whole p = where_read (before.told.file tape) read
     (λ bytes. (length bytes ≤ tape_limit) × ((tape_read bytes).cut ≡ None) × P (tape_read bytes).records)
     (subst (λ file. ToldIs file read) same (subst (ToldIs (mid.told.file tape)) (sym is) known)) (subst (λ b. length b ≤ tape_limit) (sym is) few, whole, p)
 
--- where a tape that was read is cut, the named tape is
+-- Where a tape that was read is cut, the named tape is.
 pub of_cut : (tape : List ℕ) (before mid : Shelved) (bytes read : List ℕ) (at : ℕ) → ToldIs (mid.told.file tape) bytes → mid.told.file tape ≡ before.told.file tape
     → read ≡ bytes → length bytes ≤ tape_limit → (tape_read read).cut ≡ Some at → WhereTold (before.told.file tape) (IsCutAt at)
 of_cut tape before mid bytes read at known same is few cut = where_read (before.told.file tape) read (IsCutAt at)

@@ -7,7 +7,7 @@ use Rattle.air_status.specs.declared.status.Status.{Status}
 use Rattle.air_status.specs.declared.status.Status.TheVariants as status
 use Rattle.deck_files.specs.RunnableDecks.{IsRunnable, UnrunnableCause}
 use Rattle.deck_files.specs.NamedDecks.{OfDeck}
-use Rattle.deck_files.specs.Limits.{tape_limit}
+use Rattle.deck_files.specs.FileLimits.{tape_limit}
 use Rattle.air_cli.specs.Meanings.{Meaning}
 use Rattle.delivery.specs.Given.{Given}
 use Rattle.air_cli.specs.Truths.{IsTrueScript}

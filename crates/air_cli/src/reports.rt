@@ -10,7 +10,7 @@ ghost use Rattle.air_model.specs.Outputs.{script_output, script_tape, tune_outpu
 ghost use Rattle.air_model.specs.Reports.{report_text};
 ghost use Rattle.air_model.specs.Tapes.{tape_of, tape_read};
 ghost use Rattle.air_sender.specs.TapeMasts.{told_by};
-ghost use Rattle.deck_files.specs.Limits.{tape_limit};
+ghost use Rattle.deck_files.specs.FileLimits.{tape_limit};
 ghost use Rattle.deck_files.specs.RunnableDecks.{IsSupported};
 
 use air_base::NoMemory;

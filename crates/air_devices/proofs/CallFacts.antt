@@ -10,14 +10,14 @@ use Rattle.air_devices.specs.declared.memory_shelf.MemFile.{MemFile}
 use Rattle.air_devices.specs.declared.memory_shelf.MemOutput.{MemOutput}
 use Rattle.air_devices.specs.declared.memory_shelf.MemShelf.{MemShelf}
 
--- the call was numbered
+-- The call was numbered.
 pub is_next_call : (before now : Calls) → ◌≡◌ {A = Calls} now (record before { made = next_call before }) → IsNextCall before now
 is_next_call before now numbered = record {
   made = ap (λ (c : Calls). c.made) numbered;
   fail = ap (λ (c : Calls). c.fail) numbered;
 }
 
--- the call was numbered, and then a failure was counted
+-- The call was numbered, and then a failure was counted.
 pub is_failed_call : (before mid now : Calls) → ◌≡◌ {A = Calls} mid (record before { made = next_call before })
     → ◌≡◌ {A = Calls} now (record mid { faults = now.faults }) → IsNextCall before now
 is_failed_call before mid now numbered counted = record {
@@ -25,7 +25,7 @@ is_failed_call before mid now numbered counted = record {
   fail = ap (λ (c : Calls). c.fail) counted ∙ ap (λ (c : Calls). c.fail) numbered;
 }
 
--- the files are now these, of which one name alone was read on
+-- The files are now these, of which one name alone was read on.
 pub keeps_but_left : (s : MemShelf) (files : List MemFile) (n : List ℕ)
     → ((m : List ℕ) → file_bytes (file_named m files) ≡ file_bytes (file_named m s.files.items))
     → ((m : List ℕ) → m ≢ n → left_bytes (file_named m files) ≡ left_bytes (file_named m s.files.items))
@@ -37,7 +37,7 @@ keeps_but_left s files n bytes others = record {
   printed = refl;
 }
 
--- the outputs are now these, of which one name alone was written
+-- The outputs are now these, of which one name alone was written.
 pub keeps_but_output : (s : MemShelf) (outputs : List MemOutput) (n : List ℕ)
     → ((m : List ℕ) → m ≢ n → output_bytes (output_named m outputs) ≡ output_bytes (output_named m s.outputs.items))
     → KeepsButOutput n (told_by s) (contents_with s.files.items outputs s.printed.bytes)
@@ -48,7 +48,7 @@ keeps_but_output s outputs n others = record {
   printed = refl;
 }
 
--- what an output holds once a call added to it what fits
+-- What an output holds once a call added to it what fits.
 pub output_added : (before : Option MemOutput) (d : MemOutput) (now : Option (List ℕ)) (calls : Calls) (bytes : List ℕ) → before ≡ Some d → is_next_listed calls ≡ false
     → now ≡ Some (d.written.bytes ++ take (d.written.room - length d.written.bytes) bytes)
     → IfSome before (λ o. now ≡ Some (o.written.bytes ++ added calls o.written bytes))

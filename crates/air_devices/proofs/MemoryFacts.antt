@@ -14,7 +14,7 @@ use Rattle.air_devices.specs.declared.memory_shelf.MemFile.{MemFile}
 use Rattle.air_devices.specs.declared.memory_shelf.MemOutput.{MemOutput}
 use Rattle.air_devices.proofs.NamedLemmas.{asked_kept, found, found_image, found_nowhere, found_written, value_kept}
 
--- a text spells one name
+-- A text spells one name.
 other_name : (text : String Global) (m n : List ℕ) → m ≢ n → spells n text ≡ true → spells m text ≡ false
 other_name text m n other named =
     elim (cases_Bool (spells m text)) [
@@ -22,7 +22,7 @@ other_name text m n other named =
       | inr differs ↦ differs
     ]
 
--- the file d of the name n was read up to another place
+-- The file d of the name n was read up to another place.
 pub record FileMoved (files after : List MemFile) (d : MemFile) (to : ℕ) (n : List ℕ) : Type 0 where
   pub was : left_bytes (file_named n files) ≡ drop d.at d.bytes.items
   pub now : left_bytes (file_named n after) ≡ drop to d.bytes.items
@@ -51,14 +51,14 @@ file_moved files i to d n place here =
       there = ap is_none find_was;
     }
 
--- no file has the name n
+-- No file has the name n.
 pub nothing_left : (files : List MemFile) (n : List ℕ) → position (λ f. spells n f.name) files ≡ None → left_bytes (file_named n files) ≡ []
 nothing_left files n none = ap left_bytes (found_nowhere (λ (f : MemFile). spells n f.name) files none)
 
 pub file_absent : (files : List MemFile) (n : List ℕ) → position (λ f. spells n f.name) files ≡ None → is_none (file_named n files) ≡ true
 file_absent files n none = ap is_none (found_nowhere (λ (f : MemFile). spells n f.name) files none)
 
--- what a read of k bytes from the front of what is left takes, and when that is nothing
+-- What a read of k bytes from the front of what is left takes, and when that is nothing.
 pub record FrontTaken (before after : List ℕ) (k : ℕ) (buf : List ℕ) : Type 0 where
   pub bytes : before ≡ take k buf ++ after
   pub end : k ≡ 0 → 0 < length buf → after ≡ []
@@ -72,7 +72,7 @@ front_taken files after d k n buf moved count front =
       end = λ none room. drop_all (d.at + k) d.bytes.items (omega arith);
     })
 
--- what did not all fit is past the room
+-- What did not all fit is past the room.
 pub past_room : (whole : Bool) (before : Written) (bytes : List ℕ) → whole ≡ false → IsTrue whole ↔ (length before.bytes + length bytes ≤ before.room) → overflows before bytes ≡ true
 past_room whole before bytes cut told =
     elim (cases_Bool (overflows before bytes)) [
@@ -80,7 +80,7 @@ past_room whole before bytes cut told =
       | inr within ↦ let fits : length before.bytes + length bytes ≤ before.room = grind arith in let all : whole ≡ true = told.1 fits in cc
     ]
 
--- the output d of the name n was written
+-- The output d of the name n was written.
 pub record OutputWritten (outputs after : List MemOutput) (d : MemOutput) (to : Written) (n : List ℕ) : Type 0 where
   pub was : output_bytes (output_named n outputs) ≡ d.written.bytes
   pub now : output_bytes (output_named n after) ≡ to.bytes
@@ -109,7 +109,7 @@ output_written outputs i to d n place here =
           ap output_bytes (find_past (λ (o : MemOutput). spells m o.name) outputs i (record d { written = to }) d (ap (λ (o : MemOutput). spells m o.name) (sym here) ∙ away) away);
     }
 
--- the shelf has the given files, and nothing is left of them
+-- The shelf has the given files, and nothing is left of them.
 pub given_file : (given : List (String Global × Vec ℕ Global)) (n : List ℕ) → file_bytes (file_named n (map unpicked given)) ≡ given_bytes (given_named n given)
 given_file given n = ap file_bytes (found_image unpicked (λ (f : MemFile). spells n f.name) given) ∙ by (given_named n given)
   where
@@ -124,7 +124,7 @@ given_left given n = ap left_bytes (found_image unpicked (λ (f : MemFile). spel
     by None = refl
     by (Some f) = let size : vec_len f.1 ≡ length f.1.items = f.1.ok.0 in drop_all (vec_len f.1) f.1.items (omega arith)
 
--- a given output has no bytes
+-- A given output has no bytes.
 pub given_output : (names : List (String Global)) (room : ℕ) (n : List ℕ) → output_bytes (output_named n (map (empty_output room) names)) ≡ []
 given_output names room n = ap output_bytes (found_image (empty_output room) (λ (o : MemOutput). spells n o.name) names) ∙ by (find (λ name. spells n name) names)
   where

@@ -6,28 +6,28 @@ use Rattle.std.proofs.lemmas.Option.{slice_get-get_or, slice_get_past}
 use Rattle.std.specs.List.{find, position_or_len, slice_get}
 use Rattle.std.specs.Option.{option_map}
 
--- a place is the first one that passes
+-- A place is the first one that passes.
 place_is : {X : Type 0} (p : X → Bool) (xs : List X) (i : ℕ) → position p xs ≡ Some i → i ≡ position_or_len p xs
 place_is p xs i place = grind arith
 
--- what is found is the item at the place
+-- What is found is the item at the place.
 pub found : {X : Type 0} (p : X → Bool) (xs : List X) (i : ℕ) (d : X) → position p xs ≡ Some i → d ≡ get_or xs i d → find p xs ≡ Some d
 found p xs i d place here =
     let at = position-Some p xs i d place in
     find_at p xs ∙ ap (λ k. slice_get xs k) (sym (place_is p xs i place)) ∙ slice_get-get_or xs i d at.0 ∙ ap (λ x. Some x) (sym here)
 
--- nothing is found where no place passes
+-- Nothing is found where no place passes.
 pub found_nowhere : {X : Type 0} (p : X → Bool) (xs : List X) → position p xs ≡ None → find p xs ≡ None
 found_nowhere p xs none =
     let past : length xs ≤ position_or_len p xs = grind arith in
     find_at p xs ∙ slice_get_past xs (position_or_len p xs) past
 
--- an item that is written at the place, and passes too, is found
+-- An item that is written at the place, and passes too, is found.
 pub found_written : {X : Type 0} (p : X → Bool) (xs : List X) (i : ℕ) (d g : X) → position p xs ≡ Some i → p g ≡ true → find p (set xs i g) ≡ Some g
 found_written p xs i d g place same =
     let at = position-Some p xs i d place in find-set p xs i g (place_is p xs i place) at.0 same
 
--- a write that leaves the test and the value of an item leaves the value of what is found
+-- A write that leaves the test and the value of an item leaves the value of what is found.
 pub value_kept : {X V : Type 0} (p : X → Bool) (value : Option X → V) (xs : List X) (i : ℕ) (d g : X)
     → p g ≡ p (get_or xs i d) → value (Some g) ≡ value (Some (get_or xs i d)) → value (find p (set xs i g)) ≡ value (find p xs)
 value_kept p value [] i d g same kept = refl
@@ -42,7 +42,7 @@ value_kept p value (x ∷ xs) (suc i) d g same kept = by (p x) (value_kept p val
     by true more = refl
     by false more = more
 
--- what is found among the images is the image of what is found
+-- What is found among the images is the image of what is found.
 pub found_image : {X Y : Type 0} (f : X → Y) (p : Y → Bool) (xs : List X) → find p (map f xs) ≡ option_map f (find (λ x. p (f x)) xs)
 found_image f p [] = refl
 found_image f p (x ∷ xs) = by (p (f x)) (found_image f p xs)
@@ -51,13 +51,13 @@ found_image f p (x ∷ xs) = by (p (f x)) (found_image f p xs)
     by true more = refl
     by false more = more
 
--- a write that leaves what is asked of an item leaves what is asked of all
+-- A write that leaves what is asked of an item leaves what is asked of all.
 pub asked_kept : {X Y : Type 0} (ask : X → Y) (xs : List X) (i : ℕ) (d g : X) → ask g ≡ ask (get_or xs i d) → map ask (set xs i g) ≡ map ask xs
 asked_kept ask [] i d g kept = refl
 asked_kept ask (x ∷ xs) zero d g kept = ap (λ y. y ∷ map ask xs) kept
 asked_kept ask (x ∷ xs) (suc i) d g kept = ap (λ ys. ask x ∷ ys) (asked_kept ask xs i d g kept)
 
--- a call that fails by the second of two tests, or by neither
+-- A call that fails by the second of two tests, or by neither.
 pub fails_then : (a b : Bool) → b ≡ true → (true ≡ true → IsTrue (a || b)) × (IsTrue (a || b) → true ≡ true)
 fails_then a b second = (λ _. search rules, λ _. refl)
 

@@ -10,17 +10,17 @@ use Rattle.air_model.proofs.TapeFacts.{length_record, whole_read}
 use Rattle.air_devices.specs.Recordings.{IsTapeRoom, Recording, recording_in}
 use Rattle.air_devices.specs.declared.tape_room.TapeRoom.TheInside.{Inside}
 
--- the tape of some records is read as these
+-- The tape of some records is read as these.
 pub read_whole : (tape : List ℕ) (rs : List (List ℕ)) → IsTape tape rs → (tape_read tape).records ≡ rs
 read_whole tape rs is = ap (λ t. (tape_read t).records) is.1 ∙ ap (λ read. read.records) (whole_read rs (length (tape_of rs)) 0 is.0 (omega arith))
 
--- each record takes four bytes at least
+-- Each record takes four bytes at least.
 pub many_bytes : (rs : List (List ℕ)) → 4 * length rs ≤ length (tape_of rs)
 unfolding tape_of
 many_bytes [] = omega arith
 many_bytes (r ∷ rs) = let rest = many_bytes rs in omega (arith, length_record r (tape_of rs))
 
--- the tape of records and one more
+-- The tape of records and one more.
 pub tape_push : (rs : List (List ℕ)) (r : List ℕ) → tape_of (rs ++ r ∷ []) ≡ tape_of rs ++ record_bytes r
 unfolding tape_of
 tape_push rs r = flat_map-append record_bytes rs (r ∷ []) ∙ ap (λ l. tape_of rs ++ l) (append-nil (record_bytes r))
@@ -34,12 +34,12 @@ tape_more tape after rs r is short e = (
   e ∙ ap (λ l. l ++ record_bytes r) is.1 ∙ sym (tape_push rs r),
 )
 
--- the four bytes of the length and then the record were put behind the tape
+-- The four bytes of the length and then the record were put behind the tape.
 pub record_put : (tape first after frame r : List ℕ) → frame ≡ bytes_high_first 4 (length r) → first ≡ tape ++ frame → after ≡ first ++ r → after ≡ tape ++ record_bytes r
 unfolding record_bytes
 record_put tape first after frame r framed one two = two ∙ ap (λ l. l ++ r) (one ∙ ap (λ l. tape ++ l) framed) ∙ append_assoc tape (bytes_high_first 4 (length r)) r
 
--- the fields of a room whose tape is that of these records
+-- The fields of a room whose tape is that of these records.
 pub tape_room : (t : Inside) (rs : List (List ℕ)) → IsTape t.tape.items rs → t.count ≡ length rs → length t.tape.items ≤ t.room → t.room ≤ vec_capacity t.tape → IsTapeRoom t
 tape_room t rs is counted within taken =
     let read = read_whole t.tape.items rs is in

@@ -8,11 +8,11 @@ use Rattle.std.specs.Prelude.{Vec}
 use Rattle.air_devices.specs.Written.{Written}
 use borrow.Rule.Slice.PartMut.{put_mid}
 
--- a piece in the middle of a list leaves its length
+-- A piece in the middle of a list leaves its length.
 length_kept : (xs ys : List ℕ) (a k : ℕ) → length ys ≡ k → a + k ≤ length xs → length (put_mid a k xs ys) ≡ length xs
 length_kept xs ys a k piece fits = simp (length-append, length-take, length-drop) (omega arith)
 
--- the buffer after a piece was written
+-- The buffer after a piece was written.
 pub piece_held : (buffer : Vec ℕ Global) (xs ys bytes : List ℕ) (len count k : ℕ)
     → xs ≡ buffer.items → length xs ≡ vec_len buffer → len ≤ length buffer.items → count ≡ min (length bytes) (length buffer.items - len) → k ≡ count → ys ≡ take count bytes
     → (with_items buffer (put_mid len k xs ys)).items ≡ put_mid len k xs ys
@@ -21,7 +21,7 @@ piece_held buffer xs ys bytes len count k same whole below counted width piece =
     let held : length xs ≡ length buffer.items = ap length same in
     with_items_is buffer (put_mid len k xs ys) (length_kept xs ys len k size (omega arith) ∙ whole)
 
--- a piece written behind the first `len` bytes is added to them, and the room stays
+-- A piece written behind the first `len` bytes is added to them, and the room stays.
 pub piece_added : (before : Written) (buffer after xs ys bytes : List ℕ) (len count k : ℕ)
     → ◌≡◌ {A = Written} (record { bytes = take len buffer; room = length buffer }) before
     → after ≡ put_mid len k xs ys → xs ≡ buffer → len ≤ length buffer → count ≡ min (length bytes) (length buffer - len) → k ≡ count → ys ≡ take count bytes

@@ -4,21 +4,21 @@ use Rattle.std.specs.Prelude.{◌≡◌, ◌==◌, ◌+◌, ◌-◌, ◌^◌, �
 use Rattle.std.specs.List.{list_any}
 use Rattle.air_devices.specs.declared.calls.Calls.{Calls}
 
--- no call was made yet, and these are the numbers of the calls that fail
+-- No call was made yet, and these are the numbers of the calls that fail.
 pub record AreNew (listed : List ℕ) (c : Calls) : Type 0 where
   pub fail : c.fail.items ≡ listed
   pub made : c.made ≡ 0
   pub faults : c.faults ≡ 0
 
--- the number of the next call
+-- The number of the next call.
 abbrev pub next_call : Calls → ℕ
 next_call c = min (c.made + 1) (2 ^ 64 - 1)
 
--- whether the number of the next call is listed, so that it fails
+-- Whether the number of the next call is listed, so that it fails.
 abbrev pub is_next_listed : Calls → Bool
 is_next_listed c = list_any (λ number. number == next_call c) c.fail.items
 
--- one call was numbered; the numbers that fail are as they were
+-- One call was numbered; the numbers that fail are as they were.
 pub record IsNextCall (before now : Calls) : Type 0 where
   pub made : now.made ≡ next_call before
   pub fail : now.fail ≡ before.fail

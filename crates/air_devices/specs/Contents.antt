@@ -2,13 +2,13 @@
 -- real files nothing is known. Every clause of a shelf speaks of these words.
 use Rattle.std.specs.Prelude.{ℕ, List, Option, None}
 
--- what a shelf tells: the bytes of each file, what is left of each to read, the bytes of each output, the printed bytes
+-- What a shelf tells: the bytes of each file, what is left of each to read, the bytes of each output, the printed bytes.
 pub record Contents : Type 0 where
   pub file : List ℕ → Option (List ℕ)
   pub left : List ℕ → Option (List ℕ)
   pub output : List ℕ → Option (List ℕ)
   pub printed : Option (List ℕ)
 
--- a form that tells nothing
+-- A form that tells nothing.
 abbrev pub untold : Contents
 untold = record { file = λ _. None; left = λ _. None; output = λ _. None; printed = None }

@@ -2,34 +2,34 @@
 -- goes by it. What a form doesn't tell is None.
 use Rattle.std.specs.Prelude.{◌≡◌, ℕ, List, [], ◌++◌, length, Option, Some, None, unwrap_or, ⊤}
 
--- the buckets that were sent, and where the end was sent, how many buckets had been sent at the first end
+-- The buckets that were sent, and where the end was sent, how many buckets had been sent at the first end.
 pub record Sent : Type 0 where
   pub buckets : List (List ℕ)
   pub ended : Option ℕ
 
--- what a mast tells of what it sent, how often its calls failed, and the port that it was aimed at, if it was
+-- What a mast tells of what it sent, how often its calls failed, and the port that it was aimed at, if it was.
 pub record Masted : Type 0 where
   pub told : Option Sent
   pub faults : ℕ
   pub port : Option ℕ
 
--- nothing was sent
+-- Nothing was sent.
 abbrev pub nothing_sent : Sent
 nothing_sent = record { buckets = []; ended = None }
 
--- a mast that has just been made, and tells all: it sent nothing, no call failed, and it was not aimed
+-- A mast that has just been made, and tells all: it sent nothing, no call failed, and it was not aimed.
 abbrev pub fresh_mast : Masted
 fresh_mast = record { told = Some nothing_sent; faults = 0; port = None }
 
--- these buckets were sent too
+-- These buckets were sent too.
 abbrev pub with_buckets : List (List ℕ) → Sent → Sent
 with_buckets more s = record s { buckets = s.buckets ++ more }
 
--- the end was sent too
+-- The end was sent too.
 abbrev pub with_end : Sent → Sent
 with_end s = record s { ended = Some (unwrap_or s.ended (length s.buckets)) }
 
--- what was told is told again, changed so
+-- What was told is told again, changed so.
 abbrev pub Changes : (Sent → Sent) → Option Sent → Option Sent → Type 0
 Changes change None now = ⊤
 Changes change (Some s) now = now ≡ Some (change s)

@@ -14,43 +14,43 @@ use Rattle.air_devices.specs.declared.memory_shelf.MemFile.{MemFile}
 use Rattle.air_devices.specs.declared.memory_shelf.MemOutput.{MemOutput}
 use Rattle.air_devices.specs.declared.memory_shelf.MemShelf.{MemShelf}
 
--- whether a text has these bytes
+-- Whether a text has these bytes.
 abbrev pub spells : List ℕ → String Global → Bool
 spells name text = pointwise nat_eq (string_bytes text) name
 
--- the first file of this name
+-- The first file of this name.
 abbrev pub file_named : List ℕ → List MemFile → Option MemFile
 file_named name files = find (λ f. spells name f.name) files
 
--- the first output of this name
+-- The first output of this name.
 abbrev pub output_named : List ℕ → List MemOutput → Option MemOutput
 output_named name outputs = find (λ o. spells name o.name) outputs
 
--- the first given file of this name
+-- The first given file of this name.
 abbrev pub given_named : List ℕ → List (String Global × Vec ℕ Global) → Option (String Global × Vec ℕ Global)
 given_named name files = find (λ f. spells name f.0) files
 
--- the bytes of a file, where there is one
+-- The bytes of a file, where there is one.
 abbrev pub file_bytes : Option MemFile → List ℕ
 file_bytes None = []
 file_bytes (Some f) = f.bytes.items
 
--- what is left of a file to read, where there is one
+-- What is left of a file to read, where there is one.
 abbrev pub left_bytes : Option MemFile → List ℕ
 left_bytes None = []
 left_bytes (Some f) = drop f.at f.bytes.items
 
--- the bytes of an output, where there is one
+-- The bytes of an output, where there is one.
 abbrev pub output_bytes : Option MemOutput → List ℕ
 output_bytes None = []
 output_bytes (Some o) = o.written.bytes
 
--- the bytes of a given file, where there is one
+-- The bytes of a given file, where there is one.
 abbrev pub given_bytes : Option (String Global × Vec ℕ Global) → List ℕ
 given_bytes None = []
 given_bytes (Some f) = f.1.items
 
--- what these files, these outputs and these printed bytes tell
+-- What these files, these outputs and these printed bytes tell.
 abbrev pub contents_with : List MemFile → List MemOutput → List ℕ → Contents
 contents_with files outputs printed = record {
   file = λ name. Some (file_bytes (file_named name files));
@@ -59,71 +59,71 @@ contents_with files outputs printed = record {
   printed = Some printed;
 }
 
--- what a shelf in memory tells
+-- What a shelf in memory tells.
 abbrev pub told_by : MemShelf → Contents
 told_by s = contents_with s.files.items s.outputs.items s.printed.bytes
 
--- a given file, of which nothing is left to read before it is picked
+-- A given file, of which nothing is left to read before it is picked.
 abbrev pub unpicked : String Global × Vec ℕ Global → MemFile
 unpicked f = record { name = f.0; bytes = f.1; at = vec_len f.1 }
 
--- an output with no bytes, and with room for so many
+-- An output with no bytes, and with room for so many.
 abbrev pub empty_output : ℕ → String Global → MemOutput
 empty_output room name = record { name = name; written = record { bytes = []; room = room } }
 
--- how often the calls of a shelf in memory failed
+-- How often the calls of a shelf in memory failed.
 abbrev pub faults_of : MemShelf → Faults
 faults_of s = one_count s.calls.faults
 
--- a shelf in memory, as a call finds or leaves it
+-- A shelf in memory, as a call finds or leaves it.
 abbrev pub shelved_of : MemShelf → Shelved
 shelved_of s = record { told = told_by s; faults = faults_of s }
 
--- the file of this name on a shelf
+-- The file of this name on a shelf.
 abbrev pub file_in : List ℕ → MemShelf → Option MemFile
 file_in name s = file_named name s.files.items
 
--- the output of this name on a shelf
+-- The output of this name on a shelf.
 abbrev pub output_in : List ℕ → MemShelf → Option MemOutput
 output_in name s = output_named name s.outputs.items
 
--- a shelf has just been made, with these files, these outputs, this room and these numbers of calls that fail
+-- A shelf has just been made, with these files, these outputs, this room and these numbers of calls that fail.
 pub record IsNewShelf (given : List (String Global × Vec ℕ Global)) (named : List (String Global)) (room : ℕ) (listed : List ℕ) (s : MemShelf) : Type 0 where
   pub files : s.files.items ≡ map unpicked given
   pub outputs : s.outputs.items ≡ map (empty_output room) named
   pub printed : s.printed ≡ record { bytes = []; room = room }
   pub calls : AreNew listed s.calls
 
--- whether there is no room for all of the bytes behind those that were written
+-- Whether there is no room for all of the bytes behind those that were written.
 abbrev pub overflows : Written → List ℕ → Bool
 overflows written bytes = nat_lt written.room (length written.bytes + length bytes)
 
--- what a call adds of these bytes to those that were written: nothing where it is listed, and else what fits
+-- What a call adds of these bytes to those that were written: nothing where it is listed, and else what fits.
 abbrev pub added : Calls → Written → List ℕ → List ℕ
 added calls written bytes = if is_next_listed calls then [] else take (written.room - length written.bytes) bytes
 
--- whether there is no output, or it has no room for all of the bytes
+-- Whether there is no output, or it has no room for all of the bytes.
 abbrev pub overflows_output : Option MemOutput → List ℕ → Bool
 overflows_output None bytes = true
 overflows_output (Some o) bytes = overflows o.written bytes
 
--- whether there is no room for all of the bytes behind the printed ones
+-- Whether there is no room for all of the bytes behind the printed ones.
 abbrev pub overflows_print : MemShelf → List ℕ → Bool
 overflows_print s bytes = overflows s.printed bytes
 
--- the names of the files
+-- The names of the files.
 abbrev pub file_names : MemShelf → List (List ℕ)
 file_names s = map (λ f. string_bytes f.name) s.files.items
 
--- the names of the outputs
+-- The names of the outputs.
 abbrev pub output_names : MemShelf → List (List ℕ)
 output_names s = map (λ o. string_bytes o.name) s.outputs.items
 
--- how many bytes there is room for in each output
+-- How many bytes there is room for in each output.
 abbrev pub output_rooms : MemShelf → List ℕ
 output_rooms s = map (λ o. o.written.room) s.outputs.items
 
--- one call was made; the names and the rooms are as they were
+-- One call was made; the names and the rooms are as they were.
 pub record MadeCall (before now : MemShelf) : Type 0 where
   pub calls : IsNextCall before.calls now.calls
   pub files : file_names now ≡ file_names before

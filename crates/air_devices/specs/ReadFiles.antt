@@ -3,6 +3,6 @@ use Rattle.std.specs.Prelude.{◌==◌, ◌&&◌, List, Bool}
 use Rattle.std.specs.List.{list_any}
 use Rattle.air_devices.specs.declared.read_files.FileId.{FileId}
 
--- whether this file is one of those
+-- Whether this file is one of those.
 abbrev pub is_among : FileId → List FileId → Bool
 is_among id ids = list_any (λ read. read.device == id.device && read.inode == id.inode) ids

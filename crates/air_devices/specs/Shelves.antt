@@ -4,11 +4,11 @@ use Rattle.std.specs.Prelude.{ℕ}
 use Rattle.air_devices.specs.Contents.{Contents, untold}
 use Rattle.air_devices.specs.Counts.{Faults, one_count}
 
--- what a shelf tells of what it holds, and how often its calls failed
+-- What a shelf tells of what it holds, and how often its calls failed.
 pub record Shelved : Type 0 where
   pub told : Contents
   pub faults : Faults
 
--- a form that tells nothing, with one number for all of its counts
+-- A form that tells nothing, with one number for all of its counts.
 abbrev pub untold_with : ℕ → Shelved
 untold_with n = record { told = untold; faults = one_count n }

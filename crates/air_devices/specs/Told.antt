@@ -3,21 +3,21 @@
 use Rattle.std.specs.Prelude.{◌≡◌, ℕ, List, Option, Some, None, ⊤, take}
 use Rattle.std.specs.Io.KnownBytes.{Appends}
 
--- contents, where told, are these bytes
+-- Contents, where told, are these bytes.
 abbrev pub ToldIs : Option (List ℕ) → List ℕ → Type 0
 ToldIs None bytes = ⊤
 ToldIs (Some xs) bytes = bytes ≡ xs
 
--- what is told, if anything is, has this property
+-- What is told, if anything is, has this property.
 abbrev pub WhereTold : {T : Type 0} → Option T → (T → Type 0) → Type 0
 WhereTold None P = ⊤
 WhereTold (Some told) P = P told
 
--- contents that were told are told again, and are now these bytes
+-- Contents that were told are told again, and are now these bytes.
 abbrev pub Becomes : Option (List ℕ) → Option (List ℕ) → List ℕ → Type 0
 Becomes None now bytes = ⊤
 Becomes (Some xs) now bytes = now ≡ Some bytes
 
--- contents that were told are told again, and grew by a prefix of these bytes
+-- Contents that were told are told again, and grew by a prefix of these bytes.
 abbrev pub AppendsPart : Option (List ℕ) → Option (List ℕ) → List ℕ → Type 0
 AppendsPart before now bytes = (n : ℕ) × Appends before now (take n bytes)

@@ -19,53 +19,53 @@ use Rattle.air_history.proofs.HistoryExamples.{set_to, add_to, commit, chained, 
 abbrev pub at : ℕ → ℕ → ReadAt
 at i c = record { item = i; cycle = c }
 
--- the read as a receiver hears it
+-- The read as a receiver hears it.
 abbrev pub heard : Policy → List Event → ℕ → ℕ → Heard
 heard policy H i c = record { item = i; cycle = c; entries = policy_entries policy 2 H c i }
 
--- the same of a read, over three items
+-- The same of a read, over three items.
 abbrev heard_at : Policy → List Event → ReadAt → Heard
 heard_at policy H r = record { item = r.item; cycle = r.cycle; entries = policy_entries policy 3 H r.cycle r.item }
 
--- a heard read over four items
+-- A heard read over four items.
 abbrev of_four : ℕ → ℕ → List ℕ → Heard
 of_four i c entries = record { item = i; cycle = c; entries = entries }
 
--- both items are written in cycle 1, by updates that read nothing
+-- Both items are written in cycle 1, by updates that read nothing.
 abbrev pub apart : List Event
 apart = Start ∷ commit 0 [] (set_to 0 11) ∷ commit 1 [] (set_to 1 21) ∷ Start ∷ []
 
--- item 0 alone is written
+-- Item 0 alone is written.
 abbrev pub one_written : List Event
 one_written = Start ∷ commit 0 [] (set_to 0 11) ∷ Start ∷ []
 
--- item 1 is written in cycle 1, then item 2 with what was read of item 1
+-- Item 1 is written in cycle 1, then item 2 with what was read of item 1.
 abbrev one_then_two : List Event
 one_then_two = Start ∷ commit 0 [] (set_to 1 5) ∷ commit 1 (1 ∷ []) (add_to 2 1 1) ∷ Start ∷ []
 
--- item 2 is written in cycle 2 alone
+-- Item 2 is written in cycle 2 alone.
 abbrev two_later : List Event
 two_later = Start ∷ Start ∷ commit 0 [] (set_to 2 5) ∷ Start ∷ []
 
--- the items 0 and 2 are written in cycle 1
+-- The items 0 and 2 are written in cycle 1.
 abbrev ends_written : List Event
 ends_written = Start ∷ commit 0 [] (set_to 0 11) ∷ commit 1 [] (set_to 2 31) ∷ Start ∷ Start ∷ []
 
--- each of three items is written in cycle 1, by updates that read nothing
+-- Each of three items is written in cycle 1, by updates that read nothing.
 abbrev all_written : List Event
 all_written = Start ∷ commit 0 [] (set_to 0 1) ∷ commit 1 [] (set_to 1 1) ∷ commit 2 [] (set_to 2 1) ∷ Start ∷ []
 
--- a clash with item 0 of cycle 1
+-- A clash with item 0 of cycle 1.
 abbrev with_first : Option Clash
 with_first = Some (record { item = 0; cycle = 1 })
 
--- the clash of item 1 of cycle 2 with item 0 of cycle 1, by the history and by the entries
+-- The clash of item 1 of cycle 2 with item 0 of cycle 1, by the history and by the entries.
 abbrev Both : Policy → List Event → Option Clash → Type 0
 Both policy H answer =
     (clash_by_history policy H (at 0 1 ∷ []) (at 1 2) ≡ answer)
     × (clash_by_entries policy (heard policy H 0 1 ∷ []) (heard policy H 1 2) ≡ answer)
 
--- the clash of item 2 in a cycle with two held reads, by the history and by the entries, over three items
+-- The clash of item 2 in a cycle with two held reads, by the history and by the entries, over three items.
 abbrev OfTwo : Policy → List Event → ReadAt → ReadAt → ℕ → Option Clash → Type 0
 OfTwo policy H r s c answer =
     (clash_by_history policy H (r ∷ s ∷ []) (at 2 c) ≡ answer)

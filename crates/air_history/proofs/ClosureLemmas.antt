@@ -10,7 +10,7 @@ use Rattle.air_history.specs.DescentLaws.{ReadsFrom, IsClosed}
 use Rattle.air_history.proofs.PlaceLemmas.{place_from}
 use Rattle.air_history.proofs.HistoryLemmas.{descends_cases, descends_is, descends_self, through_lower}
 
--- every closed set that holds p holds the descent of p
+-- Every closed set that holds p holds the descent of p.
 least_in : (n : ℕ) (G : List Event) (S : ℕ → Bool) → IsClosed G S → (p q : ℕ) → p < n → S p ≡ true → descends G p q ≡ true → S q ≡ true
 least_in zero G S closed p q l sp e = absurd (omega arith)
 least_in (suc n) G S closed p q l sp e = elim (descends_cases G p q e) as (λ _. S q ≡ true) [
@@ -25,7 +25,7 @@ through_to G p q k w l e h =
     descends_is G p q ∙ or_right (q == p) _ (list_any_at (λ item. place_and (writer_before G p item) (λ w. descends G w q)) (reads (event_at G p)) k 0 l
     (place_from (writer_before G p (get_or (reads (event_at G p)) k 0)) (λ w. descends G w q) w e h))
 
--- with each place the descent holds each writer that it read
+-- With each place the descent holds each writer that it read.
 closed_in : (n : ℕ) (G : List Event) (p q w : ℕ) → p < n → descends G p q ≡ true → ReadsFrom G q w → descends G p w ≡ true
 closed_in zero G p q w l e f = absurd (omega arith)
 closed_in (suc n) G p q w l e f = elim (descends_cases G p q e) as (λ _. descends G p w ≡ true) [
@@ -34,7 +34,7 @@ closed_in (suc n) G p q w l e f = elim (descends_cases G p q e) as (λ _. descen
   | inr r ↦ through_to G p w r.nth r.place r.read r.wrote (closed_in n G r.place q w (let lt = through_lower G p q r in omega arith) r.rest f)
 ]
 
--- the descent of p is the least closed set that holds p
+-- The descent of p is the least closed set that holds p.
 pub record IsClosure (G : List Event) (p : ℕ) : Type 0 where
   pub itself : IsTrue (descends G p p)
   pub closed : IsClosed G (descends G p)

@@ -16,7 +16,7 @@ use Rattle.air_history.proofs.HistoryLemmas.{descends_le, front_within, cycle_mo
 use Rattle.air_history.proofs.ScanLemmas.{event_read, start_writes_nothing}
 use Rattle.air_history.proofs.OriginLemmas.{entry_whole, origin_some}
 
--- the greatest cycle of a marked commit among the first p events that writes item i, else 0
+-- The greatest cycle of a marked commit among the first p events that writes item i, else 0.
 abbrev pub marked_entry : List Event → List Bool → ℕ → ℕ → ℕ
 marked_entry H marks p i = greatest p (λ q. get_or marks q false && writes (event_at H q) i) (cycle_at H)
 
@@ -30,21 +30,21 @@ marked_suc H marks p i = ap (λ m. greatest m (λ q. get_or marks q false && wri
 marked_top : (H : List Event) (marks : List Bool) (p i : ℕ) → max (cycle_at H p) (marked_entry H marks p i) ≡ cycle_at H p
 marked_top H marks p i = let le = greatest_upto p (λ q. get_or marks q false && writes (event_at H q) i) (cycle_at H) (cycle_at H p) (λ q l _. cycle_mono H q p (omega arith)) in omega arith
 
--- an event that isn't marked changes nothing
+-- An event that isn't marked changes nothing.
 pub marked_skip : (H : List Event) (marks : List Bool) (p i : ℕ) → get_or marks p false ≡ false → marked_entry H marks (p + 1) i ≡ marked_entry H marks p i
 marked_skip H marks p i h = marked_suc H marks p i ∙ cond-false _ _ _ (and_left _ _ h)
 
--- a start changes nothing
+-- A start changes nothing.
 pub marked_start : (H : List Event) (marks : List Bool) (p i : ℕ) (e : Event) → p < length H → e ≡ get_or H p e → is_start e ≡ true → marked_entry H marks (p + 1) i ≡ marked_entry H marks p i
 marked_start H marks p i e l is s = marked_suc H marks p i ∙ cond-false _ _ _ (and_right _ _ (ap (λ x. writes x i) (event_read H p e l is) ∙ start_writes_nothing e i s))
 
--- the test that an event writes an item, over its list of writes
+-- The test that an event writes an item, over its list of writes.
 pub written_by : (e : Event) (i : ℕ) → writes e i ≡ list_any (λ w. w.item == i) (writes_of e)
 unfolding writes writes_of
 written_by (Commit by seq u) i = refl
 written_by Start i = refl
 
--- a marked commit leaves its cycle where it writes
+-- A marked commit leaves its cycle where it writes.
 pub marked_more : (H : List Event) (marks : List Bool) (p i : ℕ) (e : Event) → p < length H → e ≡ get_or H p e → get_or marks p false ≡ true →
     marked_entry H marks (p + 1) i ≡ cond (list_any (λ w. w.item == i) (writes_of e)) (cycle_at H p) (marked_entry H marks p i)
 marked_more H marks p i e l is h =
@@ -54,7 +54,7 @@ marked_more H marks p i e l is h =
     ∙ ap (λ x. cond (writes x i) (cycle_at H p) (marked_entry H marks p i)) (event_read H p e l is)
     ∙ ap (λ b. cond b (cycle_at H p) (marked_entry H marks p i)) (written_by e i)
 
--- the writes of a read event fit
+-- The writes of a read event fit.
 pub writes_fit : (H : List Event) (n p : ℕ) (e : Event) → All (ItemsFit n) H → p < length H → e ≡ get_or H p e → All (λ w. w.item < n) (writes_of e)
 unfolding ItemsFit writes_of
 writes_fit H n p e all l is = by e (subst (ItemsFit n) (sym is) (all p e l))
@@ -65,11 +65,11 @@ writes_fit H n p e all l is = by e (subst (ItemsFit n) (sym is) (all p e l))
 
 -- ---- the whole scan
 
--- the entry of i after the first p events of a scan of w's descent
+-- The entry of i after the first p events of a scan of w's descent.
 unfoldable scanned : List Event → ℕ → ℕ → ℕ → ℕ
 scanned H w p i = greatest p (λ q. descends H w q && writes (event_at H q) i) (cycle_at H)
 
--- where the marks are the descent of w
+-- Where the marks are the descent of w.
 marked_scan : (H : List Event) (marks : List Bool) (w i : ℕ) → marks ≡ map (descends H w) (range_with_len 0 (length H)) → marked_entry H marks (length H) i ≡ scanned H w (length H) i
 unfolding scanned
 marked_scan H marks w i e = greatest_same (length H) _ _ (cycle_at H) (cycle_at H)
@@ -83,7 +83,7 @@ scan_suc H w p i = ap (λ m. greatest m (λ q. descends H w q && writes (event_a
 scan_kept : (H : List Event) (w p i : ℕ) → (descends H w p && writes (event_at H p) i) ≡ false → scanned H w (p + 1) i ≡ scanned H w p i
 scan_kept H w p i h = scan_suc H w p i ∙ cond-false _ _ _ h
 
--- beyond the writer nothing is counted
+-- Beyond the writer nothing is counted.
 past : (H : List Event) (w n k i : ℕ) → w < n → scanned H w (n + k) i ≡ scanned H w n i
 past H w n zero i l = ap (λ m. scanned H w m i) (let e : n + zero ≡ n = omega arith in e)
 past H w n (suc k) i l =
@@ -106,19 +106,19 @@ pub no_writer : (H : List Event) (c item i : ℕ) → writer (front H c) item �
 unfolding column_entry
 no_writer H c item i e = greatest_none (length (front H c)) _ (cycle_at (front H c)) (λ q h. ap (λ o. place_and o (λ w. descends (front H c) w q) && writes (event_at (front H c) q) i) e)
 
--- marks that are the writer's descent give the column
+-- Marks that are the writer's descent give the column.
 pub column_marked : (H : List Event) (c item w n : ℕ) (marks : List Bool) (out : List ℕ) → writer (front H c) item ≡ Some w →
     marks ≡ map (descends H w) (range_with_len 0 (length H)) → length out ≡ n →
     ((i : ℕ) → i < n → get_or out i 0 ≡ marked_entry H marks (length H) i) → out ≡ column n (front H c) item
 column_marked H c item w n marks out e m len all = fill_by_all (column_entry (front H c) item) out n 0 len
     (λ i l. all i l ∙ marked_scan H marks w i m ∙ scan_all H c item w (length H) i e (omega arith))
 
--- without a writer the column is zeros
+-- Without a writer the column is zeros.
 pub column_zeros : (H : List Event) (c item n : ℕ) (out : List ℕ) → writer (front H c) item ≡ None → length out ≡ n →
     ((i : ℕ) → i < n → get_or out i 0 ≡ 0) → out ≡ column n (front H c) item
 column_zeros H c item n out e len all = fill_by_all (column_entry (front H c) item) out n 0 len (λ i l. all i l ∙ sym (no_writer H c item i e))
 
--- the last writer of a front stands in the history
+-- The last writer of a front stands in the history.
 pub writer_inside : (H : List Event) (c item w : ℕ) → writer (front H c) item ≡ Some w → w < length H
 unfolding origin
 writer_inside H c item w e =

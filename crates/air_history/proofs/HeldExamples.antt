@@ -8,19 +8,19 @@ use Rattle.air_history.specs.Clashes.{Heard}
 use Rattle.air_history.specs.HeldReads.{HeldReads, IsNew, ComesInOrder}
 use Rattle.air_history.proofs.ClashExamples.{one_written}
 
--- item 0 of cycle 2 is held over two items
+-- Item 0 of cycle 2 is held over two items.
 abbrev one_held : HeldReads
 one_held = record { n = 2; reads = record { item = 0; cycle = 2; entries = 1 ∷ 0 ∷ [] } ∷ [] }
 
--- items 0 and 1 of three are held, of these cycles
+-- Items 0 and 1 of three are held, of these cycles.
 abbrev two_held : ℕ → ℕ → HeldReads
 two_held first last = record { n = 3; reads = record { item = 0; cycle = first; entries = 0 ∷ 0 ∷ 0 ∷ [] } ∷ record { item = 1; cycle = last; entries = 0 ∷ 0 ∷ 0 ∷ [] } ∷ [] }
 
--- item 2 of three in cycle 2
+-- Item 2 of three in cycle 2.
 abbrev item_two : Heard
 item_two = record { item = 2; cycle = 2; entries = 0 ∷ 0 ∷ 0 ∷ [] }
 
--- item 1 with these entries
+-- Item 1 with these entries.
 abbrev item_one : ℕ → List ℕ → Heard
 item_one cycle entries = record { item = 1; cycle = cycle; entries = entries }
 

@@ -13,7 +13,7 @@ use Rattle.air_history.specs.Columns.{column_entry, vector_entry, column, vector
 use Rattle.air_history.specs.Tables.{based, write_of, value_after, table, table_list}
 use Rattle.air_history.specs.Boards.{reply_of, board_of, frame_of}
 
--- a write of a constant, of a base and an amount more, of a base less an amount
+-- A write of a constant, of a base and an amount more, of a base less an amount.
 abbrev pub set_to : ℕ → ℕ → Write
 set_to i v = record { item = i; base = None; minus = false; amount = v }
 
@@ -23,36 +23,36 @@ add_to i b v = record { item = i; base = Some b; minus = false; amount = v }
 abbrev pub take_from : ℕ → ℕ → ℕ → Write
 take_from i b v = record { item = i; base = Some b; minus = true; amount = v }
 
--- a commit of updater 0
+-- A commit of updater 0.
 abbrev pub commit : ℕ → List ℕ → Write → Event
 commit seq reads write = Commit 0 seq (record { reads = reads; writes = write ∷ [] })
 
--- item 0 becomes 11, item 2 that and 1, item 1 that and 1; all in cycle 1
+-- Item 0 becomes 11, item 2 that and 1, item 1 that and 1; all in cycle 1.
 abbrev pub chained : List Event
 chained = Start ∷ commit 0 [] (set_to 0 11) ∷ commit 1 (0 ∷ []) (add_to 2 0 1) ∷ commit 2 (2 ∷ []) (add_to 1 2 1) ∷ Start ∷ []
 
--- then item 1 is written without a read, in cycle 2
+-- Then item 1 is written without a read, in cycle 2.
 abbrev pub then_blind : List Event
 then_blind = chained ++ commit 3 [] (set_to 1 5) ∷ Start ∷ []
 
--- the same chain before the first cycle
+-- The same chain before the first cycle.
 abbrev pub before_all : List Event
 before_all = commit 0 [] (set_to 0 11) ∷ commit 1 (0 ∷ []) (add_to 2 0 1) ∷ commit 2 (2 ∷ []) (add_to 1 2 1) ∷ Start ∷ Start ∷ []
 
--- item 0 is raised by 1 in cycle 1, and again in cycle 2
+-- Item 0 is raised by 1 in cycle 1, and again in cycle 2.
 abbrev counter : List Event
 counter = Start ∷ commit 0 (0 ∷ []) (add_to 0 0 1) ∷ Start ∷ commit 1 (0 ∷ []) (add_to 0 0 1) ∷ Start ∷ []
 
--- the items 0 and 1 change places, after each was written
+-- The items 0 and 1 change places, after each was written.
 abbrev exchanged : List Event
 exchanged = Start ∷ commit 0 [] (set_to 0 7) ∷ commit 1 [] (set_to 1 8)
     ∷ Commit 0 2 (record { reads = 0 ∷ 1 ∷ []; writes = add_to 0 1 0 ∷ add_to 1 0 0 ∷ [] }) ∷ []
 
--- so many writes, each of an item of its own
+-- So many writes, each of an item of its own.
 abbrev writes_to : ℕ → List Write
 writes_to n = map (λ i. set_to i 1) (range_with_len 0 n)
 
--- the catalog's values
+-- The catalog's values.
 abbrev pub tens : List ℕ
 tens = 10 ∷ 20 ∷ 30 ∷ []
 

@@ -13,7 +13,7 @@ use Rattle.air_history.specs.Histories.{is_start, writes, reads, event_at, cycle
 use Rattle.air_history.specs.Descents.{descends_in, descends}
 use Rattle.air_history.proofs.PlaceLemmas.{IsLast, last_place_is, last_place_same, any_at, any_same, place_at, place_same}
 
--- a commit that writes is no Start
+-- A commit that writes is no Start.
 pub writer_no_start : (e : Event) (i : ℕ) → writes e i ≡ true → is_start e ≡ false
 unfolding writes is_start
 writer_no_start (Commit by seq update) i h = refl
@@ -23,7 +23,7 @@ start_writes_none : (e : Event) (i : ℕ) → e ≡ Start → writes e i ≡ fal
 unfolding writes
 start_writes_none e i h = rw h refl
 
--- what writes stands in the list
+-- What writes stands in the list.
 pub writes_within : (H : List Event) (p i : ℕ) → writes (event_at H p) i ≡ true → p < length H
 writes_within H p i h = elim (cases_lt p (length H)) as (λ _. p < length H) [
   | inl l ↦ l
@@ -42,7 +42,7 @@ cycle_at_zero : (H : List Event) → cycle_at H 0 ≡ 0
 unfolding cycle_at
 cycle_at_zero H = refl
 
--- every place of the front of c has a cycle below c
+-- Every place of the front of c has a cycle below c.
 pub front_cycle : (H : List Event) (c p : ℕ) → p < length (front H c) → cycle_at H p < c
 unfolding front
 front_cycle H zero p h = absurd (omega arith)
@@ -53,7 +53,7 @@ front_cycle (Start ∷ H) (suc (suc c)) (suc p) h = let rest : cycle_at H p < su
 front_cycle (Commit by seq update ∷ H) (suc c) zero h = omega (arith, cycle_at_zero (Commit by seq update ∷ H))
 front_cycle (Commit by seq update ∷ H) (suc c) (suc p) h = let rest : cycle_at H p < suc c = front_cycle H (suc c) p (omega arith) in omega (arith, cycle_at_commit H by seq update p)
 
--- and every commit whose cycle is below c is in the front of c
+-- And every commit whose cycle is below c is in the front of c.
 pub front_holds : (H : List Event) (c p : ℕ) → p < length H → is_start (event_at H p) ≡ false → cycle_at H p < c → p < length (front H c)
 unfolding front is_start
 front_holds H zero p l s h = absurd (omega arith)
@@ -65,7 +65,7 @@ front_holds (Start ∷ H) (suc (suc c)) (suc p) l s h = let rest : p < length (f
 front_holds (Commit by seq update ∷ H) (suc c) zero l s h = omega arith
 front_holds (Commit by seq update ∷ H) (suc c) (suc p) l s h = let rest : p < length (front H (suc c)) = front_holds H (suc c) p (omega arith) s (omega (arith, cycle_at_commit H by seq update p)) in omega arith
 
--- a front begins the list
+-- A front begins the list.
 pub front_prefix : (H : List Event) (c : ℕ) → front H c ≡ take (length (front H c)) H
 unfolding front
 front_prefix H zero = refl
@@ -87,7 +87,7 @@ cycle_take n p H h = ap (count_by is_start) (take-take p n H h)
 pub front_cycle_same : (H : List Event) (c p : ℕ) → p < length (front H c) → cycle_at (front H c) p ≡ cycle_at H p
 front_cycle_same H c p h = ap (λ t. cycle_at t p) (front_prefix H c) ∙ cycle_take (length (front H c)) p H (omega arith)
 
--- two lists agree below n
+-- Two lists agree below n.
 abbrev pub SameBelow : ℕ → List Event → List Event → Type 0
 SameBelow n G H = (k : ℕ) → k < n → event_at G k ≡ event_at H k
 
@@ -102,7 +102,7 @@ writer_before_is G p i = last_place_is p (λ q. writes (event_at G q) i)
 pub writer_before_some : (G : List Event) (p i w : ℕ) → writer_before G p i ≡ Some w → IsLast p (λ q. writes (event_at G q) i) (Some w)
 writer_before_some G p i w e = subst (IsLast p (λ q. writes (event_at G q) i)) e (writer_before_is G p i)
 
--- the descent of p looks at the events up to p alone
+-- The descent of p looks at the events up to p alone.
 descends_in_same : (n : ℕ) (G H : List Event) (p q : ℕ) → SameBelow (suc p) G H → descends_in n G p q ≡ descends_in n H p q
 unfolding descends_in
 descends_in_same zero G H p q h = refl
@@ -120,7 +120,7 @@ any_none : {X : Type 0} (f : X → Bool) (xs : List X) → ((x : X) → f x ≡ 
 any_none f [] h = refl
 any_none f (x ∷ xs) h = let here = h x in let rest = any_none f xs h in cc
 
--- before place 0 nothing was written
+-- Before place 0 nothing was written.
 none_before : (n : ℕ) (G : List Event) (p q : ℕ) → p ≡ 0 → descends_in n G p q ≡ (q == p)
 unfolding descends_in writer_before last_place
 none_before zero G p q e = refl
@@ -132,7 +132,7 @@ none_before (suc n) G p q e =
     or_none true = refl
     or_none false = refl
 
--- a bound above the place changes no descent
+-- A bound above the place changes no descent.
 enough : (n m : ℕ) (G : List Event) (p q : ℕ) → p ≤ n → p ≤ m → descends_in n G p q ≡ descends_in m G p q
 unfolding descends_in
 enough zero m G p q h k = sym (none_before m G p q (omega arith))
@@ -140,7 +140,7 @@ enough (suc n) zero G p q h k = none_before (suc n) G p q (omega arith)
 enough (suc n) (suc m) G p q h k = ap (λ b. (q == p) || b) (any_same _ _ (reads (event_at G p)) (λ item. place_same (writer_before G p item) _ _
     (λ w e. let lt = (writer_before_some G p item w e).0 in enough n m G w q (omega arith) (omega arith))))
 
--- the descent of p holds p and, for each item that the commit at p reads, the descent of its writer before p
+-- The descent of p holds p and, for each item that the commit at p reads, the descent of its writer before p.
 pub descends_is : (G : List Event) (p q : ℕ) →
     descends G p q ≡ ((q == p) || list_any (λ item. place_and (writer_before G p item) (λ w. descends G w q)) (reads (event_at G p)))
 unfolding descends descends_in
@@ -149,7 +149,7 @@ descends_is G p q =
     ∙ ap (λ b. (q == p) || b) (any_same _ _ (reads (event_at G p)) (λ item. place_same (writer_before G p item) _ _
     (λ w e. let lt = (writer_before_some G p item w e).0 in enough p w G w q (omega arith) (omega arith))))
 
--- q is in the descent of the writer of some item that the commit at p reads
+-- q is in the descent of the writer of some item that the commit at p reads.
 pub record ThroughRead (G : List Event) (p q : ℕ) : Type 0 where
   pub nth : ℕ
   pub place : ℕ
@@ -163,7 +163,7 @@ through_any G p q e =
     let v = place_at (writer_before G p (get_or (reads (event_at G p)) r.0 0)) (λ w. descends G w q) r.2 in
     record { nth = r.0; place = v.0; read = r.1; wrote = v.1; rest = v.2 }
 
--- what it means to be in the descent of p
+-- What it means to be in the descent of p.
 pub descends_cases : (G : List Event) (p q : ℕ) → descends G p q ≡ true → (q ≡ p) ⊎ ThroughRead G p q
 descends_cases G p q e = elim (or_cases (q == p) _ (sym (descends_is G p q) ∙ e)) as (λ _. (q ≡ p) ⊎ ThroughRead G p q) [
   | inl h ↦ inl (eqb-true q p h)
@@ -173,11 +173,11 @@ descends_cases G p q e = elim (or_cases (q == p) _ (sym (descends_is G p q) ∙ 
 pub descends_self : (G : List Event) (p : ℕ) → descends G p p ≡ true
 descends_self G p = descends_is G p p ∙ or_left (p == p) _ (eq-eqb p p refl)
 
--- the writer of a read item stands before the place that reads it
+-- The writer of a read item stands before the place that reads it.
 pub through_lower : (G : List Event) (p q : ℕ) (r : ThroughRead G p q) → r.place < p
 through_lower G p q r = (writer_before_some G p (get_or (reads (event_at G p)) r.nth 0) r.place r.wrote).0
 
--- a descent goes back
+-- A descent goes back.
 back : (n : ℕ) (G : List Event) (p q : ℕ) → p < n → descends G p q ≡ true → q ≤ p
 back zero G p q l e = absurd (omega arith)
 back (suc n) G p q l e = elim (descends_cases G p q e) as (λ _. q ≤ p) [
@@ -188,12 +188,12 @@ back (suc n) G p q l e = elim (descends_cases G p q e) as (λ _. q ≤ p) [
 pub descends_le : (G : List Event) (p q : ℕ) → descends G p q ≡ true → q ≤ p
 descends_le G p q e = back (suc p) G p q (omega arith) e
 
--- the descent of p looks at the events up to p alone
+-- The descent of p looks at the events up to p alone.
 pub descends_same : (G H : List Event) (p q : ℕ) → SameBelow (suc p) G H → descends G p q ≡ descends H p q
 unfolding descends
 descends_same G H p q h = descends_in_same p G H p q h
 
--- the cycles of places only rise
+-- The cycles of places only rise.
 pub cycle_mono : (G : List Event) (p q : ℕ) → p ≤ q → cycle_at G p ≤ cycle_at G q
 unfolding cycle_at
 cycle_mono G p q h =

@@ -11,7 +11,7 @@ use Rattle.air_history.specs.DescentLaws.{ReadsFrom}
 use Rattle.air_history.proofs.HistoryLemmas.{writer_before_some}
 use Rattle.air_history.proofs.ClosureLemmas.{closure}
 
--- the new marks are the old ones and each place from which the commit at `place` reads
+-- The new marks are the old ones and each place from which the commit at `place` reads.
 pub record MarksReads (H : List Event) (place : ℕ) (old new : List Bool) : Type 0 where
   pub kept : (k : ℕ) → IsTrue (get_or old k false) → IsTrue (get_or new k false)
   pub added : (w : ℕ) → ReadsFrom H place w → IsTrue (get_or new w false)
@@ -72,7 +72,7 @@ marking_more H place at old new hit len r m = record {
   ];
 }
 
--- where all is closed, the marks are the descent
+-- Where all is closed, the marks are the descent.
 pub marking_all : (H : List Event) (place : ℕ) (marks : List Bool) → Marking H place 0 marks → marks ≡ map (descends H place) (range_with_len 0 (length H))
 marking_all H place marks m = fill_by_all (descends H place) marks (length H) false m.sized (λ k l. same_bool (get_or marks k false) (descends H place k) (m.sound k)
     ((closure H place).least (λ k. get_or marks k false) m.first (λ p w h r. m.closed p w (omega arith) h r) k))
@@ -82,7 +82,7 @@ marking_all H place marks m = fill_by_all (descends H place) marks (length H) fa
     same_bool false true f g = g refl
     same_bool false false f g = refl
 
--- marks after the first i of the items that the event at `place` reads
+-- Marks after the first i of the items that the event at `place` reads.
 pub record ReadMarks (H : List Event) (place i : ℕ) (items : List ℕ) (old new : List Bool) : Type 0 where
   pub kept : (k : ℕ) → IsTrue (get_or old k false) → IsTrue (get_or new k false)
   pub added : (j w : ℕ) → j < i → writer_before H place (get_or items j 0) ≡ Some w → IsTrue (get_or new w false)
@@ -91,7 +91,7 @@ pub record ReadMarks (H : List Event) (place i : ℕ) (items : List ℕ) (old ne
 pub read_marks_none : (H : List Event) (place : ℕ) (items : List ℕ) (old : List Bool) → ReadMarks H place 0 items old old
 read_marks_none H place items old = record { kept = λ k h. h; added = λ j w l e. absurd (omega arith); just = λ k h. inl h }
 
--- an item without a writer marks nothing
+-- An item without a writer marks nothing.
 pub read_marks_miss : (H : List Event) (place i : ℕ) (items : List ℕ) (old new : List Bool) → writer_before H place (get_or items i 0) ≡ None →
     ReadMarks H place i items old new → ReadMarks H place (i + 1) items old new
 read_marks_miss H place i items old new none m = record {
@@ -103,7 +103,7 @@ read_marks_miss H place i items old new none m = record {
   just = m.just;
 }
 
--- an item's writer is marked
+-- An item's writer is marked.
 pub read_marks_hit : (H : List Event) (place i v : ℕ) (items : List ℕ) (old new : List Bool) → place < length H → length new ≡ length H → i < length items → items ≡ reads (event_at H place) →
     writer_before H place (get_or items i 0) ≡ Some v → ReadMarks H place i items old new → ReadMarks H place (i + 1) items old (set new v true)
 read_marks_hit H place i v items old new within sized il of some m =
@@ -136,6 +136,6 @@ read_marks_all H place i items old new all of m = record {
   just = m.just;
 }
 
--- a slice that is written back into its Vec
+-- A slice that is written back into its Vec.
 pub written_back : (xs ys : List Bool) (n : ℕ) → length xs ≡ n → take n (xs ++ drop (length xs) ys) ≡ xs
 written_back xs ys n e = take_at xs (drop (length xs) ys) n e

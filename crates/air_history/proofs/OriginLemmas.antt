@@ -10,7 +10,7 @@ use Rattle.air_history.specs.Consistency.{descends_from}
 use Rattle.air_history.proofs.PlaceLemmas.{IsLast, greatest_same, place_at, place_same}
 use Rattle.air_history.proofs.HistoryLemmas.{front_event, front_cycle_same, writer_before_same, writer_before_is, descends_le, descends_same}
 
--- a read's origin, by the places of the whole history
+-- A read's origin, by the places of the whole history.
 pub origin_whole : (H : List Event) (r : ReadAt) → origin H r ≡ writer_before H (length (front H r.cycle)) r.item
 unfolding origin writer
 origin_whole H r = writer_before_same (length (front H r.cycle)) (front H r.cycle) H r.item (λ k l. front_event H r.cycle k l)
@@ -24,7 +24,7 @@ origin_some H r o e = subst (IsLast (length (front H r.cycle)) (λ q. writes (ev
 pub origin_none : (H : List Event) (r : ReadAt) → origin H r ≡ None → IsLast (length (front H r.cycle)) (λ q. writes (event_at H q) r.item) None
 origin_none H r e = subst (IsLast (length (front H r.cycle)) (λ q. writes (event_at H q) r.item)) e (origin_is H r)
 
--- what a read descends from is in its front
+-- What a read descends from is in its front.
 pub descends_from_front : (H : List Event) (r : ReadAt) (p : ℕ) → descends_from H r p ≡ true → p < length (front H r.cycle)
 unfolding descends_from
 descends_from_front H r p e =
@@ -33,7 +33,7 @@ descends_from_front H r p e =
     let lt : v.0 < length (front H r.cycle) = (origin_some H r v.0 v.1).0 in
     omega arith
 
--- a column's entry, by the places of the whole history
+-- A column's entry, by the places of the whole history.
 pub entry_whole : (H : List Event) (s : ReadAt) (i : ℕ) →
     entry_at H s.cycle s.item i ≡ greatest (length (front H s.cycle)) (λ p. descends_from H s p && writes (event_at H p) i) (cycle_at H)
 unfolding column_entry descends_from origin

@@ -23,19 +23,19 @@ use Rattle.air_history.specs.ClashLaws.{IsHeard, IsAllowed, passes, Accepts, cur
 use Rattle.air_history.proofs.HistoryExamples.{add_to, commit, chained}
 use Rattle.air_history.proofs.ClashExamples.{at, apart, one_written}
 
--- item 0 of cycle 1, then item 1 of cycle 2
+-- Item 0 of cycle 1, then item 1 of cycle 2.
 abbrev first_then_next : List ReadAt
 first_then_next = at 0 1 ∷ at 1 2 ∷ []
 
--- an update that reads item 0 and puts it and 1 into item 2
+-- An update that reads item 0 and puts it and 1 into item 2.
 abbrev two_from_zero : UpdateLists
 two_from_zero = record { reads = 0 ∷ []; writes = add_to 2 0 1 ∷ [] }
 
--- places 1 and 2
+-- Places 1 and 2.
 abbrev one_or_two : ℕ → Bool
 one_or_two p = (p == 1) || (p == 2)
 
--- place 2 alone
+-- Place 2 alone.
 abbrev two_alone : ℕ → Bool
 two_alone p = p == 2
 
@@ -99,17 +99,17 @@ updates = record {
 
 -- ---- descents
 
--- the commit at place 3 reads item 2, which the commit at place 2 wrote
+-- The commit at place 3 reads item 2, which the commit at place 2 wrote.
 pub reads_from : ReadsFrom chained 3 2
 unfolding reads writer_before last_place writes
 reads_from = record { nth = 0; within = omega arith; wrote = refl }
 
--- the commit at place 1 reads nothing
+-- The commit at place 1 reads nothing.
 pub reads_nothing : ReadsFrom chained 1 0 → ⊥
 unfolding reads
 reads_nothing f = omega (arith, f.within)
 
--- the set of places 1 and 2 is closed: place 2 reads from place 1, which reads nothing
+-- The set of places 1 and 2 is closed: place 2 reads from place 1, which reads nothing.
 pub closed : IsClosed chained one_or_two
 unfolding reads writer_before last_place writes
 closed zero w s f = absurd (false≢true s)
@@ -124,7 +124,7 @@ closed (suc (suc (suc p))) w s f = elim (or_cases (suc (suc (suc p)) == 1) (suc 
   | inr two ↦ (let same : suc (suc (suc p)) ≡ 2 = eqb-true _ _ two in absurd (omega arith))
 ]
 
--- the set of place 2 alone isn't closed
+-- The set of place 2 alone isn't closed.
 pub not_closed : IsClosed chained two_alone → ⊥
 unfolding reads writer_before last_place writes
 not_closed h = false≢true (h 2 1 refl (record { nth = 0; within = omega arith; wrote = refl }))
@@ -226,7 +226,7 @@ pub record Accepted : Type 0 where
   -- under F-Matrix they are consistent
   sound_f : IsSound FMatrix apart first_then_next
 
--- where each of the two reads passes, they are accepted
+-- Where each of the two reads passes, they are accepted.
 both_pass : (policy : Policy) (H : List Event) → passes policy H [] (at 0 1) ≡ true → passes policy H (at 0 1 ∷ []) (at 1 2) ≡ true → Accepts policy H first_then_next
 both_pass policy H one two zero d l = one
 both_pass policy H one two (suc zero) d l = two

@@ -13,7 +13,7 @@ use Rattle.air_history.specs.UpdateRules.{has_repeat, item_of, within_limits, ba
 use Rattle.air_history.specs.Tables.{WriteFits, BasesRead}
 use Rattle.air_history.proofs.PlaceLemmas.{any_at}
 
--- no rule is broken
+-- No rule is broken.
 pub record IsKept (reads : List ℕ) (writes : List Write) : Type 0 where
   pub limits : within_limits reads writes ≡ true
   pub apart : (has_repeat reads || has_repeat (map item_of writes)) ≡ false
@@ -45,12 +45,12 @@ some_write u kept =
     let limits = and_parts (nat_le (length u.reads) MOST_READS) (nat_le 1 (length u.writes) && nat_le (length u.writes) MOST_WRITES) (rules_kept u.reads u.writes kept).limits in
     leb-true 1 (length u.writes) (and_parts (nat_le 1 (length u.writes)) (nat_le (length u.writes) MOST_WRITES) limits.1).0
 
--- each element passes where all do
+-- Each element passes where all do.
 pub each_passes : (f : Write → Bool) (ws : List Write) → list_all f ws ≡ true → All (λ w. f w ≡ true) ws
 each_passes f [] e = λ k d l. absurd (omega arith)
 each_passes f (w ∷ ws) e = let parts = and_parts (f w) (list_all f ws) e in All-cons (λ w. f w ≡ true) w ws parts.0 (each_passes f ws parts.1)
 
--- a base is one of the reads
+-- A base is one of the reads.
 pub base_read : (reads : List ℕ) (minus : Bool) (base : Option ℕ) → base_holds reads minus base ≡ true →
     IfSome base (Contains reads)
 base_read reads minus None e = tt
@@ -66,7 +66,7 @@ base_fits : (n : ℕ) (reads : List ℕ) (base : Option ℕ) → All (λ r. r < 
 base_fits n reads None fits h = tt
 base_fits n reads (Some b) fits h = subst (λ b. b < n) h.2 (fits h.0 b h.1)
 
--- the items and the bases of an update that fits are below n
+-- The items and the bases of an update that fits are below n.
 pub writes_based : (n : ℕ) (u : UpdateLists) → KeepsRules u → UpdateFits n u → All (WriteFits n) u.writes
 writes_based n u kept fits k d l =
     let w = get_or u.writes k d in

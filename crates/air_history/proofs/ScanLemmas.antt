@@ -10,7 +10,7 @@ use Rattle.air_history.specs.Histories.{is_start, writes, event_at, cycle_at, st
 use Rattle.air_history.proofs.PlaceLemmas.{IsLast, last_place_from, last_place_suc}
 use Rattle.air_history.proofs.HistoryLemmas.{writer_no_start, front_cycle, front_holds, front_within, writer_before_is, writer_before_same, front_event}
 
--- the event that a loop reads at place p
+-- The event that a loop reads at place p.
 pub event_read : (H : List Event) (p : ℕ) (e : Event) → p < length H → e ≡ get_or H p e → event_at H p ≡ e
 event_read H p e l is = sym (get_or_read H p e l is Start)
 
@@ -34,7 +34,7 @@ pub cycle_all : (H : List Event) (p : ℕ) → length H ≤ p → cycle_at H p �
 unfolding cycle_at starts
 cycle_all H p l = ap (count_by is_start) (take_all p H l)
 
--- the last place below p that writes the item in a cycle below c
+-- The last place below p that writes the item in a cycle below c.
 unfoldable pub last_written : List Event → ℕ → ℕ → ℕ → Option ℕ
 last_written H c item p = last_place p (λ q. writes (event_at H q) item && ltb (cycle_at H q) c)
 
@@ -46,11 +46,11 @@ written_more : (H : List Event) (c item p : ℕ) (b : Bool) → (writes (event_a
 unfolding last_written
 written_more H c item p b e = ap (λ m. last_place m (λ q. writes (event_at H q) item && ltb (cycle_at H q) c)) (add-one p) ∙ last_place_suc p _ ∙ ap (λ t. cond t (Some p) (last_written H c item p)) e
 
--- a commit that writes the item below c is the last one
+-- A commit that writes the item below c is the last one.
 pub last_written_here : (H : List Event) (c item p : ℕ) (e : Event) → p < length H → e ≡ get_or H p e → writes e item ≡ true → cycle_at H p < c → last_written H c item (p + 1) ≡ Some p
 last_written_here H c item p e l is w lt = written_more H c item p true (and_from _ _ (ap (λ x. writes x item) (event_read H p e l is) ∙ w) (lt-ltb (cycle_at H p) c lt))
 
--- any other event changes nothing
+-- Any other event changes nothing.
 pub last_written_other : (H : List Event) (c item p : ℕ) (e : Event) → p < length H → e ≡ get_or H p e → writes e item ≡ false → last_written H c item (p + 1) ≡ last_written H c item p
 last_written_other H c item p e l is w = written_more H c item p false (and_left _ _ (ap (λ x. writes x item) (event_read H p e l is) ∙ w))
 
@@ -77,7 +77,7 @@ from_front H c item (Some p) h = (
       both_ways (writes (event_at H q) item) (h.2 q above (front_holds H c q l (writer_no_start (event_at H q) item both.0) (ltb-true (cycle_at H q) c both.1))) both.0),
 )
 
--- the last place of the front that writes the item is the last of the history that does in a cycle below c
+-- The last place of the front that writes the item is the last of the history that does in a cycle below c.
 pub writer_is_last : (H : List Event) (c item : ℕ) → last_written H c item (length H) ≡ writer (front H c) item
 unfolding last_written
 writer_is_last H c item = last_place_from (length H) _ _ (from_front H c item (writer (front H c) item) (front_writer_is H c item))
@@ -99,7 +99,7 @@ writer_before_here G item p e l is w = before_more G item p true (ap (λ x. writ
 pub writer_before_other : (G : List Event) (item p : ℕ) (e : Event) → p < length G → e ≡ get_or G p e → writes e item ≡ false → writer_before G (p + 1) item ≡ writer_before G p item
 writer_before_other G item p e l is w = before_more G item p false (ap (λ x. writes x item) (event_read G p e l is) ∙ w)
 
--- there are at most as many starts as events
+-- There are at most as many starts as events.
 pub starts_within : (H : List Event) → starts H ≤ length H
 unfolding starts
 starts_within H = count_by-le-length is_start H

@@ -26,7 +26,7 @@ write_more V now writes i k d x lk inside is was =
           ∙ ap (put (values_of V) i) (sym (at_drop_more (find (λ w. w.item == i)) writes k d lk ∙ cond-false ((get_or writes k d).item == i) _ _ (ne_eqb _ _ (λ e. other (sym e)))))
     ]
 
--- one more new value
+-- One more new value.
 pub fresh_more : (V : List ℕ) (writes : List Write) (fresh : List ℕ) (k : ℕ) (e : Write) (x : ℕ) → k < length writes → k < length fresh → x ≡ written (values_of V) (get_or writes k e) →
     ((j : ℕ) (d : Write) → j < k → get_or fresh j 0 ≡ written (values_of V) (get_or writes j d)) →
     (j : ℕ) (d : Write) → j < k + 1 → get_or (set fresh k x) j 0 ≡ written (values_of V) (get_or writes j d)
@@ -40,7 +40,7 @@ fresh_more V writes fresh k e x lk lf is before j d h =
 
 -- ---- one event, and many
 
--- where each item below the length has its new value and no write is beyond it, every item has
+-- Where each item below the length has its new value and no write is beyond it, every item has.
 pub put_all : (V now : List ℕ) (ws : List Write) → length now ≡ length V → All (λ w. w.item < length V) ws →
     ((i : ℕ) → i < length now → get_or now i 0 ≡ put (values_of V) i (find (λ w. w.item == i) ws)) →
     (i : ℕ) → get_or now i 0 ≡ put (values_of V) i (find (λ w. w.item == i) ws)
@@ -63,7 +63,7 @@ pub put_start : (V : ℕ → ℕ) (i : ℕ) → V i ≡ value_after V Start i
 unfolding value_after write_of
 put_start V i = refl
 
--- one more event of a run
+-- One more event of a run.
 pub run_more : (V now next : List ℕ) (H : List Event) (p : ℕ) (e : Event) → p < length H → e ≡ get_or H p e →
     ((i : ℕ) → get_or now i 0 ≡ table (values_of V) (take p H) i) → ((i : ℕ) → get_or next i 0 ≡ value_after (values_of now) e i) →
     (i : ℕ) → get_or next i 0 ≡ table (values_of V) (take (p + 1) H) i
@@ -73,7 +73,7 @@ run_more V now next H p e l is was one i =
     ∙ ap (λ x. table (values_of V) (take p H ++ x ∷ []) i) (sym (event_read H p e l is))
     ∙ ap (λ G. table (values_of V) G i) (sym (take_more H p Start l))
 
--- a whole run
+-- A whole run.
 pub run_all : (V now : List ℕ) (G : List Event) → length now ≡ length V → ((i : ℕ) → get_or now i 0 ≡ table (values_of V) G i) → now ≡ table_list V G
 run_all V now G len all = fill_by_all (table (values_of V) G) now (length V) 0 len (λ i l. all i)
 

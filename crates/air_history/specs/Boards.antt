@@ -7,14 +7,14 @@ use Rattle.air_history.specs.Histories.{reads, writes_of, event_at, starts, cycl
 use Rattle.air_history.specs.Columns.{column, vector}
 use Rattle.air_history.specs.Tables.{table, values_of, table_list}
 
--- the answer to a commit: its place, its cycle, the values that it read and wrote, in the update's order
+-- The answer to a commit: its place, its cycle, the values that it read and wrote, in the update's order.
 pub record Reply : Type 0 where
   pub number : ℕ
   pub cycle : ℕ
   pub read : List ℕ
   pub written : List ℕ
 
--- the reply to the commit at place p
+-- The reply to the commit at place p.
 abbrev pub reply_of : List ℕ → List Event → ℕ → Reply
 reply_of values H p = record {
   number = p;
@@ -23,18 +23,18 @@ reply_of values H p = record {
   written = map (table (values_of values) (take (p + 1) H)) (map item_of (writes_of (event_at H p)));
 }
 
--- the control columns of all n items
+-- The control columns of all n items.
 abbrev pub columns : ℕ → List Event → List (List ℕ)
 columns n G = map (column n G) (range_with_len 0 n)
 
--- a board: the cycle, the values, the control column of each item, the write vector
+-- A board: the cycle, the values, the control column of each item, the write vector.
 pub record Board : Type 0 where
   pub cycle : ℕ
   pub values : List ℕ
   pub columns : List (List ℕ)
   pub vector : List ℕ
 
--- the board of a list of events, from the catalog's values
+-- The board of a list of events, from the catalog's values.
 abbrev pub board_of : List ℕ → List Event → Board
 board_of values G = record {
   cycle = starts G;
@@ -43,14 +43,14 @@ board_of values G = record {
   vector = vector (length values) G;
 }
 
--- a frame: the cycle, the values, the control columns, and the sum of the values modulo 2^64
+-- A frame: the cycle, the values, the control columns, and the sum of the values modulo 2^64.
 pub record Frame : Type 0 where
   pub cycle : ℕ
   pub values : List ℕ
   pub columns : List (List ℕ)
   pub total : ℕ
 
--- the frame of a list of events, from the catalog's values
+-- The frame of a list of events, from the catalog's values.
 abbrev pub frame_of : List ℕ → List Event → Frame
 frame_of values G = record {
   cycle = starts G;

@@ -13,42 +13,42 @@ use Rattle.air_history.specs.Consistency.{IsConsistent}
 use Rattle.air_history.specs.ConsistencyLaws.{SharesCycle}
 use Rattle.air_history.specs.Clashes.{Heard, is_late, clash_by_history}
 
--- the read has the entries that H airs by the scheme with its item in its cycle, over n items
+-- The read has the entries that H airs by the scheme with its item in its cycle, over n items.
 pub record IsHeard (scheme : Scheme) (n : ℕ) (H : List Event) (r : Heard) : Type 0 where
   pub cycle : 1 ≤ r.cycle
   pub within : r.item < n
   pub entries : r.entries ≡ aired_entries scheme n H r.cycle r.item
 
--- the policy allows reads in this order: under R-Matrix cycles never fall
+-- The policy allows reads in this order: under R-Matrix cycles never fall.
 abbrev pub IsAllowed : Policy → List ReadAt → Type 0
 IsAllowed FMatrix R = Unit {0}
 IsAllowed Datacycle R = Unit {0}
 IsAllowed RMatrix R = AllPairs (λ r s. r.cycle ≤ s.cycle) R
 
--- whether the new read passes after the held ones: it isn't late, and nothing clashes with it
+-- Whether the new read passes after the held ones: it isn't late, and nothing clashes with it.
 unfoldable pub passes : Policy → List Event → List ReadAt → ReadAt → Bool
 passes policy H R x = not (is_late policy R x) && is_none (clash_by_history policy H R x)
 
--- the policy accepts the reads: each passes after those before it
+-- The policy accepts the reads: each passes after those before it.
 abbrev pub Accepts : Policy → List Event → List ReadAt → Type 0
 Accepts policy H R = (k : ℕ) (d : ReadAt) → k < length R → IsTrue (passes policy H (take k R) (get_or R k d))
 
--- the cycle of a read of the list
+-- The cycle of a read of the list.
 abbrev pub cycle_in : List ReadAt → ℕ → ℕ
 cycle_in R k = slice_index (map (λ r. r.cycle) R) k
 
--- the current cycle of the reads: that of the last one at whose cycle none before it is stale, 0 where there is none
+-- The current cycle of the reads: that of the last one at whose cycle none before it is stale, 0 where there is none.
 unfoldable pub current_cycle : List Event → List ReadAt → ℕ
 current_cycle H R =
     option_map_or (cycle_in R) (last_place (length R) (λ k. list_all (λ r. not (stale H r (cycle_in R k))) (take k R))) 0
 
--- the cycle that the policy gives accepted reads: the newest one under Datacycle, the current one under R-Matrix
+-- The cycle that the policy gives accepted reads: the newest one under Datacycle, the current one under R-Matrix.
 abbrev pub SharesItsCycle : Policy → List Event → List ReadAt → Type 0
 SharesItsCycle FMatrix H R = Unit {0}
 SharesItsCycle Datacycle H R = SharesCycle H R (newest_cycle R)
 SharesItsCycle RMatrix H R = SharesCycle H R (current_cycle H R)
 
--- reads that a policy accepted are consistent, and under Datacycle and R-Matrix they share a cycle
+-- Reads that a policy accepted are consistent, and under Datacycle and R-Matrix they share a cycle.
 pub record IsSound (policy : Policy) (H : List Event) (R : List ReadAt) : Type 0 where
   pub consistent : IsConsistent H R
   pub shared : SharesItsCycle policy H R

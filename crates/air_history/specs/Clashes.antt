@@ -8,95 +8,95 @@ use Rattle.air_history.specs.declared.histories.Event.{Event}
 use Rattle.air_history.specs.Reads.{ReadAt, same_origin, stale, newest_cycle, first_cycle, last_cycle}
 use Rattle.air_history.specs.Consistency.{consistent}
 
--- of a read and a clash, the one of lesser item number
+-- Of a read and a clash, the one of lesser item number.
 abbrev pub lesser : ReadAt → Option Clash → Option Clash
 lesser r None = Some (record { item = r.item; cycle = r.cycle })
 lesser r (Some c) = cond (nat_le r.item c.item) (Some (record { item = r.item; cycle = r.cycle })) (Some c)
 
--- the read of least item number, None of no read
+-- The read of least item number, None of no read.
 unfoldable pub least : List ReadAt → Option Clash
 least [] = None
 least (r ∷ R) = lesser r (least R)
 
 -- ---- by the history
 
--- the held read of least item number among those that the test names
+-- The held read of least item number among those that the test names.
 abbrev pub named_clash : (ReadAt → Bool) → List ReadAt → Option Clash
 named_clash test R = least (filter test R)
 
--- whether the new read comes too late after the held ones: under R-Matrix, where its cycle is below the last read's
+-- Whether the new read comes too late after the held ones: under R-Matrix, where its cycle is below the last read's.
 unfoldable pub is_late : Policy → List ReadAt → ReadAt → Bool
 is_late FMatrix R x = false
 is_late Datacycle R x = false
 is_late RMatrix R x = nat_lt x.cycle (last_cycle R)
 
--- the clash of the new read x with the held reads R, by origins alone; each policy names held reads in its own way
+-- The clash of the new read x with the held reads R, by origins alone; each policy names held reads in its own way.
 unfoldable pub clash_by_history : Policy → List Event → List ReadAt → ReadAt → Option Clash
--- F-Matrix names each held read that isn't consistent with the new one
+-- F-Matrix names each held read that isn't consistent with the new one.
 clash_by_history FMatrix H R x = named_clash (λ r. not (consistent H (r ∷ x ∷ []))) R
 -- Datacycle names, where the new read's cycle is the newest, each held read that is stale there; else none where the
--- new read's item has one origin at the newest held cycle and at its own, and otherwise each held read of that cycle
+-- new read's item has one origin at the newest held cycle and at its own, and otherwise each held read of that cycle.
 clash_by_history Datacycle H R x =
     cond (nat_le (newest_cycle R) x.cycle)
     (named_clash (λ r. stale H r x.cycle) R)
     (cond (same_origin H x.item (newest_cycle R) x.cycle) None (named_clash (λ r. r.cycle == newest_cycle R) R))
 -- R-Matrix names none where the new read's item has one origin at its cycle and at the first held one; else each
--- held read that is stale at the new cycle
+-- held read that is stale at the new cycle.
 clash_by_history RMatrix H R x =
     cond (same_origin H x.item x.cycle (first_cycle R)) None (named_clash (λ r. stale H r x.cycle) R)
 
--- Datacycle holds its reads to this: none is stale at their newest cycle
+-- Datacycle holds its reads to this: none is stale at their newest cycle.
 abbrev pub IsCurrent : List Event → List ReadAt → Type 0
 IsCurrent H R = All (λ r. stale H r (newest_cycle R) ≡ false) R
 
 -- R-Matrix takes a read that isn't late, where no held read is stale at its cycle, or where its item has one origin
--- there and at the first held cycle
+-- there and at the first held cycle.
 pub record Takes (H : List Event) (R : List ReadAt) (x : ReadAt) : Type 0 where
   pub in_time : is_late RMatrix R x ≡ false
   pub fresh : All (λ r. stale H r x.cycle ≡ false) R ⊎ IsTrue (same_origin H x.item x.cycle (first_cycle R))
 
 -- ---- by the entries
 
--- a read with the entries that were heard with it: its control column, or the write vector
+-- A read with the entries that were heard with it: its control column, or the write vector.
 pub record Heard : Type 0 where
   pub item : ℕ
   pub cycle : ℕ
   pub entries : List ℕ
 
--- the read without its entries
+-- The read without its entries.
 abbrev pub read_at : Heard → ReadAt
 read_at r = record { item = r.item; cycle = r.cycle }
 
--- the entry of an item that was heard with the read
+-- The entry of an item that was heard with the read.
 abbrev pub entry_of : Heard → ℕ → ℕ
 entry_of r i = get_or r.entries i 0
 
--- the entry of an item that was heard with the first held read of the cycle
+-- The entry of an item that was heard with the first held read of the cycle.
 abbrev pub entry_in : List Heard → ℕ → ℕ → ℕ
 entry_in [] c i = 0
 entry_in (r ∷ R) c i = cond (r.cycle == c) (entry_of r i) (entry_in R c i)
 
--- the held read of least item number among those that the test names
+-- The held read of least item number among those that the test names.
 abbrev pub heard_clash : (Heard → Bool) → List Heard → Option Clash
 heard_clash test R = least (map read_at (filter test R))
 
--- the newest cycle of held reads, 0 where there is none
+-- The newest cycle of held reads, 0 where there is none.
 abbrev pub newest_heard : List Heard → ℕ
 newest_heard R = newest_cycle (map read_at R)
 
--- the cycle of the first held read, 0 where there is none
+-- The cycle of the first held read, 0 where there is none.
 abbrev pub first_heard : List Heard → ℕ
 first_heard R = first_cycle (map read_at R)
 
--- the clash of the new read x with the held reads R, by the entries that were heard with them, policy by policy
+-- The clash of the new read x with the held reads R, by the entries that were heard with them, policy by policy.
 unfoldable pub clash_by_entries : Policy → List Heard → Heard → Option Clash
--- F-Matrix names each held read where either column has the other's item at its cycle or later
+-- F-Matrix names each held read where either column has the other's item at its cycle or later.
 clash_by_entries FMatrix R x = heard_clash (λ r. nat_le r.cycle (entry_of x r.item) || nat_le x.cycle (entry_of r x.item)) R
--- Datacycle asks the new vector where the new cycle is the newest, else the vector of the first held read of the newest cycle
+-- Datacycle asks the new vector where the new cycle is the newest, else the vector of the first held read of the newest cycle.
 clash_by_entries Datacycle R x =
     cond (nat_le (newest_heard R) x.cycle)
     (heard_clash (λ r. nat_le r.cycle (entry_of x r.item)) R)
     (cond (nat_le x.cycle (entry_in R (newest_heard R) x.item)) (heard_clash (λ r. r.cycle == newest_heard R) R) None)
--- R-Matrix names none where the new vector has the new item below the first held cycle
+-- R-Matrix names none where the new vector has the new item below the first held cycle.
 clash_by_entries RMatrix R x =
     cond (nat_le (first_heard R) (entry_of x x.item)) (heard_clash (λ r. nat_le r.cycle (entry_of x r.item)) R) None

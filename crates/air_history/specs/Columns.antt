@@ -9,24 +9,24 @@ use Rattle.air_history.specs.Places.{greatest, place_and}
 use Rattle.air_history.specs.Histories.{writes, event_at, cycle_at, front, writer}
 use Rattle.air_history.specs.Descents.{descends}
 
--- entry i of the column of item j: the greatest cycle of a commit that writes item i, among those from
--- which the last writer of item j descends, else 0
+-- Entry i of the column of item j: the greatest cycle of a commit that writes item i, among those from
+-- which the last writer of item j descends, else 0.
 unfoldable pub column_entry : List Event → ℕ → ℕ → ℕ
 column_entry G j i = greatest (length G) (λ p. place_and (writer G j) (λ w. descends G w p) && writes (event_at G p) i) (cycle_at G)
 
--- entry i of the write vector: the cycle of the last writer of item i, 0 where there is none
+-- Entry i of the write vector: the cycle of the last writer of item i, 0 where there is none.
 unfoldable pub vector_entry : List Event → ℕ → ℕ
 vector_entry G i = option_map_or (cycle_at G) (writer G i) 0
 
--- the control column of item j over n items
+-- The control column of item j over n items.
 abbrev pub column : ℕ → List Event → ℕ → List ℕ
 column n G j = map (column_entry G j) (range_with_len 0 n)
 
--- the write vector over n items
+-- The write vector over n items.
 abbrev pub vector : ℕ → List Event → List ℕ
 vector n G = map (vector_entry G) (range_with_len 0 n)
 
--- the entry of item i in the control column of item j at cycle c
+-- The entry of item i in the control column of item j at cycle c.
 abbrev pub entry_at : List Event → ℕ → ℕ → ℕ → ℕ
 entry_at H c j i = column_entry (front H c) j i
 
@@ -34,16 +34,16 @@ entry_at H c j i = column_entry (front H c) j i
 pub record Scheme : Type 0 where
   pub policy : Policy
 
--- the scheme of a policy
+-- The scheme of a policy.
 abbrev pub scheme_of : Policy → Scheme
 scheme_of policy = record { policy = policy }
 
--- what a policy airs with item j in cycle c: its control column under F-Matrix, else the write vector
+-- What a policy airs with item j in cycle c: its control column under F-Matrix, else the write vector.
 abbrev pub policy_entries : Policy → ℕ → List Event → ℕ → ℕ → List ℕ
 policy_entries FMatrix n H c j = column n (front H c) j
 policy_entries Datacycle n H c j = vector n (front H c)
 policy_entries RMatrix n H c j = vector n (front H c)
 
--- the entries that are aired with item j in cycle c
+-- The entries that are aired with item j in cycle c.
 abbrev pub aired_entries : Scheme → ℕ → List Event → ℕ → ℕ → List ℕ
 aired_entries scheme n H c j = policy_entries scheme.policy n H c j

@@ -8,31 +8,31 @@ use Rattle.air_history.specs.Histories.{writes, event_at}
 use Rattle.air_history.specs.Descents.{descends}
 use Rattle.air_history.specs.Reads.{ReadAt, origin}
 
--- whether the read's origin descends from the commit at place p
+-- Whether the read's origin descends from the commit at place p.
 unfoldable pub descends_from : List Event → ReadAt → ℕ → Bool
 descends_from H r p = place_and (origin H r) (λ o. descends H o p)
 
--- whether the commit at place p is run when the updates from which the reads descend run alone
+-- Whether the commit at place p is run when the updates from which the reads descend run alone.
 unfoldable pub runs_alone : List Event → List ReadAt → ℕ → Bool
 runs_alone H R p = list_any (λ r. descends_from H r p) R
 
--- the events at the places below n that pass, in order
+-- The events at the places below n that pass, in order.
 unfoldable pub picked : ℕ → List Event → (ℕ → Bool) → List Event
 picked zero H test = []
 picked (suc n) H test = picked n H test ++ cond (test n) (event_at H n ∷ []) []
 
--- the updates that run alone: the commits from which the reads descend, in commit order
+-- The updates that run alone: the commits from which the reads descend, in commit order.
 unfoldable pub alone : List Event → List ReadAt → List Event
 alone H R = picked (length H) H (runs_alone H R)
 
--- the last place that runs alone and writes the item
+-- The last place that runs alone and writes the item.
 unfoldable pub last_alone : List Event → List ReadAt → ℕ → Option ℕ
 last_alone H R item = last_place (length H) (λ p. runs_alone H R p && writes (event_at H p) item)
 
--- whether the reads are consistent: the last that runs alone and writes a read's item is the read's own origin
+-- Whether the reads are consistent: the last that runs alone and writes a read's item is the read's own origin.
 unfoldable pub consistent : List Event → List ReadAt → Bool
 consistent H R = list_all (λ r. same_place (last_alone H R r.item) (origin H r)) R
 
--- the reads are consistent
+-- The reads are consistent.
 abbrev pub IsConsistent : List Event → List ReadAt → Type 0
 IsConsistent H R = IsTrue (consistent H R)

@@ -3,6 +3,6 @@ use Rattle.std.specs.Prelude.{◌≡◌, ℕ, false, List, All}
 use Rattle.air_history.specs.declared.histories.Event.{Event}
 use Rattle.air_history.specs.Reads.{ReadAt, stale}
 
--- the reads share cycle g: none of them is stale there
+-- The reads share cycle g: none of them is stale there.
 abbrev pub SharesCycle : List Event → List ReadAt → ℕ → Type 0
 SharesCycle H R g = All (λ r. stale H r g ≡ false) R

@@ -6,12 +6,12 @@ use Rattle.air_history.specs.declared.histories.Event.{Event}
 use Rattle.air_history.specs.Places.{place_and}
 use Rattle.air_history.specs.Histories.{reads, event_at, writer_before}
 
--- whether place q is in the descent of place p, a place up to n: q is p, or q is in the descent of the last writer
--- before p of an item that the commit at p reads, a place below n
+-- Whether place q is in the descent of place p, a place up to n: q is p, or q is in the descent of the last writer
+-- before p of an item that the commit at p reads, a place below n.
 unfoldable pub descends_in : ℕ → List Event → ℕ → ℕ → Bool
 descends_in zero G p q = q == p
 descends_in (suc n) G p q = (q == p) || list_any (λ item. place_and (writer_before G p item) (λ w. descends_in n G w q)) (reads (event_at G p))
 
--- whether place q is in the descent of place p
+-- Whether place q is in the descent of place p.
 unfoldable pub descends : List Event → ℕ → ℕ → Bool
 descends G p q = descends_in p G p q

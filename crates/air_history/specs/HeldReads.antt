@@ -3,18 +3,18 @@ use Rattle.std.specs.Prelude.{◌≡◌, ◌≢◌, ℕ, ◌<◌, ◌≤◌, Lis
 use Rattle.air_history.specs.Reads.{last_cycle}
 use Rattle.air_history.specs.Clashes.{Heard, read_at}
 
--- the held reads in order, each with the entries that were heard with it, over n items
+-- The held reads in order, each with the entries that were heard with it, over n items.
 pub record HeldReads : Type 0 where
   pub n : ℕ
   pub reads : List Heard
 
--- the read is a new one: its item is one of the n and isn't held, and it has n entries, each below its cycle
+-- The read is a new one: its item is one of the n and isn't held, and it has n entries, each below its cycle.
 pub record IsNew (held : HeldReads) (x : Heard) : Type 0 where
   pub within : x.item < held.n
   pub free : All (λ r. r.item ≢ x.item) held.reads
   pub sized : length x.entries ≡ held.n
   pub below : All (λ entry. entry < x.cycle) x.entries
 
--- the read comes in the order of cycles, as R-Matrix wants it: its cycle isn't below that of the last held read
+-- The read comes in the order of cycles, as R-Matrix wants it: its cycle isn't below that of the last held read.
 abbrev pub ComesInOrder : HeldReads → Heard → Type 0
 ComesInOrder held x = last_cycle (map read_at held.reads) ≤ x.cycle

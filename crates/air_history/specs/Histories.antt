@@ -8,39 +8,39 @@ use Rattle.air_history.specs.declared.updates.Write.{Write}
 use Rattle.air_history.specs.UpdateRules.{UpdateFits}
 use Rattle.air_history.specs.Places.{last_place}
 
--- whether the event is a cycle start
+-- Whether the event is a cycle start.
 unfoldable pub is_start : Event → Bool
 is_start (Commit by seq update) = false
 is_start Start = true
 
--- the items that the event's update reads; a start reads nothing
+-- The items that the event's update reads; a start reads nothing.
 unfoldable pub reads : Event → List ℕ
 reads (Commit by seq update) = update.reads
 reads Start = []
 
--- the writes of the event's update; a start writes nothing
+-- The writes of the event's update; a start writes nothing.
 unfoldable pub writes_of : Event → List Write
 writes_of (Commit by seq update) = update.writes
 writes_of Start = []
 
--- whether the event is a commit that writes the item
+-- Whether the event is a commit that writes the item.
 unfoldable pub writes : Event → ℕ → Bool
 writes (Commit by seq update) item = list_any (λ w. w.item == item) update.writes
 writes Start item = false
 
--- the event at a place; past the end it counts as a start, which reads and writes nothing
+-- The event at a place; past the end it counts as a start, which reads and writes nothing.
 abbrev pub event_at : List Event → ℕ → Event
 event_at H p = get_or H p Start
 
--- the number of starts
+-- The number of starts.
 unfoldable pub starts : List Event → ℕ
 starts H = count_by is_start H
 
--- the cycle of a place: the number of starts before it
+-- The cycle of a place: the number of starts before it.
 unfoldable pub cycle_at : List Event → ℕ → ℕ
 cycle_at H p = count_by is_start (take p H)
 
--- the front of cycle c: the events before the c-th start, none for c = 0, and all where there are fewer starts
+-- The front of cycle c: the events before the c-th start, none for c = 0, and all where there are fewer starts.
 unfoldable pub front : List Event → ℕ → List Event
 front H zero = []
 front [] (suc c) = []
@@ -48,25 +48,25 @@ front (Start ∷ H) (suc zero) = []
 front (Start ∷ H) (suc (suc c)) = Start ∷ front H (suc c)
 front (Commit by seq update ∷ H) (suc c) = Commit by seq update ∷ front H (suc c)
 
--- the events after the last start, all where there is none
+-- The events after the last start, all where there is none.
 unfoldable pub since_start : List Event → List Event
 since_start [] = []
 since_start (e ∷ G) = cond (list_any is_start (e ∷ G)) (since_start G) (e ∷ G)
 
--- the last place before p whose commit writes the item
+-- The last place before p whose commit writes the item.
 unfoldable pub writer_before : List Event → ℕ → ℕ → Option ℕ
 writer_before G p item = last_place p (λ q. writes (event_at G q) item)
 
--- the last writer: the last place of the list whose commit writes the item; None is the catalog
+-- The last writer: the last place of the list whose commit writes the item; None is the catalog.
 unfoldable pub writer : List Event → ℕ → Option ℕ
 writer G item = writer_before G (length G) item
 
--- all items of the event's update are below n
+-- All items of the event's update are below n.
 unfoldable pub ItemsFit : ℕ → Event → Type 0
 ItemsFit n (Commit by seq update) = UpdateFits n update
 ItemsFit n Start = Unit {0}
 
--- the event fits so many updaters and n items: its updater is below the number of updaters, and its items are below n
+-- The event fits so many updaters and n items: its updater is below the number of updaters, and its items are below n.
 unfoldable pub EventFits : ℕ → ℕ → Event → Type 0
 EventFits updaters n (Commit by seq update) = (by < updaters) × UpdateFits n update
 EventFits updaters n Start = Unit {0}

@@ -1,27 +1,27 @@
 -- Places of a list, counted from 0, and tests on places. Every scan of a history is one of these words.
 use Rattle.std.specs.Prelude.{List, [], ◌∷◌, ℕ, zero, suc, max, Bool, true, false, cond, ◌==◌, Option, Some, None}
 
--- the last place below n that passes the test
+-- The last place below n that passes the test.
 unfoldable pub last_place : ℕ → (ℕ → Bool) → Option ℕ
 last_place zero test = None
 last_place (suc n) test = cond (test n) (Some n) (last_place n test)
 
--- the greatest number f p over the places p below n that pass the test, and 0 where none passes
+-- The greatest number f p over the places p below n that pass the test, and 0 where none passes.
 unfoldable pub greatest : ℕ → (ℕ → Bool) → (ℕ → ℕ) → ℕ
 greatest zero test f = 0
 greatest (suc n) test f = cond (test n) (max (f n) (greatest n test f)) (greatest n test f)
 
--- the greatest f x over the elements, and 0 over no element
+-- The greatest f x over the elements, and 0 over no element.
 unfoldable pub greatest_of : {X : Type 0} → (X → ℕ) → List X → ℕ
 greatest_of f [] = 0
 greatest_of f (x ∷ xs) = max (f x) (greatest_of f xs)
 
--- whether there is a place, and it passes the test
+-- Whether there is a place, and it passes the test.
 abbrev pub place_and : Option ℕ → (ℕ → Bool) → Bool
 place_and None test = false
 place_and (Some p) test = test p
 
--- whether two places are the same, or there is neither
+-- Whether two places are the same, or there is neither.
 abbrev pub same_place : Option ℕ → Option ℕ → Bool
 same_place None None = true
 same_place None (Some q) = false

@@ -5,42 +5,42 @@ use Rattle.air_history.specs.Places.{same_place}
 use Rattle.air_history.specs.Histories.{front, writer}
 use Rattle.air_history.specs.Tables.{table}
 
--- a read of an item in a cycle
+-- A read of an item in a cycle.
 pub record ReadAt : Type 0 where
   pub item : ℕ
   pub cycle : ℕ
 
--- cycles are read from 1 on
+-- Cycles are read from 1 on.
 abbrev pub IsRead : ReadAt → Type 0
 IsRead r = 1 ≤ r.cycle
 
--- the place of the commit whose value the read has; None is the catalog
+-- The place of the commit whose value the read has; None is the catalog.
 unfoldable pub origin : List Event → ReadAt → Option ℕ
 origin H r = writer (front H r.cycle) r.item
 
--- the value that the read has, from the catalog's values
+-- The value that the read has, from the catalog's values.
 abbrev pub read_value : (ℕ → ℕ) → List Event → ReadAt → ℕ
 read_value V H r = table V (front H r.cycle) r.item
 
--- whether an item has one origin at two cycles: the same last writer before each starts, or none
+-- Whether an item has one origin at two cycles: the same last writer before each starts, or none.
 abbrev pub same_origin : List Event → ℕ → ℕ → ℕ → Bool
 same_origin H item c d = same_place (writer (front H c) item) (writer (front H d) item)
 
--- whether the read is stale at cycle c: its item has another origin there
+-- Whether the read is stale at cycle c: its item has another origin there.
 unfoldable pub stale : List Event → ReadAt → ℕ → Bool
 stale H r c = not (same_origin H r.item c r.cycle)
 
--- the newest cycle of the reads, 0 where there is none
+-- The newest cycle of the reads, 0 where there is none.
 abbrev pub newest_cycle : List ReadAt → ℕ
 newest_cycle [] = 0
 newest_cycle (r ∷ R) = max r.cycle (newest_cycle R)
 
--- the cycle of the first read, 0 where there is none
+-- The cycle of the first read, 0 where there is none.
 abbrev pub first_cycle : List ReadAt → ℕ
 first_cycle [] = 0
 first_cycle (r ∷ R) = r.cycle
 
--- the cycle of the last read, 0 where there is none
+-- The cycle of the last read, 0 where there is none.
 abbrev pub last_cycle : List ReadAt → ℕ
 last_cycle [] = 0
 last_cycle (r ∷ []) = r.cycle

@@ -6,47 +6,47 @@ use Rattle.air_history.specs.declared.updates.Write.{Write}
 use Rattle.air_history.specs.declared.histories.Event.{Event}
 use Rattle.air_history.specs.declared.histories.Event.TheVariants.{Commit, Start}
 
--- the value that a write puts, from the values before it: the amount, or the base's value plus or minus the amount
+-- The value that a write puts, from the values before it: the amount, or the base's value plus or minus the amount.
 unfoldable pub based : (ℕ → ℕ) → Option ℕ → Bool → ℕ → ℕ
 based V None minus amount = amount
 based V (Some b) minus amount = cond minus ((V b + (2 ^ 64 - amount)) % 2 ^ 64) ((V b + amount) % 2 ^ 64)
 
--- the value that a write puts
+-- The value that a write puts.
 abbrev pub written : (ℕ → ℕ) → Write → ℕ
 written V w = based V w.base w.minus w.amount
 
--- the item's value where this is the write of it, if there is one
+-- The item's value where this is the write of it, if there is one.
 abbrev pub put : (ℕ → ℕ) → ℕ → Option Write → ℕ
 put V item None = V item
 put V item (Some w) = written V w
 
--- the event's write of the item
+-- The event's write of the item.
 unfoldable pub write_of : Event → ℕ → Option Write
 write_of (Commit by seq u) item = find (λ w. w.item == item) u.writes
 write_of Start item = None
 
--- the item's value after the event; all written values come from the values before it
+-- The item's value after the event; all written values come from the values before it.
 unfoldable pub value_after : (ℕ → ℕ) → Event → ℕ → ℕ
 value_after V e item = put V item (write_of e item)
 
--- the item's value after running the events in order
+-- The item's value after running the events in order.
 unfoldable pub table : (ℕ → ℕ) → List Event → ℕ → ℕ
 table V [] item = V item
 table V (e ∷ G) item = table (value_after V e) G item
 
--- the values of a list as a function of the item
+-- The values of a list as a function of the item.
 abbrev pub values_of : List ℕ → ℕ → ℕ
 values_of values item = get_or values item 0
 
--- the values of all items of a list after running the events
+-- The values of all items of a list after running the events.
 abbrev pub table_list : List ℕ → List Event → List ℕ
 table_list values G = map (table (values_of values) G) (range_with_len 0 (length values))
 
--- each base of the event's update is among its reads
+-- Each base of the event's update is among its reads.
 unfoldable pub BasesRead : Event → Type 0
 BasesRead (Commit by seq u) = All (λ w. IfSome w.base (Contains u.reads)) u.writes
 BasesRead Start = Unit {0}
 
--- the write's item and its base are below n
+-- The write's item and its base are below n.
 abbrev pub WriteFits : ℕ → Write → Type 0
 WriteFits n w = (w.item < n) × IfSome w.base (λ b. b < n)

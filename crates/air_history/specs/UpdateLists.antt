@@ -2,7 +2,7 @@
 use Rattle.std.specs.Prelude.{ℕ, List}
 use Rattle.air_history.specs.declared.updates.Write.{Write}
 
--- the reads and the writes of an update
+-- The reads and the writes of an update.
 pub record UpdateLists : Type 0 where
   pub reads : List ℕ
   pub writes : List Write

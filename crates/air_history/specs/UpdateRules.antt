@@ -7,41 +7,41 @@ use Rattle.air_history.specs.declared.updates.UpdateFault.{UpdateFault}
 use Rattle.air_history.specs.declared.updates.UpdateFault.TheVariants.{Limit, Repeated, BaseNotRead}
 use Rattle.air_history.specs.UpdateLists.{UpdateLists}
 
--- whether a number stands twice in the list
+-- Whether a number stands twice in the list.
 unfoldable pub has_repeat : List ℕ → Bool
 has_repeat [] = false
 has_repeat (x ∷ xs) = list_any (λ y. y == x) xs || has_repeat xs
 
--- the item that a write changes
+-- The item that a write changes.
 abbrev pub item_of : Write → ℕ
 item_of w = w.item
 
--- at most 16 reads, and 1 to 16 writes
+-- At most 16 reads, and 1 to 16 writes.
 abbrev pub within_limits : List ℕ → List Write → Bool
 within_limits reads writes = nat_le (length reads) MOST_READS && (nat_le 1 (length writes) && nat_le (length writes) MOST_WRITES)
 
--- a base is one of the reads, and without a base there is no minus
+-- A base is one of the reads, and without a base there is no minus.
 abbrev pub base_holds : List ℕ → Bool → Option ℕ → Bool
 base_holds reads minus None = not minus
 base_holds reads minus (Some b) = list_any (λ r. r == b) reads
 
--- whether the write's base is read, and minus stands only with a base
+-- Whether the write's base is read, and minus stands only with a base.
 abbrev pub base_is_read : List ℕ → Write → Bool
 base_is_read reads w = base_holds reads w.minus w.base
 
--- the first rule that lists of reads and writes break: the limits, then that no item stands twice
--- among the reads or among the writes, then that each base is read
+-- The first rule that lists of reads and writes break: the limits, then that no item stands twice
+-- among the reads or among the writes, then that each base is read.
 unfoldable pub update_fault : List ℕ → List Write → Option UpdateFault
 update_fault reads writes =
     cond (not (within_limits reads writes)) (Some Limit)
     (cond (has_repeat reads || has_repeat (map item_of writes)) (Some Repeated)
     (cond (not (list_all (base_is_read reads) writes)) (Some BaseNotRead) None))
 
--- the update keeps the rules of its type
+-- The update keeps the rules of its type.
 abbrev pub KeepsRules : UpdateLists → Type 0
 KeepsRules u = update_fault u.reads u.writes ≡ None
 
--- all items that the update reads or writes are below n
+-- All items that the update reads or writes are below n.
 pub record UpdateFits (n : ℕ) (u : UpdateLists) : Type 0 where
   pub reads : All (λ r. r < n) u.reads
   pub writes : All (λ w. w.item < n) u.writes

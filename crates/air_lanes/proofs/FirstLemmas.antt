@@ -17,16 +17,16 @@ lanes_first t long =
 not_zero : (m : ℕ) → (m ≡ 0 → ⊥) → eqb m 0 ≡ false
 not_zero m ne = grind arith
 
--- where no bit is set, no lane passes
+-- Where no bit is set, no lane passes.
 pub no_lane : (t : List Bool) → length t ≡ 8 → mask_l t % 2 ^ 64 ≡ 0 → 8 ≡ prefix_len (λ b. not b) t
 no_lane t long none = ap (λ v. cond (eqb v 0) 8 (count_trailing_zeros 64 v)) (sym none) ∙ lanes_first t long
 
--- else the lowest bit is the first lane that passes
+-- Else the lowest bit is the first lane that passes.
 pub some_lane : (t : List Bool) → length t ≡ 8 → (mask_l t % 2 ^ 64 ≡ 0 → ⊥) → count_trailing_zeros 64 (mask_l t % 2 ^ 64) ≡ prefix_len (λ b. not b) t
 some_lane t long some =
     ap (λ v. cond v 8 (count_trailing_zeros 64 (mask_l t % 2 ^ 64))) (sym (not_zero (mask_l t % 2 ^ 64) some)) ∙ lanes_first t long
 
--- the lowest bit of a comparison of the column's lanes with the held ones, and where it has none
+-- The lowest bit of a comparison of the column's lanes with the held ones, and where it has none.
 pub first_bit : (x y : List ℕ) (m : ℕ) → length x ≡ 8 → length y ≡ 8 → m ≡ mask_l (zip2 leb y x) % 2 ^ 64 → (m ≡ 0 → ⊥) →
     count_trailing_zeros 64 m ≡ prefix_len (λ b. not b) (zip2 leb y x)
 first_bit x y m a b is some = ap (count_trailing_zeros 64) is ∙ some_lane (zip2 leb y x) (length-zip2 leb y x (b ∙ sym a) ∙ b) (λ none. some (is ∙ none))
@@ -42,7 +42,7 @@ not_false : (b : Bool) → not b ≡ false → b ≡ true
 not_false true e = refl
 not_false false e = cc e
 
--- the lanes of the comparison, as places of the two rows
+-- The lanes of the comparison, as places of the two rows.
 lane_is : (column held : List ℕ) (at k : ℕ) → at + 8 ≤ length column → length held ≡ length column → k < 8 →
     get_or (zip2 leb (chunk at 8 held) (chunk at 8 column)) k false ≡ leb (get_or held (at + k) 0) (get_or column (at + k) 0)
 lane_is column held at k room same l =
@@ -60,7 +60,7 @@ lanes_len column held at room same =
     let b = length-chunk at 8 held (omega arith) in
     length-zip2 leb (chunk at 8 held) (chunk at 8 column) (b ∙ sym a) ∙ b
 
--- what the number of lanes before the first one says of the two rows
+-- What the number of lanes before the first one says of the two rows.
 pub counted_within : (column held : List ℕ) (at r : ℕ) → at + 8 ≤ length column → length held ≡ length column →
     r ≡ prefix_len (λ b. not b) (zip2 leb (chunk at 8 held) (chunk at 8 column)) → r ≤ 8
 counted_within column held at r room same is =

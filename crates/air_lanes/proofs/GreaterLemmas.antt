@@ -3,7 +3,7 @@ use Rattle.std.proofs.Common.{◌≡◌, ◌≤◌, ◌<◌, ◌+◌, ◌⊎◌,
 use lib.Lanes.{chunk, put_chunk, sel_l, zip2}
 use Rattle.std.proofs.lemmas.Simd.{length-zip2, length-sel_l, get_or-sel_l, get_or-zip2, length-chunk, get_or-chunk, get_or-put_chunk_at, get_or-put_chunk_above, get_or-put_chunk_below}
 
--- the greater of two lanes, as `simd_max` picks it
+-- The greater of two lanes, as `simd_max` picks it.
 pub picked : List ℕ → List ℕ → List ℕ
 picked x y = sel_l (zip2 ltb x y) y x
 
@@ -24,7 +24,7 @@ picked_at x y k a b below =
     ∙ ap (λ t. cond t (get_or y k 0) (get_or x k 0)) (get_or-zip2 ltb x y k 0 0 false (omega arith) (omega arith))
     ∙ max_by_test (get_or x k 0) (get_or y k 0)
 
--- the row with the block stored, inside and outside of the block
+-- The row with the block stored, inside and outside of the block.
 pub stored_inside : (dst src : List ℕ) (at k : ℕ) → at + 8 ≤ length dst → length src ≡ length dst → k < 8
     → get_or (put_chunk at dst (picked (chunk at 8 dst) (chunk at 8 src))) (at + k) 0 ≡ max (get_or dst (at + k) 0) (get_or src (at + k) 0)
 stored_inside dst src at k room same below =
@@ -45,7 +45,7 @@ stored_outside dst src at k room same (inr above) =
     let n = picked_len (chunk at 8 dst) (chunk at 8 src) (length-chunk at 8 dst room) (length-chunk at 8 src (omega arith)) in
     get_or-put_chunk_above at dst (picked (chunk at 8 dst) (chunk at 8 src)) k 0 (omega arith)
 
--- what the comparison leaves is that
+-- What the comparison leaves is that.
 pub stored_is : (dst src : List ℕ) (at : ℕ) (t : List Bool) → t ≡ zip2 ltb (chunk at 8 dst) (chunk at 8 src)
     → put_chunk at dst (sel_l t (chunk at 8 src) (chunk at 8 dst)) ≡ put_chunk at dst (picked (chunk at 8 dst) (chunk at 8 src))
 unfolding picked

@@ -11,7 +11,7 @@ rows_without_a_place = refl
 any_mark_but_zero : stamped 9 (0 ∷ 1 ∷ 4294967295 ∷ 0 ∷ []) (5 ∷ 6 ∷ 7 ∷ 8 ∷ []) ≡ 5 ∷ 9 ∷ 9 ∷ 8 ∷ []
 any_mark_but_zero = refl
 
--- an entry that is equal isn't below, and the first such place is named
+-- An entry that is equal isn't below, and the first such place is named.
 equal_is_not_below : IsAnswer (1 ∷ 4 ∷ 9 ∷ []) (2 ∷ 4 ∷ 3 ∷ []) (Some 1)
 equal_is_not_below = record {
   within = omega arith;
@@ -23,11 +23,11 @@ equal_is_not_below = record {
     by zero l = omega arith
     by (suc k) l = absurd (omega arith)
 
--- a later place isn't the answer
+-- A later place isn't the answer.
 later_is_not_first : IsAnswer (1 ∷ 4 ∷ 9 ∷ []) (2 ∷ 4 ∷ 3 ∷ []) (Some 2) → ⊥
 later_is_not_first first = let below : 4 < 4 = first.before 1 (omega arith) in omega arith
 
--- none is the answer where the column is below everywhere
+-- None is the answer where the column is below everywhere.
 below_everywhere : IsAnswer (1 ∷ 3 ∷ []) (2 ∷ 4 ∷ []) None
 below_everywhere zero l = omega arith
 below_everywhere (suc zero) l = omega arith

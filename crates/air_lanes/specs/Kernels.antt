@@ -2,20 +2,20 @@
 use Rattle.std.specs.Prelude.{◌≤◌, ◌<◌, ◌==◌, ℕ, List, Option, length, max, slice_index, if◌then◌else◌, EachIndex, MatchOption}
 use Rattle.std.specs.Simd.Lanes.{zip2}
 
--- the greater of the two entries at each place
+-- The greater of the two entries at each place.
 abbrev pub greater_of_each : List ℕ → List ℕ → List ℕ
 greater_of_each xs ys = zip2 max xs ys
 
--- the cycle at each place whose mark isn't 0, and the entry itself at the others
+-- The cycle at each place whose mark isn't 0, and the entry itself at the others.
 abbrev pub stamped : ℕ → List ℕ → List ℕ → List ℕ
 stamped cycle marks xs = zip2 (λ mark x. if mark == 0 then x else cycle) marks xs
 
--- at this place the column isn't below what is held, and at each place before it it is
+-- At this place the column isn't below what is held, and at each place before it it is.
 pub record IsFirstNotBelow (column held : List ℕ) (place : ℕ) : Type 0 where
   pub within : place < length column
   pub reached : slice_index held place ≤ slice_index column place
   pub before : (k : ℕ) → k < place → slice_index column k < slice_index held k
 
--- the answer is the first place at which the column isn't below what is held, and None exactly if there is none
+-- The answer is the first place at which the column isn't below what is held, and None exactly if there is none.
 abbrev pub IsAnswer : List ℕ → List ℕ → Option ℕ → Type 0
 IsAnswer column held answer = MatchOption answer (EachIndex column (λ k. slice_index column k < slice_index held k)) (IsFirstNotBelow column held)

@@ -23,7 +23,7 @@ contains_here x xs = (0, omega arith, refl)
 contains_later : {X : Type 0} (y : X) (xs : List X) (x : X) → Contains xs x → Contains (y ∷ xs) x
 contains_later y xs x h = (suc h.0, (let l = h.1 in omega arith), h.2)
 
--- some member of the list gives x
+-- Some member of the list gives x.
 Gives : {X A : Type 0} (f : X → List A) (xs : List X) (a : A) → Type 0
 Gives {X} {A} f xs a = (x : X) × Contains xs x × Contains (f x) a
 
@@ -63,7 +63,7 @@ map_to f n s l = (s, omega (arith, length-map-range_with_len f 0 n), get_or-map-
 
 -- ---- a history's own buckets
 
--- the place of one of the history's buckets
+-- The place of one of the history's buckets.
 pub record IsOwn (values : List ℕ) (air : Air) (H : List Event) (b : Bucket) : Type 0 where
   pub cycle : ℕ
   pub slot : ℕ

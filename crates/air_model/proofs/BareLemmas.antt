@@ -25,11 +25,11 @@ use Rattle.air_model.specs.Judges.{Judge, by_history, place_of}
 use Rattle.air_model.specs.Sessions.{Reader, Line, State, start, read_in, is_wanted, wanted, comes_late, query_of, next_query, next_attempt, copy_of, drop_copy, offer, line_of, with_line, count_copied, count_opened, count_dozed, count_late, count_refused, count_foreign, accept_if_whole, hold, abort, is_unusable, turn_with, turn, settle, decide, open_bucket, hear_read, hear, hear_all, end_query, end, session}
 use Rattle.air_model.specs.SessionLaws.{bare, bare_body}
 
--- the read without its value, and with 0 for each entry
+-- The read without its value, and with 0 for each entry.
 bare_read : Read → Read
 bare_read r = record r { value = 0; entries = map (λ e. 0) r.entries }
 
--- the state with bare reads
+-- The state with bare reads.
 bare_state : State → State
 bare_state s = record s { held = map bare_read s.held; copies = map bare_read s.copies }
 

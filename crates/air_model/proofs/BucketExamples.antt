@@ -29,36 +29,36 @@ each_read : (reading first_bytes ≡ Ok first) × (reading second_bytes ≡ Ok s
 unfolding reading is_shaped is_placed entry_count entries_at bucket_at body_at
 each_read = (refl, refl, refl)
 
--- a text cut short, a wrong letter, version 2, kind 3, a byte too many, and an entry of the bucket's own cycle
+-- A text cut short, a wrong letter, version 2, kind 3, a byte too many, and an entry of the bucket's own cycle.
 each_fault :
     (reading (take 23 first_bytes) ≡ Err (Short 23)) × (reading (set first_bytes 1 0x45) ≡ Err Magic) × (reading (set first_bytes 2 2) ≡ Err Version)
     × (reading (set first_bytes 3 3) ≡ Err Kind) × (reading (first_bytes ++ 0 ∷ []) ≡ Err Length) × (reading (set first_bytes 31 1) ≡ Err Shape)
 unfolding reading is_shaped is_placed entry_count entries_at bucket_at body_at
 each_fault = (refl, refl, refl, refl, refl, refl)
 
--- a count of 0 is judged by the number of bytes first; an idle slot has no value
+-- A count of 0 is judged by the number of bytes first; an idle slot has no value.
 first_fault_counts :
     (reading (set first_bytes 7 0) ≡ Err Length) × (reading (take 24 (set first_bytes 7 0)) ≡ Err Shape) × (reading (set idle_bytes 23 1) ≡ Err Shape)
 unfolding reading is_shaped is_placed entry_count entries_at bucket_at body_at
 first_fault_counts = (refl, refl, refl)
 
--- the fault alone, of bytes with one and of bytes with none
+-- The fault alone, of bytes with one and of bytes with none.
 fault_alone : (fault_of (take 23 first_bytes) ≡ Some (Short 23)) × (fault_of first_bytes ≡ None)
 unfolding reading is_shaped is_placed entry_count entries_at bucket_at body_at
 fault_alone = (refl, refl)
 
 -- ---- a bucket whose numbers all differ
 
--- of an edition, with a column and with a vector
+-- Of an edition, with a column and with a vector.
 abbrev varied : (ℕ → ℕ → List ℕ → Body) → Bucket
 varied kind = record { edition = 3; cycle = 0x01020304; slot = 5; body = kind 2 0x0102030405060708 (7 ∷ 8 ∷ 9 ∷ []) }
 
--- its bytes, with the number of its kind
+-- Its bytes, with the number of its kind.
 abbrev varied_bytes : ℕ → List ℕ
 varied_bytes kind =
     0x41 ∷ 0x44 ∷ 1 ∷ kind ∷ 0 ∷ 3 ∷ 0 ∷ 3 ∷ 1 ∷ 2 ∷ 3 ∷ 4 ∷ 0 ∷ 5 ∷ 0 ∷ 2 ∷ 1 ∷ 2 ∷ 3 ∷ 4 ∷ 5 ∷ 6 ∷ 7 ∷ 8 ∷ 0 ∷ 0 ∷ 0 ∷ 7 ∷ 0 ∷ 0 ∷ 0 ∷ 8 ∷ 0 ∷ 0 ∷ 0 ∷ 9 ∷ []
 
--- it is spelled in this order, and read back
+-- It is spelled in this order, and read back.
 varied_spelled : (spelling (varied Column) ≡ varied_bytes 1) × (spelling (varied Vector) ≡ varied_bytes 2)
 unfolding spelling kind_of count_of item_of value_of entries_of
 varied_spelled = (refl, refl)
@@ -69,14 +69,14 @@ varied_read = (refl, refl)
 
 -- ---- the ends of the ranges
 
--- item 2 of two, an idle slot in cycle 0, one of another item, and a first entry of the bucket's own cycle are out of range
+-- Item 2 of two, an idle slot in cycle 0, one of another item, and a first entry of the bucket's own cycle are out of range.
 out_of_range :
     (reading (set first_bytes 15 2) ≡ Err Shape) × (reading (set idle_bytes 11 0) ≡ Err Shape) × (reading (set idle_bytes 15 0xfe) ≡ Err Shape)
     × (reading (set first_bytes 27 1) ≡ Err Shape)
 unfolding reading is_shaped is_placed entry_count entries_at bucket_at body_at
 out_of_range = (refl, refl, refl, refl)
 
--- 256 items are the most
+-- 256 items are the most.
 most_items : (reading (set (set idle_bytes 6 1) 7 0) ≡ Ok (record idle { body = Idle 256 })) × (reading (set (set idle_bytes 6 1) 7 1) ≡ Err Shape)
 unfolding reading is_shaped is_placed entry_count entries_at bucket_at body_at
 most_items = (refl, refl)

@@ -13,21 +13,21 @@ use Rattle.air_model.proofs.ByteFacts.{AllBytes, all_bytes}
 use Rattle.air_model.proofs.FieldFacts.{AreInRange, Fields, IsWhole, are_shaped, bounds, bytes_of, entries_long, fields_of, in_range, made, read_back, same_fields, shaped_is, spelled, whole_bytes}
 
 -- ---- a bucket and its fields
--- the fields of a bucket
+-- the fields of a bucket.
 abbrev pub said : Bucket → Fields
 said b = made (kind_of b.body) b.edition (count_of b.body) b.cycle b.slot (item_of b.body) (value_of b.body) (entries_of b.body)
 
--- the body with these fields
+-- The body with these fields.
 unfoldable pub body_from : ℕ → ℕ → ℕ → ℕ → List ℕ → Body
 body_from zero count item value entries = Idle count
 body_from (suc zero) count item value entries = Column item value entries
 body_from (suc (suc more)) count item value entries = Vector item value entries
 
--- the bucket with these fields
+-- The bucket with these fields.
 abbrev pub bucket_from : Fields → Bucket
 bucket_from f = record { edition = f.edition; cycle = f.cycle; slot = f.slot; body = body_from f.kind f.count f.item f.value f.entries }
 
--- a bucket is spelled as its fields
+-- A bucket is spelled as its fields.
 pub spelling_is : (b : Bucket) → spelling b ≡ bytes_of (said b)
 unfolding spelling bytes_of
 spelling_is b = refl
@@ -41,7 +41,7 @@ body_back (Vector item value entries) = refl
 bucket_back : (b : Bucket) → bucket_from (said b) ≡ b
 bucket_back b = ap (λ (body : Body). let t : Bucket = record { edition = b.edition; cycle = b.cycle; slot = b.slot; body = body } in t) (body_back b.body)
 
--- the bucket of the bytes is that of their fields
+-- The bucket of the bytes is that of their fields.
 body_is : (k : ℕ) (bytes : List ℕ) → body_at k bytes ≡ body_from k (number_at 6 2 bytes) (number_at 14 2 bytes) (number_at 16 8 bytes) (entries_at (entry_count k (number_at 6 2 bytes)) bytes)
 unfolding body_at body_from entry_count
 body_is zero bytes = refl
@@ -78,7 +78,7 @@ placed_test (Column item value entries) (inr below) = lt-ltb item (length entrie
 placed_test (Vector item value entries) (inl never) = absurd (omega arith)
 placed_test (Vector item value entries) (inr below) = lt-ltb item (length entries) below
 
--- a bucket in range has fields in range
+-- A bucket in range has fields in range.
 pub fields_in_range : (b : Bucket) → IsInRange b → AreInRange (said b)
 unfolding are_shaped
 fields_in_range b r = record {
@@ -114,7 +114,7 @@ placed_from (suc (suc more)) count item value entries long placed =
     let t = ltb-true item count (sym (ap (λ (b : Bool). if b then (item == 65535) && (value == 0) else nat_lt item count) (eqb-suc-zero (suc more))) ∙ placed) in
     inr (omega arith)
 
--- fields in range are those of a bucket in range
+-- Fields in range are those of a bucket in range.
 pub bucket_in_range : (f : Fields) → AreInRange f → IsInRange (bucket_from f)
 bucket_in_range f r =
     let b = bounds f r.shaped in
@@ -138,7 +138,7 @@ whole_from_bucket bytes b h =
     let e : bytes ≡ bytes_of (said b) = h.1 ∙ spelling_is b in
     (subst IsWhole (sym e) (whole_bytes (said b) r), bucket_is bytes ∙ ap bucket_from (ap fields_of e ∙ read_back (said b) r) ∙ bucket_back b)
 
--- the bucket of bytes without a fault has the fields at their places: so its numbers can be read there
+-- The bucket of bytes without a fault has the fields at their places: so its numbers can be read there.
 pub fields_back : (bytes : List ℕ) → IsWhole bytes → said (bucket_at bytes) ≡ fields_of bytes
 unfolding fields_of
 fields_back bytes w = ap said (bucket_is bytes) ∙ said_back (fields_of bytes) w.kind (entries_long bytes) (sym (shaped_is bytes) ∙ w.shaped)

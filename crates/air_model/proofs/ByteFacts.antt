@@ -9,7 +9,7 @@ use Rattle.byteorder.specs.Endian.{big_from, big_number, big_bytes}
 use Rattle.byteorder.specs.Numbers.{big_from-cons, big_from-lt, big_from-take, big_number-reads_back, length-bytes_high_first}
 use Rattle.air_model.specs.Buckets.{AreBytes}
 
--- each is a byte, and past the end there is 0: so a byte slice says it
+-- Each is a byte, and past the end there is 0: so a byte slice says it.
 abbrev pub AllBytes : List ℕ → Type 0
 AllBytes xs = (i : ℕ) → get_or xs i 0 < 256
 
@@ -24,14 +24,14 @@ are_bytes xs all k d below = subst (λ x. x < 256) (get_or_default xs k 0 d belo
 pub rest_bytes : (x : ℕ) (xs : List ℕ) → AllBytes (x ∷ xs) → AllBytes xs
 rest_bytes x xs all i = all (suc i)
 
--- a digit and what is below its place
+-- A digit and what is below its place.
 same_digit : (x y p m k : ℕ) → m < p → k < p → x * p + m ≡ y * p + k → (x ≡ y) × (m ≡ k)
 same_digit x y p m k small tiny same =
     let digit : x ≡ y = sym (div-mul-add x p m small) ∙ ap (λ v. v / p) same ∙ div-mul-add y p k tiny in
     let low = rw digit at same in
     (digit, omega arith)
 
--- as many bytes with the same number are the same
+-- As many bytes with the same number are the same.
 same_bytes : (n : ℕ) (xs ys : List ℕ) → length xs ≡ n → length ys ≡ n → AllBytes xs → AllBytes ys → big_from 0 n xs ≡ big_from 0 n ys → xs ≡ ys
 same_bytes zero [] [] a b all every same = refl
 same_bytes zero (x ∷ xs) ys a b all every same = absurd (omega arith)
@@ -46,7 +46,7 @@ same_bytes (suc n) (x ∷ xs) (y ∷ ys) a b all every same =
     let d = same_digit x y (256 ^ n) (big_from 0 n xs) (big_from 0 n ys) low under (ap (λ m. x * 256 ^ n + m) (sym moved) ∙ same ∙ ap (λ m. y * 256 ^ n + m) other) in
     rw (d.0, same_bytes n xs ys (omega arith) (omega arith) (rest_bytes x xs all) (rest_bytes y ys every) d.1) refl
 
--- the bytes of a number are bytes
+-- The bytes of a number are bytes.
 bytes_of_all : (n x : ℕ) → AllBytes (bytes_high_first n x)
 bytes_of_all zero x i = omega arith
 bytes_of_all (suc n) x zero = digit n
@@ -62,7 +62,7 @@ front_bytes (suc m) [] each i = each i
 front_bytes (suc m) (x ∷ l) each zero = each 0
 front_bytes (suc m) (x ∷ l) each (suc i) = front_bytes m l (λ k. each (suc k)) i
 
--- the front of the bytes is the one spelling of the number that they read as
+-- The front of the bytes is the one spelling of the number that they read as.
 pub one_spelling : (n : ℕ) (xs : List ℕ) → n ≤ length xs → AllBytes xs → take n xs ≡ big_bytes n (big_number n xs)
 one_spelling n xs room all =
     let number = big_number n xs in

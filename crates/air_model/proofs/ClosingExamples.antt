@@ -1,12 +1,12 @@
 -- Small lists, computed: from which a list goes on without commits of an updater, or without starts.
-use Rattle.std.specs.Prelude.{◌≡◌, ℕ, List, [], ◌∷◌, None, false, refl}
+use Rattle.std.specs.Prelude.{ℕ, List, [], ◌∷◌, None, false, refl}
 use Rattle.air_history.specs.declared.histories.Event.{Event}
 use Rattle.air_history.specs.declared.histories.Event.TheVariants.{Commit, Start}
 use Rattle.air_history.specs.Histories.{is_start}
 use Rattle.air_model.specs.Decks.{is_by}
 use Rattle.air_model.specs.Closings.{GoesOnWithout}
 
--- the updater's commit of a number
+-- The updater's commit of a number.
 abbrev commit : ℕ → ℕ → Event
 commit by seq = Commit by seq (record { reads = []; writes = record { item = 0; base = None; minus = false; amount = 1 } ∷ [] })
 

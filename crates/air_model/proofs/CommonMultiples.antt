@@ -13,11 +13,11 @@ use Rattle.air_model.specs.Disks.{Disk}
 use Rattle.air_model.specs.Programs.{least_common_multiple, num_minors}
 use Rattle.air_model.proofs.Elements.{all_at, at_all}
 
--- each frequency is above zero, by the disk's place
+-- Each frequency is above zero, by the disk's place.
 abbrev pub AllAired : List Disk → Type 0
 AllAired disks = (n : ℕ) (d : Disk) → slice_get disks n ≡ Some d → 0 < d.freq
 
--- what `find` gives among the values at consecutive numbers: the first that passes
+-- What `find` gives among the values at consecutive numbers: the first that passes.
 record First (test : ℕ → Bool) (g : ℕ → ℕ) (a n : ℕ) (x : Option ℕ) : Type 0 where
   place : ℕ
   from : a ≤ place
@@ -53,7 +53,7 @@ divides f n e = grind arith
 is_divided : (f n : ℕ) → n % f ≡ 0 → (n % f == 0) ≡ true
 is_divided f n e = grind arith
 
--- the first multiple k m that f divides
+-- The first multiple k m that f divides.
 first_multiple : (m f : ℕ) → 0 < f → First (λ n. n % f == 0) (λ k. k * m) 1 f (find (λ n. n % f == 0) (map (λ k. k * m) (range_with_len 1 f)))
 first_multiple m f some = find_first (λ n. n % f == 0) (λ k. k * m) 1 f f (omega arith) (omega arith) (is_divided f (f * m) (mul-mod_right f m))
 
@@ -74,7 +74,7 @@ least_common_first m f more = let p = first_multiple m f more in rw (common m f 
 pub least_common_second : (m f : ℕ) → 0 < f → least_common_multiple m f % f ≡ 0
 least_common_second m f more = let p = first_multiple m f more in rw (common m f p) (divides f (p.place * m) p.passes)
 
--- no common multiple above zero is less
+-- No common multiple above zero is less.
 pub least_common_least : (m f n : ℕ) → 0 < m → 0 < f → 0 < n → n % m ≡ 0 → n % f ≡ 0 → least_common_multiple m f ≤ n
 least_common_least m f n some more above a b =
     let p = first_multiple m f more in
@@ -93,7 +93,7 @@ least_common_least m f n some more above a b =
         positive (suc k) e = omega arith
     by p (inr over) whole = let e = common m f p in let grows = mul-le-mul_right m over in omega arith
 
--- it divides each common multiple
+-- It divides each common multiple.
 pub least_common_divides : (m f n : ℕ) → 0 < m → 0 < f → n % m ≡ 0 → n % f ≡ 0 → n % least_common_multiple m f ≡ 0
 least_common_divides m f n some more a b =
     let l = least_common_multiple m f in
@@ -106,7 +106,7 @@ least_common_divides m f n some more a b =
     by zero e under x y = refl
     by (suc r) e under x y = absurd (let least = least_common_least m f (suc r) some more (omega arith) x y in omega arith)
 
--- a number that every frequency divides
+-- A number that every frequency divides.
 abbrev pub IsCommon : List Disk → ℕ → Type 0
 IsCommon disks k = (n : ℕ) (d : Disk) → slice_get disks n ≡ Some d → k % d.freq ≡ 0
 
@@ -142,7 +142,7 @@ joined_divides a (d ∷ ds) k some aired first each =
     joined_divides (least_common_multiple a d.freq) ds k (least_common_pos a d.freq some pos) (λ n. aired (suc n))
     (least_common_divides a d.freq k some pos first (each 0 d refl)) (λ n. each (suc n))
 
--- the number of minor cycles is above zero, a common multiple, and divides each
+-- The number of minor cycles is above zero, a common multiple, and divides each.
 pub num_minors_pos : (disks : List Disk) → AllAired disks → 0 < num_minors disks
 unfolding num_minors
 num_minors_pos disks aired = joined_pos 1 disks (omega arith) aired
@@ -155,7 +155,7 @@ pub num_minors_divides : (disks : List Disk) (k : ℕ) → AllAired disks → Is
 unfolding num_minors
 num_minors_divides disks k aired each = joined_divides 1 disks k (omega arith) aired (omega arith) each
 
--- each frequency divides the number
+-- Each frequency divides the number.
 abbrev pub IsCommonMultiple : List Disk → ℕ → Type 0
 IsCommonMultiple disks n = All (λ (d : Disk). n % d.freq ≡ 0) disks
 

@@ -3,11 +3,11 @@ use Rattle.std.specs.Prelude.{◌≡◌, ℕ, List, [], ◌∷◌, refl}
 use Rattle.air_model.specs.Copies.{keep, with_copy, without}
 use Rattle.air_model.specs.Reads.{Read}
 
--- a copy of the item
+-- A copy of the item.
 abbrev copy : ℕ → ℕ → Read
 copy item cycle = record { item = item; cycle = cycle; value = 0; entries = [] }
 
--- the PIX numbers of four items
+-- The PIX numbers of four items.
 abbrev pix : List ℕ
 pix = 40 ∷ 10 ∷ 40 ∷ 20 ∷ []
 
@@ -15,12 +15,12 @@ placed : keep 2 pix (with_copy (copy 1 7) (copy 0 5 ∷ [])) ≡ copy 0 5 ∷ co
 unfolding keep with_copy
 placed = refl
 
--- the new copy of an item stands where the old one stood
+-- The new copy of an item stands where the old one stood.
 replaced : keep 2 pix (with_copy (copy 0 7) (copy 0 5 ∷ copy 1 6 ∷ [])) ≡ copy 0 7 ∷ copy 1 6 ∷ []
 unfolding keep with_copy
 replaced = refl
 
--- a copy of an item between two stands between theirs
+-- A copy of an item between two stands between theirs.
 between : keep 3 pix (with_copy (copy 1 7) (copy 0 5 ∷ copy 3 6 ∷ [])) ≡ copy 0 5 ∷ copy 1 7 ∷ copy 3 6 ∷ []
 unfolding keep with_copy
 between = refl
@@ -29,17 +29,17 @@ evicted : keep 2 pix (with_copy (copy 3 7) (copy 0 5 ∷ copy 1 6 ∷ [])) ≡ c
 unfolding keep with_copy
 evicted = refl
 
--- of equal PIX numbers the greater item goes
+-- Of equal PIX numbers the greater item goes.
 declined : (keep 2 pix (with_copy (copy 1 7) (copy 0 5 ∷ copy 3 6 ∷ [])) ≡ copy 0 5 ∷ copy 3 6 ∷ []) × (keep 1 pix (with_copy (copy 2 7) (copy 0 5 ∷ [])) ≡ copy 0 5 ∷ [])
 unfolding keep with_copy
 declined = (refl, refl)
 
--- nothing is kept without room
+-- Nothing is kept without room.
 no_room : keep 0 pix (with_copy (copy 1 7) []) ≡ []
 unfolding keep with_copy
 no_room = refl
 
--- the copies of the other items stay where one is dropped
+-- The copies of the other items stay where one is dropped.
 dropped : without 1 (copy 0 5 ∷ copy 1 6 ∷ copy 3 6 ∷ []) ≡ copy 0 5 ∷ copy 3 6 ∷ []
 unfolding without
 dropped = refl

@@ -8,7 +8,7 @@ use Rattle.std.proofs.lemmas.List.Sums.{count_by-le-length, sum_by-append, sum_b
 use Rattle.air_model.specs.Copies.{goes_before, keep, pix_of}
 use Rattle.air_model.specs.Reads.{Read}
 
--- how many copies go before this one
+-- How many copies go before this one.
 abbrev pub rank : List ℕ → List Read → Read → ℕ
 rank pix copies a = count_by (λ b. goes_before pix b a) copies
 
@@ -20,7 +20,7 @@ one_or_none : (b : Bool) → cond b 1 0 ≤ 1
 one_or_none true = omega arith
 one_or_none false = omega arith
 
--- where an element fails, fewer pass than there are
+-- Where an element fails, fewer pass than there are.
 pub count_missing : (p : Read → Bool) (R : List Read) (k : ℕ) (d : Read) → k < length R → p (get_or R k d) ≡ false → count_by p R < length R
 count_missing p [] k d l e = absurd (omega arith)
 count_missing p (r ∷ R) zero d l e =
@@ -34,7 +34,7 @@ count_missing p (r ∷ R) (suc k) d l e =
     let sum = count_cons p r R in
     omega arith
 
--- where all pass, that many pass
+-- Where all pass, that many pass.
 pub count_all : (p : Read → Bool) (R : List Read) → All (λ r. p r ≡ true) R → count_by p R ≡ length R
 count_all p [] h = refl
 count_all p (r ∷ R) h =
@@ -49,7 +49,7 @@ follows false true h = omega arith
 follows true false h = absurd (false≢true (h refl))
 follows false false h = omega arith
 
--- where each that passes p passes q, no more pass p
+-- Where each that passes p passes q, no more pass p.
 count_le : (p q : Read → Bool) (R : List Read) → ((x : Read) → p x ≡ true → q x ≡ true) → count_by p R ≤ count_by q R
 count_le p q [] h = omega arith
 count_le p q (r ∷ R) h =
@@ -59,7 +59,7 @@ count_le p q (r ∷ R) h =
     let two = count_cons q r R in
     omega arith
 
--- and fewer, where one passes q alone
+-- And fewer, where one passes q alone.
 count_less : (p q : Read → Bool) (R : List Read) (k : ℕ) (d : Read) → ((x : Read) → p x ≡ true → q x ≡ true) → k < length R → p (get_or R k d) ≡ false → q (get_or R k d) ≡ true
     → count_by p R < count_by q R
 count_less p q [] k d h l e f = absurd (omega arith)
@@ -78,7 +78,7 @@ count_less p q (r ∷ R) (suc k) d h l e f =
     omega arith
 
 -- ---- the order
--- what it means that b goes before a
+-- what it means that b goes before a.
 abbrev Goes : List ℕ → Read → Read → Type 0
 Goes pix b a = (pix_of pix a < pix_of pix b) ⊎ ((pix_of pix a ≡ pix_of pix b) × (b.item < a.item))
 
@@ -93,7 +93,7 @@ pub goes_to : (pix : List ℕ) (b a : Read) → Goes pix b a → goes_before pix
 goes_to pix b a (inl more) = or_left _ _ (lt-ltb (pix_of pix a) (pix_of pix b) more)
 goes_to pix b a (inr same) = or_right (nat_lt (pix_of pix a) (pix_of pix b)) _ (and_from _ _ (eq-eqb (pix_of pix a) (pix_of pix b) same.0) (lt-ltb b.item a.item same.1))
 
--- no copy goes before itself
+-- No copy goes before itself.
 pub itself : (pix : List ℕ) (a : Read) → goes_before pix a a ≡ false
 itself pix a = false_from_ne_true _ (λ e. by (goes_from pix a a e))
   where
@@ -119,7 +119,7 @@ onwards pix c b a e f = goes_to pix c a (by (goes_from pix c b e) (goes_from pix
     by (inr same) (inl less) = let s = same.0 in inl (omega arith)
     by (inr same) (inr again) = let s = same.0 in let t = again.0 in let u = same.1 in let v = again.1 in inr (omega arith, omega arith)
 
--- of two copies of other items one goes before the other
+-- Of two copies of other items one goes before the other.
 pub one_goes : (pix : List ℕ) (a b : Read) → (a.item ≡ b.item → ⊥) → (goes_before pix a b ≡ true) ⊎ (goes_before pix b a ≡ true)
 one_goes pix a b ne = by (cases_order (pix_of pix a) (pix_of pix b)) (cases_order a.item b.item)
   where
@@ -131,7 +131,7 @@ one_goes pix a b ne = by (cases_order (pix_of pix a) (pix_of pix b)) (cases_orde
     by (inl same) (inr (inl i)) = inl (goes_to pix a b (inr (sym same, i)))
     by (inl same) (inr (inr i)) = inr (goes_to pix b a (inr (same, i)))
 
--- who goes before a copy has fewer before it
+-- Who goes before a copy has fewer before it.
 pub rank_less : (pix : List ℕ) (copies : List Read) (k : ℕ) (d a : Read) → k < length copies → goes_before pix (get_or copies k d) a ≡ true → rank pix copies (get_or copies k d) < rank pix copies a
 rank_less pix copies k d a l e =
     count_less (λ c. goes_before pix c (get_or copies k d)) (λ c. goes_before pix c a) copies k d (λ c f. onwards pix c (get_or copies k d) a f e) l (itself pix (get_or copies k d)) e
@@ -146,7 +146,7 @@ unfolding keep
 keep_all room pix copies l = filter_all (λ a. nat_lt (rank pix copies a) room) copies (λ k d within. lt-ltb _ _
     (let few = count_missing (λ b. goes_before pix b (get_or copies k d)) copies k d within (itself pix (get_or copies k d)) in omega arith))
 
--- one copy among others is counted or not
+-- One copy among others is counted or not.
 count_amid : (p : Read → Bool) (front back : List Read) (x : Read) → count_by p (front ++ x ∷ back) ≡ cond (p x) 1 0 + count_by p (front ++ back)
 count_amid p front back x =
     let f : Read → ℕ = λ r. cond (p r) 1 0 in

@@ -23,7 +23,7 @@ count_none p (r ∷ R) h =
     let sum = count_cons p r R in
     omega arith
 
--- where no two places have one number, one place has it at most
+-- Where no two places have one number, one place has it at most.
 abbrev Differ : (Read → ℕ) → List Read → Type 0
 Differ g R = (j k : ℕ) (d : Read) → j < length R → k < length R → g (get_or R j d) ≡ g (get_or R k d) → j ≡ k
 
@@ -44,7 +44,7 @@ count_one g v (r ∷ R) h = by (g r == v) refl (count_one g v R (λ j k d l m e.
         let sum = count_cons (λ x. g x == v) r R in
         omega arith
 
--- how many have a number below n, as n grows
+-- How many have a number below n, as n grows.
 below_next : (m n : ℕ) → cond (nat_lt m (n + 1)) 1 0 ≤ cond (nat_lt m n) 1 0 + cond (m == n) 1 0
 below_next m n = by (cases_lt m n) (cases_eq m n) (cases_lt m (n + 1))
   where
@@ -77,7 +77,7 @@ count_up g R n (suc j) h =
 count_start : (g : Read → ℕ) (R : List Read) → count_by (λ r. nat_lt (g r) 0) R ≡ 0
 count_start g R = count_none (λ r. nat_lt (g r) 0) R (λ k d l. le-ltb (g (get_or R k d)) 0 (omega arith))
 
--- copies of different items have different ranks
+-- Copies of different items have different ranks.
 ranks_differ : (pix : List ℕ) (copies : List Read) → AllPairs (λ a b. a.item ≢ b.item) copies → Differ (rank pix copies) copies
 ranks_differ pix copies own j k d l m e = by (cases_order j k)
   where
@@ -115,7 +115,7 @@ keep_count room pix copies own = by (cases_lt room (length copies))
         ap length (keep_all room pix copies room_for) ∙ sym small
 
 -- ---- a newcomer
--- what a test leaves passes it
+-- what a test leaves passes it.
 passing : (f : Read → Bool) (R : List Read) → All (λ r. f r ≡ true) (filter f R)
 passing f [] = λ k d l. absurd (omega arith)
 passing f (r ∷ R) = by (f r) refl (passing f R)
@@ -124,7 +124,7 @@ passing f (r ∷ R) = by (f r) refl (passing f R)
     by true e h = All-cons (λ r. f r ≡ true) r (filter f R) e h
     by false e h = h
 
--- copies of lesser items, one, and copies of greater items stand by rising item
+-- Copies of lesser items, one, and copies of greater items stand by rising item.
 rising : (x : Read) (A B : List Read) → HaveOwnItems A → HaveOwnItems B → All (λ r. r.item < x.item) A → All (λ r. x.item < r.item) B → HaveOwnItems (A ++ x ∷ B)
 rising x [] B a b below above = AllPairs-cons (λ a b. a.item < b.item) x B above b
 rising x (r ∷ A) B a b below above =
@@ -157,11 +157,11 @@ sum_kept f p (r ∷ R) =
     by true = sum_by-cons f r (filter p R)
     by false = omega arith
 
--- the number lies between what stays and what goes
+-- The number lies between what stays and what goes.
 abbrev Parts : (Read → ℕ) → (Read → Bool) → ℕ → Read → Type 0
 Parts f p m x = (p x ≡ true → m ≤ f x) × (p x ≡ false → f x ≤ m)
 
--- where nothing that goes is above what stays, such a number is found
+-- Where nothing that goes is above what stays, such a number is found.
 between : (f : Read → ℕ) (p : Read → Bool) (R : List Read)
     → ((j k : ℕ) (d : Read) → j < length R → k < length R → p (get_or R j d) ≡ false → p (get_or R k d) ≡ true → f (get_or R j d) ≤ f (get_or R k d))
     → (m : ℕ) × All (Parts f p m) R
@@ -186,7 +186,7 @@ between f p (r ∷ R) h = by (p r) refl (between f p R (λ j k d l m. h (suc j) 
               (λ k d l. let x = t.1 k d l in ((λ g. max-le (x.0 g) (h 0 (suc k) d (omega arith) (omega arith) e g)), (λ g. let y = x.1 g in omega arith))),
         )
 
--- one choice against what stays of it, by such a number
+-- One choice against what stays of it, by such a number.
 one_chosen : (f : Read → ℕ) (p : Read → Bool) (m : ℕ) (x : Read) → Parts f p m x → f x + m * cond (p x) 1 0 ≤ cond (p x) (f x) 0 + m
 one_chosen f p m x t = by (p x) refl
   where
@@ -221,7 +221,7 @@ left_sum f p m (r ∷ R) t =
     let count = ap (λ n. m * n) (count_cons p r R) ∙ mul-add m (cond (p r) 1 0) (count_by p R) in
     omega arith
 
--- no copy that goes is worth more than one that stays
+-- No copy that goes is worth more than one that stays.
 none_above : (room : ℕ) (pix : List ℕ) (copies : List Read) (j k : ℕ) (d : Read) → j < length copies → k < length copies
     → nat_lt (rank pix copies (get_or copies j d)) room ≡ false → nat_lt (rank pix copies (get_or copies k d)) room ≡ true → pix_of pix (get_or copies j d) ≤ pix_of pix (get_or copies k d)
 none_above room pix copies j k d l m out stays = by (cases_lt (pix_of pix (get_or copies k d)) (pix_of pix (get_or copies j d)))

@@ -21,7 +21,7 @@ use Rattle.air_model.specs.SessionLaws.{QueriesFilled}
 use Rattle.air_model.specs.Sessions.{reader_of}
 use Rattle.air_history.proofs.RuleFacts.{bases_read}
 
--- what holds of all lists of a list of lists holds of the list at each place, also past the end
+-- What holds of all lists of a list of lists holds of the list at each place, also past the end.
 all_at : {X : Type 0} (P : X → Type 0) (xss : List (List X)) → All (All P) xss → (n : ℕ) → All P (get_or xss n [])
 all_at P xss h n = elim (cases_lt n (length xss)) as (λ _. All P (get_or xss n [])) [
   | inl l ↦ h n [] l
@@ -35,7 +35,7 @@ update_is deck is by seq u e =
     subst (IsUpdate (length deck.items)) (get_or_from_slice_get (updates_by deck by) seq u u e)
     (all_at (IsUpdate (length deck.items)) deck.updates is.updates by seq u (slice_get_within (updates_by deck by) seq u e))
 
--- an update is of an updater that the deck has
+-- An update is of an updater that the deck has.
 updater_is : (deck : Deck) (by seq : ℕ) (u : UpdateLists) → slice_get (updates_by deck by) seq ≡ Some u → by < length deck.updates
 updater_is deck by seq u e = elim (cases_lt by (length deck.updates)) as (λ _. by < length deck.updates) [
   | inl l ↦ l
@@ -57,7 +57,7 @@ events deck H is legal = (
   λ p d l. (event_is deck H is legal p (get_or H p d) (slice_get-get_or H p d l)).1,
 )
 
--- an event that fits has items that do
+-- An event that fits has items that do.
 pub items_fit : (updaters n : ℕ) (e : Event) → EventFits updaters n e → ItemsFit n e
 unfolding EventFits ItemsFit
 items_fit updaters n (Commit by seq u) h = h.1

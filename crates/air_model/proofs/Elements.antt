@@ -4,7 +4,7 @@ use Rattle.std.proofs.Common.{◌≡◌, ◌<◌, ◌+◌, ◌++◌, ℕ, zero, 
 use Rattle.std.specs.List.{All, AllPairs, Contains}
 use Rattle.std.proofs.lemmas.Option.{get_or_from_slice_get, slice_get-get_or, slice_get_within}
 
--- the list has the element at some place
+-- The list has the element at some place.
 abbrev pub Has : {X : Type 0} → List X → X → Type 0
 Has xs x = (k : ℕ) × (slice_get xs k ≡ Some x)
 
@@ -20,7 +20,7 @@ contains_has xs x c = (c.0, slice_get-get_or xs c.0 x c.1 ∙ ap Some c.2)
 pub has_contains : {X : Type 0} (xs : List X) (x : X) → Has xs x → Contains xs x
 has_contains xs x h = (h.0, slice_get_within xs h.0 x h.1, get_or_from_slice_get xs h.0 x x h.1)
 
--- what holds of all elements, or of all pairs of them, by their places
+-- What holds of all elements, or of all pairs of them, by their places.
 pub all_at : {X : Type 0} (P : X → Type 0) (xs : List X) (k : ℕ) (x : X) → All P xs → slice_get xs k ≡ Some x → P x
 all_at P xs k x all at = subst P (get_or_from_slice_get xs k x x at) (all k x (slice_get_within xs k x at))
 
@@ -38,7 +38,7 @@ pub at_pairs : {X : Type 0} (R : X → X → Type 0) (xs : List X)
 at_pairs R xs each j k d less below =
     each j k (get_or xs j d) (get_or xs k d) less (slice_get-get_or xs j d (omega arith)) (slice_get-get_or xs k d below)
 
--- an element of two lists in a row
+-- An element of two lists in a row.
 pub get_left : {X : Type 0} (xs ys : List X) (k : ℕ) (x : X) → slice_get xs k ≡ Some x → slice_get (xs ++ ys) k ≡ Some x
 get_left [] ys k x e = cc e
 get_left (y ∷ xs) ys zero x e = e
@@ -48,7 +48,7 @@ pub get_right : {X : Type 0} (xs ys : List X) (k : ℕ) → slice_get (xs ++ ys)
 get_right [] ys k = rw (zero-add k) refl
 get_right (x ∷ xs) ys k = let e : length (x ∷ xs) + k ≡ suc (length xs + k) = omega arith in rw e (get_right xs ys k)
 
--- no number stands at two places
+-- No number stands at two places.
 abbrev pub Distinct : List ℕ → Type 0
 Distinct xs = (j k i : ℕ) → slice_get xs j ≡ Some i → slice_get xs k ≡ Some i → j ≡ k
 

@@ -21,12 +21,12 @@ range_join a (suc n) m =
     let f : a + suc n ≡ a + 1 + n = omega arith in
     ap (range_with_len a) e ∙ ap (λ l. a ∷ l) (range_join (a + 1) n m) ∙ ap (λ b. a ∷ range_with_len (a + 1) n ++ range_with_len b m) (sym f)
 
--- where no number of the range has elements there are none
+-- Where no number of the range has elements there are none.
 pub flat_none : (f : ℕ → List ℕ) (a n : ℕ) → ((k : ℕ) → a ≤ k → k < a + n → f k ≡ []) → flat_map f (range_with_len a n) ≡ []
 flat_none f a zero h = refl
 flat_none f a (suc n) h = ap (λ l. l ++ flat_map f (range_with_len (a + 1) n)) (h a (omega arith) (omega arith)) ∙ flat_none f (a + 1) n (λ k low high. h k (omega arith) (omega arith))
 
--- where one number of the range alone has elements, these are all
+-- Where one number of the range alone has elements, these are all.
 flat_only : (f : ℕ → List ℕ) (a n v : ℕ) → ((k : ℕ) → (k ≡ v → ⊥) → f k ≡ []) → a ≤ v → v < a + n → flat_map f (range_with_len a n) ≡ f v
 flat_only f a zero v h low high = absurd (omega arith)
 flat_only f a (suc n) v h low high = by (cases_eq a v) (λ more. flat_only f (a + 1) n v h more (omega arith))
@@ -35,13 +35,13 @@ flat_only f a (suc n) v h low high = by (cases_eq a v) (λ more. flat_only f (a 
     by (inl same) later = ap (λ l. f a ++ l) (flat_none f (a + 1) n (λ k from to. h k (λ is. absurd (omega arith)))) ∙ append-nil (f a) ∙ ap f same
     by (inr ne) later = ap (λ l. l ++ flat_map f (range_with_len (a + 1) n)) (h a ne) ∙ later (omega (arith, ne))
 
--- where each number has itself, the range is meant
+-- Where each number has itself, the range is meant.
 flat_self : (f : ℕ → List ℕ) (a n : ℕ) → ((k : ℕ) → a ≤ k → k < a + n → f k ≡ k ∷ []) → flat_map f (range_with_len a n) ≡ range_with_len a n
 flat_self f a zero h = refl
 flat_self f a (suc n) h =
     ap (λ l. l ++ flat_map f (range_with_len (a + 1) n)) (h a (omega arith) (omega arith)) ∙ ap (λ l. a ∷ l) (flat_self f (a + 1) n (λ k low high. h k (omega arith) (omega arith)))
 
--- what all elements of each number say, all say
+-- What all elements of each number say, all say.
 all_over : (P : ℕ → Type 0) (f : ℕ → List ℕ) (a n : ℕ) → ((k : ℕ) → a ≤ k → k < a + n → All P (f k)) → All P (flat_map f (range_with_len a n))
 all_over P f a zero h = λ k d l. absurd (omega arith)
 all_over P f a (suc n) h = All-append P (f a) (flat_map f (range_with_len (a + 1) n)) (h a (omega arith) (omega arith)) (all_over P f (a + 1) n (λ k low high. h k (omega arith) (omega arith)))
@@ -226,7 +226,7 @@ unfolding heard
 heard_was_pushed odds words pushed =
     All-map (Contains pushed) (λ place. slice_index_or pushed place []) (heard_places odds words (length pushed)) (λ k d l. Contains-get_or pushed _ [] (places_below odds words (length pushed) k d l))
 
--- with nothing lost, heard again or late each push is heard once, at its own number
+-- With nothing lost, heard again or late each push is heard once, at its own number.
 abbrev clear : Odds
 clear = record { loss = 0; again = 0; late = 0 }
 

@@ -12,7 +12,7 @@ use Rattle.air_model.specs.Buckets.{entries_at, entry_count, is_placed, is_shape
 use Rattle.air_model.proofs.ByteFacts.{AllBytes, one_spelling}
 
 -- ---- the fields
--- what stands in the bytes, for each kind
+-- what stands in the bytes, for each kind.
 pub record Fields : Type 0 where
   pub kind : ℕ
   pub edition : ℕ
@@ -27,23 +27,23 @@ abbrev pub made : ℕ → ℕ → ℕ → ℕ → ℕ → ℕ → ℕ → List �
 made kind edition count cycle slot item value entries =
     record { kind = kind; edition = edition; count = count; cycle = cycle; slot = slot; item = item; value = value; entries = entries }
 
--- fields alike are the same
+-- Fields alike are the same.
 pub same_fields : (a a2 b b2 c c2 d d2 e e2 g g2 h h2 : ℕ) (l l2 : List ℕ) → a ≡ a2 → b ≡ b2 → c ≡ c2 → d ≡ d2 → e ≡ e2 → g ≡ g2 → h ≡ h2 → l ≡ l2
     → made a b c d e g h l ≡ made a2 b2 c2 d2 e2 g2 h2 l2
 same_fields a a2 b b2 c c2 d d2 e e2 g g2 h h2 l l2 p1 p2 p3 p4 p5 p6 p7 p8 = rw (p1, p2, p3, p4, p5, p6, p7, p8) refl
 
--- the bytes before the entries
+-- The bytes before the entries.
 abbrev head_of : Fields → List ℕ
 head_of f =
     0x41 ∷ 0x44 ∷ 1 ∷ f.kind ∷ [] ++ big_bytes 2 f.edition ++ big_bytes 2 f.count ++ big_bytes 4 f.cycle ++ big_bytes 2 f.slot ++ big_bytes 2 f.item ++ big_bytes 8 f.value
 
--- the bytes of the fields
+-- The bytes of the fields.
 unfoldable pub bytes_of : Fields → List ℕ
 bytes_of f =
     0x41 ∷ 0x44 ∷ 1 ∷ f.kind ∷ [] ++ big_bytes 2 f.edition ++ big_bytes 2 f.count ++ big_bytes 4 f.cycle ++ big_bytes 2 f.slot ++ big_bytes 2 f.item ++ big_bytes 8 f.value
     ++ flat_map (big_bytes 4) f.entries
 
--- the fields at their places
+-- The fields at their places.
 unfoldable pub fields_of : List ℕ → Fields
 fields_of bytes = record {
   kind = slice_index bytes 3;
@@ -56,7 +56,7 @@ fields_of bytes = record {
   entries = entries_at (entry_count (slice_index bytes 3) (number_at 6 2 bytes)) bytes;
 }
 
--- the tests of the shape, over fields
+-- The tests of the shape, over fields.
 unfoldable pub are_shaped : Fields → Bool
 are_shaped f = nat_le 1 f.count && nat_le f.count 256 && nat_le 1 f.cycle && is_placed f.kind f.item f.value f.count && list_all (λ e. nat_lt e f.cycle) f.entries
 
@@ -64,7 +64,7 @@ pub shaped_is : (bytes : List ℕ) → is_shaped bytes ≡ are_shaped (fields_of
 unfolding is_shaped are_shaped fields_of
 shaped_is bytes = refl
 
--- the fields are in range
+-- The fields are in range.
 pub record AreInRange (f : Fields) : Type 0 where
   pub kind : f.kind ≤ 2
   pub edition : f.edition < 2 ^ 16
@@ -143,7 +143,7 @@ pub count_back : (f : Fields) → AreInRange f → number_at 6 2 (bytes_of f) �
 unfolding bytes_of
 count_back f r = let b = bounds f r.shaped in let c = b.count in big_number-reads_back 2 f.count (drop 8 (bytes_of f)) (omega arith)
 
--- the fields of a spelling are read back
+-- The fields of a spelling are read back.
 pub read_back : (f : Fields) → AreInRange f → fields_of (bytes_of f) ≡ f
 unfolding fields_of entries_at bytes_of
 read_back f r =
@@ -161,7 +161,7 @@ read_back f r =
     ∙ entries_back (head_of f) (entry_count f.kind f.count) f.entries refl r.entries (λ k below. let e = each k below in omega arith))
 
 -- ---- bytes without a fault
--- what it is for bytes to have no fault
+-- what it is for bytes to have no fault.
 pub record IsWhole (bytes : List ℕ) : Type 0 where
   pub long : 24 ≤ length bytes
   pub magic0 : slice_index bytes 0 ≡ 0x41
@@ -175,7 +175,7 @@ length_bytes_of : (f : Fields) → length (bytes_of f) ≡ 24 + 4 * length f.ent
 unfolding bytes_of
 length_bytes_of f = omega (arith, length_numbers f.entries)
 
--- the bytes of fields in range have no fault
+-- The bytes of fields in range have no fault.
 pub whole_bytes : (f : Fields) → AreInRange f → IsWhole (bytes_of f)
 unfolding bytes_of
 whole_bytes f r =
@@ -190,7 +190,7 @@ whole_bytes f r =
       shaped = shaped_is (bytes_of f) ∙ ap are_shaped (read_back f r) ∙ r.shaped;
     }
 
--- a number is spelled where it is read
+-- A number is spelled where it is read.
 part : (bytes : List ℕ) (at n : ℕ) → AllBytes bytes → at + n ≤ length bytes → drop at bytes ≡ big_bytes n (number_at at n bytes) ++ drop (at + n) bytes
 part bytes at n all room =
     let rest = drop at bytes in
@@ -212,7 +212,7 @@ first_four (a ∷ b ∷ []) h = absurd (omega arith)
 first_four (a ∷ b ∷ c ∷ []) h = absurd (omega arith)
 first_four (a ∷ b ∷ c ∷ d ∷ rest) h = refl
 
--- what is left at each place, put together from the front
+-- What is left at each place, put together from the front.
 chain : (d4 d6 d8 d12 d14 d16 d24 x1 x2 x3 x4 x5 x6 x7 : List ℕ) → d4 ≡ x1 ++ d6 → d6 ≡ x2 ++ d8 → d8 ≡ x3 ++ d12 → d12 ≡ x4 ++ d14 → d14 ≡ x5 ++ d16 → d16 ≡ x6 ++ d24 → d24 ≡ x7
     → d4 ≡ x1 ++ (x2 ++ (x3 ++ (x4 ++ (x5 ++ (x6 ++ x7)))))
 chain d4 d6 d8 d12 d14 d16 d24 x1 x2 x3 x4 x5 x6 x7 p1 p2 p3 p4 p5 p6 p7 = rw (p1, p2, p3, p4, p5, p6, p7) refl
@@ -220,7 +220,7 @@ chain d4 d6 d8 d12 d14 d16 d24 x1 x2 x3 x4 x5 x6 x7 p1 p2 p3 p4 p5 p6 p7 = rw (p
 front : (a b c d : ℕ) (l r : List ℕ) → a ≡ 0x41 → b ≡ 0x44 → c ≡ 1 → l ≡ r → a ∷ b ∷ c ∷ d ∷ l ≡ 0x41 ∷ 0x44 ∷ 1 ∷ d ∷ r
 front a b c d l r p q t u = rw (p, q, t, u) refl
 
--- bytes without a fault are the spelling of their fields
+-- Bytes without a fault are the spelling of their fields.
 pub spelled : (bytes : List ℕ) → AllBytes bytes → IsWhole bytes → bytes ≡ bytes_of (fields_of bytes)
 unfolding bytes_of fields_of entries_at
 spelled bytes all w =
@@ -241,7 +241,7 @@ pub entries_long : (bytes : List ℕ) → length (fields_of bytes).entries ≡ e
 unfolding fields_of entries_at
 entries_long bytes = length-map-range_with_len (λ i. number_at (24 + 4 * i) 4 bytes) 0 (entry_count (slice_index bytes 3) (number_at 6 2 bytes))
 
--- bytes without a fault have fields in range
+-- Bytes without a fault have fields in range.
 pub in_range : (bytes : List ℕ) → AllBytes bytes → IsWhole bytes → AreInRange (fields_of bytes)
 unfolding fields_of entries_at
 in_range bytes all w = record {

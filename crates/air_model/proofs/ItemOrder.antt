@@ -46,7 +46,7 @@ hotter_not rates x y (inr a) (inr b) = let l = a.1 in let m = b.1 in omega arith
 abbrev IsInOrder : List ℕ → List ℕ → Type 0
 IsInOrder rates xs = (j k x y : ℕ) → j < k → slice_get xs j ≡ Some x → slice_get xs k ≡ Some y → IsHotter rates x y
 
--- the item is hotter than all of the list
+-- The item is hotter than all of the list.
 abbrev IsAhead : List ℕ → ℕ → List ℕ → Type 0
 IsAhead rates x xs = (y : ℕ) → Has xs y → IsHotter rates x y
 
@@ -149,7 +149,7 @@ pub length-order : (rates : List ℕ) → length (order rates) ≡ length rates
 unfolding order
 length-order rates = omega (arith, length-sorted rates [] 0 (length rates))
 
--- two lists in order with the same elements are one
+-- Two lists in order with the same elements are one.
 same_order : (rates xs ys : List ℕ) → IsInOrder rates xs → IsInOrder rates ys → ((z : ℕ) → Has xs z → Has ys z) → ((z : ℕ) → Has ys z → Has xs z) → xs ≡ ys
 same_order rates [] [] a b to from = refl
 same_order rates [] (y ∷ ys) a b to from = absurd (let h = from y (0, refl) in cc h.1)
@@ -189,7 +189,7 @@ order_only rates items = (
   (λ e. subst (IsOrder rates) (sym e) (order_is_order rates)),
 )
 
--- what is in order holds nothing twice
+-- What is in order holds nothing twice.
 order_distinct : (rates : List ℕ) → Distinct (order rates)
 order_distinct rates j k i a b = by (cases_lt j k) (cases_lt k j)
   where
@@ -199,7 +199,7 @@ order_distinct rates j k i a b = by (cases_lt j k) (cases_lt k j)
     by (inr over) (inr under) = omega arith
 
 -- ---- the cut
--- the disks hold a front of the items
+-- the disks hold a front of the items.
 cut_front : (items : List ℕ) (specs : List DiskSpec) → (rest : List ℕ) × (all_items (cut items specs) ++ rest ≡ items)
 unfolding cut all_items
 cut_front items [] = (items, refl)
@@ -207,7 +207,7 @@ cut_front items (s ∷ specs) =
     let more = cut_front (drop s.size items) specs in
     (more.0, append_assoc (take s.size items) (all_items (cut (drop s.size items) specs)) more.0 ∙ ap (λ l. take s.size items ++ l) more.1 ∙ take-append-drop s.size items)
 
--- where the sizes add up to the items, the disks hold all items in order
+-- Where the sizes add up to the items, the disks hold all items in order.
 pub cut_items : (items : List ℕ) (specs : List DiskSpec) → sum_by (λ s. s.size) specs ≡ length items → all_items (cut items specs) ≡ items
 unfolding cut all_items
 cut_items items [] sum = sym (nil_from_length items (sym sum))

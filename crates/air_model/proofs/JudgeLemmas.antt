@@ -30,7 +30,7 @@ use Rattle.air_model.specs.Sessions.{Reader, Line, State, start, read_in, is_wan
 use Rattle.air_model.specs.SessionLaws.{QueriesFilled}
 use Rattle.air_model.proofs.MomentLemmas.{Good, Keeps, Gives, turn_good, settle_good, hear_good, hear_all_good, end_query_good, start_good, copy_of_is}
 
--- the read is one of H, with H's value and the entries that were aired with it
+-- The read is one of H, with H's value and the entries that were aired with it.
 pub record IsReadOf (values : List ℕ) (air : Air) (H : List Event) (x : Read) : Type 0 where
   pub from_one : 1 ≤ x.cycle
   pub within : x.item < air.items

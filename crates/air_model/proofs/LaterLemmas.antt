@@ -32,7 +32,7 @@ front_append (Start ∷ H) later (suc zero) l = refl
 front_append (Start ∷ H) later (suc (suc c)) l = ap (λ G. Start ∷ G) (front_append H later (suc c) (let more = starts_start H in omega arith))
 front_append (Commit by seq u ∷ H) later (suc c) l = ap (λ G. Commit by seq u ∷ G) (front_append H later (suc c) (let same = starts_commit H (Commit by seq u) refl in omega arith))
 
--- the body of a slot, by the front of its cycle
+-- The body of a slot, by the front of its cycle.
 body_by : (values : List ℕ) (air : Air) (G : List Event) (item : ℕ) → Policy → Body
 body_by values air G item FMatrix = aired_as FMatrix item (table (values_of values) G item) (column air.items G item)
 body_by values air G item Datacycle = aired_as Datacycle item (table (values_of values) G item) (vector air.items G)

@@ -18,11 +18,11 @@ dropped [] n u e = cc
 dropped (x ∷ us) zero u e = let same : x ≡ u = cc in ap (λ y. y ∷ us) same
 dropped (x ∷ us) (suc n) u e = dropped us n u e
 
--- how many commits of the updater there are
+-- How many commits of the updater there are.
 abbrev made : ℕ → List Event → ℕ
 made by H = length (made_by by H)
 
--- from place 0 on, each commit of the updater is its next, where n were made before
+-- From place 0 on, each commit of the updater is its next, where n were made before.
 abbrev Follows : ℕ → List UpdateLists → ℕ → List Event → Type 0
 Follows by us n H = (p seq : ℕ) (u : UpdateLists) → slice_get H p ≡ Some (Commit by seq u) → (seq ≡ n + made by (take p H)) × (slice_get us seq ≡ Some u)
 
@@ -50,7 +50,7 @@ made_from by us (Commit who seq u ∷ H) n h = step (who == by) refl (λ m f. ma
         let count : made by (take (suc p) (Commit who seq u ∷ H)) ≡ made by (take p H) = ap (λ b. length (cond b (Commit who seq u ∷ made_by by (take p H)) (made_by by (take p H)))) f in
         (omega (arith, both.0, count), both.1))
 
--- the commit at a place is that of its number among its updater's
+-- The commit at a place is that of its number among its updater's.
 at_made : (by : ℕ) (H : List Event) (p : ℕ) (e : Event) → slice_get H p ≡ Some e → is_by by e ≡ true → slice_get (made_by by H) (made by (take p H)) ≡ Some e
 unfolding made_by
 at_made by [] p e s t = cc

@@ -18,16 +18,16 @@ use Rattle.air_model.specs.Aired.{Air, fits}
 use Rattle.air_model.specs.Judges.{Judge, place_of}
 use Rattle.air_model.specs.Sessions.{Reader, Line, State, start, read_in, is_wanted, query_of, wanted, comes_late, next_query, next_attempt, copy_of, drop_copy, offer, line_of, with_line, count_copied, count_opened, count_dozed, count_late, count_refused, count_foreign, accept_if_whole, hold, abort, is_unusable, turn_with, turn, settle, decide, open_bucket, hear_read, hear, hear_all, end_query, end, session}
 
--- the item that the query q wants after the reads R
+-- The item that the query q wants after the reads R.
 abbrev pub item_after : Reader → ℕ → List Read → Option ℕ
 item_after reader q R = slice_get (get_or reader.queries q []) (length R)
 
--- the new read x is judged after the held reads R of query q
+-- The new read x is judged after the held reads R of query q.
 pub record IsJudged (air : Air) (reader : Reader) (q : ℕ) (R : List Read) (x : Read) : Type 0 where
   pub wanted : item_after reader q R ≡ Some x.item
   pub in_time : is_late air.scheme.policy (map place_of R) (place_of x) ≡ false
 
--- Q of each read that was heard, K of the query, the attempt and its held reads, and L of each line stand at every moment
+-- Q of each read that was heard, K of the query, the attempt and its held reads, and L of each line stand at every moment.
 pub record Keeps (judge : Judge) (air : Air) (reader : Reader) (Q : Read → Type 0) (K : ℕ → ℕ → List Read → Type 0) (L : Line → Type 0) : Type 0 where
   pub first : (q : ℕ) → K q 1 []
   pub again : (q a : ℕ) (R : List Read) → K q a R → a < reader.plan.tries → K q (a + 1) []
@@ -36,7 +36,7 @@ pub record Keeps (judge : Judge) (air : Air) (reader : Reader) (Q : Read → Typ
   pub aborted : (q a : ℕ) (R : List Read) (x : Read) (c : Clash) → K q a R → Q x → IsJudged air reader q R x → judge.clash R x ≡ Some c → L (line_of judge q a (Abort x.item x.cycle c.item) R)
   pub unfinished : (q a : ℕ) (R : List Read) → K q a R → is_some (item_after reader q R) ≡ true → L (line_of judge q a Unfinished R)
 
--- Q of the read that a heard member gives where it fits
+-- Q of the read that a heard member gives where it fits.
 abbrev pub Gives : Air → (Read → Type 0) → Option Bucket → Type 0
 Gives air Q None = Unit {0}
 Gives air Q (Some b) = IsTrue (fits air b) → IfSome (read_in b.cycle b.body) Q
@@ -181,7 +181,7 @@ module _ (judge : Judge) (air : Air) (reader : Reader) (Q : Read → Type 0) (K 
   unfolding wanted query_of
   start_good = record { held = rules.first 0; copies = All-nil Q; lines = All-nil L; unread = λ l. first_some (get_or reader.queries 0 []) (filled 0 [] l) }
 
--- lines have L wherever the rules keep Q, K and L, and each heard member that fits gives Q
+-- Lines have L wherever the rules keep Q, K and L, and each heard member that fits gives Q.
 pub kept : (judge : Judge) (air : Air) (reader : Reader) (Q : Read → Type 0) (K : ℕ → ℕ → List Read → Type 0) (L : Line → Type 0) →
     All (λ q. 0 < length q) reader.queries → Keeps judge air reader Q K L → (heard : List (Option Bucket)) → All (Gives air Q) heard →
     All L (session judge air reader heard).lines

@@ -19,11 +19,11 @@ contains_here x xs = (0, omega arith, refl)
 contains_later : {X : Type 0} (y : X) (xs : List X) (x : X) → Contains xs x → Contains (y ∷ xs) x
 contains_later y xs x h = (suc h.0, (let l = h.1 in omega arith), h.2)
 
--- the item is that of one of the reads
+-- The item is that of one of the reads.
 abbrev Has : List ReadAt → ℕ → Type 0
 Has R i = Contains (map (λ r. r.item) R) i
 
--- if there is a clash, it is with one of the reads
+-- If there is a clash, it is with one of the reads.
 abbrev Names : List ReadAt → Option Clash → Type 0
 Names R o = (c : Clash) → o ≡ Some c → Has R c.item
 

@@ -58,7 +58,7 @@ entries_below RMatrix n H c j one = map_below (vector_entry (front H c)) n c (λ
 
 -- ---- values are below 2^64
 
--- every amount of the event is
+-- Every amount of the event is.
 abbrev AmountsFit : Event → Type 0
 AmountsFit e = All (λ w. w.amount < 2 ^ 64) (writes_of e)
 
@@ -178,13 +178,13 @@ read_back b h =
     let whole = whole_from_bucket (spelling b) b (h, refl) in
     ap result_ok (ok_from_whole (spelling b) whole.0) ∙ ap Some whole.1
 
--- bytes of the list are those of one of the buckets
+-- Bytes of the list are those of one of the buckets.
 map_has : (bs : List Bucket) (bytes : List ℕ) → Contains (map spelling bs) bytes → (b : Bucket) × Contains bs b × (bytes ≡ spelling b)
 map_has [] bytes (k, l, e) = absurd (omega arith)
 map_has (b ∷ bs) bytes (zero, l, e) = (b, (0, omega arith, refl), sym e)
 map_has (b ∷ bs) bytes (suc k, l, e) = let rest = map_has bs bytes (k, omega arith, e) in (rest.0, (suc rest.1.0, (let within = rest.1.1 in omega arith), rest.1.2), rest.2)
 
--- the heard bytes are those of one of the history's buckets
+-- The heard bytes are those of one of the history's buckets.
 own_bytes : (deck : Deck) (H : List Event) → CanAir deck H → (bytes : List ℕ) → Contains (map spelling (buckets_of (values_in deck) (air_of deck) H)) bytes →
     (b : Bucket) × Contains (buckets_of (values_in deck) (air_of deck) H) b × (bucket_in bytes ≡ Some b)
 own_bytes deck H can bytes h =

@@ -15,7 +15,7 @@ use Rattle.air_model.specs.Decks.{Deck, IsLegal, updates_by}
 use Rattle.air_model.specs.Reports.{event_row}
 use Rattle.air_model.specs.DeckLaws.{HasNumbers}
 
--- the event is a start, or the deck's update of its number
+-- The event is a start, or the deck's update of its number.
 IsGiven : Deck → Event → Type 0
 IsGiven deck (Commit by seq u) = slice_get (updates_by deck by) seq ≡ Some u
 IsGiven deck Start = Unit {0}
@@ -34,7 +34,7 @@ some_same x y e = cc
 number_same : (m n : ℕ) → m < 2 ^ 64 → n < 2 ^ 64 → number_text m ≡ number_text n → m ≡ n
 number_same m n a b e = some_same m n (sym (text_spells m a) ∙ ap number_of e ∙ text_spells n b)
 
--- an update's updater and its number have texts
+-- An update's updater and its number have texts.
 in_numbers : (deck : Deck) → HasNumbers deck → (by seq : ℕ) (u : UpdateLists) → slice_get (updates_by deck by) seq ≡ Some u → (by < 2 ^ 64) × (seq < 2 ^ 64)
 in_numbers deck has by seq u at = (
   elim (cases_lt by (length deck.updates)) as (λ _. by < 2 ^ 64) [

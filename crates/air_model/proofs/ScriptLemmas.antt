@@ -10,7 +10,7 @@ use Rattle.air_history.specs.UpdateLists.{UpdateLists}
 use Rattle.air_model.specs.Decks.{Deck, count_made, count_parts, event_of, is_by, script_history, update_at, updates_by, ScriptFits, IsLegal}
 use Rattle.std.specs.Option.{option_map_or}
 
--- the part is the updater's
+-- The part is the updater's.
 abbrev is_part_of : ℕ → Option ℕ → Bool
 is_part_of by part = option_map_or (λ who. who == by) part false
 
@@ -19,7 +19,7 @@ unfolding is_by event_of
 part_same deck before by None = refl
 part_same deck before by (Some who) = refl
 
--- the event of the part at a place
+-- The event of the part at a place.
 abbrev event_in : Deck → ℕ → Event
 event_in deck k = event_of deck (take k deck.script) (get_or deck.script k None)
 
@@ -31,7 +31,7 @@ script_length : (deck : Deck) → length (script_history deck) ≡ length deck.s
 unfolding script_history
 script_length deck = length-map-range_with_len (event_in deck) 0 (length deck.script)
 
--- an updater made as many commits as it has parts
+-- An updater made as many commits as it has parts.
 counts_same : (deck : Deck) (by p : ℕ) → p ≤ length deck.script → count_made by (take p (script_history deck)) ≡ count_parts by (take p deck.script)
 counts_same deck by zero l = refl
 counts_same deck by (suc p) l = step (is_part_of by (get_or deck.script p None)) refl (counts_same deck by p (omega arith))
@@ -55,7 +55,7 @@ counts_same deck by (suc p) l = step (is_part_of by (get_or deck.script p None))
     step false f rest = subst (λ n. count_made by (take n H) ≡ count_parts by (take n deck.script)) more
         (count_by_more_no (is_by by) H p Start within (there ∙ f) ∙ rest ∙ sym (count_by_more_no (is_part_of by) deck.script p None (omega arith) f))
 
--- a part whose event is a commit is its updater's
+-- A part whose event is a commit is its updater's.
 pub record IsCommitOf (deck : Deck) (before : List (Option ℕ)) (part : Option ℕ) (by seq : ℕ) (u : UpdateLists) : Type 0 where
   pub commits : part ≡ Some by
   pub number : seq ≡ count_parts by before

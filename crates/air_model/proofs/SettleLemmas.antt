@@ -15,7 +15,7 @@ use Rattle.air_model.specs.Sessions.{Reader, State, wanted, query_of, copy_of, d
 use Rattle.air_model.proofs.MomentLemmas.{none_from, find_is, cond_keeps}
 use Rattle.air_model.proofs.SoundLemmas.{whole_query, part_of_query}
 
--- the items of a list of queries
+-- The items of a list of queries.
 abbrev total : List (List ℕ) → ℕ
 total Q = sum_by length Q
 
@@ -39,7 +39,7 @@ total_next (x ∷ Q) (suc q) l =
 abbrev IsSettled : Reader → State → Type 0
 IsSettled reader s = copy_of (wanted reader s) s ≡ None
 
--- the items that are left to read
+-- The items that are left to read.
 abbrev left : Reader → State → ℕ
 left reader s = total (drop s.query reader.queries) - length s.held
 
@@ -55,7 +55,7 @@ find_without i (r ∷ R) = by (r.item == i) refl (find_without i R)
 found_item : (i : ℕ) (R : List Read) (x : Read) → find (λ r. r.item == i) R ≡ Some x → x.item ≡ i
 found_item i R x e = eqb-true x.item i (find_is (λ _. Unit {0}) (λ r. r.item == i) R (λ k d l. tt) (Some x) e).1
 
--- where an item is wanted, fewer reads are held than the queries that are left have items
+-- Where an item is wanted, fewer reads are held than the queries that are left have items.
 wanted_within : (reader : Reader) (s : State) → is_some (wanted reader s) ≡ true → (s.query < length reader.queries) × (length s.held < length (get_or reader.queries s.query []))
 unfolding wanted query_of
 wanted_within reader s w =

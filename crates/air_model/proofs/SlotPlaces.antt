@@ -15,15 +15,15 @@ use Rattle.air_model.specs.Programs.{chunk, chunk_len, minor_cycle, minor_len, n
 use Rattle.air_model.proofs.Elements.{Distinct, Distinct-apart, Distinct-left, Distinct-right, get_left, get_right}
 use Rattle.air_model.proofs.Periods.{ComesAt}
 
--- the slots of m minor cycles
+-- The slots of m minor cycles.
 unfoldable pub slots_of : ℕ → List Disk → List (Option ℕ)
 slots_of m disks = flat_map (minor_cycle m disks) (range_with_len 0 m)
 
--- the slots from one airing of a disk's item to the next
+-- The slots from one airing of a disk's item to the next.
 unfoldable pub disk_gap : ℕ → List Disk → Disk → ℕ
 disk_gap m disks d = num_chunks m d * minor_len m disks
 
--- the first slot of item q of disk n
+-- The first slot of item q of disk n.
 unfoldable pub place_slot : ℕ → List Disk → ℕ → Disk → ℕ → ℕ
 place_slot m disks n d q = q / chunk_len m d * minor_len m disks + (minor_len m (take n disks) + q % chunk_len m d)
 
@@ -73,7 +73,7 @@ unfolding minor_cycle
 minor_rest m d ds k r over =
     get_or-append_right (chunk m d (k % num_chunks m d)) (flat_map (λ d. chunk m d (k % num_chunks m d)) ds) (chunk_len m d) r None (length_chunk m d (k % num_chunks m d)) over
 
--- what a minor cycle airs is one of the items
+-- What a minor cycle airs is one of the items.
 minor_item : (m : ℕ) (disks : List Disk) (k r i : ℕ) → get_or (minor_cycle m disks k) r None ≡ Some i → (t : ℕ) × (slice_get (all_items disks) t ≡ Some i)
 unfolding all_items minor_cycle
 minor_item m [] k r i e = cc e
@@ -95,7 +95,7 @@ item_of_disk (e ∷ ds) zero d q i a b = let same = same_Some e d a in (q, get_l
 item_of_disk (e ∷ ds) (suc n) d q i a b =
     let more = item_of_disk ds n d q i a b in (length e.items + more.0, get_right e.items (all_items ds) more.0 ∙ more.1)
 
--- an item stands on one disk alone
+-- An item stands on one disk alone.
 pub same_disk : (disks : List Disk) (k n : ℕ) (e d : Disk) (p q i : ℕ) → Distinct (all_items disks)
     → slice_get disks k ≡ Some e → slice_get disks n ≡ Some d → slice_get e.items p ≡ Some i → slice_get d.items q ≡ Some i → k ≡ n
 unfolding all_items
@@ -110,7 +110,7 @@ same_disk (c ∷ ds) (suc k) zero e d p q i apart a b at to =
 same_disk (c ∷ ds) (suc k) (suc n) e d p q i apart a b at to =
     ap suc (same_disk ds k n e d p q i (Distinct-right c.items (all_items ds) apart) a b at to)
 
--- the chunk length is the ceiling: the chunks hold the disk
+-- The chunk length is the ceiling: the chunks hold the disk.
 chunks_hold : (m : ℕ) (d : Disk) → 0 < num_chunks m d → length d.items ≤ num_chunks m d * chunk_len m d
 unfolding chunk_len
 chunks_hold m d some =
@@ -118,7 +118,7 @@ chunks_hold m d some =
     let split = div-add-mod' s n in let rest = mod_below s n some in
     let turned : s / n * n ≡ n * (s / n) = omega arith in omega arith
 
--- item q of a disk: its chunk and its place in the chunk
+-- Item q of a disk: its chunk and its place in the chunk.
 abbrev pub At : ℕ → List Disk → ℕ → Disk → ℕ → ℕ → ℕ → Type 0
 At m disks n d q k r = (k % num_chunks m d ≡ q / chunk_len m d) × (r ≡ minor_len m (take n disks) + q % chunk_len m d)
 
@@ -126,7 +126,7 @@ above_zero : (a b n : ℕ) → n < a * b → 0 < b
 above_zero a zero n h = absurd (omega arith)
 above_zero a (suc b) n h = omega arith
 
--- a chunk of a disk with an item isn't empty
+-- A chunk of a disk with an item isn't empty.
 pub chunk_some : (m : ℕ) (d : Disk) (q i : ℕ) → slice_get d.items q ≡ Some i → 0 < num_chunks m d → 0 < chunk_len m d
 chunk_some m d q i item some = above_zero (num_chunks m d) (chunk_len m d) q (let hold = chunks_hold m d some in let under = slice_get_within d.items q i item in omega arith)
 
@@ -138,7 +138,7 @@ minor_len_nil : (m : ℕ) → minor_len m [] ≡ 0
 unfolding minor_len
 minor_len_nil m = refl
 
--- the first disk's item
+-- The first disk's item.
 minor_here : (m q i : ℕ) (d : Disk) (ds : List Disk) (k r : ℕ) → Distinct (d.items ++ all_items ds) → slice_get d.items q ≡ Some i → 0 < num_chunks m d
     → (get_or (minor_cycle m (d ∷ ds) k) r None ≡ Some i) ↔ At m (d ∷ ds) 0 d q k r
 minor_here m q i d ds k r apart item some = ((λ e. there e (cases_lt r len)), (λ a. back a.0 a.1))
@@ -168,7 +168,7 @@ minor_here m q i d ds k r apart item some = ((λ e. there e (cases_lt r len)), (
         let whole : c * len + r ≡ q = rw (chunk, rest) (div-add-mod' q len) in
         minor_first m d ds k r under ∙ ap (slice_get d.items) whole ∙ item
 
--- item q of disk n stands in the minor cycles that air its chunk, at one place
+-- Item q of disk n stands in the minor cycles that air its chunk, at one place.
 pub minor_at : (m q i : ℕ) (disks : List Disk) (n : ℕ) (d : Disk) (k r : ℕ) → Distinct (all_items disks) → slice_get disks n ≡ Some d → slice_get d.items q ≡ Some i
     → 0 < num_chunks m d → (get_or (minor_cycle m disks k) r None ≡ Some i) ↔ At m disks n d q k r
 unfolding all_items
@@ -196,7 +196,7 @@ minor_at m q i (e ∷ ds) (suc n) d k r apart at item some =
           (λ a. let b = a.1 in minor_rest m e ds k r over ∙ later.1 (a.0, omega arith)),
         )
 
--- a disk's part ends within the minor cycle
+-- A disk's part ends within the minor cycle.
 part_within : (m : ℕ) (disks : List Disk) (n : ℕ) (d : Disk) → slice_get disks n ≡ Some d → minor_len m (take n disks) + chunk_len m d ≤ minor_len m disks
 part_within m [] n d at = cc at
 part_within m (e ∷ ds) zero d at =
@@ -219,7 +219,7 @@ slot_is m disks s below =
     ∙ get_or_even (minor_cycle m disks) l 0 m (s / l) (s % l) None (length_minor m disks) row (mod_below s l some)
     ∙ ap (λ k. get_or (minor_cycle m disks k) (s % l) None) (zero-add (s / l))
 
--- the slots of item q of disk n are those of one rest
+-- The slots of item q of disk n are those of one rest.
 module _ (m q i : ℕ) (disks : List Disk) (n : ℕ) (d : Disk) (apart : Distinct (all_items disks)) (at : slice_get disks n ≡ Some d) (item : slice_get d.items q ≡ Some i)
     (some : 0 < num_chunks m d) where
   place_below : minor_len m (take n disks) + q % chunk_len m d < minor_len m disks

@@ -36,11 +36,11 @@ use Rattle.std.proofs.lemmas.List.Folds.{list_any_at}
 
 -- ---- reads that were accepted
 
--- the read is from cycle 1 on
+-- The read is from cycle 1 on.
 abbrev FromOne : Read → Type 0
 FromOne r = 1 ≤ r.cycle
 
--- reads from cycle 1 on that the policy accepted one after another
+-- Reads from cycle 1 on that the policy accepted one after another.
 abbrev AreAccepted : Policy → List Event → List Read → Type 0
 AreAccepted p H R = All FromOne R × Accepts p H (map place_of R)
 
@@ -110,7 +110,7 @@ sound V air H reader heard filled cycles = kept (by_history air.scheme V H) air 
 
 -- ---- the reads follow the query
 
--- the reads are of the query's items, in order
+-- The reads are of the query's items, in order.
 abbrev InQuery : Reader → ℕ → List Read → Type 0
 InQuery reader q R = map (λ r. r.item) R ≡ take (length R) (get_or reader.queries q [])
 
@@ -134,7 +134,7 @@ part_of_query (i ∷ query) (suc n) e = let rest = part_of_query query n e in om
 
 -- ---- F-Matrix: what a verdict tells
 
--- a read that clashes makes consistent reads inconsistent
+-- A read that clashes makes consistent reads inconsistent.
 refuses : (H : List Event) (R : List Read) (x : Read) (c : Clash) → All FromOne R → FromOne x → IsConsistent H (map place_of R) →
     clash_by_history FMatrix H (map place_of R) (place_of x) ≡ Some c → IsConsistent H (map place_of R ++ place_of x ∷ []) → ⊥
 refuses H R x c are pos k e both =
@@ -142,8 +142,8 @@ refuses H R x c are pos k e both =
     let f : ◌≡◌ {A = Option Clash} None (Some c) = sym none ∙ e in
     cc
 
--- accepted reads are all of the query's, and consistent; an aborted attempt's reads are consistent, and with the refused
--- read they aren't; an unfinished attempt's reads are consistent, and some are missing
+-- Accepted reads are all of the query's, and consistent; an aborted attempt's reads are consistent, and with the refused
+-- read they aren't; an unfinished attempt's reads are consistent, and some are missing.
 unfoldable pub Tells : List Event → List ℕ → VerdictKind → List ReadAt → Type 0
 Tells H query Accept R = (map (λ r. r.item) R ≡ query) × IsConsistent H R
 Tells H query (Abort item cycle clash) R = IsConsistent H R × (IsConsistent H (R ++ record { item = item; cycle = cycle } ∷ []) → ⊥)
@@ -184,19 +184,19 @@ verdict V air H reader heard f filled cycles = kept (by_history air.scheme V H) 
 
 -- ---- every line is the reader's
 
--- where something is wanted, the query is one of the reader's
+-- Where something is wanted, the query is one of the reader's.
 query_within : (reader : Reader) (q n : ℕ) → n < length (get_or reader.queries q []) → q < length reader.queries
 query_within reader q n l = elim (cases_lt q (length reader.queries)) as (λ _. q < length reader.queries) [
   | inl lt ↦ lt
   | inr ge ↦ absurd (let e = ap length (get_or_past reader.queries q [] ge) in omega arith)
 ]
 
--- items that are all of a query follow it
+-- Items that are all of a query follow it.
 follows_all : (query items : List ℕ) → items ≡ query → follows_query query Accept items ≡ true
 unfolding follows_query
 follows_all query items e = (bytes_decides items query).1 e
 
--- so do its first ones up to a refused one, where the clash is among them
+-- So do its first ones up to a refused one, where the clash is among them.
 follows_to : (query : List ℕ) (item cycle clash : ℕ) (items : List ℕ) → items ≡ take (length items) query → slice_get query (length items) ≡ Some item → Contains items clash →
     follows_query query (Abort item cycle clash) items ≡ true
 unfolding follows_query
@@ -205,7 +205,7 @@ follows_to query item cycle clash items first next among =
     (and_from _ _ (ap (λ o. is_wanted o item) next ∙ eq-eqb item item refl)
     (list_any_at (λ i. i == clash) items among.0 0 among.1 (eq-eqb _ _ (get_or_default items among.0 0 clash among.1 ∙ among.2))))
 
--- and its first ones where some are missing
+-- And its first ones where some are missing.
 follows_in_part : (query items : List ℕ) → items ≡ take (length items) query → length items < length query → follows_query query Unfinished items ≡ true
 unfolding follows_query
 follows_in_part query items first less = and_from _ _ ((bytes_decides items (take (length items) query)).1 first) (lt-ltb (length items) (length query) less)

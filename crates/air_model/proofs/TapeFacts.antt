@@ -23,7 +23,7 @@ pub number_record : (r s : List ℕ) → length r < 2 ^ 32 → big_number 4 (rec
 unfolding record_bytes
 number_record r s short = big_number-reads_back 4 (length r) (r ++ s) short
 
--- a record's bytes stand behind its length, and what follows behind these
+-- A record's bytes stand behind its length, and what follows behind these.
 pub record_first : (r s : List ℕ) → take (length r) (drop 4 (record_bytes r ++ s)) ≡ r
 unfolding record_bytes
 record_first r s = take_at r s (length r) refl
@@ -32,7 +32,7 @@ pub record_rest : (r s : List ℕ) → drop (4 + length r) (record_bytes r ++ s)
 unfolding record_bytes
 record_rest r s = sym (drop-drop (length r) 4 (record_bytes r ++ s)) ∙ drop_at r s (length r) refl
 
--- the first record of bytes that hold one, and what follows it
+-- The first record of bytes that hold one, and what follows it.
 pub record_is : (rest : List ℕ) (n : ℕ) → AllBytes rest → 4 ≤ length rest → n ≡ big_number 4 rest → n ≤ length rest - 4
     → rest ≡ record_bytes (take n (drop 4 rest)) ++ drop (4 + length (take n (drop 4 rest))) rest
 unfolding record_bytes
@@ -45,7 +45,7 @@ record_is rest n all long e room =
     ∙ sym (append_assoc (big_bytes 4 (length r)) r (drop (4 + length r) rest))
 
 -- ---- where a record is cut
--- a whole record isn't cut
+-- a whole record isn't cut.
 pub record_not_cut : (r s : List ℕ) → length r < 2 ^ 32 → ends_inside (record_bytes r ++ s) ≡ false
 unfolding ends_inside
 record_not_cut r s short =
@@ -62,7 +62,7 @@ pub cut_within : (rest : List ℕ) (n : ℕ) → 4 ≤ length rest → n ≡ big
 unfolding ends_inside
 cut_within rest n long e short = rw (lt-ltb 0 (length rest) (omega arith), le-ltb (length rest) 4 long, lt-ltb (length rest) (4 + big_number 4 rest) (omega arith)) refl
 
--- what a cut tells, and what it tells that nothing is cut
+-- What a cut tells, and what it tells that nothing is cut.
 pub cut_some : (rest : List ℕ) → ends_inside rest ≡ true → 0 < length rest
 unfolding ends_inside
 cut_some [] cut = absurd (false≢true cut)
@@ -79,7 +79,7 @@ room_for rest some whole = by (nat_lt 0 (length rest)) (nat_lt (length rest) 4) 
     by true false false d e f g = (ltb-false (length rest) 4 e, ltb-false (length rest) (4 + big_number 4 rest) f)
 
 -- ---- what is read of known records
--- a record is read off the front
+-- a record is read off the front.
 pub read_record : (n at : ℕ) (r s : List ℕ) → length r < 2 ^ 32 → read_from (suc n) at (record_bytes r ++ s) ≡ with_record r (read_from n (at + (4 + length r)) s)
 unfolding read_from
 read_record n at r s short =
@@ -90,7 +90,7 @@ read_record n at r s short =
     by rest some whole number first after =
         rw (some, whole, number, first, after) refl
 
--- a cut record is read as one
+-- A cut record is read as one.
 pub read_cut : (n at : ℕ) (rest : List ℕ) → ends_inside rest ≡ true → length rest ≤ n → read_from n at rest ≡ record { records = []; cut = Some at }
 unfolding read_from
 read_cut zero at rest cut room = absurd (let some = cut_some rest cut in omega arith)
@@ -99,7 +99,7 @@ read_cut (suc n) at rest cut room = rw (ne_eqb (length rest) 0 (λ none. let som
 record_then : (r : List ℕ) (rs : List (List ℕ)) (c : Option ℕ) (read : TapeRead) → read ≡ record { records = rs; cut = c } → with_record r read ≡ record { records = r ∷ rs; cut = c }
 record_then r rs c read e = ap (with_record r) e
 
--- records with nothing after them are read, and nothing is cut
+-- Records with nothing after them are read, and nothing is cut.
 pub whole_read : (rs : List (List ℕ)) (n at : ℕ) → AreShort rs → length (tape_of rs) ≤ n → read_from n at (tape_of rs) ≡ record { records = rs; cut = None }
 unfolding tape_of read_from
 whole_read [] zero at short room = refl
@@ -110,7 +110,7 @@ whole_read (r ∷ rs) (suc n) at short room =
     read_record n at r (tape_of rs) (All-head (λ r. length r < 2 ^ 32) r rs short)
     ∙ record_then r rs None (read_from n (at + (4 + length r)) (tape_of rs)) (whole_read rs n (at + (4 + length r)) (All-tail (λ r. length r < 2 ^ 32) r rs short) (omega arith))
 
--- records before a cut one are read, and the cut stands behind them
+-- Records before a cut one are read, and the cut stands behind them.
 pub cut_read : (rs : List (List ℕ)) (tail : List ℕ) (n at : ℕ) → AreShort rs → ends_inside tail ≡ true → length (tape_of rs ++ tail) ≤ n
     → read_from n at (tape_of rs ++ tail) ≡ record { records = rs; cut = Some (at + length (tape_of rs)) }
 unfolding tape_of
@@ -127,7 +127,7 @@ cut_read (r ∷ rs) tail (suc n) at short cut room =
     ∙ ap (λ p. let t : TapeRead = record { records = r ∷ rs; cut = Some p } in t) (omega arith)
 
 -- ---- what is told of any bytes
--- the records stand at the front, and what follows them ends inside its first record
+-- the records stand at the front, and what follows them ends inside its first record.
 pub record CutBehind (rest : List ℕ) (rs : List (List ℕ)) (q : ℕ) : Type 0 where
   pub short : AreShort rs
   pub tail : List ℕ
@@ -135,7 +135,7 @@ pub record CutBehind (rest : List ℕ) (rs : List (List ℕ)) (q : ℕ) : Type 0
   pub place : q ≡ length (tape_of rs)
   pub cut : ends_inside tail ≡ true
 
--- what a reading tells: just these records, or these and then a cut
+-- What a reading tells: just these records, or these and then a cut.
 unfoldable pub Tells : ℕ → List ℕ → List (List ℕ) → Option ℕ → Type 0
 Tells at rest rs None = AreShort rs × (rest ≡ tape_of rs)
 Tells at rest rs (Some p) = (q : ℕ) × (p ≡ at + q) × CutBehind rest rs q
@@ -166,7 +166,7 @@ more at r s rs (Some p) short t =
 bytes_behind : (k : ℕ) (rest : List ℕ) → AllBytes rest → AllBytes (drop k rest)
 bytes_behind k rest all i = subst (λ x. x < 256) (sym (get_or-drop k rest i 0)) (all (k + i))
 
--- one step of the reading, from what the reading behind the first record tells
+-- One step of the reading, from what the reading behind the first record tells.
 step : (at : ℕ) (rest : List ℕ) (after : TapeRead) (a b : Bool) → AllBytes rest → (length rest == 0) ≡ a → ends_inside rest ≡ b
     → Tells (at + (4 + big_number 4 rest)) (drop (4 + big_number 4 rest) rest) after.records after.cut
     → let read = if a then record { records = []; cut = None } else if b then record { records = []; cut = Some at } else with_record (take (big_number 4 rest) (drop 4 rest)) after in
@@ -197,7 +197,7 @@ tells (suc n) at rest all room =
     (tells n (at + (4 + big_number 4 rest)) (drop (4 + big_number 4 rest) rest) (bytes_behind (4 + big_number 4 rest) rest all) (omega (arith, length-drop (4 + big_number 4 rest) rest)))
 
 -- ---- the law
--- a cut and the records before it, as a front and a tail
+-- a cut and the records before it, as a front and a tail.
 behind : (bytes : List ℕ) (rs : List (List ℕ)) (at : ℕ) → IsCut bytes rs at → CutBehind bytes rs at
 behind bytes rs at c =
     let some = cut_some (drop at bytes) c.cut in
@@ -216,7 +216,7 @@ cut_from bytes rs at b = record {
   cut = ap ends_inside (ap (drop at) b.is ∙ drop_at (tape_of rs) b.tail at (sym b.place)) ∙ b.cut;
 }
 
--- what a reading of whole bytes tells
+-- What a reading of whole bytes tells.
 told : (bytes : List ℕ) (read : TapeRead) → AreBytes bytes → tape_read bytes ≡ read → Tells 0 bytes read.records read.cut
 told bytes read are e = subst (λ (r : TapeRead). Tells 0 bytes r.records r.cut) e (tells (length bytes) 0 bytes (all_bytes bytes are) (omega arith))
 

@@ -5,18 +5,18 @@ use Rattle.csv.specs.Writing.{row_text}
 use Rattle.air_model.specs.Reports.{Report, counts_row, event_row, look_row, report_text, verdict_row}
 use Rattle.air_model.specs.Rows.{row_writer, rows_text}
 
--- what stands at a place is so whatever is taken where none does
+-- What stands at a place is so whatever is taken where none does.
 pub get_or_self : {X : Type 0} (xs : List X) (i : ℕ) (d : X) → get_or xs i d ≡ get_or xs i (get_or xs i d)
 get_or_self [] i d = refl
 get_or_self (x ∷ xs) zero d = refl
 get_or_self (x ∷ xs) (suc i) d = get_or_self xs i d
 
--- rows behind rows
+-- Rows behind rows.
 rows_join : (rows more : List (List (List ℕ))) → rows_text rows ++ rows_text more ≡ rows_text (rows ++ more)
 unfolding rows_text
 rows_join rows more = sym (flat_map-append (row_text row_writer) rows more)
 
--- the text of a report is that of its sections
+-- The text of a report is that of its sections.
 pub sections_text : (r : Report) → rows_text (map event_row r.history) ++ rows_text (map verdict_row r.verdicts) ++ rows_text (map counts_row r.counts)
     ++ rows_text (map (look_row (codes "glance")) r.glances) ++ rows_text (map (look_row (codes "look")) r.looks) ≡ report_text r
 unfolding report_text

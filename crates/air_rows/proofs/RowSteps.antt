@@ -10,11 +10,11 @@ use Rattle.air_model.specs.Rows.{row_writer}
 use Rattle.air_rows.specs.RowWriters.{IsReady, written}
 use Rattle.air_rows.specs.BegunRows.{IsBegun}
 
--- reports have no style that looks at numbers
+-- Reports have no style that looks at numbers.
 plain_style : row_writer.style ≢ style.NonNumeric
 plain_style e = cc e
 
--- one field more
+-- One field more.
 pub one_more : (before : List ℕ) (fields : List (List ℕ)) (field : List ℕ) (old now : Writer (Vec ℕ Global)) → length fields + 1 < 2 ^ 64 → IsBegun before fields old
     → ((writer_setup old).style ≢ style.NonNumeric → written now ≡ written old ++ (next_sep (writer_setup old) (fields_written old) ++ field_text (writer_setup old) field))
     → writer_setup now ≡ writer_setup old
@@ -36,7 +36,7 @@ one_more before fields field old now few begun text same count wrote stays =
       blank = rw many (blank-more row_writer fields field (has_written old) (has_written now) begun.blank (λ w. rw begun.setup at (wrote w plain)) stays);
     }
 
--- between two rows a row of no fields is begun
+-- Between two rows a row of no fields is begun.
 pub none_yet : (wtr : Writer (Vec ℕ Global)) → IsReady wtr → IsBegun (written wtr) [] wtr
 unfolding is_blank
 none_yet wtr ready = record {
@@ -46,18 +46,18 @@ none_yet wtr ready = record {
   blank = rw ready.no_byte refl;
 }
 
--- behind a tag, the field of one element more
+-- Behind a tag, the field of one element more.
 pub next_field : {X : Type 0} (text : X → List ℕ) (xs : List X) (i : ℕ) (d : X) (before tag field : List ℕ) (wtr : Writer (Vec ℕ Global)) → i < length xs → field ≡ text (get_or xs i d)
     → IsBegun before ((tag ∷ map text (take i xs)) ++ field ∷ []) wtr → IsBegun before (tag ∷ map text (take (i + 1) xs)) wtr
 next_field text xs i d before tag field wtr below told begun =
     subst (λ fields. IsBegun before (tag ∷ fields) wtr) (ap (λ t. map text (take i xs) ++ t ∷ []) told ∙ sym (map_more text xs i d below)) begun
 
--- so many fields stand before it
+-- So many fields stand before it.
 pub few_fields : {X : Type 0} (text : X → List ℕ) (xs : List X) (i : ℕ) (tag : List ℕ) → i < length xs → i + 2 < 2 ^ 64 → length (tag ∷ map text (take i xs)) + 1 < 2 ^ 64
 few_fields text xs i tag below small =
     omega (arith, length-map (take i xs) text, length-take i xs)
 
--- all of them stand there
+-- All of them stand there.
 pub all_fields : {X : Type 0} (text : X → List ℕ) (xs : List X) (i : ℕ) (before tag : List ℕ) (wtr : Writer (Vec ℕ Global)) → length xs ≤ i
     → IsBegun before (tag ∷ map text (take i xs)) wtr → IsBegun before (tag ∷ map text xs) wtr
 all_fields text xs i before tag wtr all begun = subst (λ ys. IsBegun before (tag ∷ map text ys) wtr) (take_all i xs all) begun

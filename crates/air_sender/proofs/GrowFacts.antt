@@ -16,14 +16,14 @@ use Rattle.air_sender.specs.BoardBuckets.{GrowLaw, last_cycle}
 
 -- ---- ranges of numbers
 
--- functions that agree on a range
+-- Functions that agree on a range.
 range_same : {X : Type 0} (f g : ℕ → List X) (a n : ℕ) → ((c : ℕ) → a ≤ c → c < a + n → f c ≡ g c) → flat_map f (range_with_len a n) ≡ flat_map g (range_with_len a n)
 range_same f g a zero same = refl
 range_same f g a (suc n) same =
     ap (λ l. l ++ flat_map f (range_with_len (a + 1) n)) (same a (omega arith) (omega arith))
     ∙ ap (λ l. g a ++ l) (range_same f g (a + 1) n (λ c low high. same c (omega arith) (omega arith)))
 
--- one more number at the end of a range
+-- One more number at the end of a range.
 range_more : {X : Type 0} (f : ℕ → List X) (a n j : ℕ) → a + n ≡ j → flat_map f (range_with_len a (n + 1)) ≡ flat_map f (range_with_len a n) ++ f j
 range_more {X} f a n j e =
     let id : List X → List X = λ l. l in
@@ -35,16 +35,16 @@ range_more {X} f a n j e =
 
 -- ---- cycles
 
--- one more event is one more start, or none
+-- One more event is one more start, or none.
 starts_more : (G : List Event) (e : Event) → starts (G ++ e ∷ []) ≡ starts G + cond (is_start e) 1 0
 unfolding starts
 starts_more G e = omega (arith, sum_by-append (λ e. cond (is_start e) 1 0) G (e ∷ []), sum_by-cons (λ e. cond (is_start e) 1 0) e [])
 
--- the buckets of a cycle
+-- The buckets of a cycle.
 abbrev buckets_in : List ℕ → Air → List Event → ℕ → List Bucket
 buckets_in values air H c = map (bucket_of values air H c) (range_with_len 0 (length air.slots))
 
--- a cycle that was started has the buckets that it had
+-- A cycle that was started has the buckets that it had.
 cycle_kept : (values : List ℕ) (air : Air) (G : List Event) (e : Event) (c : ℕ) → c ≤ starts G → buckets_in values air (G ++ e ∷ []) c ≡ buckets_in values air G c
 cycle_kept values air G e c l =
     fill_by_all (bucket_of values air G c) (buckets_in values air (G ++ e ∷ []) c) (length air.slots) (bucket_of values air G c 0)

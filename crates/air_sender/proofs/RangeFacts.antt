@@ -12,14 +12,14 @@ use Rattle.air_model.specs.Buckets.{Bucket, Column, Idle, IsInRange, Vector, cou
 use Rattle.bucket_codec.proofs.EncodingFacts.{length_spelling}
 use Rattle.air_sender.specs.BoardBuckets.{EntriesBelow, entries_on}
 
--- entries of a board that can air its cycle are below it
+-- Entries of a board that can air its cycle are below it.
 pub column_below : (board : Board) (item : ℕ) (es : List ℕ) → EntriesBelow board → es ≡ get_or board.columns item [] → All (λ e. e < board.cycle) es
 column_below board item es below e = subst (All (λ e. e < board.cycle)) (sym e) (elim (cases_lt item (length board.columns)) as (λ _. All (λ e. e < board.cycle) (get_or board.columns item [])) [
   | inl l ↦ All-get_or (All (λ e. e < board.cycle)) board.columns item [] l below.columns
   | inr past ↦ subst (All (λ e. e < board.cycle)) (sym (get_or_past board.columns item [] past)) (All-nil _)
 ])
 
--- an idle bucket
+-- An idle bucket.
 pub idle_range : (c s n : ℕ) → 1 ≤ c → c < 2 ^ 32 → s < 2 ^ 16 → 1 ≤ n → n ≤ 256 → IsInRange (record { edition = 0; cycle = c; slot = s; body = Idle n })
 unfolding count_of entries_of item_of kind_of value_of
 idle_range c s n one wide slot some few = record {
@@ -34,7 +34,7 @@ idle_range c s n one wide slot some few = record {
   entries = All-nil _;
 }
 
--- the bucket of an item
+-- The bucket of an item.
 pub column_range : (c s i v : ℕ) (es : List ℕ) → 1 ≤ c → c < 2 ^ 32 → s < 2 ^ 16 → i < length es → length es ≤ 256 → v < 2 ^ 64 → All (λ e. e < c) es
     → IsInRange (record { edition = 0; cycle = c; slot = s; body = Column i v es })
 unfolding count_of entries_of item_of kind_of value_of
@@ -65,27 +65,27 @@ vector_range c s i v es one wide slot within few value below = record {
   entries = below;
 }
 
--- the bucket of an item under any policy
+-- The bucket of an item under any policy.
 pub aired_range : (by : Policy) (board : Board) (c s i v : ℕ) → 1 ≤ c → c < 2 ^ 32 → s < 2 ^ 16 → i < length (entries_on by board i) → length (entries_on by board i) ≤ 256 → v < 2 ^ 64
     → All (λ e. e < c) (entries_on by board i) → IsInRange (record { edition = 0; cycle = c; slot = s; body = aired_as by i v (entries_on by board i) })
 aired_range FMatrix board c s i v one wide slot within few value below = column_range c s i v _ one wide slot within few value below
 aired_range Datacycle board c s i v one wide slot within few value below = vector_range c s i v _ one wide slot within few value below
 aired_range RMatrix board c s i v one wide slot within few value below = vector_range c s i v _ one wide slot within few value below
 
--- its entries are below the board's cycle, where the board can air it
+-- Its entries are below the board's cycle, where the board can air it.
 pub aired_below : (by : Policy) (board : Board) (i : ℕ) → EntriesBelow board → All (λ e. e < board.cycle) (entries_on by board i)
 aired_below FMatrix board i below = column_below board i _ below refl
 aired_below Datacycle board i below = below.vector
 aired_below RMatrix board i below = below.vector
 
--- and they are the entries that the bucket carries
+-- And they are the entries that the bucket carries.
 pub aired_entries : (by : Policy) (i v : ℕ) (es : List ℕ) → entries_of (aired_as by i v es) ≡ es
 unfolding entries_of
 aired_entries FMatrix i v es = refl
 aired_entries Datacycle i v es = refl
 aired_entries RMatrix i v es = refl
 
--- how long the bytes of a bucket are
+-- How long the bytes of a bucket are.
 pub spelling_within : (b : Bucket) (es : List ℕ) (n : ℕ) → entries_of b.body ≡ es → length es ≤ n → length (spelling b) ≤ 24 + 4 * n
 spelling_within b es n e few = omega (arith, length_spelling b, ap length e)
 

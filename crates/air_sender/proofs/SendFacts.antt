@@ -54,17 +54,17 @@ sent_all bs n o p e h = subst (λ xs. Changes (with_buckets xs) o p) (take_all n
 
 -- ---- one bucket
 
--- what a slot's bucket says, by the item that the slot has
+-- What a slot's bucket says, by the item that the slot has.
 pub bucket_is : (by : Policy) (slots : List (Option ℕ)) (board : Board) (s : ℕ) (o : Option ℕ) (b : Bucket) → o ≡ get_or slots s None
     → b ≡ record { edition = 0; cycle = board.cycle; slot = s; body = body_on by board o } → b ≡ bucket_on by slots board s
 unfolding bucket_on
 bucket_is by slots board s o b at is = is ∙ ap (λ (o : Option ℕ). let b : Bucket = record { edition = 0; cycle = board.cycle; slot = s; body = body_on by board o } in b) at
 
--- the bytes that were written at the front of the buffer
+-- The bytes that were written at the front of the buffer.
 pub front_is : (b : Bucket) (n : ℕ) (out rest : List ℕ) → n ≡ length (spelling b) → out ≡ spelling b ++ rest → take n out ≡ spelling b
 front_is b n out rest size wrote = ap (take n) wrote ∙ take_at (spelling b) rest n (sym size)
 
--- what holds of a call that was answered well, or failed
+-- What holds of a call that was answered well, or failed.
 pub well : {T E P : Type 0} (r : Result T E) (failed : Bool) → failed ≡ is_err r → failed ≡ false → OnOk r P → P
 well (Ok x) failed told is h = h
 well (Err y) failed told is h = absurd (false≢true (sym is ∙ told))
@@ -91,7 +91,7 @@ last_bytes_are values air G by slots board n is e fit = last_is values air G by 
 
 -- ---- a fault
 
--- the buckets of the slots before that of the fault were sent, and no more
+-- The buckets of the slots before that of the fault were sent, and no more.
 pub sent_up_to : {M : Type 0} (state : M → Masted) (xs ys : List (List ℕ)) (before now : M) (e : AirFault) → xs ≡ ys → IsAirAnswer state xs before now e
     → Changes (with_buckets (take (failed_slot e) ys)) (state before).told (state now).told
 sent_up_to state xs ys before now (fault.Mast slot) same failed =

@@ -45,13 +45,13 @@ front_at (Start ∷ G) zero e = absurd (omega (arith, starts_start G))
 front_at (Start ∷ G) (suc c) e = ap (λ t. Start ∷ t) (front_at G c (omega (arith, starts_start G)))
 front_at (Commit by seq update ∷ G) c e = ap (λ t. Commit by seq update ∷ t) (front_at G c (omega (arith, starts_commit G by seq update)))
 
--- the front of the cycle that a start begins is what came before it
+-- The front of the cycle that a start begins is what came before it.
 pub front_started : (G : List Event) → front (G ++ Start ∷ []) (starts G + 1) ≡ G
 front_started G = ap (front (G ++ Start ∷ [])) (let e : starts G + 1 ≡ suc (starts G) = omega arith in e) ∙ front_at G (starts G) refl
 
 -- ---- the board
 
--- the board of a list of events, in the next cycle
+-- The board of a list of events, in the next cycle.
 abbrev pub next_cycle : List ℕ → List Event → Board
 next_cycle values G = record { cycle = starts G + 1; values = table_list values G; columns = columns (length values) G; vector = vector (length values) G }
 
@@ -70,7 +70,7 @@ starts_push values G = ap (λ (b : Board). b.cycle) (started values G)
 
 -- ---- what the board airs is what the history airs
 
--- an item's body, by a list of events that stands before the cycle
+-- An item's body, by a list of events that stands before the cycle.
 body_by : Policy → List ℕ → ℕ → List Event → ℕ → Body
 body_by FMatrix values n G item = aired_as FMatrix item (table (values_of values) G item) (column n G item)
 body_by Datacycle values n G item = aired_as Datacycle item (table (values_of values) G item) (vector n G)

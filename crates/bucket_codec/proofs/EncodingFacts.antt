@@ -17,21 +17,21 @@ length_head : (b : Bucket) → length (head_bytes (head_of b)) ≡ 24
 unfolding head_bytes head_of
 length_head b = refl
 
--- the length of a spelling
+-- The length of a spelling.
 pub length_spelling : (b : Bucket) → length (spelling b) ≡ 24 + 4 * length (entries_of b.body)
 length_spelling b =
     let whole = ap length (spelling_is b) in
     let head = length_head b in
     omega (arith, length-append (head_bytes (head_of b)) (flat_map (big_bytes 4) (entries_of b.body)), length_numbers (entries_of b.body))
 
--- the head and then the entries were written
+-- The head and then the entries were written.
 pub whole_is : (b : Bucket) (es old out new : List ℕ) → es ≡ entries_of b.body → out ≡ head_bytes (head_of b) ++ drop 24 old
     → new ≡ take 24 out ++ (flat_map (big_bytes 4) es ++ drop (24 + 4 * length es) out) → new ≡ spelling b ++ drop (24 + 4 * length es) old
 whole_is b es old out new e told wrote =
     put_next old out new (head_bytes (head_of b)) (flat_map (big_bytes 4) es) 24 (4 * length es) (length_head b) (length_numbers es) told wrote
     ∙ ap (λ l. l ++ drop (24 + 4 * length es) old) (ap (λ l. head_bytes (head_of b) ++ flat_map (big_bytes 4) l) e ∙ spelling_is b)
 
--- what was written at the front is read as the bucket
+-- What was written at the front is read as the bucket.
 pub decodes : (b : Bucket) (n : ℕ) (rest new : List ℕ) → IsInRange b → n ≡ length (spelling b) → new ≡ spelling b ++ rest → reading (take n new) ≡ Ok b
 decodes b n rest new range size wrote =
     let w = whole_from_bucket (spelling b) b (range, refl) in

@@ -9,7 +9,7 @@ use Rattle.air_model.specs.declared.bucket.BucketFault.TheVariants.{Short, Magic
 use Rattle.air_model.specs.Buckets.{Bucket, IsBucket, bucket_at, entries_at, entry_count, fault_of, is_placed, is_shaped, number_at, reading}
 use Rattle.air_model.proofs.ByteFacts.{AllBytes, are_bytes}
 use Rattle.air_model.proofs.BucketFacts.{fault_exactly, ok_from_whole, reading_agrees, whole_from_ok}
-use Rattle.bucket_codec.specs.Views.{IsNoBucket}
+use Rattle.bucket_codec.specs.DatagramKinds.{IsNoBucket}
 
 other : (a b : ℕ) → a ≢ b → (a == b) ≡ false
 other a b ne = grind arith
@@ -58,7 +58,7 @@ module _ (bytes : List ℕ) (long : 24 ≤ length bytes) (m0 : slice_index bytes
       no_fault n e exact good =
           ap result_err (ok_from_whole bytes (record { long = long; magic0 = m0; magic1 = m1; version = v; kind = k; exact = exact ∙ ap (λ n. 24 + 4 * n) e; shaped = good }))
 
--- the shape, from what the readers give
+-- The shape, from what the readers give.
 pub shape_is : (bytes : List ℕ) (kind count n cycle item value : ℕ) → kind ≡ slice_index bytes 3 → count ≡ number_at 6 2 bytes → n ≡ entry_count kind count
     → cycle ≡ number_at 8 4 bytes → item ≡ number_at 14 2 bytes → value ≡ number_at 16 8 bytes
     → (nat_le 1 count && nat_le count 256 && nat_le 1 cycle && is_placed kind item value count && list_all (λ e. nat_lt e cycle) (entries_at n bytes)) ≡ is_shaped bytes
@@ -80,10 +80,10 @@ err_from_some bytes f some = by (reading bytes) refl
     by (Ok b) e = let none : ◌≡◌ {A = Option BucketFault} None (Some f) = sym (ap result_err e) ∙ some in cc
     by (Err g) e = let is : Some g ≡ Some f = sym (ap result_err e) ∙ some in e ∙ (let same : g ≡ f = cc in ap Err same)
 
--- bytes without a fault are in the grammar
+-- Bytes without a fault are in the grammar.
 pub in_grammar : (bytes : List ℕ) → AllBytes bytes → fault_of bytes ≡ None → IsBucket bytes (bucket_at bytes)
 in_grammar bytes all none = (reading_agrees bytes (bucket_at bytes) (are_bytes bytes all)).1 (ok_from_none bytes none)
 
--- bytes with a fault are no bucket
+-- Bytes with a fault are no bucket.
 pub no_bucket : (bytes : List ℕ) (f : BucketFault) → AllBytes bytes → fault_of bytes ≡ Some f → IsNoBucket bytes
 no_bucket bytes f all some = (fault_exactly bytes (are_bytes bytes all)).0 (rw (err_from_some bytes f some) refl)

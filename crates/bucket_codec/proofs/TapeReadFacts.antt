@@ -10,14 +10,14 @@ use Rattle.air_model.specs.Tapes.{TapeRead, ends_inside, read_from, record_bytes
 use Rattle.air_model.proofs.TapeFacts.{length_record, read_cut, read_record}
 use Rattle.bucket_codec.proofs.WriteFacts.{put_next}
 
--- where nothing is left, nothing is read
+-- Where nothing is left, nothing is read.
 pub nothing_read : (n at : ℕ) (rest : List ℕ) → length rest ≡ 0 → read_from n at rest ≡ record { records = []; cut = None }
 unfolding read_from
 nothing_read zero at rest e = refl
 nothing_read (suc n) at [] e = refl
 nothing_read (suc n) at (x ∷ rest) e = absurd (omega arith)
 
--- a reading is the same under each bound that is large enough
+-- A reading is the same under each bound that is large enough.
 pub enough : (n m at : ℕ) (rest : List ℕ) → length rest ≤ n → length rest ≤ m → read_from n at rest ≡ read_from m at rest
 unfolding read_from
 enough zero m at rest a b = nothing_read zero at rest (omega arith) ∙ sym (nothing_read m at rest (omega arith))
@@ -32,11 +32,11 @@ enough (suc n) (suc m) at rest a b =
     by false e later =
         ap (λ (t : TapeRead). if length rest == 0 then record { records = []; cut = None } else if ends_inside rest then record { records = []; cut = Some at } else with_record (take (big_number 4 rest) (drop 4 rest)) t) later
 
--- a cut record is read as one
+-- A cut record is read as one.
 pub cut_is : (at : ℕ) (rest : List ℕ) → ends_inside rest ≡ true → read_from (length rest) at rest ≡ record { records = []; cut = Some at }
 cut_is at rest cut = read_cut (length rest) at rest cut (omega arith)
 
--- a record is read, and then what follows it
+-- A record is read, and then what follows it.
 pub record_next : (at : ℕ) (r rest after : List ℕ) → length r < 2 ^ 32 → rest ≡ record_bytes r ++ drop (4 + length r) rest → after ≡ drop (4 + length r) rest
     → read_from (length rest) at rest ≡ with_record r (read_from (length after) (at + (4 + length r)) after)
 record_next at r rest after short is e =
@@ -47,7 +47,7 @@ record_next at r rest after short is e =
     ∙ ap (with_record r) (enough n (length after) (at + (4 + length r)) after (omega arith) (omega arith))
 
 -- ---- a record written
--- a copy into a part
+-- a copy into a part.
 pub pasted : (out ys : List ℕ) (at n m : ℕ) → m ≡ n → length ys ≡ n → put_mid at m out ys ≡ take at out ++ (ys ++ drop (at + n) out)
 pasted out ys at n m e size =
     ap (λ k. put_mid at k out ys) e ∙ put_mid-paste at n out ys ys n refl refl (sym size)

@@ -7,7 +7,7 @@ use Rattle.byteorder.specs.Endian.{big_bytes}
 use Rattle.std.proofs.lemmas.Slice.{put_mid-paste}
 use borrow.Rule.Slice.PartMut.{put_mid}
 
--- bytes written through the rest of a slice
+-- Bytes written through the rest of a slice.
 pub written_at : (out bytes : List ℕ) (at k : ℕ) → at + k ≤ length out → length bytes ≡ k
     → put_mid at (length out - at) out (bytes ++ drop k (take (length out - at) (drop at out))) ≡ take at out ++ (bytes ++ drop (at + k) out)
 written_at out bytes at k room long =
@@ -22,7 +22,7 @@ written_at out bytes at k room long =
     ∙ append-nil (take at out ++ new)
     ∙ ap (λ l. take at out ++ (bytes ++ l)) (drop-drop k at out)
 
--- one more write after what was written
+-- One more write after what was written.
 pub put_next : (old out new p bytes : List ℕ) (at n : ℕ) → length p ≡ at → length bytes ≡ n → out ≡ p ++ drop at old
     → new ≡ take at out ++ (bytes ++ drop (at + n) out) → new ≡ (p ++ bytes) ++ drop (at + n) old
 put_next old out new p bytes at n size long told wrote =
@@ -30,7 +30,7 @@ put_next old out new p bytes at n size long told wrote =
     let back : drop (at + n) out ≡ drop (at + n) old = sym (drop-drop n at out) ∙ ap (drop n) (ap (drop at) told ∙ drop_at p (drop at old) at size) ∙ drop-drop n at old in
     wrote ∙ (rw (front, back) (sym (append_assoc p bytes (drop (at + n) old))))
 
--- the first four bytes, set one by one
+-- The first four bytes, set one by one.
 pub four_set : (out : List ℕ) (a b c d : ℕ) → 4 ≤ length out → set (set (set (set out 0 a) 1 b) 2 c) 3 d ≡ (a ∷ b ∷ c ∷ d ∷ []) ++ drop 4 out
 four_set [] a b c d h = absurd (omega arith)
 four_set (x ∷ []) a b c d h = absurd (omega arith)
@@ -42,7 +42,7 @@ pub length_numbers : (es : List ℕ) → length (flat_map (big_bytes 4) es) ≡ 
 length_numbers [] = refl
 length_numbers (e ∷ es) = omega (arith, length_numbers es)
 
--- the entries, one more
+-- The entries, one more.
 pub entries_next : (old out new : List ℕ) (es : List ℕ) (i : ℕ) → i < length es → 24 + 4 * length es ≤ length old
     → out ≡ (take 24 old ++ flat_map (big_bytes 4) (take i es)) ++ drop (24 + 4 * i) old
     → new ≡ take (24 + 4 * i) out ++ (big_bytes 4 (get_or es i 0) ++ drop (24 + 4 * i + 4) out)

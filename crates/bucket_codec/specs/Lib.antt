@@ -1,4 +1,4 @@
 pub mod BucketsToAir
 pub mod Heads
-pub mod Views
+pub mod DatagramKinds
 pub mod Readers

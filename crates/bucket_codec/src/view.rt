@@ -7,7 +7,7 @@ ghost use Rattle.std.specs.Prelude.{◌≡◌, ◌≢◌, ◌≤◌, ◌<◌, �
 ghost use Rattle.std.specs.List.{flat_map, list_all};
 ghost use Rattle.byteorder.specs.Endian.{big_bytes};
 ghost use Rattle.air_model.specs.Buckets.{IsBucket, bucket_at, count_of, entries_at, entries_of, entry_count, fault_of, is_placed, is_shaped, item_of, kind_of, number_at, reading, value_of};
-ghost use Rattle.bucket_codec.specs.Views.{IsNoBucket, kind_number};
+ghost use Rattle.bucket_codec.specs.DatagramKinds.{IsNoBucket, kind_number};
 
 use air_model::bucket::BucketFault;
 use byteorder::{BigEndian, ByteOrder};

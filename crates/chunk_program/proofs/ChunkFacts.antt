@@ -14,14 +14,14 @@ use Rattle.air_model.specs.Disks.{Disk}
 use Rattle.air_model.specs.Programs.{chunk, chunk_len, minor_cycle, minor_len, num_chunks, num_minors, program}
 use Rattle.air_model.proofs.AiringFacts.{airable_aired}
 use Rattle.air_model.proofs.CommonMultiples.{num_minors_common, num_minors_pos}
-use Rattle.chunk_program.specs.Limits.{AreDeckDisks}
+use Rattle.chunk_program.specs.CutConditions.{AreDeckDisks}
 use Rattle.chunk_program.proofs.PlaceSteps.{fewer_items}
 
 positive : (a b : ℕ) → 0 < a * b → 0 < a
 positive zero b h = absurd (omega arith)
 positive (suc a) b h = omega arith
 
--- what is rounded up is no more than what is divided
+-- What is rounded up is no more than what is divided.
 ceiling_below : (s n : ℕ) → 0 < n → (s + n - 1) / n ≤ s
 ceiling_below s zero some = absurd (omega arith)
 ceiling_below s (suc n) some = let less = div_below (s + suc n - 1) (suc n) (s + 1) some (omega arith) in omega arith
@@ -47,7 +47,7 @@ module _ (disks : List Disk) (limits : AreDeckDisks disks) (n : ℕ) (d : Disk) 
       let below = ceiling_below (length d.items) (num_chunks (num_minors disks) d) chunks_some in
       let fewer = fewer_items disks n d at in let few = limits.few in omega arith
 
--- where the chunk that a minor cycle airs ends on its disk, in a program that isn't too long
+-- Where the chunk that a minor cycle airs ends on its disk, in a program that isn't too long.
 pub chunk_ends : (disks : List Disk) (n : ℕ) (d : Disk) (minors k chunk len : ℕ) → AreDeckDisks disks → slice_get disks n ≡ Some d → minors ≡ num_minors disks → minors ≤ MOST_SLOTS
     → chunk ≡ k % num_chunks minors d → len ≡ chunk_len minors d → chunk * len + len ≤ 256 * MOST_SLOTS
 chunk_ends disks n d minors k chunk len limits at is few aired long =
@@ -60,7 +60,7 @@ chunk_ends disks n d minors k chunk len limits at is few aired long =
     let wide = mul-le-mul_left chunks short in
     let turned : chunks * 256 ≡ 256 * chunks = omega arith in omega arith
 
--- a disk of the first n is that disk of all
+-- A disk of the first n is that disk of all.
 pub record IsFrontDisk (disks : List Disk) (n k : ℕ) (d : Disk) : Type 0 where
   pub front : k < n
   pub within : k < length disks

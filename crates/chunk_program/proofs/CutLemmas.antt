@@ -7,7 +7,7 @@ use Rattle.air_model.specs.Disks.{Disk, DiskSpec, all_items, cut, order}
 use Rattle.air_model.specs.Decks.{Deck, IsDeck, Item, disks_in, rates_in}
 use Rattle.air_model.proofs.ItemOrder.{cut_airable, cut_items, length-order, order_only}
 use Rattle.item_catalog.specs.DeckLimits.{DiskWithin, WithinLimits}
-use Rattle.chunk_program.specs.Limits.{AreDeckDisks, IsCuttable}
+use Rattle.chunk_program.specs.CutConditions.{AreDeckDisks, IsCuttable}
 
 length-cut : (items : List ℕ) (specs : List DiskSpec) → length (cut items specs) ≡ length specs
 unfolding cut
@@ -44,7 +44,7 @@ module _ (rates : List ℕ) (specs : List DiskSpec) (fits : IsCuttable rates spe
     freqs = cut_freqs (order rates) specs fits.freqs;
   }
 
--- what a well-made deck within the limits gives
+-- What a well-made deck within the limits gives.
 pub deck_cuttable : (deck : Deck) → IsDeck deck → WithinLimits deck → IsCuttable (rates_in deck) deck.disks
 deck_cuttable deck made within = record {
   some = (let some = made.some in omega (arith, length-map {A = Item} {B = ℕ}));

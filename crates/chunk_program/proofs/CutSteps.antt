@@ -5,7 +5,7 @@ use Rattle.std.proofs.Math.ListN.{drop_of_length-le}
 use Rattle.std.proofs.lemmas.List.Sums.{sum_by-drop_more}
 use Rattle.air_model.specs.Disks.{Disk, DiskSpec, cut}
 
--- one more disk, with the first of the items that are left
+-- One more disk, with the first of the items that are left.
 pub cut_step : (rest left : List ℕ) (specs : List DiskSpec) (k : ℕ) (spec : DiskSpec) (items : List ℕ) (freq : ℕ) (made new whole : List Disk) → k < length specs → spec ≡ get_or specs k spec
     → items ≡ take spec.size rest → freq ≡ spec.freq → left ≡ drop spec.size rest → made ++ cut rest (drop k specs) ≡ whole → new ≡ made ++ record { items = items; freq = freq } ∷ []
     → new ++ cut left (drop (k + 1) specs) ≡ whole

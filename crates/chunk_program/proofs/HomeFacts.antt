@@ -14,12 +14,12 @@ use Rattle.air_model.proofs.Elements.{contains_has, has_contains}
 use Rattle.air_model.proofs.Periods.{ComesAt}
 use Rattle.air_model.proofs.SlotPlaces.{chunk_some, comes_at, disk_gap, first_below, place_slot, slots_of}
 use Rattle.chunk_program.specs.Homes.{FitsHome, first_slot}
-use Rattle.chunk_program.specs.Limits.{AreDeckDisks}
+use Rattle.chunk_program.specs.CutConditions.{AreDeckDisks}
 use Rattle.chunk_program.specs.Places.{place_number}
 use Rattle.chunk_program.proofs.ChunkFacts.{chunks_some, freq_some}
 use Rattle.chunk_program.proofs.PlaceSteps.{airable_apart, place_is}
 
--- the item stands on this disk at this place
+-- The item stands on this disk at this place.
 pub record IsHeld (disks : List Disk) (i n q : ℕ) (d : Disk) : Type 0 where
   pub at : slice_get disks n ≡ Some d
   pub item : slice_get d.items q ≡ Some i
@@ -34,7 +34,7 @@ some_place (e ∷ ds) i c = by (Contains-append_cases e.items (all_items ds) i c
     by (inl here) later = let h = contains_has e.items i here in (0, h.0, e, record { at = refl; item = h.1 })
     by (inr there) later = let m = later there in (suc m.0, m.1, m.2, record { at = m.3.at; item = m.3.item })
 
--- the disk with the item's number holds it at its place
+-- The disk with the item's number holds it at its place.
 pub held_item : (disks : List Disk) (i : ℕ) → AreDeckDisks disks → i < length (all_items disks) → (d : Disk) × IsHeld disks i (disk_number disks i) (place_number disks i) d
 held_item disks i limits below =
     let found = some_place disks i ((limits.numbers i).1 below) in
@@ -99,7 +99,7 @@ module _ (disks : List Disk) (i n q : ℕ) (d : Disk) (limits : AreDeckDisks dis
       by zero below within = absurd (omega arith)
       by (suc row) below within = omega arith
 
--- all that is known of the numbers of an item's home: m minor cycles of so many slots, and the front before its disk
+-- All that is known of the numbers of an item's home: m minor cycles of so many slots, and the front before its disk.
 pub record HomeNumbers (disks : List Disk) (i q m row front : ℕ) (d : Disk) : Type 0 where
   pub fits : FitsHome m row front q d
   pub times : d.freq ≡ airings (program disks) i
@@ -132,11 +132,11 @@ home_numbers disks i n q m row front d limits held short is rows fronts =
     let fronts_are : front ≡ minor_len (num_minors disks) (take n disks) = fronts ∙ ap (λ m. minor_len m (take n disks)) is in
     rw (is, rows_are, fronts_are) (home_own disks i n q d limits held short)
 
--- the number of an item's disk is that of a disk
+-- The number of an item's disk is that of a disk.
 pub number_within : (disks : List Disk) (i n : ℕ) → AreDeckDisks disks → i < length (all_items disks) → n ≡ disk_number disks i → n < length disks
 number_within disks i n limits below is = let held = held_item disks i limits below in let within = slice_get_within disks (disk_number disks i) held.0 held.1.at in omega arith
 
--- the same of the disk that is read at the item's number
+-- The same of the disk that is read at the item's number.
 pub home_known : (disks : List Disk) (i n q m row front : ℕ) (d : Disk) → AreDeckDisks disks → i < length (all_items disks) → n ≡ disk_number disks i → q ≡ place_number disks i
     → d ≡ get_or disks n d → length (program disks) ≤ MOST_SLOTS → m ≡ num_minors disks → row ≡ minor_len m disks → front ≡ minor_len m (take n disks)
     → HomeNumbers disks i q m row front d

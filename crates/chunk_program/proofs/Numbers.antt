@@ -18,7 +18,7 @@ positive (suc a) b h = omega arith
 above_zero : (a b : ℕ) → 0 < a → 0 < b → 0 < a * b
 above_zero a b h k = grind arith
 
--- the first multiple that f divides is the least common one
+-- The first multiple that f divides is the least common one.
 pub common_is : (m f k : ℕ) → 0 < m → 0 < f → 1 ≤ k → (k * m) % f ≡ 0 → ((j : ℕ) → 1 ≤ j → j < k → (j * m) % f ≡ 0 → ⊥) → k * m ≡ least_common_multiple m f
 common_is m f k some more from good before =
     let l = least_common_multiple m f in
@@ -32,7 +32,7 @@ common_is m f k some more from good before =
     by p whole place least (inr over) (inl more) = absurd (let grows = mul-le-mul_right m more in let next : suc k * m ≡ k * m + m = omega arith in omega arith)
     by p whole place least (inr over) (inr under) = let same : k ≡ p = omega arith in ap (λ n. n * m) same ∙ whole
 
--- the steps go on below f
+-- The steps go on below f.
 pub still_below : (m f k : ℕ) → k ≤ f → ((k * m) % f ≡ 0 → ⊥) → k < f
 still_below m f k within bad = by (cases_lt k f)
   where
@@ -68,14 +68,14 @@ minors_more disks k d m below is told =
     ap (λ n. least_common_multiple n d.freq) told ∙ sym (fold_more (λ m (d : Disk). least_common_multiple m d.freq) 1 (take k disks) d)
     ∙ ap (fold (λ m (d : Disk). least_common_multiple m d.freq) 1) (ap (λ x. take k disks ++ x ∷ []) is ∙ sym (take_more disks k d below))
 
--- a common multiple is at most the product
+-- A common multiple is at most the product.
 pub common_bound : (m f n : ℕ) → 0 < m → 0 < f → f ≤ 64 → m ≤ 64 ^ n → least_common_multiple m f ≤ 64 ^ (n + 1)
 common_bound m f n some more few under =
     let least = least_common_least m f (f * m) some more (above_zero f m more some) (mul-mod_left f m) (mul-mod_right f m) in
     let grows : f * m ≤ 64 * m = mul-le-mul_right m few in
     let next = pow_more 64 n in omega arith
 
--- the step to the next multiple stays far below 64 bits
+-- The step to the next multiple stays far below 64 bits.
 pub common_fits : (m f n : ℕ) → f ≤ 64 → m ≤ 64 ^ n → n < 8 → f * m < 2 ^ 64
 common_fits m f n few under eight =
     let grows : f * m ≤ 64 * m = mul-le-mul_right m few in

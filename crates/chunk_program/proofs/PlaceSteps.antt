@@ -15,11 +15,11 @@ use Rattle.air_model.proofs.AiringFacts.{disk_is}
 use Rattle.air_model.proofs.Elements.{Distinct, all_at, at_all, Distinct-left, Distinct-right, has_contains, pairs_at}
 use Rattle.air_model.proofs.SlotPlaces.{item_of_disk}
 use Rattle.chunk_program.specs.declared.places.Place.{Place}
-use Rattle.chunk_program.specs.Limits.{AreDeckDisks}
+use Rattle.chunk_program.specs.CutConditions.{AreDeckDisks}
 use Rattle.chunk_program.specs.PlaceTables.{HasPlaces, IsPlace}
 use Rattle.chunk_program.specs.Places.{place_number}
 
--- one more item is put at its number
+-- One more item is put at its number.
 pub put_step : (disks : List Disk) (done items : List ℕ) (k item disk : ℕ) (places : List Place) → k < length items → item ≡ get_or items k 0 → item < length places
     → HasPlaces disks (done ++ take k items) places → IsPlace disks item (record { disk = disk; place = k })
     → HasPlaces disks (done ++ take (k + 1) items) (set places item (record { disk = disk; place = k }))
@@ -54,14 +54,14 @@ airable_apart disks a j k i at to = by (cases_lt j k) (cases_lt k j)
     by (inr over) (inl less) = absurd (pairs_at (λ x y. x ≢ y) (all_items disks) k j i i a.apart less to at refl)
     by (inr over) (inr under) = omega arith
 
--- where the items of the disks stand apart, so do those of each
+-- Where the items of the disks stand apart, so do those of each.
 pub disk_distinct : (disks : List Disk) (n : ℕ) (d : Disk) → Distinct (all_items disks) → slice_get disks n ≡ Some d → Distinct d.items
 unfolding all_items
 disk_distinct [] n d apart at = absurd (cc at)
 disk_distinct (e ∷ ds) zero d apart at = subst (λ (x : Disk). Distinct x.items) (same_Some e d at) (Distinct-left e.items (all_items ds) apart)
 disk_distinct (e ∷ ds) (suc n) d apart at = disk_distinct ds n d (Distinct-right e.items (all_items ds) apart) at
 
--- the number of an element that stands at no other place
+-- The number of an element that stands at no other place.
 position_is : (items : List ℕ) (q i : ℕ) → Distinct items → slice_get items q ≡ Some i → position_or_len (λ j. eqb j i) items ≡ q
 position_is items q i apart at =
     position_or_len_is (λ j. eqb j i) items q 0 (let within = slice_get_within items q i at in omega arith)
@@ -83,7 +83,7 @@ place_is disks n d q i airable at item =
       place = sym (rw (number, at) (position_is d.items q i (disk_distinct disks n d (airable_apart disks airable) at) item));
     }
 
--- what a table has at an item's number is its place
+-- What a table has at an item's number is its place.
 pub own_place : (disks : List Disk) (places : List Place) (i : ℕ) (p : Place) → AreDeckDisks disks → HasPlaces disks (all_items disks) places → length places ≡ length (all_items disks)
     → i < length (all_items disks) → p ≡ get_or places i p → IsPlace disks i p
 own_place disks places i p limits has long below is = has i p ((limits.numbers i).1 below) (slice_get_read places (length places) i p refl (omega arith) is)
@@ -98,7 +98,7 @@ unfolding all_items
 items_more disks n d below is =
     flat_map_more (λ (x : Disk). x.items) [] (take n disks) d ∙ ap (λ (l : List Disk). flat_map (λ x. x.items) l) (ap (λ (x : Disk). take n disks ++ x ∷ []) is ∙ sym (take_more disks n d below))
 
--- what holds of all items holds of a disk's
+-- What holds of all items holds of a disk's.
 pub all_of_disk : (P : ℕ → Type 0) (disks : List Disk) (n : ℕ) (d : Disk) → All P (all_items disks) → slice_get disks n ≡ Some d → All P d.items
 all_of_disk P disks n d all at = at_all P d.items (λ q i item. let t = item_of_disk disks n d q i at item in all_at P (all_items disks) t.0 i all t.1)
 

@@ -13,7 +13,7 @@ use Rattle.air_model.proofs.AiringFacts.{item_airings, item_comes_every, item_ne
 use Rattle.air_model.proofs.Elements.{all_at, at_all, has_contains}
 use Rattle.chunk_program.specs.declared.homes.Home.{Home}
 use Rattle.chunk_program.specs.Homes.{IsHome}
-use Rattle.chunk_program.specs.Limits.{AreDeckDisks}
+use Rattle.chunk_program.specs.CutConditions.{AreDeckDisks}
 use Rattle.chunk_program.specs.Places.{place_number}
 use Rattle.chunk_program.proofs.ChunkFacts.{chunk_len_few, chunks_few, chunks_some, freq_some}
 use Rattle.chunk_program.proofs.HomeFacts.{held_item}
@@ -62,19 +62,19 @@ module _ (disks : List Disk) (i : ℕ) (limits : AreDeckDisks disks) (below : i 
   pub item_freq : (times : ℕ) → times ≡ airings (program disks) i → IfSome (slice_get disks (disk_number disks i)) (λ (d : Disk). times ≡ d.freq)
   item_freq times is = subst (λ (o : Option Disk). IfSome o (λ d. times ≡ d.freq)) (sym at) (is ∙ aired)
 
--- what is known of the numbers of a home
+-- What is known of the numbers of a home.
 pub home_fits : (disks : List Disk) (i : ℕ) (h : Home) → AreDeckDisks disks → i < length (all_items disks) → length (program disks) ≤ MOST_SLOTS → IsHome disks i h
     → (h.gap ≤ MOST_SLOTS) × (h.first < h.gap)
 home_fits disks i h limits below short is =
     let within = item_gap_within disks i limits below in let first = item_first_below disks i limits below in
     let gap = is.gap in let own = is.first in (omega arith, omega arith)
 
--- the wait that a home gives
+-- The wait that a home gives.
 pub home_wait : (disks : List Disk) (i s : ℕ) (h : Home) → AreDeckDisks disks → i < length (all_items disks) → s < length (program disks) → IsHome disks i h
     → (h.first + (h.gap - s % h.gap)) % h.gap ≡ next_wake (program disks) s i
 home_wait disks i s h limits below within is = rw (is.gap, is.first) (sym (item_wait disks i limits below s within).1)
 
--- a deck's disks have a slot
+-- A deck's disks have a slot.
 pub slots_some : (disks : List Disk) → AreDeckDisks disks → 1 ≤ length (program disks)
 slots_some disks limits =
     let within = item_gap_within disks 0 limits limits.some in let some = (item_even disks 0 limits limits.some).some in omega arith

@@ -22,18 +22,18 @@ use Rattle.air_model.proofs.Elements.{all_at, at_pairs}
 use Rattle.air_model.proofs.ItemOrder.{order_only}
 use Rattle.chunk_program.specs.Ranks.{rank_of, ranks}
 
--- the order by which the ranks are sorted
+-- The order by which the ranks are sorted.
 abbrev pub rank_cmp : Reverse ℕ × ℕ → Reverse ℕ × ℕ → Ordering
 rank_cmp x y = ordering_then (nat_cmp y.0.0 x.0.0) (nat_cmp x.1 y.1)
 
 rank_total : IsTotalOrder rank_cmp
 rank_total = then_total (on_total (λ (r : Reverse ℕ × ℕ). r.0.0) (back_total nat_cmp_total)) (on_total (λ (r : Reverse ℕ × ℕ). r.1) nat_cmp_total)
 
--- of two items, that is hotter which isn't sorted after the other
+-- Of two items, that is hotter which isn't sorted after the other.
 hotter_from_rank : (rates : List ℕ) (x y : ℕ) → (x ≡ y → ⊥) → is_lt (rank_cmp (rank_of rates y) (rank_of rates x)) ≡ false → is_hotter rates x y ≡ true
 hotter_from_rank rates x y other e = grind (arith, nat_tests)
 
--- the items of the ranks are all items, by number
+-- The items of the ranks are all items, by number.
 items_of : (rates is : List ℕ) → map (λ (r : Reverse ℕ × ℕ). r.1) (map (rank_of rates) is) ≡ is
 items_of rates [] = refl
 items_of rates (i ∷ is) = ap (λ l. i ∷ l) (items_of rates is)

@@ -2,7 +2,7 @@
 use Rattle.std.specs.Prelude.{◌≡◌, length}
 use Rattle.air_model.specs.Disks.{all_items}
 use Rattle.chunk_program.specs.declared.cuts.Cut.TheInside.{Inside}
-use Rattle.chunk_program.specs.Limits.{AreDeckDisks}
+use Rattle.chunk_program.specs.CutConditions.{AreDeckDisks}
 use Rattle.chunk_program.specs.PlaceTables.{HasPlaces}
 
 -- The order is that of the disks' items, the disks are a deck's, and the table has a place for each item.

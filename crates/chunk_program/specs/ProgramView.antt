@@ -6,7 +6,7 @@ use Rattle.air_model.specs.Programs.{minor_len, num_minors, program}
 use Rattle.chunk_program.specs.declared.homes.Home.{Home}
 use Rattle.chunk_program.specs.declared.programs.Program.TheInside.{Inside}
 use Rattle.chunk_program.specs.Homes.{IsHome}
-use Rattle.chunk_program.specs.Limits.{AreDeckDisks}
+use Rattle.chunk_program.specs.CutConditions.{AreDeckDisks}
 
 -- The disks are a deck's, the numbers and slots are those of their program, which isn't too long, and the table has
 -- each item's home.

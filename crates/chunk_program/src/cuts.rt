@@ -5,7 +5,7 @@
 ghost use Rattle.std.specs.Prelude.{◌≡◌, ◌<◌, length, IfOk};
 ghost use Rattle.air_model.specs.Disks.{all_items, cut, order};
 ghost use Rattle.air_model.specs.Airings.{disk_number};
-ghost use Rattle.chunk_program.specs.Limits.{AreDeckDisks, IsCuttable};
+ghost use Rattle.chunk_program.specs.CutConditions.{AreDeckDisks, IsCuttable};
 ghost use Rattle.chunk_program.specs.Places.{place_number};
 
 use crate::disks::{Disk, DiskSpec, cut_items};

@@ -9,7 +9,7 @@ ghost use Rattle.air_model.specs.Disks.{all_items};
 ghost use Rattle.air_model.specs.Programs.{minor_len, num_chunks, num_minors, program};
 ghost use Rattle.chunk_program.specs.declared.homes.Home.{Home};
 ghost use Rattle.chunk_program.specs.Homes.{FitsHome, IsHome, first_slot};
-ghost use Rattle.chunk_program.specs.Limits.{AreDeckDisks};
+ghost use Rattle.chunk_program.specs.CutConditions.{AreDeckDisks};
 
 use crate::cuts::Cut;
 use crate::disks::Disk;

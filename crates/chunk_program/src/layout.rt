@@ -7,7 +7,7 @@ ghost use Rattle.std.specs.Prelude.{◌≡◌, ◌≤◌, ◌<◌, ◌+◌, ◌*
 ghost use Rattle.std.specs.List.{range_with_len};
 ghost use Rattle.air_base.specs.declared.limits.TheConstants.{MOST_SLOTS};
 ghost use Rattle.air_model.specs.Programs.{chunk_len, least_common_multiple, minor_cycle, minor_len, num_minors, program};
-ghost use Rattle.chunk_program.specs.Limits.{AreDeckDisks};
+ghost use Rattle.chunk_program.specs.CutConditions.{AreDeckDisks};
 
 use crate::disks::Disk;
 use std::alloc::{AllocError, Global};

@@ -4,7 +4,7 @@
 
 ghost use Rattle.std.specs.Prelude.{◌≡◌, ℕ, ◌<◌, ◌≤◌, ◌++◌, List, Some, All, IfOk, length, slice_get};
 ghost use Rattle.air_model.specs.Disks.{Disk, all_items};
-ghost use Rattle.chunk_program.specs.Limits.{AreDeckDisks};
+ghost use Rattle.chunk_program.specs.CutConditions.{AreDeckDisks};
 ghost use Rattle.chunk_program.specs.PlaceTables.{HasPlaces, IsPlace};
 
 use crate::disks::Disk;

@@ -11,7 +11,7 @@ ghost use Rattle.air_model.specs.Programs.{chunk_len, minor_len, num_chunks, num
 ghost use Rattle.air_model.specs.ProgramLaws.{IsAirable};
 ghost use Rattle.air_model.specs.Airings.{ComesEvery, IsNextWake, airings, disk_number, gap_of, next_wake, pix_number, slot_item};
 ghost use Rattle.chunk_program.specs.Homes.{IsHome};
-ghost use Rattle.chunk_program.specs.Limits.{AreDeckDisks};
+ghost use Rattle.chunk_program.specs.CutConditions.{AreDeckDisks};
 ghost use Rattle.chunk_program.specs.Plans.{IsPlanAnswer};
 
 use crate::cuts::Cut;

@@ -11,18 +11,18 @@ use Rattle.column_check.specs.HeardReads.{heard_of}
 use Rattle.air_history.specs.HeldReads.{HeldReads}
 use Rattle.column_check.specs.HeldCycles.{held_cycle, cycles_of}
 
--- the entry of an item
+-- The entry of an item.
 pub cycle_at : (held : HeldReads) (i : ℕ) → i < held.n → get_or (cycles_of held) i 0 ≡ held_cycle held.reads i
 cycle_at held i l = get_or-map-range_with_len (held_cycle held.reads) 0 held.n i i 0 l (omega arith)
 
 pub cycles_len : (held : HeldReads) → length (cycles_of held) ≡ held.n
 cycles_len held = length-map-range_with_len (held_cycle held.reads) 0 held.n
 
--- where nothing is held all entries are the greatest number
+-- Where nothing is held all entries are the greatest number.
 pub no_cycles : (n : ℕ) → cycles_of (record { n = n; reads = [] }) ≡ replicate n 4294967295
 no_cycles n = sym (fill_by_all (held_cycle []) (replicate n 4294967295) n 0 (length-replicate n 4294967295) (λ k l. get_or-replicate n k 4294967295 0 l))
 
--- an entry below the greatest number is the cycle of a held read
+-- An entry below the greatest number is the cycle of a held read.
 pub is_held : (R : List Heard) (i : ℕ) → held_cycle R i < 4294967295 → Any (λ r. (r.item ≡ i) × (r.cycle ≡ held_cycle R i)) R
 is_held [] i l = absurd (omega arith)
 is_held (r ∷ R) i l = elim (cases_eq r.item i) as (λ _. Any (λ s. (s.item ≡ i) × (s.cycle ≡ held_cycle (r ∷ R) i)) (r ∷ R)) [
@@ -33,7 +33,7 @@ is_held (r ∷ R) i l = elim (cases_eq r.item i) as (λ _. Any (λ s. (s.item �
       (suc a.0, a.1, omega (arith, a.2), a.3, (a.4.0, a.4.1 ∙ sym is))
 ]
 
--- one read more changes the entry of its item, which wasn't held, and no other
+-- One read more changes the entry of its item, which wasn't held, and no other.
 pub held_more : (R : List Heard) (x : Heard) → All (λ r. r.item ≢ x.item) R → held_cycle (R ++ x ∷ []) x.item ≡ x.cycle
 held_more [] x free = cond-true (x.item == x.item) _ _ (eq-eqb x.item x.item refl)
 held_more (r ∷ R) x free =
@@ -44,7 +44,7 @@ pub held_others : (R : List Heard) (x : Heard) (i : ℕ) → x.item ≢ i → he
 held_others [] x i other = cond-false (x.item == i) _ _ (ne_eqb x.item i other)
 held_others (r ∷ R) x i other = ap (cond (r.item == i) r.cycle) (held_others R x i other)
 
--- the array with the new read's cycle put at its item is that of the reads with the new one
+-- The array with the new read's cycle put at its item is that of the reads with the new one.
 pub cycles_more : (n : ℕ) (R : List Heard) (x : Heard) (cycles new : List ℕ) → All (λ r. r.item ≢ x.item) R → x.item < n →
     cycles ≡ cycles_of (record { n = n; reads = R }) → length new ≡ n → get_or new x.item 0 ≡ x.cycle → ((k : ℕ) → k ≢ x.item → get_or new k 0 ≡ get_or cycles k 0) →
     new ≡ cycles_of (record { n = n; reads = R ++ x ∷ [] })
@@ -54,14 +54,14 @@ cycles_more n R x cycles new free within is long put kept = fill_by_all (held_cy
       | inr other ↦ kept k (λ e. other (sym e)) ∙ ap (λ xs. get_or xs k 0) is ∙ cycle_at (record { n = n; reads = R }) k l ∙ sym (held_others R x k other)
     ])
 
--- and each read is still the one by which its item is held
+-- And each read is still the one by which its item is held.
 pub once_more : (R : List Heard) (x : Heard) → All (λ r. r.item ≢ x.item) R → All (λ r. held_cycle R r.item ≡ r.cycle) R →
     All (λ r. held_cycle (R ++ x ∷ []) r.item ≡ r.cycle) (R ++ x ∷ [])
 once_more R x free once = All-append (λ r. held_cycle (R ++ x ∷ []) r.item ≡ r.cycle) R (x ∷ [])
     (λ k d l. held_others R x _ (λ e. free k d l (sym e)) ∙ once k d l)
     (All-cons (λ r. held_cycle (R ++ x ∷ []) r.item ≡ r.cycle) x [] (held_more R x free) (λ k d l. absurd (omega arith)))
 
--- the same of the array and the places, as `hold` writes them
+-- The same of the array and the places, as `hold` writes them.
 pub cycles_put : (n : ℕ) (R : List Heard) (x : Heard) (cycles : List ℕ) → All (λ r. r.item ≢ x.item) R → x.item < n → cycles ≡ cycles_of (record { n = n; reads = R }) →
     set cycles x.item x.cycle ≡ cycles_of (record { n = n; reads = R ++ x ∷ [] })
 cycles_put n R x cycles free within is =

@@ -11,7 +11,7 @@ use Rattle.column_check.specs.HeldCycles.{held_cycle, cycles_of, held_has, lesse
 use Rattle.column_check.proofs.LeastFacts.{none_passes, some_passes, IsLeastOf}
 use Rattle.column_check.proofs.ArrayLemmas.{cycle_at, is_held}
 
--- the clash of the least of the reads that pass, and None where none passes
+-- The clash of the least of the reads that pass, and None where none passes.
 abbrev pub NamesLeastOf : (Heard → Bool) → List Heard → Option Clash → Type 0
 NamesLeastOf test R o = MatchOption o (All (λ r. test r ≡ false) R) (IsLeastOf test R)
 
@@ -24,7 +24,7 @@ search_names test R = by (heard_clash test R) refl
 
 -- ---- the array
 
--- whether the column of the new read x has the held read's item at its cycle or later
+-- Whether the column of the new read x has the held read's item at its cycle or later.
 abbrev new_has : Heard → Heard → Bool
 new_has x r = nat_le r.cycle (entry_of x r.item)
 
@@ -45,7 +45,7 @@ not_before column cycles i j cycle before at high = elim (cases_lt j i) [
   | inr late ↦ omega arith
 ]
 
--- a first clash by the array is the least of the reads whose cycle the new column reaches
+-- A first clash by the array is the least of the reads whose cycle the new column reaches.
 pub array_names : (held : HeldReads) (x : Heard) (o : Option Clash) → All (λ r. r.item < held.n) held.reads →
     All (λ r. held_cycle held.reads r.item ≡ r.cycle) held.reads → length x.entries ≡ held.n → All (λ entry. entry < x.cycle) x.entries → x.cycle ≤ 4294967295 →
     IsFirstClash x.entries (cycles_of held) o → NamesLeastOf (new_has x) held.reads o
@@ -125,7 +125,7 @@ both_names p q R (Some c) (Some e) n m = by (nat_le c.item e.item) refl
 
 -- ---- one clash alone is named
 
--- where a read's cycle follows from its item, two least clashes are the same
+-- Where a read's cycle follows from its item, two least clashes are the same.
 least_once : (f : ℕ → ℕ) (test : Heard → Bool) (R : List Heard) (c e : Clash) → All (λ r. f r.item ≡ r.cycle) R → IsLeastOf test R c → IsLeastOf test R e → c ≡ e
 least_once f test R c e once n m =
     let a = n.held in
@@ -150,7 +150,7 @@ names_one f test R None (Some c) once n m = absurd (none_or_some test R c n m)
 names_one f test R (Some c) None once n m = absurd (none_or_some test R c m n)
 names_one f test R (Some c) (Some e) once n m = ap Some (least_once f test R c e once n m)
 
--- the lesser of what the two searches answer is the clash with the reads that disagree
+-- The lesser of what the two searches answer is the clash with the reads that disagree.
 pub both_is : (held : HeldReads) (x : Heard) (a b : Option Clash) → All (λ r. r.item < held.n) held.reads →
     All (λ r. held_cycle held.reads r.item ≡ r.cycle) held.reads → length x.entries ≡ held.n → All (λ entry. entry < x.cycle) x.entries → x.cycle ≤ 4294967295 →
     IsFirstClash x.entries (cycles_of held) a → b ≡ heard_clash (held_has x.item x.cycle) held.reads → lesser_of_both a b ≡ heard_clash (disagree x) held.reads

@@ -20,7 +20,7 @@ last_push [] s = refl
 last_push (r ∷ []) s = refl
 last_push (r ∷ t ∷ S) s = last_push (t ∷ S) s
 
--- the cycle of the last held read is that of the last place that holds one
+-- The cycle of the last held read is that of the last place that holds one.
 pub last_held : (places : List HeldRead) (len : ℕ) (p : HeldRead) → 0 < len → len ≤ length places → p ≡ get_or places (len - 1) p →
     p.cycle ≡ last_cycle (map read_at (map heard_of (take len places)))
 last_held places len p pos within e =
@@ -32,17 +32,17 @@ last_held places len p pos within e =
     ∙ ap last_cycle (map-append read_at (map heard_of (take (len - 1) places)) (heard_of p ∷ []))
     ∙ last_push (map read_at (map heard_of (take (len - 1) places))) (read_at (heard_of p)))
 
--- the clash by the entries is the least among the reads that disagree with the new one
+-- The clash by the entries is the least among the reads that disagree with the new one.
 pub least_is : (R : List Heard) (x : Heard) → heard_clash (disagree x) R ≡ clash_by_entries FMatrix R x
 unfolding clash_by_entries
 least_is R x = refl
 
--- where the columns are a history's, the clash by the entries is the clash by the history
+-- Where the columns are a history's, the clash by the entries is the clash by the history.
 pub told_by_history : (n : ℕ) (H : List Event) (R : List Heard) (x : Heard) → All (IsHeard (scheme_of FMatrix) n H) R → IsHeard (scheme_of FMatrix) n H x →
     clash_by_entries FMatrix R x ≡ clash_by_history FMatrix H (map read_at R) (read_at x)
 told_by_history n H R x held new = sym (clash (scheme_of FMatrix) n H R x held new tt)
 
--- and there is none exactly if the reads stay consistent
+-- And there is none exactly if the reads stay consistent.
 pub none_told : (n : ℕ) (H : List Event) (R : List Heard) (x : Heard) → All (IsHeard (scheme_of FMatrix) n H) R → IsHeard (scheme_of FMatrix) n H x → IsConsistent H (map read_at R) →
     (clash_by_entries FMatrix R x ≡ None) ↔ IsConsistent H (map read_at R ++ read_at x ∷ [])
 none_told n H R x held new consistent =

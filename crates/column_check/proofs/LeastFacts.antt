@@ -17,7 +17,7 @@ any_here P x xs p = (zero, x, omega arith, refl, p)
 any_later : {X : Type 0} (P : X → Type 0) (x : X) (xs : List X) → Any P xs → Any P (x ∷ xs)
 any_later P x xs a = (suc a.0, a.1, omega arith, a.3, a.4)
 
--- the clash is that of a read that passes, and no read that passes has a lesser item number
+-- The clash is that of a read that passes, and no read that passes has a lesser item number.
 pub record IsLeastOf (test : Heard → Bool) (R : List Heard) (c : Clash) : Type 0 where
   pub held : Any (λ r. (test r ≡ true) × (c ≡ clash_of r)) R
   pub least : All (λ r. test r ≡ true → c.item ≤ r.item) R
@@ -39,7 +39,7 @@ none_passes test (r ∷ R) e = by (test r) refl e (none_passes test R)
     by true h e rest = absurd (lesser_some r (heard_clash test R) e)
     by false h e rest = All-cons (λ r. test r ≡ false) r R h (rest e)
 
--- one read more that passes, before those that gave o
+-- One read more that passes, before those that gave o.
 more_passes : (test : Heard → Bool) (r : Heard) (R : List Heard) (o : Option Clash) (c : Clash) → test r ≡ true → heard_clash test R ≡ o →
     ((d : Clash) → o ≡ Some d → IsLeastOf test R d) → lesser (read_at r) o ≡ Some c → IsLeastOf test (r ∷ R) c
 more_passes test r R None c h s rest e =

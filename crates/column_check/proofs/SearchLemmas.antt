@@ -12,7 +12,7 @@ use Rattle.column_check.specs.declared.reads.HeldRead.{HeldRead}
 use Rattle.column_check.specs.HeardReads.{heard_of}
 use Rattle.column_check.specs.Searches.{clash_of, lesser_of}
 
--- the clash with a read
+-- The clash with a read.
 abbrev clash_at : ReadAt → Clash
 clash_at r = record { item = r.item; cycle = r.cycle }
 
@@ -20,7 +20,7 @@ cond_some : (b : Bool) (c d : Clash) → cond b (Some c) (Some d) ≡ Some (cond
 cond_some true c d = refl
 cond_some false c d = refl
 
--- of three clashes the least is the same whichever two are compared first
+-- Of three clashes the least is the same whichever two are compared first.
 lesser_assoc : (r : ReadAt) (o : Option Clash) (c : Clash) → lesser r (Some (lesser_of o c)) ≡ Some (lesser_of (lesser r o) c)
 lesser_assoc r None c = cond_some (nat_le r.item c.item) (clash_at r) c
 lesser_assoc r (Some b) c = by (nat_le r.item b.item) (nat_le b.item c.item) (nat_le r.item c.item) refl refl refl
@@ -55,7 +55,7 @@ clash_push test R r = ap (λ S. least (map read_at S)) (filter-append test R (r 
     by true = ap least (map-append read_at (filter test R) (r ∷ [])) ∙ least_push (map read_at (filter test R)) (read_at r)
     by false = ap (λ S. least (map read_at S)) (append-nil (filter test R))
 
--- the places up to and with one that is read
+-- The places up to and with one that is read.
 taken_more : (places : List HeldRead) (i : ℕ) (p : HeldRead) → i < length places → p ≡ get_or places i p →
     map heard_of (take (i + 1) places) ≡ map heard_of (take i places) ++ heard_of p ∷ []
 taken_more places i p l e = ap (map heard_of) (take_more places i p l) ∙ map-append heard_of (take i places) (get_or places i p ∷ []) ∙ ap (λ q. map heard_of (take i places) ++ heard_of q ∷ []) (sym e)

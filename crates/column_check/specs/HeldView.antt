@@ -4,11 +4,11 @@ use Rattle.column_check.specs.declared.held.Held.TheInside.{Inside}
 use Rattle.column_check.specs.HeardReads.{heard_of}
 use Rattle.air_history.specs.HeldReads.{HeldReads}
 
--- the reads of the places that hold one
+-- The reads of the places that hold one.
 abbrev pub held_reads : Inside → HeldReads
 held_reads h = record { n = h.n; reads = map heard_of (take h.len h.places.items) }
 
--- there are sixteen places, each has room for a column over n items, and each held item is one of the n
+-- There are sixteen places, each has room for a column over n items, and each held item is one of the n.
 pub record KeepsRoom (h : Inside) : Type 0 where
   pub places : length h.places.items ≡ 16
   pub within : h.len ≤ 16

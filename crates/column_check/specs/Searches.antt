@@ -4,15 +4,15 @@ use Rattle.std.specs.Prelude.{Bool, cond, ◌||◌, nat_le, Option, Some, None}
 use Rattle.air_base.specs.declared.verdicts.Clash.{Clash}
 use Rattle.air_history.specs.Clashes.{Heard, entry_of}
 
--- the clash with a held read
+-- The clash with a held read.
 abbrev pub clash_of : Heard → Clash
 clash_of r = record { item = r.item; cycle = r.cycle }
 
--- whether the column of the new read x or of the held read r has the other's item at its cycle or later
+-- Whether the column of the new read x or of the held read r has the other's item at its cycle or later.
 abbrev pub disagree : Heard → Heard → Bool
 disagree x r = nat_le r.cycle (entry_of x r.item) || nat_le x.cycle (entry_of r x.item)
 
--- of a clash, where there is one, and a further one, that of lesser item number
+-- Of a clash, where there is one, and a further one, that of lesser item number.
 abbrev pub lesser_of : Option Clash → Clash → Clash
 lesser_of None c = c
 lesser_of (Some b) c = cond (nat_le b.item c.item) b c

@@ -17,10 +17,10 @@ use Rattle.air_history.proofs.ScanLemmas.{cycle_all, start_writes_nothing}
 use Rattle.air_history.proofs.TableLemmas.{table_nil, table_push}
 use Rattle.history_laws.proofs.AloneLemmas.{not_written, written_same}
 use Rattle.control_matrix.specs.Columns.{entry_in, written_entry, next_column, next_columns}
-use Rattle.control_matrix.specs.Steps.{next_vector, step_board, StepLaw}
+use Rattle.control_matrix.specs.BoardSteps.{next_vector, step_board, StepLaw}
 use Rattle.control_matrix.proofs.EntryLemmas.{greatest_of_within, reads_fit}
 
--- boards with the same fields are the same
+-- Boards with the same fields are the same.
 pub same_board : (a b : Board) → a.cycle ≡ b.cycle → a.values ≡ b.values → a.columns ≡ b.columns → a.vector ≡ b.vector → a ≡ b
 same_board a b p q r s =
     ap (λ (m : ℕ). let x : Board = record { cycle = m; values = a.values; columns = a.columns; vector = a.vector } in x) p
@@ -41,7 +41,7 @@ starts_push G e = elim (cases_Bool (is_start e)) as (λ _. cond (is_start e) (st
 
 -- ---- the values
 
--- tables that agree on the items below n agree on them after a fitting event
+-- Tables that agree on the items below n agree on them after a fitting event.
 value_within : (n : ℕ) (V W : ℕ → ℕ) (e : Event) (i : ℕ) → ItemsFit n e → BasesRead e → ((k : ℕ) → k < n → V k ≡ W k) → i < n → value_after V e i ≡ value_after W e i
 value_within n V W e i fits bases same l = elim (cases_Bool (writes e i)) as (λ _. value_after V e i ≡ value_after W e i) [
   | inl hit ↦ written_same V W e i bases hit (λ k lk. same (get_or (reads e) k 0) (reads_fit n e fits k 0 lk))
@@ -64,7 +64,7 @@ values_push values G e fits bases =
 
 -- ---- the columns
 
--- the entries of the columns of G
+-- The entries of the columns of G.
 entry_is : (n : ℕ) (G : List Event) (j i : ℕ) → j < n → i < n → entry_in (columns n G) j i ≡ column_entry G j i
 entry_is n G j i lj li =
     ap (λ xs. get_or xs i 0) (get_or-map-range_with_len (column n G) 0 n j j [] lj (omega arith))
@@ -129,7 +129,7 @@ no_vector_entry i = refl
 zero_rows : (n : ℕ) (f : ℕ → ℕ) → ((i : ℕ) → f i ≡ 0) → map f (range_with_len 0 n) ≡ replicate n 0
 zero_rows n f none = sym (fill_by_all f (replicate n 0) n 0 (length-replicate n 0) (λ k l. get_or-replicate n k 0 0 l ∙ sym (none k)))
 
--- the board of no event has the given values, and zeros
+-- The board of no event has the given values, and zeros.
 pub empty_board : (values : List ℕ) → board_of values [] ≡ record {
   cycle = 0;
   values = values;
@@ -147,7 +147,7 @@ empty_board values =
 
 -- ---- a board's fields after an event
 
--- a start changes the cycle alone
+-- A start changes the cycle alone.
 pub start_board : (b : Board) (e : Event) → is_start e ≡ true → length b.columns ≡ length b.values → length b.vector ≡ length b.values →
     step_board b e ≡ record { cycle = b.cycle + 1; values = b.values; columns = b.columns; vector = b.vector }
 unfolding step_board
@@ -159,7 +159,7 @@ start_board b e start sized wide =
     (sym (fill_by_all (next_column n b.cycle b.columns e) b.columns n [] sized (λ k l. sym (cond-false (writes e k) _ _ (start_writes_nothing e k start)))))
     (sym (fill_by_all (λ i. cond (writes e i) b.cycle (get_or b.vector i 0)) b.vector n 0 wide (λ k l. sym (cond-false (writes e k) _ _ (start_writes_nothing e k start)))))
 
--- a commit keeps the cycle
+-- A commit keeps the cycle.
 pub commit_board : (b next : Board) (e : Event) → is_start e ≡ false → next.cycle ≡ b.cycle →
     length next.values ≡ length b.values → ((i : ℕ) → get_or next.values i 0 ≡ value_after (values_of b.values) e i) →
     next.columns ≡ next_columns (length b.values) b.cycle b.columns e →
@@ -173,7 +173,7 @@ commit_board b next e commit cycle sized values columns wide vector =
     columns
     (fill_by_all (λ i. cond (writes e i) b.cycle (get_or b.vector i 0)) next.vector n 0 wide vector)
 
--- a board that was stepped follows every list of events that the old one was of
+-- A board that was stepped follows every list of events that the old one was of.
 pub board_followed : (old next : Board) (e : Event) → ItemsFit (length old.values) e → BasesRead e → next ≡ step_board old e →
     (values : List ℕ) (G : List Event) → old ≡ board_of values G → next ≡ board_of values (G ++ e ∷ [])
 board_followed old next e fits bases stepped values G is =

@@ -24,7 +24,7 @@ pub greatest_of_none : (f : ℕ → ℕ) (xs : List ℕ) → greatest_of f (take
 unfolding greatest_of
 greatest_of_none f xs = refl
 
--- two functions that agree below n have the same greatest value over numbers below n
+-- Two functions that agree below n have the same greatest value over numbers below n.
 pub greatest_of_within : (n : ℕ) (f g : ℕ → ℕ) (xs : List ℕ) → All (λ r. r < n) xs → ((r : ℕ) → r < n → f r ≡ g r) → greatest_of f xs ≡ greatest_of g xs
 unfolding greatest_of
 greatest_of_within n f g [] h same = refl
@@ -33,23 +33,23 @@ greatest_of_within n f g (x ∷ xs) h same =
     let rest : greatest_of f xs ≡ greatest_of g xs = greatest_of_within n f g xs (All-tail (λ r. r < n) x xs h) same in
     cc
 
--- the items that a fitting event reads are below n
+-- The items that a fitting event reads are below n.
 pub reads_fit : (n : ℕ) (e : Event) → ItemsFit n e → All (λ r. r < n) (reads e)
 unfolding ItemsFit reads
 reads_fit n (Commit by seq u) h = h.reads
 reads_fit n Start h = λ k d l. absurd (omega arith)
 
--- the items that a fitting event writes are below n
+-- The items that a fitting event writes are below n.
 pub writes_fit : (n : ℕ) (e : Event) → ItemsFit n e → All (λ w. w.item < n) (writes_of e)
 unfolding ItemsFit writes_of
 writes_fit n (Commit by seq u) h = h.writes
 writes_fit n Start h = λ k d l. absurd (omega arith)
 
--- a column of a flat list, among its columns
+-- A column of a flat list, among its columns.
 pub column_at : (n : ℕ) (entries : List ℕ) (j : ℕ) → j < n → get_or (columns_in n entries) j [] ≡ column_in n entries j
 column_at n entries j l = get_or-map-range_with_len (column_in n entries) 0 n j j [] l (omega arith)
 
--- the written column, from the greatest entries of the columns that are read
+-- The written column, from the greatest entries of the columns that are read.
 spare_is : (n cycle : ℕ) (old spare : List ℕ) (e : Event) → ItemsFit n e → length spare ≡ n →
     ((i : ℕ) → i < n → get_or spare i 0 ≡ cond (writes e i) cycle (greatest_of (λ r. get_or (column_in n old r) i 0) (reads e))) →
     spare ≡ map (written_entry cycle (columns_in n old) e) (range_with_len 0 n)
@@ -57,7 +57,7 @@ spare_is n cycle old spare e fits sized merged = fill_by_all (written_entry cycl
     (λ i l. merged i l ∙ ap (λ m. cond (writes e i) cycle m)
     (greatest_of_within n (λ r. get_or (column_in n old r) i 0) (λ r. entry_in (columns_in n old) r i) (reads e) (reads_fit n e fits) (λ r lr. ap (λ xs. get_or xs i 0) (sym (column_at n old r lr)))))
 
--- the written column put at each item that is written gives the next columns
+-- The written column put at each item that is written gives the next columns.
 pub columns_stepped : (n cycle : ℕ) (old new spare : List ℕ) (e : Event) → ItemsFit n e → length spare ≡ n →
     ((i : ℕ) → i < n → get_or spare i 0 ≡ cond (writes e i) cycle (greatest_of (λ r. get_or (column_in n old r) i 0) (reads e))) →
     ((j : ℕ) → j < n → column_in n new j ≡ cond (writes e j) spare (column_in n old j)) →
@@ -68,14 +68,14 @@ columns_stepped n cycle old new spare e fits sized merged stored =
     ∙ ap (λ xs. cond (writes e j) xs (column_in n old j)) (spare_is n cycle old spare e fits sized merged)
     ∙ ap (λ xs. cond (writes e j) (map (written_entry cycle (columns_in n old) e) (range_with_len 0 n)) xs) (sym (column_at n old j l)))
 
--- the same, with the lengths and lists as a caller has them
+-- The same, with the lengths and lists as a caller has them.
 pub columns_whole : (n m k cycle : ℕ) (old was new now : List ℕ) (e : Event) → m ≡ n → k ≡ n → was ≡ old → now ≡ new →
     columns_in m new ≡ next_columns m cycle (columns_in m was) e → columns_in k now ≡ next_columns n cycle (columns_in n old) e
 columns_whole n m k cycle old was new now e mn kn before after stepped =
     ap (λ x. columns_in x now) kn ∙ ap (columns_in n) after ∙ sym (ap (λ x. columns_in x new) mn) ∙ stepped
     ∙ ap (λ x. next_columns x cycle (columns_in x was) e) mn ∙ ap (λ xs. next_columns n cycle (columns_in n xs) e) before
 
--- a row stamped by the marks of what an event writes has the cycle there, and elsewhere what it had
+-- A row stamped by the marks of what an event writes has the cycle there, and elsewhere what it had.
 pub marked_stamp : (e : Event) (cycle : ℕ) (marks xs : List ℕ) (i : ℕ) → length marks ≡ length xs → i < length xs → get_or marks i 0 ≡ cond (writes e i) 1 0 →
     get_or (stamped cycle marks xs) i 0 ≡ cond (writes e i) cycle (get_or xs i 0)
 marked_stamp e cycle marks xs i same l is = stamped_at cycle marks xs i same l ∙ by (writes e i) is

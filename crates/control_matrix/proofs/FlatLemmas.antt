@@ -7,26 +7,26 @@ use Rattle.std.proofs.lemmas.Slice.{take-put_mid_below, between-put_mid, drop-pu
 use borrow.Rule.Slice.PartMut.{put_mid}
 use Rattle.control_matrix.specs.Columns.{column_in, columns_in}
 
--- the column of an item ends before that of a greater item begins
+-- The column of an item ends before that of a greater item begins.
 pub column_before : (j m n : ℕ) → j < m → j * n + n ≤ m * n
 column_before j m n l = grind arith
 
--- the column of an item below n ends within n columns
+-- The column of an item below n ends within n columns.
 pub column_ends : (j n : ℕ) → j < n → j * n + n ≤ n * n
 column_ends j n l = column_before j n n l
 
--- the column of an item below n begins within n columns
+-- The column of an item below n begins within n columns.
 pub column_begins : (j n : ℕ) → j < n → j * n ≤ n * n
 column_begins j n l = let e = column_ends j n l in omega arith
 
--- a column has an entry for each item
+-- A column has an entry for each item.
 pub column_len : (n : ℕ) (entries : List ℕ) (j : ℕ) → length entries ≡ n * n → j < n → length (column_in n entries j) ≡ n
 column_len n entries j square l =
     let ends = column_ends j n l in
     let left = length-drop (j * n) entries in
     length-take-le n (drop (j * n) entries) (omega arith)
 
--- a column put in the place of an item's changes that one alone
+-- A column put in the place of an item's changes that one alone.
 pub column_put : (m n : ℕ) (entries column : List ℕ) (k j : ℕ) → k ≡ n → length entries ≡ n * n → length column ≡ n → m < n → j < n →
     column_in n (put_mid (m * n) k entries column) j ≡ cond (m == j) column (column_in n entries j)
 column_put m n entries column k j kn square sized lm lj =
@@ -46,7 +46,7 @@ column_put m n entries column k j kn square sized lm lj =
       ]
     ]
 
--- a flat list of zeros has columns of zeros
+-- A flat list of zeros has columns of zeros.
 pub zero_columns : (n : ℕ) (entries : List ℕ) → entries ≡ replicate (n * n) 0 → columns_in n entries ≡ replicate n (replicate n 0)
 zero_columns n entries zeros = sym (fill_by_all (column_in n entries) (replicate n (replicate n 0)) n [] (length-replicate n (replicate n 0)) (λ k l.
     let ends = column_ends k n l in

@@ -7,9 +7,9 @@ use Rattle.air_history.specs.Tables.{based, write_of, value_after, table}
 use Rattle.air_history.specs.Boards.{Board}
 use Rattle.air_history.proofs.HistoryExamples.{set_to, add_to, commit}
 use Rattle.control_matrix.specs.Columns.{columns_in}
-use Rattle.control_matrix.specs.Steps.{step_board}
+use Rattle.control_matrix.specs.BoardSteps.{step_board}
 
--- a board of two items in cycle 2, of which item 1 was written in cycle 1 from item 0
+-- A board of two items in cycle 2, of which item 1 was written in cycle 1 from item 0.
 abbrev pair : Board
 pair = record {
   cycle = 2;

@@ -5,27 +5,27 @@ use Rattle.air_history.specs.declared.histories.Event.{Event}
 use Rattle.air_history.specs.Places.{greatest_of}
 use Rattle.air_history.specs.Histories.{writes, reads}
 
--- the column of item j in a flat list: n entries after those of the j items before it
+-- The column of item j in a flat list: n entries after those of the j items before it.
 abbrev pub column_in : ℕ → List ℕ → ℕ → List ℕ
 column_in n entries j = take n (drop (j * n) entries)
 
--- the columns of all n items in a flat list
+-- The columns of all n items in a flat list.
 abbrev pub columns_in : ℕ → List ℕ → List (List ℕ)
 columns_in n entries = map (column_in n entries) (range_with_len 0 n)
 
--- entry i of the column of item j, and 0 where there is none
+-- Entry i of the column of item j, and 0 where there is none.
 abbrev pub entry_in : List (List ℕ) → ℕ → ℕ → ℕ
 entry_in columns j i = get_or (get_or columns j []) i 0
 
--- entry i of the column that an event in a cycle writes: the cycle where it writes item i, else the greatest
--- entry of i in a column that it reads
+-- Entry i of the column that an event in a cycle writes: the cycle where it writes item i, else the greatest
+-- entry of i in a column that it reads.
 abbrev pub written_entry : ℕ → List (List ℕ) → Event → ℕ → ℕ
 written_entry cycle columns e i = cond (writes e i) cycle (greatest_of (λ r. entry_in columns r i) (reads e))
 
--- the column of item j after the event: the one that it writes where it writes j, else what it was
+-- The column of item j after the event: the one that it writes where it writes j, else what it was.
 abbrev pub next_column : ℕ → ℕ → List (List ℕ) → Event → ℕ → List ℕ
 next_column n cycle columns e j = cond (writes e j) (map (written_entry cycle columns e) (range_with_len 0 n)) (get_or columns j [])
 
--- the columns of all n items after the event
+-- The columns of all n items after the event.
 abbrev pub next_columns : ℕ → ℕ → List (List ℕ) → Event → List (List ℕ)
 next_columns n cycle columns e = map (next_column n cycle columns e) (range_with_len 0 n)

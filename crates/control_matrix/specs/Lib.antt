@@ -1,3 +1,3 @@
 pub mod Columns
-pub mod Steps
-pub mod Inside
+pub mod BoardSteps
+pub mod BoardFields

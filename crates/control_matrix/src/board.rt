@@ -10,7 +10,7 @@ ghost use Rattle.air_history.specs.Histories.{starts, ItemsFit};
 ghost use Rattle.air_history.specs.Columns.{column, vector};
 ghost use Rattle.air_history.specs.Tables.{table, values_of};
 ghost use Rattle.air_history.specs.Boards.{board_of};
-ghost use Rattle.control_matrix.specs.Steps.{step_board};
+ghost use Rattle.control_matrix.specs.BoardSteps.{step_board};
 
 use crate::columns::{column_of, step_columns};
 use crate::marks::mark;
@@ -36,7 +36,7 @@ impl Model for Board {
 
     ghost Value = { Board };
 
-    ghost use Rattle.control_matrix.specs.Inside.{board_in, IsBoard};
+    ghost use Rattle.control_matrix.specs.BoardFields.{board_in, IsBoard};
 
     ghost view = { board_in };
 

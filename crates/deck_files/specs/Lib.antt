@@ -1,4 +1,4 @@
-pub mod Limits
+pub mod FileLimits
 pub mod NamedFiles
 pub mod NamedDecks
 pub mod RunnableDecks

@@ -7,7 +7,7 @@ use Rattle.air_model.specs.Decks.{Deck}
 use Rattle.item_catalog.specs.Grammar.{HasFault, Spells}
 use Rattle.air_status.specs.declared.status.Status.{Status}
 use Rattle.air_status.specs.declared.status.Status.TheVariants as status
-use Rattle.deck_files.specs.Limits.{deck_limit}
+use Rattle.deck_files.specs.FileLimits.{deck_limit}
 use Rattle.deck_files.specs.NamedFiles.{UnreadCause}
 
 -- The named file's bytes, where they are told, spell this deck.

@@ -3,7 +3,7 @@ use Rattle.std.proofs.Common.{ℕ, ◌≤◌, ◌∙◌, inl, inr, arith}
 use Rattle.std.proofs.lemmas.Bool.{cases_lt}
 use Rattle.air_devices.specs.Counts.{Faults, KeepsCounts, Rose}
 
--- counts that were kept twice were kept
+-- Counts that were kept twice were kept.
 pub kept_twice : (before mid now : Faults) → KeepsCounts before mid → KeepsCounts mid now → KeepsCounts before now
 kept_twice before mid now a b = record {
   reading = λ n. b.reading n ∙ a.reading n;
@@ -11,7 +11,7 @@ kept_twice before mid now a b = record {
   printing = b.printing ∙ a.printing;
 }
 
--- a count that rose since a later moment rose since an earlier one
+-- A count that rose since a later moment rose since an earlier one.
 pub rose_since : (before mid now : ℕ) → before ≤ mid → Rose mid now → Rose before now
 rose_since before mid now le (inl rose) = inl (omega arith)
 rose_since before mid now le (inr last) = let top = last.0 in let stays = last.1 in elim (cases_lt before now) as (λ _. Rose before now) [

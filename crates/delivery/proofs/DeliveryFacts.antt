@@ -12,12 +12,12 @@ use Rattle.delivery.specs.Deliveries.{Delivers}
 use Rattle.delivery.specs.Refusals.{IsSteady}
 use Rattle.delivery.proofs.CountFacts.{kept_twice, rose_since}
 
--- an output holds what it held
+-- An output holds what it held.
 holds_still : (output : Option (List ℕ)) (bytes : List ℕ) (before mid now : Shelved) → ((name : List ℕ) → now.told.output name ≡ mid.told.output name) → OutputHolds output bytes before mid → OutputHolds output bytes before now
 holds_still None bytes before mid now same h = tt
 holds_still (Some name) bytes before mid now same h = subst (λ o. Becomes (before.told.output name) o bytes) (sym (same name)) h
 
--- the tape was written, then the text was printed
+-- The tape was written, then the text was printed.
 pub delivers_all : (output : Option (List ℕ)) (given : Given) (tape text : List ℕ) (before mid now : Shelved) → tape ≡ given.tape → text ≡ given.text
     → OutputHolds output tape before mid → KeepsCounts before.faults mid.faults → mid.told.printed ≡ before.told.printed
     → ((name : List ℕ) → now.told.output name ≡ mid.told.output name) → Appends mid.told.printed now.told.printed text → KeepsCounts mid.faults now.faults → Delivers output given before now status.Ok
@@ -30,7 +30,7 @@ delivers_all output given tape text before mid now is_tape is_text holds calm sa
   kept_twice before.faults mid.faults now.faults calm later,
 )
 
--- the tape was written, then the print failed
+-- The tape was written, then the print failed.
 pub delivers_part : (output : Option (List ℕ)) (given : Given) (tape text : List ℕ) (before mid now : Shelved) → tape ≡ given.tape → text ≡ given.text
     → OutputHolds output tape before mid → before.faults.printing ≤ mid.faults.printing → mid.told.printed ≡ before.told.printed
     → ((name : List ℕ) → now.told.output name ≡ mid.told.output name) → AppendsPart mid.told.printed now.told.printed text → Rose mid.faults.printing now.faults.printing → Delivers output given before now status.WriteFault
@@ -43,13 +43,13 @@ delivers_part output given tape text before mid now is_tape is_text holds counts
   },
 )
 
--- the output failed
+-- The output failed.
 pub delivers_none : (output : Option (List ℕ)) (given : Given) (tape : List ℕ) (before now : Shelved) → tape ≡ given.tape → OutputFails output tape before now
     → now.told.printed ≡ before.told.printed → Delivers output given before now status.WriteFault
 unfolding Delivers
 delivers_none output given tape before now is_tape fails same = inl (subst (λ bytes. OutputFails output bytes before now) is_tape fails, same)
 
--- a print leaves every count, or fails
+-- A print leaves every count, or fails.
 pub print_steady : {T E : Type 0} (printed : Result T E) (before now : Shelved) → OnErr printed (Rose before.faults.printing now.faults.printing)
     → OnOk printed (KeepsCounts before.faults now.faults) → IsSteady before now
 print_steady (Ok x) before now rose calm = inl calm

@@ -26,7 +26,7 @@ last_place_none : (test : ℕ → Bool) → last_place 0 test ≡ None
 unfolding last_place
 last_place_none test = refl
 
--- an item that isn't written keeps its value
+-- An item that isn't written keeps its value.
 find_none : (i : ℕ) (ws : List Write) → list_any (λ w. w.item == i) ws ≡ false → find (λ w. w.item == i) ws ≡ None
 find_none i [] h = refl
 find_none i (w ∷ ws) h = let both = or_parts (w.item == i) (list_any (λ w. w.item == i) ws) h in cond-false (w.item == i) (Some w) (find (λ w. w.item == i) ws) both.0 ∙ find_none i ws both.1
@@ -36,7 +36,7 @@ unfolding value_after write_of writes
 not_written V (Commit by seq u) i h = ap (put V i) (find_none i u.writes h)
 not_written V Start i h = refl
 
--- the values that the event reads decide what it writes
+-- The values that the event reads decide what it writes.
 found_reads : (P : Write → Type 0) (i : ℕ) (ws : List Write) → All P ws → list_any (λ w. w.item == i) ws ≡ true → (w : Write) × (find (λ w. w.item == i) ws ≡ Some w) × P w
 found_reads P i [] all h = absurd (false≢true h)
 found_reads P i (w ∷ ws) all h = elim (cases_Bool (w.item == i)) as (λ _. (v : Write) × (find (λ w. w.item == i) (w ∷ ws) ≡ Some v) × P v) [
@@ -135,7 +135,7 @@ module _ (V : ℕ → ℕ) (H : List Event) where
             (λ hit. absurd (both_ways (S n) e (and_parts _ _ hit).0))
             (λ miss. rest i)
 
--- what runs alone is closed
+-- What runs alone is closed.
 alone_closed : (H : List Event) (R : List ReadAt) → IsClosed H (runs_alone H R)
 unfolding descends_from
 alone_closed H R p w h r =

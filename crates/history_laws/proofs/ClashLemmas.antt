@@ -36,7 +36,7 @@ newest_below (r ∷ R) c pos h =
     let rest = newest_below R c pos (All-tail (λ r. r.cycle < c) r R h) in
     omega arith
 
--- some held read has the newest cycle
+-- Some held read has the newest cycle.
 newest_there : (R : List Heard) → 0 < newest_heard R → All (λ r. (r.cycle == newest_heard R) ≡ false) R → ⊥
 newest_there R pos none =
     let all : newest_heard R < newest_heard R = newest_below R (newest_heard R) pos (λ k d l.
@@ -45,7 +45,7 @@ newest_there R pos none =
     omega arith) in
     omega arith
 
--- where cycles never fall, no read of a list is newer than one that follows
+-- Where cycles never fall, no read of a list is newer than one that follows.
 pub never_later : (S : List ReadAt) (y : ReadAt) → AllPairs (λ r s. r.cycle ≤ s.cycle) (S ++ y ∷ []) → All (λ r. r.cycle ≤ y.cycle) S
 never_later S y order k d l =
     let at : get_or (S ++ y ∷ []) k d ≡ get_or S k d = get_or_append_left S (y ∷ []) d k l in
@@ -61,7 +61,7 @@ column_is n H x heard i l = ap (λ es. get_or es i 0) heard.entries ∙ get_or-m
 vector_of : (n : ℕ) (H : List Event) (x : Heard) (c : ℕ) → x.entries ≡ Rattle.air_history.specs.Columns.vector n (front H c) → (i : ℕ) → i < n → entry_of x i ≡ vector_entry (front H c) i
 vector_of n H x c heard i l = ap (λ es. get_or es i 0) heard ∙ get_or-map-range_with_len (vector_entry (front H c)) 0 n i i 0 l (omega arith)
 
--- the entry that came with the first held read of a cycle is the vector's at that cycle
+-- The entry that came with the first held read of a cycle is the vector's at that cycle.
 entry_in_is : (n : ℕ) (H : List Event) (i m : ℕ) → i < n → (R : List Heard) → All (IsHeard (scheme_of Datacycle) n H) R →
     (All (λ r. (r.cycle == m) ≡ false) R → ⊥) → entry_in R m i ≡ vector_entry (front H m) i
 entry_in_is n H i m l [] h there = absurd (there (λ k d l. absurd (omega arith)))
@@ -83,12 +83,12 @@ f_matrix n H R x held new = clash_heard (λ s. not (consistent H (s ∷ read_at 
     ∙ ap (λ e. nat_le r.cycle e || nat_le x.cycle (entry_at H r.cycle r.item x.item)) (sym (column_is n H x new r.item h.within))
     ∙ ap (λ e. nat_le r.cycle (entry_of x r.item) || nat_le x.cycle e) (sym (column_is n H r h x.item new.within)))
 
--- a held read is stale at the new cycle exactly if the new vector says so
+-- A held read is stale at the new cycle exactly if the new vector says so.
 stale_told : (n : ℕ) (H : List Event) (r x : Heard) → x.entries ≡ Rattle.air_history.specs.Columns.vector n (front H x.cycle) →
     1 ≤ r.cycle → r.cycle ≤ x.cycle → r.item < n → stale H (read_at r) x.cycle ≡ nat_le r.cycle (entry_of x r.item)
 stale_told n H r x told pos le within = stale_is H (read_at r) x.cycle pos le ∙ ap (nat_le r.cycle) (sym (vector_of n H x x.cycle told r.item within))
 
--- a choice by a test is the other way round by its opposite
+-- A choice by a test is the other way round by its opposite.
 turned : (s b : Bool) (z : Option Clash) → not s ≡ b → cond s None z ≡ cond b z None
 turned true true z e = cc
 turned true false z e = refl

@@ -22,7 +22,7 @@ least_none : least [] ≡ None
 unfolding least
 least_none = refl
 
--- nothing is named exactly if no read passes
+-- Nothing is named exactly if no read passes.
 pub none_named : (f : ReadAt → Bool) (R : List ReadAt) → named_clash f R ≡ None → All (λ r. f r ≡ false) R
 none_named f [] e = λ k d l. absurd (omega arith)
 none_named f (r ∷ R) e = by (f r) refl e (none_named f R)
@@ -39,7 +39,7 @@ named_none f (r ∷ R) h = by (f r) (All-head (λ r. f r ≡ false) r R h) (name
     by true h rest = absurd (both_ways true h refl)
     by false h rest = rest
 
--- a test on reads and one on heard reads that agree name the same reads
+-- A test on reads and one on heard reads that agree name the same reads.
 pub named_heard : (s : ReadAt → Bool) (t : Heard → Bool) (R : List Heard) → All (λ r. s (read_at r) ≡ t r) R → filter s (map read_at R) ≡ map read_at (filter t R)
 named_heard s t [] h = refl
 named_heard s t (r ∷ R) h =

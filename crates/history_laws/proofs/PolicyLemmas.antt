@@ -49,7 +49,7 @@ newest_below : (R : List ReadAt) (n : ℕ) → 0 < n → All (λ r. r.cycle < n)
 newest_below [] n pos h = pos
 newest_below (r ∷ R) n pos h = let here : r.cycle < n = All-head (λ r. r.cycle < n) r R h in let rest = newest_below R n pos (All-tail (λ r. r.cycle < n) r R h) in omega arith
 
--- some read has the newest_cycle cycle
+-- Some read has the newest_cycle cycle.
 newest_reached : (R : List ReadAt) → 0 < newest_cycle R → named_clash (λ r. r.cycle == newest_cycle R) R ≡ None → ⊥
 newest_reached R pos e =
     let none = none_named (λ r. r.cycle == newest_cycle R) R e in
@@ -59,7 +59,7 @@ newest_reached R pos e =
     omega arith) in
     omega arith
 
--- All of a list with one more
+-- All of a list with one more.
 pub all_front : (P : ReadAt → Type 0) (R : List ReadAt) (x : ReadAt) → All P (R ++ x ∷ []) → All P R
 all_front P R x h k d l = subst P (get_or_append_left R (x ∷ []) d k l) (h k d (omega (arith, length_push R x)))
 
@@ -113,7 +113,7 @@ takes H R x in_time = (
   λ taken. (takes_at H R x (same_origin H x.item x.cycle (first_cycle R))).1 taken.fresh,
 )
 
--- an item with one origin at two cycles has it at each cycle between them
+-- An item with one origin at two cycles has it at each cycle between them.
 between : (H : List Event) (i a g c : ℕ) → a ≤ g → g ≤ c → (o : Option ℕ) → writer (front H c) i ≡ o → writer (front H a) i ≡ o → writer (front H g) i ≡ o
 between H i a g c ag gc o ec ea = last_unique (length (front H g)) (λ q. writes (event_at H q) i) (writer (front H g) i) o (front_writer_is H g i) (narrow o (writer_is H c i o ec) (writer_is H a i o ea))
   where
@@ -124,14 +124,14 @@ between H i a g c ag gc o ec ea = last_unique (length (front H g)) (λ q. writes
     narrow None hc ha = λ q l. false_from_ne_true _ (λ w. both_ways (writes (event_at H q) i) (hc q (in_later q g c gc l w)) w)
     narrow (Some v) hc ha = (in_later v a g ag ha.0 ha.1, ha.1, λ q above l. false_from_ne_true _ (λ w. both_ways (writes (event_at H q) i) (hc.2 q above (in_later q g c gc l w)) w))
 
--- where x's item has at x's cycle the origin that it had at the first held cycle, the reads with x stay those of the cycle g
+-- Where x's item has at x's cycle the origin that it had at the first held cycle, the reads with x stay those of the cycle g.
 pub stays_between : (H : List Event) (first g : ℕ) (R : List ReadAt) (x : ReadAt) → first ≤ g → g ≤ x.cycle → SharesCycle H R g → writer (front H x.cycle) x.item ≡ writer (front H first) x.item → SharesCycle H (R ++ x ∷ []) g
 stays_between H first g R x fg gc one same = All-push (λ r. stale H r g ≡ false) R x one
     (same_fresh H x g (between H x.item first g x.cycle fg gc (writer (front H x.cycle) x.item) refl (sym same) ∙ sym (origin_of H x.item x.cycle)))
 
 -- ---- reads that share a cycle
 
--- reads of one cycle are clear of each other
+-- Reads of one cycle are clear of each other.
 pub one_cycle : (H : List Event) (R : List ReadAt) (g : ℕ) → All IsRead R → SharesCycle H R g → IsConsistent H R
 unfolding descends_from origin
 one_cycle H R c are fresh = consistent_from_clear H R (λ k l d lk ll.

@@ -11,7 +11,7 @@ use Rattle.air_history.specs.UpdateLists.{UpdateLists}
 use Rattle.air_history.specs.UpdateRules.{has_repeat, item_of, within_limits, base_is_read, base_holds, update_fault, KeepsRules}
 use Rattle.air_history.proofs.RuleFacts.{rules_kept, few_reads, some_write, few_writes, each_passes, base_read}
 
--- none of the list is x
+-- None of the list is x.
 none_is : (x : ℕ) (xs : List ℕ) → list_any (λ y. y == x) xs ≡ false → All (λ y. x ≢ y) xs
 none_is x [] h = λ k d l. absurd (omega arith)
 none_is x (y ∷ xs) h =
@@ -23,7 +23,7 @@ is_none x [] h = refl
 is_none x (y ∷ xs) h =
     ap (λ b. b || list_any (λ y. y == x) xs) (ne_eqb y x (λ e. All-head (λ y. x ≢ y) y xs h (sym e))) ∙ is_none x xs (All-tail (λ y. x ≢ y) y xs h)
 
--- nothing stands twice exactly if each two differ
+-- Nothing stands twice exactly if each two differ.
 apart_from : (xs : List ℕ) → has_repeat xs ≡ false → AllPairs (λ a b. a ≢ b) xs
 unfolding has_repeat
 apart_from [] h = λ i j d lt within. absurd (omega arith)
@@ -38,7 +38,7 @@ from_apart (x ∷ xs) h =
     ap (λ b. b || has_repeat xs) (is_none x xs (λ k d l. h 0 (suc k) d (omega arith) (omega arith)))
     ∙ from_apart xs (λ i j d lt within. h (suc i) (suc j) d (omega arith) (omega arith))
 
--- a base without a read is no base, and then there is no minus
+-- A base without a read is no base, and then there is no minus.
 minus_holds : (reads : List ℕ) (minus : Bool) (base : Option ℕ) → base_holds reads minus base ≡ true → base ≡ None → minus ≡ false
 minus_holds reads minus None h e = not-true minus h
 minus_holds reads minus (Some b) h e = absurd (let f : ◌≡◌ {A = Option ℕ} (Some b) None = e in cc)

@@ -118,7 +118,7 @@ module _ (G : List Event) (e : Event) where
       (λ p l. old_cycle p (omega arith))
       ∙ greatest_any (length G) (reads e) (λ item p. place_and (writer G item) (λ w. descends G w p)) (λ p. writes (event_at G p) i) (cycle_at G)
 
--- the entry of item i in the column of item j after the event
+-- The entry of item i in the column of item j after the event.
 abbrev pub entry_after : List Event → Event → ℕ → ℕ → ℕ
 entry_after G e j i =
     cond (writes e j)

@@ -14,8 +14,8 @@ use Rattle.air_model.specs.Decks.{count_parts}
 use Rattle.air_model.specs.declared.deck.ReaderPlan.{ReaderPlan}
 use Rattle.item_catalog.specs.Decks.{for_each}
 use Rattle.item_catalog.specs.Drafts.{DraftValue, draft_of, draft_tests, push_at, with_entry}
-use Rattle.item_catalog.specs.Entries.{Entry}
-use Rattle.item_catalog.specs.Entries as e
+use Rattle.item_catalog.specs.DeckEntries.{Entry}
+use Rattle.item_catalog.specs.DeckEntries as e
 use Rattle.item_catalog.specs.declared.kinds.FaultKind.TheVariants as fault
 use Rattle.item_catalog.specs.Faults.{script_passes, tests_of}
 use Rattle.item_catalog.specs.Parts.{greatest, is_query, is_update, its_disk, its_events, its_item, its_query, its_reader, its_setting, its_update, its_updaters, queries_in, script_in, updaters_in, updates_in}

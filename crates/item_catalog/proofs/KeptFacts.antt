@@ -14,11 +14,11 @@ use Rattle.air_model.specs.Decks.{IsQuery, IsUpdate, count_parts}
 use Rattle.air_model.specs.declared.deck.ReaderPlan.{ReaderPlan}
 use Rattle.item_catalog.specs.DeckLimits.{ReaderWithin}
 use Rattle.item_catalog.specs.Drafts.{DraftValue, push_at}
-use Rattle.item_catalog.specs.Entries.{Entry}
-use Rattle.item_catalog.specs.Entries as e
+use Rattle.item_catalog.specs.DeckEntries.{Entry}
+use Rattle.item_catalog.specs.DeckEntries as e
 use Rattle.item_catalog.specs.Faults.{count_starts}
 use Rattle.update_texts.specs.ListTests.{option_any}
-use Rattle.item_catalog.specs.Limits.{outside}
+use Rattle.item_catalog.specs.Ranges.{outside}
 use Rattle.item_catalog.specs.Settings.{range_of}
 use Rattle.item_catalog.specs.declared.parts.ItemPart.{ItemPart}
 use Rattle.item_catalog.specs.declared.parts.DiskPart.{DiskPart}

@@ -10,7 +10,7 @@ use Rattle.air_model.specs.Decks.{Deck, IsDeck}
 use Rattle.item_catalog.specs.DeckLimits.{WithinLimits}
 use Rattle.item_catalog.specs.Decks.{for_each}
 use Rattle.item_catalog.specs.Drafts.{draft_of, draft_tests}
-use Rattle.item_catalog.specs.Entries.{Entry, entry_of}
+use Rattle.item_catalog.specs.DeckEntries.{Entry, entry_of}
 use Rattle.item_catalog.specs.Faults.{end_tests, entries_in, first_of, kinds_after, kinds_at, tests_of}
 use Rattle.item_catalog.specs.Grammar.{Faultless, RowsSpell}
 use Rattle.item_catalog.specs.Parts.{disks_in, items_in}

@@ -14,11 +14,11 @@ use Rattle.air_history.specs.UpdateRules.{has_repeat}
 use Rattle.air_model.specs.Decks.{IsUpdate, count_parts}
 use Rattle.air_model.specs.declared.deck.ReaderPlan.{ReaderPlan}
 use Rattle.item_catalog.specs.Drafts.{DraftValue, draft_tests, push_at, with_entry}
-use Rattle.item_catalog.specs.Entries.{Entry}
-use Rattle.item_catalog.specs.Entries as e
+use Rattle.item_catalog.specs.DeckEntries.{Entry}
+use Rattle.item_catalog.specs.DeckEntries as e
 use Rattle.item_catalog.specs.Faults.{count_starts, first_of, script_passes, some_below}
 use Rattle.update_texts.specs.ListTests.{option_any, reaches, write_reaches}
-use Rattle.item_catalog.specs.Limits.{outside}
+use Rattle.item_catalog.specs.Ranges.{outside}
 use Rattle.item_catalog.specs.declared.kinds.FaultKind.TheVariants as fault
 use Rattle.item_catalog.specs.declared.parts.ItemPart.{ItemPart}
 use Rattle.item_catalog.specs.declared.settings.Setting.{Setting}

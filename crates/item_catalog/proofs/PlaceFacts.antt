@@ -9,8 +9,8 @@ use Rattle.std.proofs.lemmas.Bool.Decides.{nat_tests}
 use Rattle.std.proofs.lemmas.List.{take-append-le, take_all}
 use Rattle.std.proofs.lemmas.List.Elements.{filter_map-append}
 use Rattle.item_catalog.specs.Drafts.{draft_of, judged, with_spelled}
-use Rattle.item_catalog.specs.Entries.{Entry, entry_of}
-use Rattle.item_catalog.specs.Entries as e
+use Rattle.item_catalog.specs.DeckEntries.{Entry, entry_of}
+use Rattle.item_catalog.specs.DeckEntries as e
 use Rattle.item_catalog.specs.Faults.{end_tests, entries_in, entry_if, first_of, kinds_after, kinds_at, kinds_of, tests_of}
 use Rattle.item_catalog.specs.Kinds.{code_of}
 use Rattle.item_catalog.specs.declared.kinds.FaultKind.{FaultKind}

@@ -7,8 +7,8 @@ use Rattle.csv.specs.declared.parser.State.{State}
 use Rattle.csv.specs.declared.parser.State.TheVariants as st
 use Rattle.air_model.specs.Decks.{Deck}
 use Rattle.item_catalog.specs.Drafts.{DraftValue, deck_from, draft_of, judged}
-use Rattle.item_catalog.specs.Ends.{CanEnd, EndsBy}
-use Rattle.item_catalog.specs.Entries.{entry_of}
+use Rattle.item_catalog.specs.ReadEnds.{CanEnd, EndsBy}
+use Rattle.item_catalog.specs.DeckEntries.{entry_of}
 use Rattle.item_catalog.specs.Faults.{end_tests, entries_in, first_of}
 use Rattle.item_catalog.specs.Grammar.{Faultless, HasFault, IsAnswer, IsFirstFault, RowsSpell, Spells}
 use Rattle.item_catalog.specs.Parts.{disks_in, items_in}

@@ -2,7 +2,7 @@
 use Rattle.std.proofs.Common.{◌≡◌, ◌≢◌, ◌<◌, ◌∷◌, [], ℕ, zero, suc, List, Option, Some, None, Err, length, drop, refl, arith}
 use Rattle.csv.specs.Records.{field_at}
 use Rattle.item_catalog.specs.declared.kinds.FaultKind.TheVariants as fault
-use Rattle.item_catalog.specs.Entries.{entry_by, entry_of, tag_of}
+use Rattle.item_catalog.specs.DeckEntries.{entry_by, entry_of, tag_of}
 use Rattle.air_base.specs.Pieces.{one_of, three_of, two_of}
 
 pub field_there : (fields : List (List ℕ)) (place : ℕ) → place < length fields → None ≡ field_at fields place → ⊥

@@ -3,7 +3,7 @@ use Rattle.std.specs.Prelude.{◌+◌, ◌*◌, ℕ, List, [], ◌∷◌, map, l
 use Rattle.std.specs.List.{range_with_len}
 use Rattle.air_model.specs.Decks.{Deck, Item}
 use Rattle.air_model.specs.Disks.{DiskSpec}
-use Rattle.item_catalog.specs.Entries.{Entry}
+use Rattle.item_catalog.specs.DeckEntries.{Entry}
 use Rattle.item_catalog.specs.Parts.{items_in, disks_in, updates_in, updaters_in, readers_in, queries_in, script_in, set_in}
 use Rattle.item_catalog.specs.Settings.{settings_in, number_in}
 use Rattle.item_catalog.specs.declared.parts.ItemPart.{ItemPart}

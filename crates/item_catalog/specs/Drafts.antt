@@ -3,8 +3,8 @@ use Rattle.std.specs.Prelude.{◌≡◌, ◌+◌, ◌++◌, ℕ, List, [], ◌�
 use Rattle.air_base.specs.declared.limits.TheConstants.{MOST_READERS, MOST_UPDATERS}
 use Rattle.air_history.specs.UpdateLists.{UpdateLists}
 use Rattle.air_model.specs.declared.deck.ReaderPlan.{ReaderPlan}
-use Rattle.item_catalog.specs.Entries.{Entry}
-use Rattle.item_catalog.specs.Entries as e
+use Rattle.item_catalog.specs.DeckEntries.{Entry}
+use Rattle.item_catalog.specs.DeckEntries as e
 use Rattle.item_catalog.specs.Parts.{items_in, disks_in, updates_in, updaters_in, count_updates, readers_in, queries_in, count_queries, script_in, set_in}
 use Rattle.air_model.specs.Decks.{Deck}
 use Rattle.item_catalog.specs.Decks.{for_each, plain_item, with_freqs}

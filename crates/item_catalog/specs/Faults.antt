@@ -11,9 +11,9 @@ use Rattle.air_history.specs.UpdateRules.{has_repeat, item_of}
 use Rattle.air_model.specs.Decks.{count_parts}
 use Rattle.update_texts.specs.ListTests.{is_unread, option_any, reaches, write_reaches}
 use Rattle.item_catalog.specs.DeckLimits.{is_start_part}
-use Rattle.item_catalog.specs.Limits.{outside}
-use Rattle.item_catalog.specs.Entries.{Entry, entry_of}
-use Rattle.item_catalog.specs.Entries as e
+use Rattle.item_catalog.specs.Ranges.{outside}
+use Rattle.item_catalog.specs.DeckEntries.{Entry, entry_of}
+use Rattle.item_catalog.specs.DeckEntries as e
 use Rattle.item_catalog.specs.Parts.{items_in, disks_in, updates_in, count_updates, readers_in, count_queries, script_in, set_in}
 use Rattle.item_catalog.specs.Settings.{same_setting}
 use Rattle.item_catalog.specs.Kinds.{code_of}

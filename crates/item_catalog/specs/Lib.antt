@@ -1,9 +1,9 @@
 pub mod Kinds
 pub mod Records
-pub mod Limits
+pub mod Ranges
 pub mod Fields
 pub mod Settings
-pub mod Entries
+pub mod DeckEntries
 pub mod Parts
 pub mod Decks
 pub mod DeckLimits
@@ -15,4 +15,4 @@ pub mod ListKinds
 pub mod ScriptView
 pub mod Drafts
 pub mod DraftView
-pub mod Ends
+pub mod ReadEnds

@@ -5,7 +5,7 @@ use Rattle.air_base.specs.Numbers.{number_of}
 use Rattle.air_base.specs.declared.verdicts.Policy.{Policy}
 use Rattle.air_base.specs.declared.verdicts.Policy.TheVariants.{FMatrix, Datacycle, RMatrix}
 use Rattle.air_model.specs.declared.deck.Settings.{Settings}
-use Rattle.item_catalog.specs.Limits.{outside}
+use Rattle.item_catalog.specs.Ranges.{outside}
 use Rattle.item_catalog.specs.Fields.{◌is◌}
 use Rattle.item_catalog.specs.declared.settings.Name.{Name}
 use Rattle.item_catalog.specs.declared.settings.Name.TheVariants.{Delta, Cycles, Seed, Loss, Again, Late, Monitors, Hears}

@@ -2,7 +2,7 @@
 
 ghost use Rattle.std.specs.Prelude.{◌≡◌, ◌<◌, drop, length, option_map, Some};
 ghost use Rattle.csv.specs.Records.{field_at, fields_of};
-ghost use Rattle.item_catalog.specs.Entries.{entry_by, entry_of, tag_of};
+ghost use Rattle.item_catalog.specs.DeckEntries.{entry_by, entry_of, tag_of};
 ghost use Rattle.air_base.specs.Pieces.{one_of, three_of, two_of};
 
 use csv::ByteRecord;

@@ -13,7 +13,7 @@ use Rattle.air_model.specs.Judges.{Judge}
 use Rattle.air_model.specs.Sessions.{Reader, State, abort, accept_if_whole, comes_late, copy_of, count_copied, count_dozed, count_foreign, count_late, count_opened, count_refused, decide, drop_copy, hear, hear_read, hold, is_unusable, is_wanted, next_attempt, next_query, offer, open_bucket, read_in, settle, turn, turn_with, wanted, with_line}
 use Rattle.receiver_core.specs.Receivers.{heard_count}
 
--- how many members a state counts
+-- How many members a state counts.
 abbrev pub heard_by : State → ℕ
 heard_by s = heard_count s.counts
 

@@ -14,7 +14,7 @@ use Rattle.receiver_core.specs.Receivers.{IsSettled, Receiver}
 use Rattle.listeners.specs.Endings.{lines_and_counts}
 use Rattle.listeners.proofs.SettlingLemmas.{after_given, judge_of, with_lines}
 
--- the number of a reader's queries
+-- The number of a reader's queries.
 abbrev pub queries_in : Reader → ℕ
 queries_in reader = length reader.queries
 
@@ -73,18 +73,18 @@ module _ (judge : Judge) (air : Air) (reader : Reader) where
   unfolding end
   end_none s past = past_end (queries_in reader) s past
 
--- from one receiver with lines to another with more, the end tells the same
+-- From one receiver with lines to another with more, the end tells the same.
 pub record Ends (before : Receiver) (L : List Line) (now : Receiver) (M : List Line) : Type 0 where
   pub settled : IsSettled now
   pub air : now.air ≡ before.air
   pub reader : now.reader ≡ before.reader
   pub state : lines_and_counts (end (judge_of before) before.air before.reader (after M now.state)) ≡ lines_and_counts (end (judge_of before) before.air before.reader (after L before.state))
 
--- ending a receiver like another
+-- Ending a receiver like another.
 pub end_like : (r before : Receiver) (s : State) → r.air ≡ before.air → r.reader ≡ before.reader → end (judge_of before) before.air before.reader s ≡ end (judge_of r) r.air r.reader s
 end_like r before s air reader = ap (λ a. end (by_entries a.scheme) a before.reader s) (sym air) ∙ ap (λ d. end (judge_of r) r.air d s) (sym reader)
 
--- one end, whose line is handed out
+-- One end, whose line is handed out.
 ended : (r : Receiver) (M given : List Line) (s : State) → with_lines given s ≡ end_query (judge_of r) r.air r.reader r.state → s.lines ≡ []
     → after (M ++ given) s ≡ end_query (judge_of r) r.air r.reader (after M r.state)
 ended r M given s told none = after_given M given s none ∙ ap (after M) told ∙ sym ((lines (judge_of r) r.air r.reader M r.state).end_query)
@@ -100,7 +100,7 @@ ends_more {before} {L} {r} {M} now given all h settled air reader told none e = 
       ∙ ap lines_and_counts (sym (end_like r before (after M r.state) h.air h.reader)) ∙ h.state;
 }
 
--- the last end, without a line
+-- The last end, without a line.
 pub ends_last : {before : Receiver} {L : List Line} {r : Receiver} {M : List Line} (now : Receiver) → Ends before L r M → queries_in r.reader ≤ r.state.query
     → with_lines [] now.state ≡ end_query (judge_of r) r.air r.reader r.state → now.state.lines ≡ []
     → lines_and_counts (after M now.state) ≡ lines_and_counts (end (judge_of before) before.air before.reader (after L before.state))
@@ -109,7 +109,7 @@ ends_last {before} {L} {r} {M} now h past told none =
     ap lines_and_counts one ∙ (end_cases (judge_of r) r.air r.reader (after M r.state)).done past ∙ sym (end_none (judge_of r) r.air r.reader (after M r.state) past)
     ∙ ap lines_and_counts (sym (end_like r before (after M r.state) h.air h.reader)) ∙ h.state
 
--- a verdict leaves one query less
+-- A verdict leaves one query less.
 pub ends_fewer : (r now : Receiver) (given : List Line) → with_lines given now.state ≡ end_query (judge_of r) r.air r.reader r.state → now.reader ≡ r.reader → (queries_in r.reader ≤ r.state.query → ⊥)
     → queries_in now.reader - now.state.query < queries_in r.reader - r.state.query
 ends_fewer r now given told reader more =

@@ -20,11 +20,11 @@ use Rattle.listeners.proofs.SettlingLemmas.{judge_of}
 
 -- ---- a receiver and its lines
 
--- the listener of a receiver and its lines
+-- The listener of a receiver and its lines.
 abbrev pub listening : ℕ → Receiver → List Line → Listener
 listening n r L = record { number = n; air = r.air; reader = r.reader; state = after L r.state }
 
--- the verdicts before the next member were taken
+-- The verdicts before the next member were taken.
 pub record Took (r : Receiver) (M : List Line) (mid : Receiver) (N : List Line) : Type 0 where
   pub air : mid.air ≡ r.air
   pub reader : mid.reader ≡ r.reader
@@ -33,7 +33,7 @@ pub record Took (r : Receiver) (M : List Line) (mid : Receiver) (N : List Line) 
 pub took_counts : {r : Receiver} {M : List Line} {mid : Receiver} {N : List Line} → Took r M mid N → heard_by mid.state ≡ heard_by r.state
 took_counts {r} {M} {mid} {N} took = ap heard_by took.state ∙ settle_counts (judge_of r) r.air r.reader (after M r.state)
 
--- a receiver whose verdicts were taken hears one more member
+-- A receiver whose verdicts were taken hears one more member.
 pub listener_heard : (n : ℕ) {old mid : Receiver} {M N : List Line} (now : Receiver) (o : Option Bucket) → Took old M mid N → now.air ≡ mid.air → now.reader ≡ mid.reader
     → now.state ≡ hear (judge_of mid) mid.air mid.reader o mid.state → listening n now N ≡ hears_one o (listening n old M)
 unfolding hears_one
@@ -47,7 +47,7 @@ listener_heard n {old} {mid} {M} {N} now o took air reader heard =
     ∙ ap (λ d. let l : Listener = record { number = n; air = old.air; reader = d; state = after N now.state } in l) (reader ∙ took.reader)
     ∙ ap (λ s. let l : Listener = record { number = n; air = old.air; reader = old.reader; state = s } in l) state
 
--- a receiver whose last verdicts were taken and whose queries were ended has its session's lines and counts
+-- A receiver whose last verdicts were taken and whose queries were ended has its session's lines and counts.
 pub listener_ended : (n : ℕ) {old mid : Receiver} {L M : List Line} (last : Receiver) (N : List Line) → Took old L mid M
     → lines_and_counts (after N last.state) ≡ lines_and_counts (end (judge_of mid) mid.air mid.reader (after M mid.state)) → last.state.lines ≡ []
     → (N, last.state.counts) ≡ lines_and_counts (ended (listening n old L))
@@ -73,7 +73,7 @@ unfolding hears
 counted_all [] l = omega arith
 counted_all (o ∷ members) l = let one = counted_one o l in let more = counted_all members (hears_one o l) in omega arith
 
--- a listener that ends here has heard all, and then settled
+-- A listener that ends here has heard all, and then settled.
 ended_all : (members : List (Option Bucket)) (l : Listener) → ended (hears members l) ≡ end (listener.judge_of l) l.air l.reader (hear_all (listener.judge_of l) l.air l.reader members l.state)
 unfolding ended hears hears_one hear_all
 ended_all [] l = refl
@@ -83,7 +83,7 @@ pub session_is : (deck : Deck) (r : ℕ) (members : List (Option Bucket)) → en
 unfolding session
 session_is deck r members = ended_all members (listener_of deck r)
 
--- so far the first members of a list were heard
+-- So far the first members of a list were heard.
 pub hears_more : {X : Type 0} (member : X → Option Bucket) (xs : List X) (i : ℕ) (x : X) (before now after : Listener) → i < length xs → x ≡ get_or xs i x
     → now ≡ hears (map member (take i xs)) before → after ≡ hears_one (member x) now → after ≡ hears (map member (take (i + 1) xs)) before
 unfolding hears
@@ -91,7 +91,7 @@ hears_more member xs i x before now after below here so_far heard =
     heard ∙ ap (hears_one (member x)) so_far ∙ sym (pieces (map member (take i xs)) (member x ∷ []) before)
     ∙ ap (λ l. hears l before) (ap (λ y. map member (take i xs) ++ member y ∷ []) here ∙ sym (map_more member xs i x below))
 
--- and there is room to count one more
+-- And there is room to count one more.
 pub room_for_next : {X : Type 0} (member : X → Option Bucket) (xs : List X) (i : ℕ) (before now : Listener) → i < length xs → now ≡ hears (map member (take i xs)) before
     → heard_by before.state + length xs < 2 ^ 64 → heard_by now.state + 1 < 2 ^ 64
 room_for_next member xs i before now below so_far most =

@@ -24,18 +24,18 @@ use Rattle.listeners.proofs.HearLemmas.{counted_one, session_is}
 
 -- ---- all of them
 
--- nothing more is heard
+-- Nothing more is heard.
 pub hears_none : (A : List Listener) → map (hears []) A ≡ A
 unfolding hears
 hears_none [] = refl
 hears_none (l ∷ A) = ap (λ B. l ∷ B) (hears_none A)
 
--- one member and then the others
+-- One member and then the others.
 pub heard_more : (member : Option Bucket) (members : List (Option Bucket)) (A : List Listener) → map (hears members) (map (hears_one member) A) ≡ map (hears (member ∷ members)) A
 unfolding hears
 heard_more member members A = map-map (hears members) (hears_one member) A
 
--- there is room to count so many members more
+-- There is room to count so many members more.
 abbrev pub HasRoom : ℕ → Listener → Type 0
 HasRoom n l = heard_by l.state + n < 2 ^ 64
 
@@ -45,7 +45,7 @@ room_after member n A room = All-map (HasRoom n) (hears_one member) A (λ k d be
 pub room_for_one : (n : ℕ) (A : List Listener) → All (HasRoom (n + 1)) A → All (HasRoom 1) A
 room_for_one n A room = λ k d below. let most = room k d below in omega arith
 
--- readers that heard nothing yet have room for a tape's records
+-- Readers that heard nothing yet have room for a tape's records.
 pub room_at_first : (deck : Deck) (n : ℕ) (readers : List ℕ) → n < 2 ^ 64 → All (HasRoom n) (map (listener_of deck) readers)
 room_at_first deck n readers few = All-map (HasRoom n) (listener_of deck) readers (λ k d below. omega (arith, few))
 
@@ -55,19 +55,19 @@ one_record true cut n at r rs c few = omega arith
 one_record false true n at r rs c few = omega arith
 one_record false false n at r rs c few = omega arith
 
--- a tape has no more records than bytes
+-- A tape has no more records than bytes.
 pub few_records : (n at : ℕ) (rest : List ℕ) → length (read_from n at rest).records ≤ n
 unfolding read_from
 few_records zero at rest = omega arith
 few_records (suc n) at rest = one_record (length rest == 0) (ends_inside rest) n at _ _ _ (few_records n _ _)
 
--- so far all up to a place have heard the member
+-- So far all up to a place have heard the member.
 pub record HeardUpTo (hear : Listener → Listener) (i : ℕ) (before now : List Listener) : Type 0 where
   pub done : take i now ≡ map hear (take i before)
   pub left : drop i now ≡ drop i before
   pub long : length now ≡ length before
 
--- one of those that are left
+-- One of those that are left.
 pub left_at : {hear : Listener → Listener} {i : ℕ} {before now : List Listener} (d : Listener) → HeardUpTo hear i before now → get_or now i d ≡ get_or before i d
 left_at {hear} {i} {before} {now} d h = simp unary_clauses at (sym (get_or-drop i now 0 d) ∙ ap (λ l. get_or l 0 d) h.left ∙ get_or-drop i before 0 d)
 
@@ -87,21 +87,21 @@ all_heard {hear} {i} {before} {now} h past = sym (take_all i now past) ∙ h.don
 
 -- ---- a deck's readers
 
--- what is made for one more reader joins what was made for those before it
+-- What is made for one more reader joins what was made for those before it.
 pub one_more_reader : {X : Type 0} (made : ℕ → X) (r : ℕ) (before after : List X) (x : X) → before ≡ map made (range_with_len 0 r) → x ≡ made r → after ≡ before ++ x ∷ []
     → after ≡ map made (range_with_len 0 (r + 1))
 one_more_reader made r before after x so_far is grew =
     grew ∙ ap (λ l. l ++ x ∷ []) so_far ∙ ap (λ t. map made (range_with_len 0 r) ++ t ∷ []) is
     ∙ sym (map-range_with_len_more made 0 r r (omega arith))
 
--- the verdict lines of a listener that ends here, and its counts
+-- The verdict lines of a listener that ends here, and its counts.
 abbrev pub verdicts_of : Listener → List VerdictLine
 verdicts_of l = map (line_by l.number) (ended l).lines
 
 abbrev pub counts_of : Listener → CountsLine
 counts_of l = record { reader = l.number; counts = (ended l).counts }
 
--- listeners that are numbered from n on
+-- Listeners that are numbered from n on.
 abbrev NumberedFrom : ℕ → List Listener → Type 0
 NumberedFrom n A = map (λ l. l.number) A ≡ range_with_len n (length A)
 
@@ -127,7 +127,7 @@ counts_from n (l ∷ A) e =
 pub all_counts : (A : List Listener) → AreNumbered A → map counts_of A ≡ map (λ p. let l : CountsLine = record { reader = p.0; counts = p.1.counts } in l) (enumerate_from 0 (map ended A))
 all_counts A e = counts_from 0 A e
 
--- all readers of a deck that have heard these members
+-- All readers of a deck that have heard these members.
 abbrev pub heard_readers : Deck → List (Option Bucket) → List Listener
 heard_readers deck members = map (hears members) (map (listener_of deck) (range_with_len 0 (length deck.readers)))
 
@@ -149,7 +149,7 @@ are_numbered deck members =
     length-map (map (listener_of deck) (range_with_len 0 n)) (hears members) ∙ length-map (range_with_len 0 n) (listener_of deck) ∙ length-range_with_len 0 n in
     numbers_of deck members 0 n ∙ ap (range_with_len 0) (sym long)
 
--- so their sessions are those over the members
+-- So their sessions are those over the members.
 pub sessions_are : (deck : Deck) (records : List (List ℕ)) → map ended (heard_readers deck (map bucket_in records)) ≡ sessions_over (by_entries (scheme_in deck)) deck (λ r. records)
 sessions_are deck records = same (range_with_len 0 (length deck.readers))
   where
@@ -158,7 +158,7 @@ sessions_are deck records = same (range_with_len 0 (length deck.readers))
     same (r ∷ readers) = ap (λ s. s ∷ map ended (map (hears (map bucket_in records)) (map (listener_of deck) readers))) (session_is deck r (map bucket_in records))
         ∙ ap (λ l. session_of (by_entries (scheme_in deck)) deck r (map bucket_in records) ∷ l) (same readers)
 
--- what was heard through a slice of all of them stands in their vector
+-- What was heard through a slice of all of them stands in their vector.
 pub heard_whole : (deck : Deck) (members : List (Option Bucket)) (n : ℕ) (items first now : List Listener) → length now ≡ n → first ≡ map (listener_of deck) (range_with_len 0 (length deck.readers))
     → now ≡ map (hears members) first → take n (now ++ drop (length now) items) ≡ heard_readers deck members
 heard_whole deck members n items first now long begun heard =

@@ -13,18 +13,18 @@ use Rattle.air_base.specs.declared.verdicts.Verdict.{Verdict}
 use Rattle.receiver_core.specs.declared.receivers.Step.{Step}
 use Rattle.receiver_core.specs.declared.receivers.Step.TheVariants as step
 use Rattle.receiver_core.specs.LinesGiven.{StepTells, lines_given}
-use Rattle.receiver_core.specs.Steps
+use Rattle.receiver_core.specs.ReceiverSteps
 use Rattle.receiver_core.specs.Receivers.{IsSettled, Receiver, stepped}
 
--- a state with these lines in place of its own
+-- A state with these lines in place of its own.
 abbrev pub with_lines : List Line → State → State
 with_lines ls s = record s { lines = ls }
 
--- the judge of a receiver
+-- The judge of a receiver.
 abbrev pub judge_of : Receiver → Judge
 judge_of r = by_entries r.air.scheme
 
--- where a state has no lines of its own, lines that it is given are those behind the ones handed out
+-- Where a state has no lines of its own, lines that it is given are those behind the ones handed out.
 pub after_given : (L given : List Line) (s : State) → s.lines ≡ [] → after (L ++ given) s ≡ after L (with_lines given s)
 after_given L given s none = ap (λ ls. with_lines ls s) (ap (λ ls. (L ++ given) ++ ls) none ∙ append-nil (L ++ given))
 
@@ -58,17 +58,17 @@ module _ (r : Receiver) where
       let same : s ≡ stepped r = ap (λ ls. with_lines ls s) none ∙ told in
       ap (after L) (same ∙ no_line_settles (ap (λ (t : State). t.lines) (sym same) ∙ none)) ∙ sym ((lines (judge_of r) r.air r.reader L r.state).settle)
 
--- from one receiver with lines to another with more, settling comes to the same
+-- From one receiver with lines to another with more, settling comes to the same.
 pub record Settles (before : Receiver) (L : List Line) (now : Receiver) (M : List Line) : Type 0 where
   pub air : now.air ≡ before.air
   pub reader : now.reader ≡ before.reader
   pub state : settle (judge_of before) before.air before.reader (after M now.state) ≡ settle (judge_of before) before.air before.reader (after L before.state)
 
--- settling a receiver like another
+-- Settling a receiver like another.
 settle_like : (r before : Receiver) (s : State) → r.air ≡ before.air → r.reader ≡ before.reader → settle (judge_of before) before.air before.reader s ≡ settle (judge_of r) r.air r.reader s
 settle_like r before s air reader = ap (λ a. settle (by_entries a.scheme) a before.reader s) (sym air) ∙ ap (λ d. settle (judge_of r) r.air d s) (sym reader)
 
--- one more line was handed out
+-- One more line was handed out.
 pub settles_more : {before : Receiver} {L : List Line} {r : Receiver} {M : List Line} (now : Receiver) (given all : List Line) → Settles before L r M → now.air ≡ r.air → now.reader ≡ r.reader
     → with_lines given now.state ≡ stepped r → now.state.lines ≡ [] → all ≡ M ++ given → Settles before L now all
 settles_more {before} {L} {r} {M} now given all h air reader told none e = record {
@@ -78,13 +78,13 @@ settles_more {before} {L} {r} {M} now given all h air reader told none e = recor
       ∙ given_settles r M given now.state told none ∙ sym (settle_like r before (after M r.state) h.air h.reader) ∙ h.state;
 }
 
--- no line was left
+-- No line was left.
 pub settles_last : {before : Receiver} {L : List Line} {r : Receiver} {M : List Line} (now : Receiver) → Settles before L r M → now.air ≡ r.air → now.reader ≡ r.reader
     → with_lines [] now.state ≡ stepped r → now.state.lines ≡ [] → after M now.state ≡ settle (judge_of before) before.air before.reader (after L before.state)
 settles_last {before} {L} {r} {M} now h air reader told none =
     none_settles r M now.state told none ∙ sym (settle_like r before (after M r.state) h.air h.reader) ∙ h.state
 
--- a step that gives no verdict gives no line, and leaves a settled receiver
+-- A step that gives no verdict gives no line, and leaves a settled receiver.
 pub step_rests : (s : Step) (reads : List ReadOf) (before now : Receiver) → ((v : Verdict) → s ≡ step.Verdict v → ⊥) → StepTells s before now → (lines_given s reads ≡ []) × IsSettled now
 step_rests (step.Verdict v) reads before now never tells = absurd (never v refl)
 step_rests step.Waiting reads before now never tells = (refl, tells.0)

@@ -29,7 +29,7 @@ length-with_values [] V e = refl
 length-with_values (h ∷ R) [] e = absurd (omega arith)
 length-with_values (h ∷ R) (v ∷ V) e = let rest = length-with_values R V (omega arith) in omega arith
 
--- the read with both parts
+-- The read with both parts.
 abbrev joined : Heard → ReadOf → Read
 joined h v = record { item = h.item; cycle = h.cycle; value = v.value; entries = h.entries }
 
@@ -47,7 +47,7 @@ held_number a k = length-with_values a.held.reads a.shown k.even
 columns_are : (a : Inside) → KeepsBoth a → columns_of (held_values a) ≡ a.held
 columns_are a k = ap (λ R. let t : HeldReads = record { n = a.held.n; reads = R } in t) (heard_from a.held.reads a.shown k.even)
 
--- what was taken of a bucket, part by part, is what it gives
+-- What was taken of a bucket, part by part, is what it gives.
 heard_parts : (b : Bucket) (item cycle : ℕ) (entries : List ℕ) → item ≡ item_of b.body → cycle ≡ b.cycle → entries ≡ entries_of b.body →
     heard_of (read_of b) ≡ record { item = item; cycle = cycle; entries = entries }
 heard_parts b item cycle entries i c e =
@@ -62,7 +62,7 @@ new_at a v b item cycle entries k is new i c e =
     let held : columns_of v ≡ a.held = ap columns_of (sym is) ∙ columns_are a k in
     subst (IsNew a.held) (heard_parts b item cycle entries i c e) (subst (λ h. IsNew h (heard_of (read_of b))) held new)
 
--- the clash by the columns is the clash by the entries
+-- The clash by the columns is the clash by the entries.
 pub clash_at : (a : Inside) (v : HeldValues) (b : Bucket) (item cycle : ℕ) (entries : List ℕ) → KeepsBoth a → held_values a ≡ v →
     item ≡ item_of b.body → cycle ≡ b.cycle → entries ≡ entries_of b.body →
     clash_by_entries FMatrix a.held.reads (record { item = item; cycle = cycle; entries = entries }) ≡ (by_entries (scheme_of FMatrix)).clash v.reads (read_of b)
@@ -90,7 +90,7 @@ empty_is n held shown entries e =
 
 -- ---- where one read more is held
 
--- the read that was taken of a bucket, part by part, is the one that it gives
+-- The read that was taken of a bucket, part by part, is the one that it gives.
 read_parts : (b : Bucket) (item cycle value : ℕ) (entries : List ℕ) → item ≡ item_of b.body → cycle ≡ b.cycle → value ≡ value_of b.body → entries ≡ entries_of b.body →
     read_of b ≡ record { item = item; cycle = cycle; value = value; entries = entries }
 read_parts b item cycle value entries i c v e =
@@ -99,7 +99,7 @@ read_parts b item cycle value entries i c v e =
     ∙ ap (λ n. let t : Read = record { item = item; cycle = cycle; value = n; entries = entries_of b.body } in t) (sym v)
     ∙ ap (λ es. let t : Read = record { item = item; cycle = cycle; value = value; entries = es } in t) (sym e)
 
--- the two lists with one read more
+-- The two lists with one read more.
 more : (a : Inside) (held : HeldReads) (shown : List ReadOf) (h : Heard) (v : ReadOf) → KeepsBoth a →
     held ≡ record a.held { reads = a.held.reads ++ h ∷ [] } → shown ≡ a.shown ++ v ∷ [] →
     with_values held.reads shown ≡ with_values a.held.reads a.shown ++ joined h v ∷ []
@@ -131,7 +131,7 @@ more_is a w b held shown entries item cycle value es k is e f i c v es_are =
     ∙ ap (λ R. let t : HeldValues = record { items = a.held.n; reads = R } in t) (more a held shown h s k e f ∙ ap (λ x. with_values a.held.reads a.shown ++ x ∷ []) (sym (read_parts b item cycle value es i c v es_are)))
     ∙ ap (λ (t : HeldValues). let u : HeldValues = record t { reads = t.reads ++ read_of b ∷ [] } in u) is
 
--- a bucket with an item has as many entries as it counts
+-- A bucket with an item has as many entries as it counts.
 pub entries_counted : (body : Body) → kind_of body ≢ 0 → length (entries_of body) ≡ count_of body
 unfolding kind_of entries_of count_of
 entries_counted (Idle count) k = absurd (k refl)

@@ -27,7 +27,7 @@ body_is air slot (Column item value entries) p =
 body_is air slot (Vector item value entries) p =
     ap (λ c. carries item slot && c && (length entries == air.items)) (ap (λ q. not (airs_columns q)) p) ∙ ap (λ c. c && (length entries == air.items)) (and_false (carries item slot))
 
--- in the deck's edition and within the program the body decides
+-- In the deck's edition and within the program the body decides.
 fits_in_slot : (air : Air) (b : Bucket) → air.scheme.policy ≡ FMatrix → b.edition ≡ 0 → b.slot < length air.slots →
     fits air b ≡ (kind_fits (get_or air.slots b.slot None) (kind_of b.body) (item_of b.body) && (count_of b.body == air.items))
 unfolding fits
@@ -46,7 +46,7 @@ no_such_slot air b l =
     ap (λ t. (b.edition == 0) && t && body_fits air (get_or air.slots b.slot None) b.body) (le-ltb b.slot (length air.slots) l)
     ∙ ap (λ t. t && body_fits air (get_or air.slots b.slot None) b.body) (and_false (b.edition == 0))
 
--- the same at the fields: the answer of the slot's test and the number of items
+-- The same at the fields: the answer of the slot's test and the number of items.
 pub in_slot : (a : Inside) (air : Air) (b : Bucket) (s : ℕ) (item : Option ℕ) (right : Bool) (n : ℕ) → air_in a ≡ air → s ≡ b.slot → b.edition ≡ 0 → s < length a.slots.items →
     item ≡ get_or a.slots.items s item → right ≡ kind_fits item (kind_of b.body) (item_of b.body) → n ≡ count_of b.body → (right && (n == a.items)) ≡ fits air b
 in_slot a air b s item right n is at first within carried stands counted =

@@ -34,11 +34,11 @@ busy_wanted o c (Idle count) k = absurd (k refl)
 busy_wanted o c (Column item value entries) k = refl
 busy_wanted o c (Vector item value entries) k = refl
 
--- the kinds 1 and 2 aren't that of an idle slot
+-- The kinds 1 and 2 aren't that of an idle slot.
 pub no_kind_0 : (n : ℕ) → n + 1 ≡ 0 → ⊥
 no_kind_0 n e = absurd (omega arith)
 
--- the read of a wanted bucket
+-- The read of a wanted bucket.
 pub record IsWanted (o : Option ℕ) (b : Bucket) : Type 0 where
   pub busy : kind_of b.body ≢ 0
   pub read : read_in b.cycle b.body ≡ Some (read_of b)
@@ -59,7 +59,7 @@ fitting_count air slot (Idle count) f = eqb-true count air.items (and_parts (is_
 fitting_count air slot (Column item value entries) f = eqb-true (length entries) air.items (and_parts (carries item slot && airs_columns air.scheme.policy) (length entries == air.items) f).1
 fitting_count air slot (Vector item value entries) f = eqb-true (length entries) air.items (and_parts (carries item slot && not (airs_columns air.scheme.policy)) (length entries == air.items) f).1
 
--- a bucket that fits has the deck's number of items
+-- A bucket that fits has the deck's number of items.
 pub fits_counted : (air : Air) (b : Bucket) → fits air b ≡ true → count_of b.body ≡ air.items
 unfolding fits
 fits_counted air b f = fitting_count air (get_or air.slots b.slot None) b.body (and_parts _ (body_fits air (get_or air.slots b.slot None) b.body) f).1
@@ -96,7 +96,7 @@ pub hear_foreign : (air : Air) (reader : Reader) (b : Bucket) (s : State) → fi
 unfolding hear
 hear_foreign air reader b s f = sym (cond-false (fits air b) _ _ f)
 
--- the state at the bucket's cycle, where it is a newer one
+-- The state at the bucket's cycle, where it is a newer one.
 abbrev pub at_cycle : ℕ → State → State
 at_cycle m s = record s { now = m }
 
@@ -120,7 +120,7 @@ hear_opened air reader b m s e p f w =
 
 -- ---- the receiver after it
 
--- no line waits before or after
+-- No line waits before or after.
 pub quiet : (v : Receiver) (s : State) → s.lines ≡ [] → (let t : Receiver = record v { state = s } in t) ≡ in_state v s
 unfolding last_reads
 quiet v s e = ap (λ L. let t : Receiver = record v { state = s; last = last_reads L v.last } in t) (sym e)

@@ -33,7 +33,7 @@ differs (y ∷ q) x zero i e s = λ same.
     eqb-false y x (or_false (y == x) (list_any (λ z. z == x) q) e).0 (here ∙ sym same)
 differs (y ∷ q) x (suc k) i e s = differs q x k i (or_false (y == x) (list_any (λ z. z == x) q) e).1 s
 
--- of distinct items none before the one at a place is that one
+-- Of distinct items none before the one at a place is that one.
 before_differ : (q : List ℕ) (k i : ℕ) → has_repeat q ≡ false → slice_get q k ≡ Some i → All (λ j. j ≢ i) (take k q)
 unfolding has_repeat
 before_differ [] k i e s = absurd (let f : ◌≡◌ {A = Option ℕ} None (Some i) = s in cc)
@@ -49,7 +49,7 @@ heard_differ (r ∷ R) i h = All-cons (λ g. g.item ≢ i) (heard_of r) (map hea
 
 -- ---- at the fields
 
--- the query at hand
+-- The query at hand.
 abbrev at_hand : Inside → List ℕ
 at_hand r = get_or r.reader.queries r.query []
 
@@ -77,7 +77,7 @@ new_read r b k range busy counted w =
       below = range.entries;
     }
 
--- the held items stay the query's first ones
+-- The held items stay the query's first ones.
 pub more_first : (r : Inside) (held : HeldValues) (x : Read) → IsReceiver r → held ≡ record r.held { reads = r.held.reads ++ x ∷ [] } →
     wanted (receiver_in r).reader (receiver_in r).state ≡ Some x.item → map (λ y. y.item) held.reads ≡ take (length held.reads) (at_hand r)
 more_first r held x k e w =
@@ -89,7 +89,7 @@ more_first r held x k e w =
     ∙ sym (take_more (at_hand r) n x.item (slice_get_within (at_hand r) n x.item at))
     ∙ ap (λ m. take m (at_hand r)) (sym (ap length reads ∙ length_push r.held.reads x))
 
--- the fields with one more opened bucket
+-- The fields with one more opened bucket.
 abbrev pub opened_with : Inside → HeldValues → Inside
 opened_with r held = record r { counts = record r.counts { opened = r.counts.opened + 1 }; held = held }
 

@@ -9,13 +9,13 @@ use Rattle.air_model.specs.Decks.{Deck, IsDeck, Item, disks_in, rates_in}
 use Rattle.air_model.specs.Disks.{Disk, all_items, order}
 use Rattle.air_model.proofs.ItemOrder.{cut_items, length-order}
 
--- the disks have as many items as the deck
+-- The disks have as many items as the deck.
 pub items_counted : (deck : Deck) → IsDeck deck → length (all_items (disks_in deck)) ≡ length deck.items
 items_counted deck is =
     let long : length (order (rates_in deck)) ≡ length deck.items = length-order (rates_in deck) ∙ length-map deck.items (λ i. i.rate) in
     ap length (cut_items (order (rates_in deck)) deck.disks (is.sizes ∙ sym long)) ∙ long
 
--- the PIX numbers of all items
+-- The PIX numbers of all items.
 abbrev pub all_pix : Deck → List ℕ
 all_pix deck = map (λ p. pix_number (disks_in deck) p.0 p.1) (enumerate_from 0 (rates_in deck))
 
@@ -23,7 +23,7 @@ pub pix_counted : (deck : Deck) → length (all_pix deck) ≡ length deck.items
 pix_counted deck =
     length-map (enumerate_from 0 (rates_in deck)) (λ p. pix_number (disks_in deck) p.0 p.1) ∙ length-enumerate_from 0 (rates_in deck) ∙ length-map deck.items (λ i. i.rate)
 
--- one number more, that of the next item
+-- One number more, that of the next item.
 pub pix_more : (deck : Deck) (plan : List Disk) (i rate n : ℕ) → plan ≡ disks_in deck → i < length deck.items → IfSome (slice_get deck.items i) (λ item. rate ≡ item.rate) →
     n ≡ pix_number plan i rate → take (i + 1) (all_pix deck) ≡ take i (all_pix deck) ++ n ∷ []
 pix_more deck plan i rate n is within told e =

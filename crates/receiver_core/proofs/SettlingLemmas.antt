@@ -6,7 +6,7 @@ use Rattle.std.proofs.lemmas.Bool.{ltb-true}
 use Rattle.air_model.specs.Aired.{Air}
 use Rattle.air_model.specs.Judges.{Judge}
 use Rattle.air_model.specs.Sessions.{Reader, State, turn, settle}
-use Rattle.receiver_core.specs.Steps.{step, turn_to_line}
+use Rattle.receiver_core.specs.ReceiverSteps.{step, turn_to_line}
 use Rattle.air_model.proofs.MomentLemmas.{cond_keeps}
 use Rattle.air_model.proofs.SettleLemmas.{settle_is}
 

@@ -25,12 +25,12 @@ use Rattle.receiver_core.proofs.WordLemmas.{copy_none}
 abbrev J : Judge
 J = by_entries (scheme_of FMatrix)
 
--- with no line waiting the receiver is in its own state
+-- With no line waiting the receiver is in its own state.
 pub in_own_state : (r : Receiver) → r.state.lines ≡ [] → r ≡ in_state r r.state
 unfolding last_reads
 in_own_state r e = ap (λ L. let t : Receiver = record r { last = last_reads L r.last } in t) (sym e)
 
--- a word that adds no line, after one that may
+-- A word that adds no line, after one that may.
 pub goes_on : (old given now : Receiver) (word : Reader → State → State) (s t : State) → given ≡ in_state old s → now ≡ record given { state = word given.reader given.state } →
     (word old.reader s).lines ≡ s.lines → word old.reader s ≡ t → now ≡ in_state old t
 goes_on old given now word s t g n same is =
@@ -54,7 +54,7 @@ pub not_whole_is : (air : Air) (reader : Reader) (s : State) → is_some (wanted
 unfolding accept_if_whole
 not_whole_is air reader s e = sym (cond-true (is_some (wanted reader s)) _ _ e)
 
--- where an item is wanted, a query is left
+-- Where an item is wanted, a query is left.
 pub left : (reader : Reader) (s : State) (i : ℕ) → wanted reader s ≡ Some i → s.query < length reader.queries
 unfolding wanted query_of
 left reader s i w = elim (cases_lt s.query (length reader.queries)) as (λ _. s.query < length reader.queries) [
@@ -64,7 +64,7 @@ left reader s i w = elim (cases_lt s.query (length reader.queries)) as (λ _. s.
 
 -- ---- at the fields
 
--- the verdict with the held reads
+-- The verdict with the held reads.
 pub give_is : (r : Inside) (last : List ReadOf) (kind : VerdictKind) → (receiver_in r).state.lines ≡ [] → last ≡ map shown_of r.held.reads →
     receiver_in (record r { waiting = Some (record { query = r.query; attempt = r.attempt; kind = kind }); last = last }) ≡ in_state (receiver_in r) (with_line J kind (receiver_in r).state)
 unfolding with_line line_of by_entries last_reads
@@ -74,7 +74,7 @@ give_is r last kind free e =
     ap (λ reads. receiver_in (record r { waiting = Some (record { query = r.query; attempt = r.attempt; kind = kind }); last = reads })) e
     ∙ ap (λ L. in_state v (record v.state { lines = L ++ l ∷ [] })) (sym free)
 
--- the query at hand is still at hand after its verdict
+-- The query at hand is still at hand after its verdict.
 pub still_left : (old given : Receiver) (kind : VerdictKind) → given ≡ in_state old (with_line J kind old.state) → old.state.query < length old.reader.queries →
     given.state.query < length given.reader.queries
 unfolding with_line

@@ -8,7 +8,7 @@ use Rattle.air_model.specs.Aired.{air_of}
 use Rattle.air_model.specs.Judges.{by_entries}
 use Rattle.air_model.specs.Sessions.{State, accept_if_whole, copy_of, count_copied, drop_copy, hold, is_unusable, line_of, next_query, query_of, reader_of, start, turn, turn_with, wanted, with_line}
 use Rattle.air_model.proofs.SessionExamples.{copied, counted, line, read}
-use Rattle.receiver_core.specs.Steps.{step, turn_to_line}
+use Rattle.receiver_core.specs.ReceiverSteps.{step, turn_to_line}
 
 -- A reader with a copy of item 0 wants just that: one step takes it, and gives the line.
 abbrev with_copy_of_zero : State

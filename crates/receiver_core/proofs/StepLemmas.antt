@@ -21,7 +21,7 @@ use Rattle.receiver_core.proofs.WordLemmas.{copy_none, end_left, end_past, step_
 
 -- ---- a step
 
--- the line that waited is handed out, and without one nothing changes
+-- The line that waited is handed out, and without one nothing changes.
 pub stepped_is : (r : Inside) (s : Step) → lines_given s r.last ≡ lines_of r.waiting r.last →
     (let t : State = record (receiver_in r).state { lines = lines_given s r.last } in t) ≡ stepped (receiver_in r)
 stepped_is r s e =
@@ -29,14 +29,14 @@ stepped_is r s e =
     ap (λ L. let t : State = record v.state { lines = L } in t) e
     ∙ cond_keeps (λ t. v.state ≡ t) (nat_lt 0 (length v.state.lines)) _ _ (λ _. refl) (λ _. step_none (by_entries r.air.scheme) r.air r.reader v.state refl)
 
--- nothing waits
+-- Nothing waits.
 pub idle_settled : (r : Inside) → r.waiting ≡ None → IsSettled (receiver_in r)
 idle_settled r e = record {
   given = ap (λ o. lines_of o r.last) e;
   free = copy_none (wanted r.reader (receiver_in r).state) (receiver_in r).state refl;
 }
 
--- one line fewer
+-- One line fewer.
 pub fewer_left : (r : Inside) (o : Option Verdict) (v : Verdict) → o ≡ None → r.waiting ≡ Some v → steps_left (receiver_in (record r { waiting = o })) < steps_left (receiver_in r)
 fewer_left r o v e f =
     let none : length (lines_of o r.last) ≡ 0 = ap (λ p. length (lines_of p r.last)) e in
@@ -61,7 +61,7 @@ pub ended_past : (old : Receiver) → IsSettled old → old.state.copies ≡ [] 
 ended_past old settled free past =
     ap (λ L. let t : State = record old.state { lines = L } in t) (sym settled.given) ∙ end_past (by_entries old.air.scheme) old.air old.reader old.state free past
 
--- the receiver after the last verdict of a query at the end
+-- The receiver after the last verdict of a query at the end.
 pub ended : (old given now : Receiver) → given ≡ in_state old (with_line (by_entries (scheme_of FMatrix)) Unfinished old.state) → now ≡ record given { state = next_query given.state } →
     now ≡ in_state old (next_query (with_line (by_entries (scheme_of FMatrix)) Unfinished old.state))
 ended old given now g n = goes_on old given now (λ reader s. next_query s) (with_line (by_entries (scheme_of FMatrix)) Unfinished old.state) _ g n (next_query_lines (with_line (by_entries (scheme_of FMatrix)) Unfinished old.state)) refl
@@ -75,11 +75,11 @@ no_line_pushed : (L : List Line) (l : Line) → [] ≡ L ++ l ∷ [] → ⊥
 no_line_pushed [] l e = cc
 no_line_pushed (k ∷ L) l e = cc
 
--- that verdict waits
+-- That verdict waits.
 pub ended_waits : (old : Receiver) (r : Inside) → receiver_in r ≡ in_state old (next_query (with_line (by_entries (scheme_of FMatrix)) Unfinished old.state)) → r.waiting ≡ None → ⊥
 unfolding next_query with_line
 ended_waits old r e none = no_line_pushed old.state.lines _ (sym (ap (λ o. lines_of o r.last) none) ∙ ap (λ (t : Receiver). t.state.lines) e)
 
--- the test for a query says that none is left
+-- The test for a query says that none is left.
 pub past : (b : Bool) (q n : ℕ) → (q < n → IsTrue b) → b ≡ false → n ≤ q
 past b q n h e = elim (cases_lt q n) as (λ _. n ≤ q) [ inl l ↦ absurd (both_ways b e (h l)) | inr ge ↦ ge ]

@@ -13,7 +13,7 @@ use Rattle.air_model.specs.Copies.{goes_before, keep, with_copy, without}
 use Rattle.air_model.specs.Judges.{Judge, by_entries}
 use Rattle.air_model.specs.Reads.{Read}
 use Rattle.air_model.specs.Sessions.{Reader, State, abort, accept_if_whole, copy_of, count_opened, decide, drop_copy, end_query, hold, next_attempt, next_query, offer, open_bucket, turn, turn_with, wanted, with_line}
-use Rattle.receiver_core.specs.Steps.{step, turn_to_line}
+use Rattle.receiver_core.specs.ReceiverSteps.{step, turn_to_line}
 use Rattle.air_model.proofs.MomentLemmas.{cond_keeps}
 
 abbrev J : Judge
@@ -46,7 +46,7 @@ unfolding decide hold accept_if_whole abort next_attempt next_query with_line dr
 decide_none air reader x None s e = cond_keeps NoCopies (is_some (wanted reader (record s { held = s.held ++ x ∷ [] }))) _ _ (λ _. e) (λ _. e)
 decide_none air reader x (Some c) s e = cond_keeps NoCopies (nat_lt s.attempt reader.plan.tries) _ _ (λ _. ap (without c.item) e) (λ _. ap (without c.item) e)
 
--- an opened bucket does what is decided on its read
+-- An opened bucket does what is decided on its read.
 open_is : (air : Air) (reader : Reader) (x : Read) (o : Option Clash) (s : State) → reader.plan.room ≡ 0 → NoCopies s → J.clash s.held x ≡ o → decide J air reader x o (count_opened s) ≡ open_bucket J air reader x s
 unfolding open_bucket count_opened
 open_is air reader x o s room none e =

@@ -3,7 +3,7 @@ pub mod AttemptView
 pub mod AirView
 pub mod SlotKinds
 pub mod ReaderView
-pub mod Steps
+pub mod ReceiverSteps
 pub mod Receivers
 pub mod LinesGiven
 pub mod LastReads

@@ -6,7 +6,7 @@ use Rattle.air_model.specs.Aired.{Air, air_of}
 use Rattle.air_model.specs.Decks.{Deck}
 use Rattle.air_model.specs.Judges.{by_entries}
 use Rattle.air_model.specs.Sessions.{Reader, State, copy_of, reader_of, start, wanted}
-use Rattle.receiver_core.specs.Steps
+use Rattle.receiver_core.specs.ReceiverSteps
 
 -- A receiver knows what all receivers know, its own plan and queries, and its state; and it has the reads of the last
 -- verdict that it handed out, or that waits.

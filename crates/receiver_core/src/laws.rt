@@ -4,7 +4,7 @@ ghost use Rattle.std.specs.Prelude.{◌≡◌, []};
 ghost use Rattle.air_model.specs.Aired.{Air};
 ghost use Rattle.air_model.specs.Judges.{Judge};
 ghost use Rattle.air_model.specs.Sessions.{Reader, State, settle};
-ghost use Rattle.receiver_core.specs.Steps.{step};
+ghost use Rattle.receiver_core.specs.ReceiverSteps.{step};
 
 /// After a step settling comes to the same as before it. A step that gives no line settles.
 pub fn step_law()

@@ -7,7 +7,7 @@ ghost use Rattle.air_model.specs.Buckets.{IsInRange, bucket_in};
 ghost use Rattle.air_model.specs.Decks.{disks_in};
 ghost use Rattle.air_model.specs.Judges.{by_entries};
 ghost use Rattle.air_model.specs.Sessions.{end_query, hear, wanted};
-ghost use Rattle.bucket_codec.specs.Views.{IsNoBucket};
+ghost use Rattle.bucket_codec.specs.DatagramKinds.{IsNoBucket};
 ghost use Rattle.receiver_core.specs.LinesGiven.{StepTells, lines_given, lines_of};
 ghost use Rattle.receiver_core.specs.FeedAnswers.{ChangesItsCountAlone, counted, fed_of};
 ghost use Rattle.receiver_core.specs.LastReads.{last_reads};

@@ -32,7 +32,7 @@ use Rattle.air_model.proofs.LaterLemmas.{later}
 
 -- ---- histories
 
--- an event is a start exactly if the test says so
+-- An event is a start exactly if the test says so.
 pub start_event : (e : Event) → is_start e ≡ true → e ≡ Start
 unfolding is_start
 start_event (Commit by seq update) e = cc
@@ -45,7 +45,7 @@ starts_more G e =
     let one : sum_by weight (e ∷ []) ≡ cond (is_start e) 1 0 = omega arith in
     sum_by-append weight G (e ∷ []) ∙ ap (λ n. sum_by weight G + n) one
 
--- a start is one more, a commit none
+-- A start is one more, a commit none.
 pub starts_start : (G : List Event) → starts (G ++ Start ∷ []) ≡ starts G + 1
 unfolding is_start
 starts_start G = starts_more G Start
@@ -56,7 +56,7 @@ range_more a (suc n) = let same : a + 1 + n ≡ a + suc n = omega arith in ap (�
 
 -- ---- buckets
 
--- what agrees at each element gives one list
+-- What agrees at each element gives one list.
 pub map_same : {X Y : Type 0} (f g : X → Y) (xs : List X) → ((x : X) → f x ≡ g x) → map f xs ≡ map g xs
 map_same f g [] same = refl
 map_same f g (x ∷ xs) same = ap (λ y. y ∷ map f xs) (same x) ∙ ap (λ l. g x ∷ l) (map_same f g xs same)
@@ -99,18 +99,18 @@ module _ (values : List ℕ) (air : Air) where
 
 -- ---- a deck's boards
 
--- the program of a deck has all its items
+-- The program of a deck has all its items.
 pub items_aired : (deck : Deck) → IsDeck deck → length (all_items (disks_in deck)) ≡ length deck.items
 items_aired deck is =
     let rates = rates_in deck in
     let all : length (order rates) ≡ length deck.items = length-order rates ∙ length-map deck.items (λ i. i.rate) in
     ap length (cut_items (order rates) deck.disks (is.sizes ∙ sym all)) ∙ all
 
--- what is told twice alike is alike
+-- What is told twice alike is alike.
 pub told_alike : {s t : Sent} → Some s ≡ Some t → s ≡ t
 told_alike e = cc
 
--- before any event the board is that of no event, and nothing is aired
+-- Before any event the board is that of no event, and nothing is aired.
 pub run_begins : (deck : Deck) (r : ScriptRun) → r.events.items ≡ [] → r.board ≡ board_of (values_in deck) [] → masted_of r.tape ≡ fresh_mast → length r.room.items ≡ 24 + 4 * length deck.items → IsScriptRun deck r
 run_begins deck r none board fresh room = record {
   stepped = board ∙ ap (board_of (values_in deck)) (sym none);
@@ -118,7 +118,7 @@ run_begins deck r none board fresh room = record {
   room = room;
 }
 
--- a board has a value for each item
+-- A board has a value for each item.
 pub values_kept : (deck : Deck) (board : Board) (H : List Event) → board ≡ board_of (values_in deck) H → length board.values ≡ length deck.items
 values_kept deck board H is =
     let values = values_in deck in
@@ -146,6 +146,6 @@ module _ (deck : Deck) (G : List Event) (e : Event) (board : Board) (is : board 
       ∙ sym (map-append spelling (buckets_of values a G) (buckets_in values a new (starts new))) ∙ ap (map spelling) (sym (buckets_start values a G))
       ∙ ap (λ e. aired_bytes deck (G ++ e ∷ [])) (sym (start_event e start))
 
--- a commit airs nothing
+-- A commit airs nothing.
 pub commit_aired : (deck : Deck) (G : List Event) (e : Event) (sent : List (List ℕ)) → is_start e ≡ false → sent ≡ aired_bytes deck G → sent ≡ aired_bytes deck (G ++ e ∷ [])
 commit_aired deck G e sent commit so_far = so_far ∙ ap (map spelling) (sym (buckets_commit (values_in deck) (air_of deck) G e commit))

@@ -14,11 +14,11 @@ use Rattle.air_history.specs.UpdateLists.{UpdateLists}
 use Rattle.air_model.specs.Decks.{Deck, Item, ScriptFits, count_parts, event_of, updates_by}
 use Rattle.script_run.specs.RunSteps.{CountsParts}
 
--- the part is a commit of the updater
+-- The part is a commit of the updater.
 abbrev is_part_of : ℕ → Option ℕ → Bool
 is_part_of by part = option_map_or (λ who. who == by) part false
 
--- one more value
+-- One more value.
 pub values_more : (items : List Item) (i v : ℕ) (before after : List ℕ) → i < length items → before ≡ map (λ item. item.value) (take i items)
     → IfSome (slice_get items i) (λ item. v ≡ item.value) → after ≡ before ++ v ∷ [] → after ≡ map (λ item. item.value) (take (i + 1) items)
 values_more items i v before after below so_far is grew =
@@ -72,17 +72,17 @@ module _ (deck : Deck) (k by : ℕ) (here : slice_get deck.script k ≡ Some (So
             ∙ sym (count_by_more_no (is_part_of who) deck.script k None within (ap (is_part_of who) part_is ∙ ne_eqb by who (λ e. other (sym e))))
       ]
 
--- no part more where the part is a start
+-- No part more where the part is a start.
 pub counts_same : (deck : Deck) (k : ℕ) (made : List ℕ) → slice_get deck.script k ≡ Some None → k < length deck.script → CountsParts deck k made → CountsParts deck (k + 1) made
 counts_same deck k made here within counts = λ who l.
     let part : get_or deck.script k None ≡ None = get_or_from_slice_get deck.script k None None here in
     counts who l ∙ sym (count_by_more_no (is_part_of who) deck.script k None within (ap (is_part_of who) part))
 
--- the update that was read
+-- The update that was read.
 pub update_read : (updates own : List UpdateLists) (seq : ℕ) (copy u : UpdateLists) → updates ≡ own → u ≡ get_or updates seq u → copy ≡ u → copy ≡ get_or own seq copy
 update_read updates own seq copy u e is same = same ∙ is ∙ ap (λ l. get_or l seq u) e ∙ ap (get_or own seq) (sym same)
 
--- the event of a start
+-- The event of a start.
 pub start_is : (deck : Deck) (k : ℕ) → slice_get deck.script k ≡ Some None → Start ≡ event_of deck (take k deck.script) (get_or deck.script k None)
 unfolding event_of
 start_is deck k here = ap (event_of deck (take k deck.script)) (sym (get_or_from_slice_get deck.script k None None here))

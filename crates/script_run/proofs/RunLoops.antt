@@ -12,7 +12,7 @@ use Rattle.air_model.proofs.ScriptLemmas.{script}
 use Rattle.script_run.specs.RunSteps.{CountsParts, IsScriptRun}
 use Rattle.script_run.specs.declared.runs.ScriptRun.{ScriptRun}
 
--- the event of the part at a place
+-- The event of the part at a place.
 abbrev pub event_in : Deck → ℕ → Event
 event_in deck k = event_of deck (take k deck.script) (get_or deck.script k None)
 
@@ -24,30 +24,30 @@ pub script_length : (deck : Deck) → length (script_history deck) ≡ length de
 unfolding script_history
 script_length deck = length-map-range_with_len (event_in deck) 0 (length deck.script)
 
--- after k parts: the board and the tape are those of the first k events, and the parts are counted
+-- After k parts: the board and the tape are those of the first k events, and the parts are counted.
 pub record HasRun (deck : Deck) (k : ℕ) (r : ScriptRun) (made : List ℕ) : Type 0 where
   pub kept : IsScriptRun deck r
   pub events : r.events.items ≡ take k (script_history deck)
   pub updaters : length made ≡ length deck.updates
   pub counts : CountsParts deck k made
 
--- the next event's items are the catalog's
+-- The next event's items are the catalog's.
 pub next_fits : (deck : Deck) (k : ℕ) (e : Event) → IsDeck deck → k < length deck.script → e ≡ event_in deck k → ItemsFit (length deck.items) e
 next_fits deck k e made l is =
     let fit = items_fit (length deck.updates) (length deck.items) _ ((events deck (script_history deck) made (script deck made.script)).0 k Start (omega (arith, script_length deck))) in
     subst (ItemsFit (length deck.items)) (event_there deck k l ∙ sym is) fit
 
--- few cycles were started so far
+-- Few cycles were started so far.
 pub few_starts : (deck : Deck) (k : ℕ) (H : List Event) → H ≡ take k (script_history deck) → starts H ≤ k
 few_starts deck k H e = let most = starts_within H in let long = ap length e ∙ length-take k (script_history deck) in omega arith
 
--- one more event
+-- One more event.
 pub event_more : (deck : Deck) (k : ℕ) (e : Event) (before after : List Event) → k < length deck.script → e ≡ event_in deck k → before ≡ take k (script_history deck) → after ≡ before ++ e ∷ []
     → after ≡ take (k + 1) (script_history deck)
 event_more deck k e before after l is so_far grew =
     let H = script_history deck in
     grew ∙ ap (λ G. G ++ e ∷ []) so_far ∙ ap (λ e. take k H ++ e ∷ []) (is ∙ sym (event_there deck k l)) ∙ sym (take_more H k Start (omega (arith, script_length deck)))
 
--- all events
+-- All events.
 pub event_all : (deck : Deck) (k : ℕ) (H : List Event) → length deck.script ≤ k → H ≡ take k (script_history deck) → H ≡ script_history deck
 event_all deck k H past so_far = so_far ∙ take_all k (script_history deck) (omega (arith, script_length deck))

@@ -7,14 +7,14 @@ use Rattle.std.proofs.lemmas.Bool.{cases_Bool, cond-false, eqb-true}
 use Rattle.std.proofs.lemmas.List.{append-nil, map-append, take-map, drop-map, take-append-drop}
 use Rattle.std.proofs.lemmas.List.Elements.{All-head, All-tail, All-map, All-push}
 use Rattle.std.proofs.lemmas.List.Sums.{sum_by-append, sum_by-cons}
-use Rattle.turnstile.specs.Entries.{Foreign, Continues, Lengthens}
+use Rattle.turnstile.specs.PassEntries.{Foreign, Continues, Lengthens}
 use Rattle.air_history.specs.declared.histories.Event.{Event}
 use Rattle.air_history.specs.declared.histories.Event.TheVariants.{Commit, Start}
 use Rattle.air_history.specs.Histories.{is_start, since_start, EventFits}
 use Rattle.air_model.specs.Decks.{is_by}
 use Rattle.air_model.specs.Closings.{GoesOnWithout}
 use Rattle.update_commit.proofs.StepLemmas.{start_fits}
-use Rattle.station.specs.Entries.{maker, entry_of, entries_of, events_of}
+use Rattle.station.specs.EventEntries.{maker, entry_of, entries_of, events_of}
 
 -- ---- entries
 
@@ -22,13 +22,13 @@ pub events_back : (m : ℕ) (G : List Event) → events_of (entries_of m G) ≡ 
 events_back m [] = refl
 events_back m (e ∷ G) = ap (λ l. e ∷ l) (events_back m G)
 
--- a commit is made by its updater's pass
+-- A commit is made by its updater's pass.
 pub commits_make : (m by : ℕ) (e : Event) → is_by by e ≡ true → maker m e ≡ by
 unfolding is_by maker
 commits_make m by (Commit who seq u) own = eqb-true who by own
 commits_make m by Start own = absurd (cc (own))
 
--- a start is made by the conductor's
+-- A start is made by the conductor's.
 pub starts_make : (m : ℕ) (e : Event) → is_start e ≡ true → maker m e ≡ m
 unfolding is_start maker
 starts_make m (Commit who seq u) own = absurd (cc (own))
@@ -44,7 +44,7 @@ maker_start m = refl
 
 -- ---- going on
 
--- entries of others have no event that the number's pass makes
+-- Entries of others have no event that the number's pass makes.
 foreign_count : (m number : ℕ) (own : Event → Bool) → ((e : Event) → own e ≡ true → maker m e ≡ number) → (F : List Event) → Foreign (number ∷ []) (entries_of m F) → count_by own F ≡ 0
 foreign_count m number own makes [] h = refl
 foreign_count m number own makes (e ∷ F) h =
@@ -55,7 +55,7 @@ foreign_count m number own makes (e ∷ F) h =
       | inr other ↦ (let none = cond-false {A = ℕ} (own e) 1 0 other in omega (arith, sum_by-cons (λ x. cond (own x) 1 0) e F))
     ]
 
--- a list that goes on from the seen entries by those of others goes on without events that the pass makes
+-- A list that goes on from the seen entries by those of others goes on without events that the pass makes.
 pub goes_on : (m number : ℕ) (own : Event → Bool) → ((e : Event) → own e ≡ true → maker m e ≡ number) → (seen : List (ℕ × Event)) (G : List Event) →
     Continues (number ∷ []) seen (entries_of m G) → GoesOnWithout own (events_of seen) G
 goes_on m number own makes seen G c =
@@ -69,11 +69,11 @@ goes_on m number own makes seen G c =
 pub goes_nowhere : (own : Event → Bool) (G : List Event) → GoesOnWithout own G G
 goes_nowhere own G = ([], sym (append-nil G), refl)
 
--- so it has as many of them
+-- So it has as many of them.
 pub count_same : (own : Event → Bool) (seen later : List Event) → GoesOnWithout own seen later → count_by own later ≡ count_by own seen
 count_same own seen later g = ap (count_by own) g.1 ∙ (let both = sum_by-append (λ x. cond (own x) 1 0) seen g.0 in let none = g.2 in omega arith)
 
--- more events that the pass makes lengthen the list of entries by its own
+-- More events that the pass makes lengthen the list of entries by its own.
 pub lengthens : (numbers : List ℕ) (m n : ℕ) (old new more : List Event) → n ≡ m → new ≡ old ++ more → All (λ e. Contains numbers (maker m e)) more →
     Lengthens numbers (entries_of m old) (entries_of n new)
 lengthens numbers m n old new more same is own = (
@@ -93,7 +93,7 @@ unfolding since_start
 since_all P [] h = h
 since_all P (e ∷ G) h = cond_all P (list_any is_start (e ∷ G)) (since_start G) (e ∷ G) (since_all P G (All-tail P e G h)) h
 
--- what comes after the last start fits, with one more start
+-- What comes after the last start fits, with one more start.
 pub fresh_fits : (updaters : ℕ) (values : List ℕ) (G fresh : List Event) → fresh ≡ since_start G ++ Start ∷ [] → All (EventFits updaters (length values)) G → All (EventFits updaters (length values)) fresh
 fresh_fits updaters values G fresh is fits = let fit = EventFits updaters (length values) in
     subst (All fit) (sym is) (All-push fit (since_start G) Start (since_all fit G fits) (start_fits updaters (length values)))

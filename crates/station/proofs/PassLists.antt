@@ -25,7 +25,7 @@ value_at [] i v d l h = absurd (omega arith)
 value_at (x ∷ items) zero v d l h = h
 value_at (x ∷ items) (suc i) v d l h = value_at items i v d (omega arith) h
 
--- one more value of an item
+-- One more value of an item.
 pub values_more : (items : List Item) (i v : ℕ) → i < length items → IfSome (slice_get items i) (λ item. v ≡ item.value) →
     map (λ (x : Item). x.value) (take i items) ++ v ∷ [] ≡ map (λ (x : Item). x.value) (take (i + 1) items)
 values_more items i v l h =

@@ -1,7 +1,7 @@
 -- One turn of a pass: what is then known of the pass, and how the history went on.
 use Rattle.std.proofs.Common.{rules, ◌≡◌, ℕ, ◌+◌, List, [], ◌∷◌, length, All, refl, sym, ◌∙◌, ap, subst}
 use Rattle.std.specs.Prelude.{Result, Ok, Err, IsErr, MatchResult, Some}
-use Rattle.turnstile.specs.Entries.{Continues}
+use Rattle.turnstile.specs.PassEntries.{Continues}
 use Rattle.std.proofs.lemmas.List.Elements.{All-nil}
 use Rattle.turnstile.specs.Passes.{GateId, entered, newcomer, returned}
 use Rattle.air_history.specs.declared.histories.Event.{Event}
@@ -9,12 +9,12 @@ use Rattle.air_history.specs.Histories.{is_start, EventFits}
 use Rattle.air_model.specs.Decks.{Deck, is_by, values_in}
 use Rattle.air_model.specs.Closings.{GoesOnWithout}
 use Rattle.update_commit.specs.CoreStates.{CoreState}
-use Rattle.station.specs.Entries.{entries_of, events_of}
+use Rattle.station.specs.EventEntries.{entries_of, events_of}
 use Rattle.station.specs.PassStates.{PassState, new_pass}
-use Rattle.station.specs.Inside.{Base, Inner, base_or, base_in, pass_in, IsPass}
+use Rattle.station.specs.PassFields.{Base, Inner, base_or, base_in, pass_in, IsPass}
 use Rattle.station.proofs.EntryLemmas.{events_back, commits_make, starts_make, goes_on}
 
--- the pass before a turn and after it, and the core that the turn handed out and that which it put back
+-- The pass before a turn and after it, and the core that the turn handed out and that which it put back.
 pub record Turned (before after : Inner) (old new : CoreState) : Type 0 where
   pub base : before.base ≡ Some (old.values, old.updaters)
   pub list : Continues before.numbers before.seen (entries_of old.updaters old.events)
@@ -25,7 +25,7 @@ pub record Turned (before after : Inner) (old new : CoreState) : Type 0 where
 pub base_is : (pass : Inner) (core : CoreState) → pass.base ≡ Some (core.values, core.updaters) → base_in pass ≡ (core.values, core.updaters)
 base_is pass core is = ap base_or is
 
--- the pass keeps what it keeps, and has seen the new core's events
+-- The pass keeps what it keeps, and has seen the new core's events.
 pub after_turn : (number : ℕ) (before after : Inner) (old new : CoreState) → IsPass before number → Turned before after old new →
     IsPass after number × (base_in after ≡ base_in before) × (events_of after.seen ≡ new.events)
 after_turn number before after old new h t =
@@ -43,31 +43,31 @@ after_turn number before after old new h t =
       seen,
     )
 
--- what an updater's turn was handed has no further commit of it
+-- What an updater's turn was handed has no further commit of it.
 pub no_commit : (by : ℕ) (pass : Inner) (core : CoreState) → IsPass pass by → Continues pass.numbers pass.seen (entries_of core.updaters core.events) →
     GoesOnWithout (is_by by) (events_of pass.seen) core.events
 no_commit by pass core h list = goes_on core.updaters by (is_by by) (commits_make core.updaters by) pass.seen core.events
     (subst (λ ns. Continues ns pass.seen (entries_of core.updaters core.events)) h.numbers list)
 
--- what the conductor's turn was handed has no further start
+-- What the conductor's turn was handed has no further start.
 pub no_start : (pass : Inner) (core : CoreState) → IsPass pass (base_in pass).1 → pass.base ≡ Some (core.values, core.updaters) →
     Continues pass.numbers pass.seen (entries_of core.updaters core.events) → GoesOnWithout is_start (events_of pass.seen) core.events
 no_start pass core h is list = goes_on core.updaters core.updaters is_start (starts_make core.updaters) pass.seen core.events
     (subst (λ ns. Continues ns pass.seen (entries_of core.updaters core.events)) (h.numbers ∙ ap (λ (b : Base). b.1 ∷ []) (base_is pass core is)) list)
 
--- what holds however a call ended
+-- What holds however a call ended.
 pub either_way : {T E : Type 0} (R : Type 0) (P : T → Type 0) (Q : E → Type 0) (r : Result T E) → ((x : T) → P x → R) → ((e : E) → Q e → R) → MatchResult r P Q → R
 either_way R P Q (Ok x) f g h = f x h
 either_way R P Q (Err e) f g h = g e h
 
--- what is said of a refusal holds of an answer that is one
+-- What is said of a refusal holds of an answer that is one.
 pub refused : {T E : Type 0} (P : T → Type 0) (Q : Type 0) (r : Result T E) → IsErr r → Q → MatchResult r P (λ _. Q)
 refused P Q (Ok x) h q = absurd (search rules)
 refused P Q (Err e) h q = q
 
 -- ---- new passes
 
--- a pass of a new turnstile round an empty core keeps what a pass keeps, and has seen nothing
+-- A pass of a new turnstile round an empty core keeps what a pass keeps, and has seen nothing.
 pub fresh : (gate : GateId) (n k : ℕ) (core : CoreState) (pass : Inner) → core.events ≡ [] → n ≡ core.updaters + 1 →
     pass ≡ newcomer gate n (core.values, core.updaters) (entries_of core.updaters core.events) k →
     IsPass pass k × (base_in pass ≡ (core.values, core.updaters)) × (events_of pass.seen ≡ [])
@@ -89,7 +89,7 @@ same_state : (g : GateId) (v w : List ℕ) (m n k : ℕ) (F G : List Event) → 
     ◌≡◌ {A = PassState} (record { station = g; values = v; updaters = m; number = k; seen = F }) (record { station = g; values = w; updaters = n; number = k; seen = G })
 same_state g v w m n k F G p q r = cc
 
--- as contracts see it, it is the deck's new pass
+-- As contracts see it, it is the deck's new pass.
 pub as_new : (gate : GateId) (deck : Deck) (n k : ℕ) (core : CoreState) (pass : Inner) → core.events ≡ [] → core.values ≡ values_in deck → core.updaters ≡ length deck.updates →
     pass ≡ newcomer gate n (core.values, core.updaters) (entries_of core.updaters core.events) k → pass_in pass k ≡ new_pass gate deck k
 as_new gate deck n k core pass none values count e =

@@ -1,3 +1,3 @@
-pub mod Entries
+pub mod EventEntries
 pub mod PassStates
-pub mod Inside
+pub mod PassFields

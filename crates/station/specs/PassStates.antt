@@ -4,8 +4,8 @@ use Rattle.turnstile.specs.Passes.{GateId}
 use Rattle.air_history.specs.declared.histories.Event.{Event}
 use Rattle.air_model.specs.Decks.{Deck, values_in}
 
--- the station that it is of, that station's first values and number of updaters, its own number, and the beginning of the
--- history that it has seen; an updater's pass has the updater's number, the conductor's the number of updaters
+-- The station that it is of, that station's first values and number of updaters, its own number, and the beginning of the
+-- history that it has seen; an updater's pass has the updater's number, the conductor's the number of updaters.
 pub record PassState : Type 0 where
   pub station : GateId
   pub values : List ℕ
@@ -13,14 +13,14 @@ pub record PassState : Type 0 where
   pub number : ℕ
   pub seen : List Event
 
--- a pass of a new station of the deck
+-- A pass of a new station of the deck.
 abbrev pub new_pass : GateId → Deck → ℕ → PassState
 new_pass station deck number = record { station = station; values = values_in deck; updaters = length deck.updates; number = number; seen = [] }
 
--- the pass, when it has seen these events
+-- The pass, when it has seen these events.
 abbrev pub with_seen : PassState → List Event → PassState
 with_seen pass events = record pass { seen = events }
 
--- the numbers of passes
+-- The numbers of passes.
 abbrev pub numbers_of : List PassState → List ℕ
 numbers_of passes = map (λ p. p.number) passes

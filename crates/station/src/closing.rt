@@ -3,9 +3,9 @@ ghost use Rattle.std.specs.Prelude.{◌≡◌, ℕ, ◌<◌, length, All, Contai
 ghost use Rattle.air_history.specs.Histories.{is_start, EventFits};
 ghost use Rattle.air_model.specs.Decks.{is_by};
 ghost use Rattle.air_model.specs.Closings.{GoesOnWithout};
-ghost use Rattle.station.specs.Entries.{events_of};
+ghost use Rattle.station.specs.EventEntries.{events_of};
 ghost use Rattle.station.specs.PassStates.{PassState, numbers_of};
-ghost use Rattle.station.specs.Inside.{IsPass, base_in};
+ghost use Rattle.station.specs.PassFields.{IsPass, base_in};
 
 use crate::locked::Locked;
 use crate::passes::{ConductorPass, UpdaterPass};

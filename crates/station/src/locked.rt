@@ -12,7 +12,7 @@ pub struct Locked {
 }
 
 impl Chronicle for Locked {
-    ghost use Rattle.station.specs.Entries.{entries_of};
+    ghost use Rattle.station.specs.EventEntries.{entries_of};
 
     type Entry = Event;
 

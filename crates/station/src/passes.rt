@@ -20,7 +20,7 @@ pub struct UpdaterPass {
 
 impl Model for UpdaterPass {
     ghost use Rattle.station.specs.PassStates.{PassState};
-    ghost use Rattle.station.specs.Inside.{pass_in, IsUpdater};
+    ghost use Rattle.station.specs.PassFields.{pass_in, IsUpdater};
 
     ghost Value = { PassState };
 
@@ -62,7 +62,7 @@ pub struct ConductorPass {
 
 impl Model for ConductorPass {
     ghost use Rattle.station.specs.PassStates.{PassState};
-    ghost use Rattle.station.specs.Inside.{conductor_in, IsConductor};
+    ghost use Rattle.station.specs.PassFields.{conductor_in, IsConductor};
 
     ghost Value = { PassState };
 

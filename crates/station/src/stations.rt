@@ -2,7 +2,7 @@
 ghost use Rattle.std.specs.Prelude.{◌≡◌, ℕ, ◌<◌, ◌≤◌, ◌^◌, [], length, slice_get, vec_capacity, IfOk, Some};
 ghost use Rattle.air_model.specs.Decks.{values_in};
 ghost use Rattle.station.specs.PassStates.{new_pass};
-ghost use Rattle.station.specs.Inside.{pass_in, IsUpdater};
+ghost use Rattle.station.specs.PassFields.{pass_in, IsUpdater};
 
 use crate::locked::Locked;
 use crate::passes::{ConductorPass, UpdaterPass};

@@ -4,7 +4,7 @@ use Rattle.std.specs.Prelude.{All, Contains}
 use Rattle.std.proofs.lemmas.List.{append-nil, get_or_append_left, get_or-append-add}
 use Rattle.std.proofs.lemmas.List.Elements.{All-append, Contains-append_cases}
 use Rattle.std.proofs.lemmas.Bool.{leb-true}
-use Rattle.turnstile.specs.Entries.{Foreign, Own, Below, Continues, longer}
+use Rattle.turnstile.specs.PassEntries.{Foreign, Own, Below, Continues, longer}
 use Rattle.turnstile.proofs.Numbers.{shorter}
 
 module _ {E : Type 0} where

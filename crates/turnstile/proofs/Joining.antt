@@ -10,10 +10,10 @@ use Rattle.atomic_table.specs.Table.{State, Me, step, keeps, Allows, Joins}
 use Rattle.atomic_table.proofs.Lists.{set_else}
 use Rattle.turnstile.specs.declared.views.Sight.{Sight}
 use Rattle.turnstile.specs.declared.views.View.{View}
-use Rattle.turnstile.specs.Entries.{Continues}
-use Rattle.turnstile.specs.Views.{times, counted, waits, share, united, spent}
-use Rattle.turnstile.specs.Rule.{total, Knows, Kept}
-use Rattle.turnstile.specs.Steps.{compared}
+use Rattle.turnstile.specs.PassEntries.{Continues}
+use Rattle.turnstile.specs.SeatViews.{times, counted, waits, share, united, spent}
+use Rattle.turnstile.specs.TurnstileRule.{total, Knows, Kept}
+use Rattle.turnstile.specs.SeatSteps.{compared}
 use Rattle.turnstile.proofs.Totals.{total_set}
 use Rattle.turnstile.proofs.Numbers.{times_append}
 use Rattle.turnstile.proofs.EntryLists.{foreign_none, longer_goes_on}

@@ -3,7 +3,7 @@ use Rattle.std.proofs.Common.{◌≡◌, ℕ, Bool, true, false, cond, List, [],
 use Rattle.std.specs.Prelude.{Option, Some, None, IsSome}
 use Rattle.atomic_table.specs.Table.{Me}
 use Rattle.turnstile.specs.declared.views.View.{View}
-use Rattle.turnstile.specs.Inside.{IsPlaced, IsSound}
+use Rattle.turnstile.specs.SeatFields.{IsPlaced, IsSound}
 
 module _ {K E B : Type 0} where
   pub rests_outside : (me : Me (Option K) (View E B)) → IsSound me → me.0.noted ≡ None → (me.0.ticket ≡ None) × (me.1 ≡ [])
@@ -15,7 +15,7 @@ module _ {K E B : Type 0} where
 never : false ≡ true → ⊥
 never e = subst (λ (b : Bool). cond b ⊥ (Unit {0})) e tt
 
--- an option that is some has a value
+-- An option that is some has a value.
 pub some_of : {A : Type 0} (o : Option A) → IsSome o → (a : A) × (o ≡ Some a)
 some_of None s = absurd (never s)
 some_of (Some a) s = (a, refl)

@@ -8,14 +8,14 @@ use lib.ListN.{get_elem?}
 use Rattle.atomic_table.specs.Table.{State, keeps, stepped}
 use Rattle.atomic_table.proofs.Lists.{at_longer, set_else, set_again}
 use Rattle.turnstile.specs.declared.views.View.{View}
-use Rattle.turnstile.specs.Views.{times, waits, share}
-use Rattle.turnstile.specs.Rule.{total, Phase, home, out, InPhase, Kept}
+use Rattle.turnstile.specs.SeatViews.{times, waits, share}
+use Rattle.turnstile.specs.TurnstileRule.{total, Phase, home, out, InPhase, Kept}
 use Rattle.turnstile.proofs.Totals.{total_at, total_two, total_le}
 use Rattle.turnstile.proofs.Numbers.{times_in, once_low, once_in}
 use Rattle.turnstile.proofs.Tickets.{counted_le}
 use mathlib.Core.Option as maybe
 
--- the seat that holds the slot, by a number that is 0 at home
+-- The seat that holds the slot, by a number that is 0 at home.
 abbrev pub seat_of : Phase → ℕ
 seat_of home = 0
 seat_of (out j) = suc j

@@ -3,17 +3,17 @@ use Rattle.std.proofs.Common.{◌≡◌, ℕ, zero, suc, ◌+◌, ◌%◌, ◌<�
 use Rattle.std.specs.Prelude.{Option, Some, None}
 use Rattle.std.proofs.Math.Nat.{mod-add-mod, mod-eq_of_lt}
 use Rattle.atomic_table.proofs.Lists.{one_turn}
-use Rattle.turnstile.specs.Views.{counted}
+use Rattle.turnstile.specs.SeatViews.{counted}
 
 pub counted_le : (o : Option ℕ) (n : ℕ) → ((t : ℕ) → o ≡ Some t → 0 < n) → counted o ≤ n
 counted_le None n h = omega arith
 counted_le (Some t) n h = let a = h t refl in omega arith
 
--- two tickets at different distances differ
+-- Two tickets at different distances differ.
 pub far : (front d e : ℕ) → d < e → e < 18446744073709551616 → (front + d) % 18446744073709551616 ≡ (front + e) % 18446744073709551616 → ⊥
 far front d e less small same = let a = one_turn (front + d) (front + e) 18446744073709551616 (omega arith) (omega arith) same in omega arith
 
--- the ticket after the one that is served is served next
+-- The ticket after the one that is served is served next.
 pub nearer : (front d : ℕ) → (front + suc d) % 18446744073709551616 ≡ ((front + 1) % 18446744073709551616 + d) % 18446744073709551616
 nearer front d = ap (λ k. k % 18446744073709551616) (let e : front + suc d ≡ front + 1 + d = omega arith in e) ∙ sym (mod-add-mod (front + 1) 18446744073709551616 d)
 

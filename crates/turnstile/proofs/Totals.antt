@@ -2,7 +2,7 @@
 use Rattle.std.proofs.Common.{◌≡◌, ℕ, zero, suc, ◌+◌, ◌<◌, ◌≤◌, ◌≢◌, List, [], ◌∷◌, ◌++◌, length, set, sym, refl, ap, arith}
 use mathlib.Core.Option.{some, some-injective, some-ne-none}
 use lib.ListN.{get_elem?}
-use Rattle.turnstile.specs.Rule.{total}
+use Rattle.turnstile.specs.TurnstileRule.{total}
 
 module _ {A : Type 0} (f : A → ℕ) where
   pub total_set : (xs : List A) (i : ℕ) (x y : A) → get_elem? xs i ≡ some x → total f (set xs i y) + f x ≡ total f xs + f y
@@ -35,7 +35,7 @@ pub none_in : {A : Type 0} (l : List A) (i : ℕ) (a : A) → get_elem? l i ≡ 
 none_in [] i a e = absurd (some-ne-none a (sym e))
 none_in (x ∷ xs) i a e = omega arith
 
--- where f of each is at most g of it, so are the sums
+-- Where f of each is at most g of it, so are the sums.
 pub total_le : {A : Type 0} (f g : A → ℕ) (xs : List A) → ((i : ℕ) (x : A) → get_elem? xs i ≡ some x → f x ≤ g x) → total f xs ≤ total g xs
 total_le f g [] h = omega arith
 total_le f g (x ∷ xs) h = let a = h zero x refl in let b = total_le f g xs (λ i y e. h (suc i) y e) in omega arith

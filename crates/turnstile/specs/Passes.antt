@@ -1,14 +1,14 @@
 -- A pass as clauses see it: whose it is, the numbers that it stands for, and what it has seen.
--- Clauses of the layers above need these words and those of `Entries` alone.
+-- Clauses of the layers above need these words and those of `PassEntries` alone.
 use Rattle.std.specs.Prelude.{ℕ, List, [], ◌∷◌, ◌++◌, Option, Some, None}
 use Rattle.atomic_table.specs.Seated.{TableId}
-use Rattle.turnstile.specs.Entries.{longer}
+use Rattle.turnstile.specs.PassEntries.{longer}
 
--- which turnstile it is
+-- Which turnstile it is.
 abbrev pub GateId : Type 0
 GateId = TableId
 
--- an entry is an E beside the number of its pass, and the base is a B
+-- An entry is an E beside the number of its pass, and the base is a B.
 pub record Known (E B : Type 0) : Type 0 where
   -- the turnstile that it is of
   pub gate : GateId

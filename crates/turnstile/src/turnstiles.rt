@@ -3,7 +3,7 @@
 //! In a clause a turnstile is which one it is, and a pass is a `Known` (`specs/Passes`): `own` says that the pass is of this
 //! turnstile, `outside` that it is in no turn. `enter`, `leave`, `join` and `close` take no memory, and only `enter` waits.
 ghost use Rattle.std.specs.Prelude.{◌≡◌, ℕ, ◌<◌, ◌++◌, length, slice_get, Contains, IfOk, IsSome, IfSome, Some, None};
-ghost use Rattle.turnstile.specs.Entries.{Below, Continues, Lengthens};
+ghost use Rattle.turnstile.specs.PassEntries.{Below, Continues, Lengthens};
 ghost use Rattle.turnstile.specs.Passes.{newcomer, entered, returned, joined};
 
 use crate::chronicles::Chronicle;

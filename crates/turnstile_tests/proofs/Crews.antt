@@ -21,7 +21,7 @@ last_at (x ∷ xs) y = last_at xs y
 pub all_but_last : {A : Type 0} (P : A → Type 0) (xs : List A) (y : A) → All P (xs ++ y ∷ []) → All P xs × P y
 all_but_last P xs y h = let long = length_push xs y in (λ k d less. subst P (get_or_append_left xs (y ∷ []) d k less) (h k d (omega arith)), subst P (get_or_push xs y y (length xs) refl) (h (length xs) y (omega arith)))
 
--- the workers' numbers go down from n - 1
+-- The workers' numbers go down from n - 1.
 abbrev pub CountDown : ℕ → List Worker → Type 0
 CountDown n workers = (k : ℕ) (d : Worker) → k < length workers → (get_or workers k d).by + k + 1 ≡ n
 

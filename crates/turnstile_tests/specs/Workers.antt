@@ -3,14 +3,14 @@ use Rattle.std.specs.Prelude.{◌≡◌, ℕ, ◌<◌, List, [], ◌∷◌, leng
 use Rattle.turnstile.specs.Passes.{GateId, Known}
 use Rattle.turnstile_tests.specs.declared.workers.Worker.{Worker}
 
--- all but what it has seen is the same
+-- All but what it has seen is the same.
 abbrev pub IsSamePass : {E B : Type 0} → Known E B → Known E B → Type 0
 IsSamePass p q = q ≡ record p { seen = q.seen }
 
--- its pass is of this turnstile of n passes with this mark, stands for its number, and is outside
+-- Its pass is of this turnstile of n passes with this mark, stands for its number, and is outside.
 abbrev pub IsReady : GateId → ℕ → ℕ → Worker → Type 0
 IsReady g n mark w = (w.pass.gate ≡ g) × (w.pass.passes ≡ n) × (w.pass.base ≡ Some mark) × (w.pass.numbers ≡ w.by ∷ []) × (w.pass.turn ≡ None)
 
--- the workers stand in the order of their numbers, from 0 on
+-- The workers stand in the order of their numbers, from 0 on.
 abbrev pub InOrder : List Worker → Type 0
 InOrder workers = (k : ℕ) (d : Worker) → k < length workers → (slice_index_or workers k d).by ≡ k

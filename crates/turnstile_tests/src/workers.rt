@@ -1,6 +1,6 @@
 //! One worker: a pass, its number, and the turns that it makes.
 ghost use Rattle.std.specs.Prelude.{◌≡◌, [], ◌∷◌, ◌++◌, IfOk, None};
-ghost use Rattle.turnstile.specs.Entries.{Foreign};
+ghost use Rattle.turnstile.specs.PassEntries.{Foreign};
 ghost use Rattle.turnstile_tests.specs.Workers.{IsReady, IsSamePass};
 
 use crate::pairs::Pairs;

@@ -68,7 +68,7 @@ cond_push : {X : Type 0} (b : Bool) (xs ys zs : List X) (x : X) → xs ≡ ys ++
 cond_push true xs ys zs x e = e
 cond_push false xs ys zs x e = refl
 
--- a commit joins what comes after the last start
+-- A commit joins what comes after the last start.
 pub since_commit : (G : List Event) (by seq : ℕ) (u : UpdateLists) → since_start (G ++ Commit by seq u ∷ []) ≡ since_start G ++ Commit by seq u ∷ []
 unfolding since_start is_start
 since_commit [] by seq u = refl
@@ -76,7 +76,7 @@ since_commit (e ∷ G) by seq u =
     ap (λ b. cond b (since_start (G ++ Commit by seq u ∷ [])) (e ∷ G ++ Commit by seq u ∷ [])) (any_commit (e ∷ G) by seq u)
     ∙ cond_push (list_any is_start (e ∷ G)) (since_start (G ++ Commit by seq u ∷ [])) (since_start G) (e ∷ G) (Commit by seq u) (since_commit G by seq u)
 
--- nothing comes after a start that is the last event
+-- Nothing comes after a start that is the last event.
 pub since_new_start : (G : List Event) → since_start (G ++ Start ∷ []) ≡ []
 unfolding since_start is_start
 since_new_start [] = refl

@@ -19,7 +19,7 @@ use Rattle.update_commit.proofs.EventLemmas.{made_own, made_other}
 
 -- ---- lists of values
 
--- a list that has f of each element in its place is the map
+-- A list that has f of each element in its place is the map.
 pub map_by_all : {X Y : Type 0} (f : X → Y) (xs : List X) (ys : List Y) (e : Y) → length ys ≡ length xs → ((k : ℕ) (d : X) → k < length xs → get_or ys k e ≡ f (get_or xs k d)) → ys ≡ map f xs
 map_by_all f [] [] e n h = refl
 map_by_all f [] (y ∷ ys) e n h = absurd (omega arith)
@@ -28,24 +28,24 @@ map_by_all f (x ∷ xs) (y ∷ ys) e n h =
     let here : y ≡ f x = h 0 x (omega arith) in
     let rest : ys ≡ map f xs = map_by_all f xs ys e (omega arith) (λ k d l. h (suc k) d (omega arith)) in cc
 
--- functions that agree on each element of a list make the same of it
+-- Functions that agree on each element of a list make the same of it.
 pub map_same : {X Y : Type 0} (f g : X → Y) (xs : List X) → ((x : X) → f x ≡ g x) → map f xs ≡ map g xs
 map_same f g [] same = refl
 map_same f g (x ∷ xs) same = let here : f x ≡ g x = same x in let rest : map f xs ≡ map g xs = map_same f g xs same in cc
 
 -- ---- values and counts
 
--- the values after one more event
+-- The values after one more event.
 pub values_push : (first now next : List ℕ) (G : List Event) (e : Event) → ((i : ℕ) → get_or now i 0 ≡ table (values_of first) G i) → ((i : ℕ) → get_or next i 0 ≡ value_after (values_of now) e i) →
     (i : ℕ) → get_or next i 0 ≡ table (values_of first) (G ++ e ∷ []) i
 values_push first now next G e was one i = one i ∙ value_after_same (values_of now) (table (values_of first) G) e i was ∙ sym (table_push (values_of first) G e i)
 
--- a start changes no value
+-- A start changes no value.
 pub values_start : (first now : List ℕ) (G : List Event) → ((i : ℕ) → get_or now i 0 ≡ table (values_of first) G i) → (i : ℕ) → get_or now i 0 ≡ table (values_of first) (G ++ Start ∷ []) i
 unfolding value_after write_of
 values_start first now G was i = was i ∙ sym (table_push (values_of first) G Start i)
 
--- the counts after one more commit
+-- The counts after one more commit.
 pub counts_commit : (made : List ℕ) (G : List Event) (by seq count : ℕ) (u : UpdateLists) → by < length made → count ≡ get_or made by 0 →
     ((k : ℕ) → k < length made → get_or made k 0 ≡ count_made k G) →
     (k : ℕ) → k < length made → get_or (set made by (count + 1)) k 0 ≡ count_made k (G ++ Commit by seq u ∷ [])
@@ -81,7 +81,7 @@ writes_within n Start fits = All-nil (λ (w : Write). w.item < n)
 
 -- ---- the reply
 
--- the parts of the reply to the last event
+-- The parts of the reply to the last event.
 pub reply_last : (first : List ℕ) (G : List Event) (e : Event) (number cycle : ℕ) (read written : List ℕ) → number ≡ length G → cycle ≡ starts G →
     read ≡ map (table (values_of first) G) (reads e) → written ≡ map (table (values_of first) (G ++ e ∷ [])) (map item_of (writes_of e)) →
     record { number = number; cycle = cycle; read = read; written = written } ≡ reply_of first (G ++ e ∷ []) (length G)

@@ -1,3 +1,3 @@
 pub mod CoreStates
 pub mod Receipts
-pub mod Inside
+pub mod CoreFields

@@ -33,7 +33,7 @@ pub struct Core {
 
 impl Model for Core {
     ghost use Rattle.update_commit.specs.CoreStates.{CoreState};
-    ghost use Rattle.update_commit.specs.Inside.{core_in, IsCore};
+    ghost use Rattle.update_commit.specs.CoreFields.{core_in, IsCore};
 
     ghost Value = { CoreState };
 

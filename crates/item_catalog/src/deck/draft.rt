@@ -9,7 +9,7 @@ ghost use Rattle.air_model.specs.Decks.{IsDeck};
 ghost use Rattle.item_catalog.specs.DeckLimits.{WithinLimits};
 ghost use Rattle.item_catalog.specs.Drafts.{Adds, deck_from, draft_of};
 ghost use Rattle.item_catalog.specs.Settings.{number_in};
-ghost use Rattle.item_catalog.specs.Entries.{disk_by, entry_of, item_by, reader_by, set_by};
+ghost use Rattle.item_catalog.specs.DeckEntries.{disk_by, entry_of, item_by, reader_by, set_by};
 ghost use Rattle.item_catalog.specs.Faults.{end_tests, first_of};
 ghost use Rattle.air_base.specs.Pieces.{three_of, two_of};
 

@@ -6,7 +6,7 @@ use Rattle.air_history.proofs.MarkLemmas.{read_marks_none, read_marks_hit, read_
 use Rattle.air_history.proofs.scans.mark_reads.Goals as goal
 use Rattle.air_history.proofs.scans.mark_reads.Goals.{in-Some, in_default, After-reads-item-items}
 
--- the items of the loop are those that the event at `place` reads
+-- The items of the loop are those that the event at `place` reads.
 items_are : (c : After-reads-item-items) → c.reads-item-items.result.now ≡ reads (event_at c.args.events.now c.args.place)
 items_are c = c.reads-item-items.ensures ∙ ap reads (sym (event_read c.args.events.now c.args.place c.index-events-place.result c.requires.within c.index-events-place.is))
 

@@ -5,7 +5,7 @@ use Rattle.air_rows.specs.RowWriters.{written}
 use Rattle.air_report.proofs.rows.put_verdict.Goals as goal
 use Rattle.air_report.proofs.rows.put_verdict.Goals.{in-Accept+in_ok-put_attempt-in-Accept, in-Abort+in_ok-put_attempt-in-Abort+in_ok-put_clash-in-Abort, in-Unfinished+in_ok-put_attempt-in-Unfinished}
 
--- before the row ends all its fields stand there
+-- Before the row ends all its fields stand there.
 begun : (c : goal.In_ok-end_row) → IsBegun (written c.args.wtr.now) (verdict_row c.args.line.now) c.match-line.wtr
 begun c =
     let before = written c.args.wtr.now in

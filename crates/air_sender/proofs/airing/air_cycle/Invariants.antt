@@ -4,7 +4,7 @@ use Rattle.air_devices.specs.Masts.{Changes, with_buckets}
 use Rattle.air_sender.specs.BoardBuckets.{cycle_bytes}
 use Rattle.air_sender.proofs.airing.air_cycle.Given as goal
 
--- the buckets of the slots before were sent, and nothing else changed
+-- The buckets of the slots before were sent, and nothing else changed.
 abbrev pub invariant-loop-slot : goal.invariant-loop-slot
 invariant-loop-slot g l = record {
   sent : Changes (with_buckets (take l.slot (cycle_bytes l.policy (slots_of l.program) l.board))) (g.M.Mast.state l.fn.mast).told (g.M.Mast.state l.mast).told;

@@ -3,7 +3,7 @@ use Rattle.std.proofs.lemmas.Option.{get_or_from_slice_get}
 use Rattle.air_model.specs.declared.deck.ReaderPlan.{ReaderPlan}
 use Rattle.deck_files.proofs.runnable.keeps_no_copies.Goals as goal
 
--- the room of a reader, by its place
+-- The room of a reader, by its place.
 room_at : (xs : List ReaderPlan) (k : ℕ) (x d : ReaderPlan) → slice_get xs k ≡ Some x → (get_or xs k d).room ≡ x.room
 room_at xs k x d at = ap (λ r. r.room) (get_or_from_slice_get xs k x d at)
 

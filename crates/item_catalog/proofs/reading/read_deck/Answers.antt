@@ -5,8 +5,8 @@ use Rattle.csv.specs.declared.parser.State.TheVariants as st
 use Rattle.csv.proofs.ReadFacts.{rows-end, rows-more}
 use Rattle.item_catalog.specs.Kinds.{code_of}
 use Rattle.item_catalog.specs.Drafts.{DraftValue, draft_of, judged, with_spelled}
-use Rattle.item_catalog.specs.Ends.{CanEnd}
-use Rattle.item_catalog.specs.Entries.{entry_of}
+use Rattle.item_catalog.specs.ReadEnds.{CanEnd}
+use Rattle.item_catalog.specs.DeckEntries.{entry_of}
 use Rattle.item_catalog.specs.Faults.{entries_in}
 use Rattle.item_catalog.specs.Grammar.{HasFault, IsAnswer, Spells}
 use Rattle.item_catalog.proofs.PlaceFacts.{added, faultless_more}

@@ -3,7 +3,7 @@
 ghost use Rattle.std.specs.Prelude.{◌≡◌, ◌≤◌, false, length, sum_by};
 ghost use Rattle.update_texts.specs.ListTests.{option_any};
 ghost use Rattle.item_catalog.specs.Fields.{freq_of};
-ghost use Rattle.item_catalog.specs.Limits.{outside};
+ghost use Rattle.item_catalog.specs.Ranges.{outside};
 
 use crate::parts::DiskPart;
 use air_base::limits::{MOST_DISKS, MOST_FREQ};

@@ -2,11 +2,11 @@ use Rattle.std.proofs.Common.{◌≡◌, ℕ, ◌+◌, [], ◌∷◌, ◌++◌, 
 use Rattle.std.specs.Prelude.{Contains}
 use Rattle.std.proofs.lemmas.Bool.{cases_lt}
 use Rattle.std.proofs.lemmas.List.Elements.{All-cons, All-get_or, All-weaker, Contains-append_left, Contains-append_right}
-use Rattle.turnstile.specs.Entries.{Continues}
+use Rattle.turnstile.specs.PassEntries.{Continues}
 use Rattle.air_model.specs.Decks.{is_by}
 use Rattle.air_model.specs.Closings.{GoesOnWithout}
 use Rattle.station.specs.PassStates.{PassState}
-use Rattle.station.specs.Inside.{base_in}
+use Rattle.station.specs.PassFields.{base_in}
 use Rattle.station.proofs.EntryLemmas.{commits_make, goes_on}
 use Rattle.station.proofs.TurnLemmas.{no_start}
 use Rattle.station.proofs.Joins.{Joined, goes_through, still_joined, all_but_last, numbers_joined, none_left}

@@ -1,11 +1,11 @@
 use Rattle.std.proofs.Common.{◌≡◌, ℕ, List, ◌++◌, length, All}
 use Rattle.std.specs.Prelude.{Contains, None}
-use Rattle.turnstile.specs.Entries.{Continues}
+use Rattle.turnstile.specs.PassEntries.{Continues}
 use Rattle.station.specs.PassStates.{PassState}
 use Rattle.station.proofs.Joins.{Joined}
 use Rattle.station.proofs.closing.finish.Given as goal
 
--- the passes that are gone were joined to the first one
+-- The passes that are gone were joined to the first one.
 abbrev pub invariant-loop-next : goal.invariant-loop-next
 invariant-loop-next l =
     (l.first.gate ≡ l.station-inside.turnstile) × (l.first.passes ≡ l.initial.first.passes) × (l.first.base ≡ l.initial.first.base) × (l.first.turn ≡ None)

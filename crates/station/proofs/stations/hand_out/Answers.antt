@@ -3,7 +3,7 @@ use Rattle.std.specs.Prelude.{Some, slice_get}
 use Rattle.std.specs.Vec.Iter.{into_iter_items}
 use Rattle.turnstile.proofs.Stacks.{each_snoc}
 use Rattle.station.specs.PassStates.{PassState}
-use Rattle.station.specs.Inside.{Inner, pass_in}
+use Rattle.station.specs.PassFields.{Inner, pass_in}
 use Rattle.station.proofs.PassLists.{mid_at}
 use Rattle.station.proofs.stations.hand_out.Goals as goal
 

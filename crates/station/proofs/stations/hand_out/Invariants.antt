@@ -1,10 +1,10 @@
 use Rattle.std.proofs.Common.{◌≡◌, ℕ, ◌++◌, length}
 use Rattle.std.specs.Prelude.{Some, slice_get, vec_capacity}
 use Rattle.std.specs.Vec.Iter.{into_iter_items, into_iter_len}
-use Rattle.station.specs.Inside.{Inner, pass_in}
+use Rattle.station.specs.PassFields.{Inner, pass_in}
 use Rattle.station.proofs.stations.hand_out.Given as goal
 
--- each pass so far was made of that of its place
+-- Each pass so far was made of that of its place.
 abbrev pub invariant-loop-pass : goal.invariant-loop-pass
 invariant-loop-pass l =
     (l.yielded ++ into_iter_items l.pass-iterator ≡ into_iter_items l.initial.pass-iterator)

@@ -3,7 +3,7 @@ use Rattle.std.specs.Prelude.{Contains}
 use Rattle.turnstile_tests.specs.Workers.{IsReady, InOrder}
 use Rattle.turnstile_tests.proofs.rounds.finish.Given as goal
 
--- the pass stands for the numbers of the workers that are gone
+-- The pass stands for the numbers of the workers that are gone.
 abbrev pub invariant-loop-pass : goal.invariant-loop-pass
 invariant-loop-pass l =
     (l.all.gate ≡ l.gate) × (l.all.passes ≡ l.passes) × (l.all.base ≡ Some l.mark) × (l.all.turn ≡ None)

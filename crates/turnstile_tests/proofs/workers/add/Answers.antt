@@ -1,5 +1,5 @@
 use Rattle.std.proofs.Common.{ap, ◌∙◌, [], ◌∷◌, ◌++◌, subst}
-use Rattle.turnstile.specs.Entries.{Foreign}
+use Rattle.turnstile.specs.PassEntries.{Foreign}
 use Rattle.turnstile_tests.proofs.workers.add.Goals as goal
 
 pub returns-clause-added : goal.returns-clause-added

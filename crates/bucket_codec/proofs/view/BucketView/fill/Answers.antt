@@ -4,7 +4,7 @@ use Rattle.air_model.specs.Buckets.{Bucket, count_of, entries_of, kind_of}
 use Rattle.bucket_codec.proofs.ViewFacts.{as_many, view_entry, view_room, view_few}
 use Rattle.bucket_codec.proofs.view.BucketView.fill.Goals as goal
 
--- the slice has room for just the entries
+-- The slice has room for just the entries.
 pub entry_at-requires : goal.entry_at-requires
 entry_at-requires c =
     let room = view_room c.self.inside.bytes.now c.self.invariant in

@@ -1,7 +1,7 @@
 use Rattle.std.proofs.Common.{ap, subst, sym, ◌∙◌, length, List}
 use Rattle.air_model.specs.Disks.{Disk, all_items, cut}
 use Rattle.air_model.proofs.ItemOrder.{length-order}
-use Rattle.chunk_program.specs.Limits.{AreDeckDisks}
+use Rattle.chunk_program.specs.CutConditions.{AreDeckDisks}
 use Rattle.chunk_program.specs.PlaceTables.{HasPlaces}
 use Rattle.chunk_program.proofs.CutLemmas.{cut_length, cut_limits, cut_whole}
 use Rattle.chunk_program.proofs.cuts.Cut.new.Goals as goal

@@ -3,7 +3,7 @@ use Rattle.std.proofs.Math.Seq.{take-length}
 use Rattle.air_model.specs.Disks.{Disk, all_items}
 use Rattle.air_model.specs.Programs.{minor_len, num_minors, program}
 use Rattle.chunk_program.specs.declared.homes.Home.{Home}
-use Rattle.chunk_program.specs.Limits.{AreDeckDisks}
+use Rattle.chunk_program.specs.CutConditions.{AreDeckDisks}
 use Rattle.chunk_program.specs.Homes.{IsHome}
 use Rattle.chunk_program.proofs.ProgramFacts.{minors_short, slots_are, slots_some}
 use Rattle.chunk_program.proofs.programs.Program.of_cut.Goals as goal

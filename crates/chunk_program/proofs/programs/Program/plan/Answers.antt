@@ -1,5 +1,5 @@
 use Rattle.std.proofs.Common.{subst, sym}
-use Rattle.chunk_program.specs.Limits.{AreDeckDisks}
+use Rattle.chunk_program.specs.CutConditions.{AreDeckDisks}
 use Rattle.chunk_program.proofs.CutLemmas.{deck_limits}
 use Rattle.chunk_program.proofs.programs.Program.plan.Goals as goal
 

@@ -1,6 +1,6 @@
 use Rattle.std.proofs.Common.{length, refl, subst}
 use Rattle.air_model.specs.Disks.{all_items}
-use Rattle.chunk_program.specs.Limits.{AreDeckDisks}
+use Rattle.chunk_program.specs.CutConditions.{AreDeckDisks}
 use Rattle.chunk_program.proofs.PlaceSteps.{below_count}
 use Rattle.chunk_program.proofs.ProgramFacts.{carried_items}
 use Rattle.chunk_program.proofs.programs.Program.well_made.Goals as goal

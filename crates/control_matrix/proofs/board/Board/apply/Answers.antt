@@ -5,8 +5,8 @@ use Rattle.air_history.specs.Histories.{writes}
 use Rattle.air_history.specs.Tables.{value_after, values_of}
 use Rattle.air_lanes.specs.Kernels.{stamped}
 use Rattle.control_matrix.specs.Columns.{column_in}
-use Rattle.control_matrix.specs.Steps.{step_board}
-use Rattle.control_matrix.specs.Inside.{board_in}
+use Rattle.control_matrix.specs.BoardSteps.{step_board}
+use Rattle.control_matrix.specs.BoardFields.{board_in}
 use Rattle.control_matrix.proofs.EntryLemmas.{columns_whole, marked_stamp}
 use Rattle.control_matrix.proofs.BoardLemmas.{start_board, commit_board, board_followed}
 use Rattle.control_matrix.proofs.board.Board.apply.Goals as goal

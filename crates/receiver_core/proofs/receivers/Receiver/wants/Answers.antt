@@ -1,7 +1,7 @@
 use Rattle.std.proofs.Common.{◌≢◌, ◌==◌, ◌∙◌, ap, sym, inl, inr}
 use Rattle.air_model.specs.Buckets.{item_of, kind_of}
 use Rattle.air_model.specs.Sessions.{is_wanted, wanted}
-use Rattle.bucket_codec.specs.Views.{kind_number}
+use Rattle.bucket_codec.specs.DatagramKinds.{kind_number}
 use Rattle.receiver_core.proofs.HearLemmas.{busy_wanted, idle_unwanted, no_kind_0}
 use Rattle.receiver_core.proofs.receivers.Receiver.wants.Goals as goal
 

@@ -5,7 +5,7 @@ use Rattle.air_history.specs.Histories.{starts}
 use Rattle.air_model.specs.Decks.{count_made}
 use Rattle.update_commit.proofs.EventLemmas.{starts_none}
 use Rattle.station.specs.PassStates.{new_pass}
-use Rattle.station.specs.Inside.{Base, IsPass, pass_in}
+use Rattle.station.specs.PassFields.{Base, IsPass, pass_in}
 use Rattle.station.proofs.PassLists.{last_at, within_front}
 use Rattle.station.proofs.TurnLemmas.{fresh, as_new}
 use Rattle.station.proofs.stations.Station.new.Goals as goal

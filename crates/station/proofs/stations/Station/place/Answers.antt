@@ -2,7 +2,7 @@ use Rattle.std.proofs.Common.{◌≡◌, ◌+◌, ◌<◌, List, [], ◌∷◌, 
 use Rattle.std.specs.Prelude.{IfSome, MatchResult, Contains}
 use Rattle.std.proofs.lemmas.List.{append-nil}
 use Rattle.std.proofs.lemmas.List.Elements.{All-nil, All-push}
-use Rattle.turnstile.specs.Entries.{Lengthens}
+use Rattle.turnstile.specs.PassEntries.{Lengthens}
 use Rattle.turnstile.specs.Passes.{returned}
 use Rattle.air_history.specs.declared.histories.Event.{Event}
 use Rattle.air_history.specs.declared.histories.Event.TheVariants.{Commit}
@@ -12,9 +12,9 @@ use Rattle.air_model.specs.Decks.{is_by, count_made}
 use Rattle.air_model.specs.Closings.{GoesOnWithout}
 use Rattle.update_commit.specs.Receipts.{reply_in}
 use Rattle.update_commit.proofs.EventLemmas.{made_own}
-use Rattle.station.specs.Entries.{maker, entries_of, events_of}
+use Rattle.station.specs.EventEntries.{maker, entries_of, events_of}
 use Rattle.station.specs.PassStates.{PassState}
-use Rattle.station.specs.Inside.{Base}
+use Rattle.station.specs.PassFields.{Base}
 use Rattle.station.proofs.EntryLemmas.{maker_commit, count_same, lengthens}
 use Rattle.station.proofs.TurnLemmas.{Turned, base_is, after_turn, no_commit, either_way, refused}
 use Rattle.station.proofs.stations.Station.place.Goals as goal

@@ -2,16 +2,16 @@ use Rattle.std.proofs.Common.{◌≡◌, ◌+◌, ◌<◌, List, [], ◌∷◌, 
 use Rattle.std.specs.Prelude.{IfSome, MatchResult, Contains}
 use Rattle.std.proofs.lemmas.List.{append-nil}
 use Rattle.std.proofs.lemmas.List.Elements.{All-nil, All-push}
-use Rattle.turnstile.specs.Entries.{Lengthens}
+use Rattle.turnstile.specs.PassEntries.{Lengthens}
 use Rattle.turnstile.specs.Passes.{returned}
 use Rattle.air_history.specs.declared.histories.Event.{Event}
 use Rattle.air_history.specs.declared.histories.Event.TheVariants.{Start}
 use Rattle.air_history.specs.Histories.{is_start, starts, since_start, EventFits}
 use Rattle.air_model.specs.Closings.{GoesOnWithout}
 use Rattle.update_commit.proofs.EventLemmas.{starts_start}
-use Rattle.station.specs.Entries.{maker, entries_of, events_of}
+use Rattle.station.specs.EventEntries.{maker, entries_of, events_of}
 use Rattle.station.specs.PassStates.{PassState}
-use Rattle.station.specs.Inside.{Base, base_in, IsPass}
+use Rattle.station.specs.PassFields.{Base, base_in, IsPass}
 use Rattle.station.proofs.EntryLemmas.{maker_start, count_same, lengthens}
 use Rattle.station.proofs.TurnLemmas.{Turned, base_is, after_turn, no_start, either_way, refused}
 use Rattle.station.proofs.stations.Station.start_cycle.Goals as goal

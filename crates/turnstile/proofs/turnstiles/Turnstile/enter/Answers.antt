@@ -1,5 +1,5 @@
 use Rattle.std.proofs.Common.{ap, ◌∙◌, sym, subst, Some, arith}
-use Rattle.turnstile.specs.Entries.{Continues}
+use Rattle.turnstile.specs.PassEntries.{Continues}
 use Rattle.turnstile.proofs.Sound.{rests_outside}
 use Rattle.turnstile.proofs.Drawing.{draws}
 use Rattle.turnstile.proofs.Serving.{serves}

@@ -1,6 +1,6 @@
 use Rattle.std.proofs.Common.{ap, ◌∙◌, subst, sym, arith}
 use lib.ListN.{get_elem?}
-use Rattle.turnstile.specs.Entries.{Continues}
+use Rattle.turnstile.specs.PassEntries.{Continues}
 use Rattle.turnstile.proofs.EntryLists.{longer_goes_on}
 use Rattle.turnstile.proofs.Sound.{rests_outside}
 use Rattle.turnstile.proofs.Joining.{joins, compares}

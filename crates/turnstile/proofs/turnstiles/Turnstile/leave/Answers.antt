@@ -1,6 +1,6 @@
 use Rattle.std.proofs.Common.{ap, ◌∙◌, subst, sym, arith}
 use Rattle.std.specs.Prelude.{IfSome}
-use Rattle.turnstile.specs.Entries.{Lengthens}
+use Rattle.turnstile.specs.PassEntries.{Lengthens}
 use Rattle.turnstile.proofs.Sound.{holds_inside, some_of}
 use Rattle.turnstile.proofs.Leaving.{leaves_filled}
 use Rattle.turnstile.proofs.turnstiles.Turnstile.leave.Goals as goal

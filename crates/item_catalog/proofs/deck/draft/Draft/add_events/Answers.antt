@@ -5,8 +5,8 @@ use Rattle.air_base.specs.NumberLists.{list_of}
 use Rattle.air_history.specs.UpdateLists.{UpdateLists}
 use Rattle.air_model.specs.Decks.{count_parts}
 use Rattle.item_catalog.specs.Drafts.{DraftValue, judged, with_spelled}
-use Rattle.item_catalog.specs.Entries as e
-use Rattle.item_catalog.specs.Entries.{script_by}
+use Rattle.item_catalog.specs.DeckEntries as e
+use Rattle.item_catalog.specs.DeckEntries.{script_by}
 use Rattle.item_catalog.specs.Faults.{script_passes, some_below}
 use Rattle.item_catalog.specs.Fields.{event_of}
 use Rattle.item_catalog.specs.declared.kinds.FaultKind.TheVariants as fault

@@ -4,8 +4,8 @@ use Rattle.air_base.specs.Numbers.{number_of}
 use Rattle.air_base.specs.NumberLists.{list_of}
 use Rattle.item_catalog.specs.declared.kinds.FaultKind.{FaultKind}
 use Rattle.item_catalog.specs.Drafts.{DraftValue, judged}
-use Rattle.item_catalog.specs.Entries as e
-use Rattle.item_catalog.specs.Entries.{Entry, query_by}
+use Rattle.item_catalog.specs.DeckEntries as e
+use Rattle.item_catalog.specs.DeckEntries.{Entry, query_by}
 use Rattle.item_catalog.specs.Faults.{first_of, query_tests}
 use Rattle.air_base.specs.Pieces.{two_of}
 use Rattle.update_texts.specs.KeptLists.{ItemsSeen, items_seen}

@@ -7,8 +7,8 @@ use Rattle.air_history.specs.UpdateLists.{UpdateLists}
 use Rattle.air_history.specs.UpdateRules.{update_fault}
 use Rattle.item_catalog.specs.declared.kinds.FaultKind.{FaultKind}
 use Rattle.item_catalog.specs.Drafts.{DraftValue, judged}
-use Rattle.item_catalog.specs.Entries as e
-use Rattle.item_catalog.specs.Entries.{Entry, update_by}
+use Rattle.item_catalog.specs.DeckEntries as e
+use Rattle.item_catalog.specs.DeckEntries.{Entry, update_by}
 use Rattle.item_catalog.specs.Faults.{first_of, update_tests}
 use Rattle.air_base.specs.Pieces.{three_of}
 use Rattle.update_texts.specs.Writes.{write_of}

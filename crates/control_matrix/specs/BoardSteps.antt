@@ -7,12 +7,12 @@ use Rattle.air_history.specs.Tables.{table_list, BasesRead}
 use Rattle.air_history.specs.Boards.{Board, board_of}
 use Rattle.control_matrix.specs.Columns.{next_columns}
 
--- the write vector of n items after the event: the cycle at the items that it writes, else what it was
+-- The write vector of n items after the event: the cycle at the items that it writes, else what it was.
 abbrev pub next_vector : ℕ → ℕ → List ℕ → Event → List ℕ
 next_vector n cycle vector e = map (λ i. cond (writes e i) cycle (get_or vector i 0)) (range_with_len 0 n)
 
--- the board after the event: a start begins the next cycle and changes nothing else; a commit writes the values,
--- the columns and the vector entries of the items that it writes, all from the board before it
+-- The board after the event: a start begins the next cycle and changes nothing else; a commit writes the values,
+-- the columns and the vector entries of the items that it writes, all from the board before it.
 unfoldable pub step_board : Board → Event → Board
 step_board b e = record {
   cycle = cond (is_start e) (b.cycle + 1) b.cycle;
@@ -21,8 +21,8 @@ step_board b e = record {
   vector = next_vector (length b.values) b.cycle b.vector e;
 }
 
--- where the event's items are below the number of values and its bases are read, the step of the board of a list
--- of events is the board of the list with the event added
+-- Where the event's items are below the number of values and its bases are read, the step of the board of a list
+-- of events is the board of the list with the event added.
 abbrev pub StepLaw : Type 0
 StepLaw = (values : List ℕ) (G : List Event) (e : Event) → ItemsFit (length values) e → BasesRead e →
     step_board (board_of values G) e ≡ board_of values (G ++ e ∷ [])

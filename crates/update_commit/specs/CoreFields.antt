@@ -6,7 +6,7 @@ use Rattle.air_model.specs.Decks.{count_made}
 use Rattle.update_commit.specs.declared.cores.Core.TheInside.{Inside}
 use Rattle.update_commit.specs.CoreStates.{CoreState}
 
--- the core that the fields hold
+-- The core that the fields hold.
 abbrev pub core_in : Inside → CoreState
 core_in c = record {
   events = c.events.items;
@@ -15,8 +15,8 @@ core_in c = record {
   spare = vec_capacity c.events - length c.events.items;
 }
 
--- values, counts and cycle are those after the events, the mark is where the events after the last start begin, and each
--- event fits
+-- Values, counts and cycle are those after the events, the mark is where the events after the last start begin, and each
+-- event fits.
 pub record IsCore (c : Inside) : Type 0 where
   pub sized : length c.values.items ≡ length c.first_values.items
   pub values : (i : ℕ) → get_or c.values.items i 0 ≡ table (values_of c.first_values.items) c.events.items i

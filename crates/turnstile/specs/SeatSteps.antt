@@ -5,8 +5,8 @@ use lib.ListN.{get_elem?}
 use Rattle.atomic_table.specs.Table.{Me, Step}
 use Rattle.turnstile.specs.declared.views.Sight.{Sight}
 use Rattle.turnstile.specs.declared.views.View.{View}
-use Rattle.turnstile.specs.Entries.{Continues}
-use Rattle.turnstile.specs.Views.{gone}
+use Rattle.turnstile.specs.PassEntries.{Continues}
+use Rattle.turnstile.specs.SeatViews.{gone}
 
 module _ {K E B : Type 0} (entries : K → List (ℕ × E)) (base : K → B) where
   abbrev Sat : Type 0

@@ -4,7 +4,7 @@ use Rattle.air_history.specs.Boards.{Board}
 use Rattle.control_matrix.specs.declared.board.Board.TheInside.{Inside}
 use Rattle.control_matrix.specs.Columns.{columns_in}
 
--- the board that the fields hold
+-- The board that the fields hold.
 abbrev pub board_in : Inside → Board
 board_in b = record {
   cycle = b.cycle;
@@ -13,7 +13,7 @@ board_in b = record {
   vector = b.vector.items;
 }
 
--- there are 1 to 1,024 values, as many columns of as many entries, as many vector entries, and room for a column and marks
+-- There are 1 to 1,024 values, as many columns of as many entries, as many vector entries, and room for a column and marks.
 pub record IsBoard (b : Inside) : Type 0 where
   pub some : 1 ≤ length b.values.items
   pub few : length b.values.items ≤ 1024

@@ -2,14 +2,14 @@
 use Rattle.std.specs.Prelude.{ℕ, zero, suc, ◌+◌, ◌==◌, cond, List, [], ◌∷◌, ◌++◌, length, take, drop, Option, Some, None}
 use Rattle.turnstile.specs.declared.views.Sight.{Sight}
 use Rattle.turnstile.specs.declared.views.View.{View}
-use Rattle.turnstile.specs.Entries.{longer}
+use Rattle.turnstile.specs.PassEntries.{longer}
 
--- how often the number stands in the list
+-- How often the number stands in the list.
 abbrev pub times : ℕ → List ℕ → ℕ
 times n [] = 0
 times n (m ∷ ms) = cond (n == m) 1 0 + times n ms
 
--- so many numbers, from k on
+-- So many numbers, from k on.
 abbrev pub numbers_from : ℕ → ℕ → List ℕ
 numbers_from k zero = []
 numbers_from k (suc n) = k ∷ numbers_from (suc k) n

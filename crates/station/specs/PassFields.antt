@@ -4,18 +4,18 @@ use Rattle.turnstile.specs.Passes.{Known}
 use Rattle.air_history.specs.declared.histories.Event.{Event}
 use Rattle.air_history.specs.Histories.{starts, EventFits}
 use Rattle.air_model.specs.Decks.{count_made}
-use Rattle.station.specs.Entries.{events_of}
+use Rattle.station.specs.EventEntries.{events_of}
 use Rattle.station.specs.PassStates.{PassState}
 
--- the first values and the number of updaters
+-- The first values and the number of updaters.
 abbrev pub Base : Type 0
 Base = List ℕ × ℕ
 
--- the turnstile's pass of a station
+-- The turnstile's pass of a station.
 abbrev pub Inner : Type 0
 Inner = Known Event Base
 
--- the base that the pass has
+-- The base that the pass has.
 abbrev pub base_or : Option Base → Base
 base_or None = ([], 0)
 base_or (Some base) = base
@@ -23,7 +23,7 @@ base_or (Some base) = base
 abbrev pub base_in : Inner → Base
 base_in pass = base_or pass.base
 
--- the pass of the number
+-- The pass of the number.
 abbrev pub pass_in : Inner → ℕ → PassState
 pass_in pass number = record {
   station = pass.gate;
@@ -33,12 +33,12 @@ pass_in pass number = record {
   seen = events_of pass.seen;
 }
 
--- the pass of the conductor
+-- The pass of the conductor.
 abbrev pub conductor_in : Inner → PassState
 conductor_in pass = pass_in pass (base_in pass).1
 
--- it is in no turn, has one number and a base, its turnstile has a pass for each updater and the conductor, and each event
--- that it has seen fits
+-- It is in no turn, has one number and a base, its turnstile has a pass for each updater and the conductor, and each event
+-- that it has seen fits.
 pub record IsPass (pass : Inner) (number : ℕ) : Type 0 where
   pub outside : pass.turn ≡ None
   pub numbers : pass.numbers ≡ number ∷ []
@@ -46,10 +46,10 @@ pub record IsPass (pass : Inner) (number : ℕ) : Type 0 where
   pub passes : pass.passes ≡ (base_in pass).1 + 1
   pub fits : All (EventFits (base_in pass).1 (length (base_in pass).0)) (events_of pass.seen)
 
--- the number is an updater's, and its commits are counted
+-- The number is an updater's, and its commits are counted.
 abbrev pub IsUpdater : Inner → ℕ → ℕ → Type 0
 IsUpdater pass by made = IsPass pass by × (by < (base_in pass).1) × (made ≡ count_made by (events_of pass.seen))
 
--- the number is the conductor's, and the starts are counted
+-- The number is the conductor's, and the starts are counted.
 abbrev pub IsConductor : Inner → ℕ → Type 0
 IsConductor pass started = IsPass pass (base_in pass).1 × (started ≡ starts (events_of pass.seen))

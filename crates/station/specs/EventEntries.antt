@@ -3,20 +3,20 @@ use Rattle.std.specs.Prelude.{ℕ, List, map}
 use Rattle.air_history.specs.declared.histories.Event.{Event}
 use Rattle.air_history.specs.declared.histories.Event.TheVariants.{Commit, Start}
 
--- the number of the pass that makes the event, with so many updaters: its updater's, and for a start the conductor's, which
--- is the number of updaters
+-- The number of the pass that makes the event, with so many updaters: its updater's, and for a start the conductor's, which
+-- is the number of updaters.
 unfoldable pub maker : ℕ → Event → ℕ
 maker updaters (Commit by seq update) = by
 maker updaters Start = updaters
 
--- the event beside that number
+-- The event beside that number.
 abbrev pub entry_of : ℕ → Event → ℕ × Event
 entry_of updaters event = (maker updaters event, event)
 
--- the events as entries
+-- The events as entries.
 abbrev pub entries_of : ℕ → List Event → List (ℕ × Event)
 entries_of updaters events = map (entry_of updaters) events
 
--- the events of entries
+-- The events of entries.
 abbrev pub events_of : List (ℕ × Event) → List Event
 events_of entries = map (λ entry. entry.1) entries

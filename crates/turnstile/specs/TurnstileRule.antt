@@ -9,23 +9,23 @@ use lib.ListN.{get_elem?}
 use Rattle.atomic_table.specs.Table.{State}
 use Rattle.turnstile.specs.declared.views.Sight.{Sight}
 use Rattle.turnstile.specs.declared.views.View.{View}
-use Rattle.turnstile.specs.Entries.{Below, Continues}
-use Rattle.turnstile.specs.Views.{times, waits, share}
+use Rattle.turnstile.specs.PassEntries.{Below, Continues}
+use Rattle.turnstile.specs.SeatViews.{times, waits, share}
 
--- f of each, added up
+-- f of each, added up.
 abbrev pub total : {A : Type 0} → (A → ℕ) → List A → ℕ
 total f [] = 0
 total f (x ∷ xs) = f x + total f xs
 
--- 1 where n is below the bound, else 0
+-- 1 where n is below the bound, else 0.
 abbrev pub once_below : ℕ → ℕ → ℕ
 once_below n bound = cond (leb (suc n) bound) 1 0
 
--- no two views have one ticket
+-- No two views have one ticket.
 abbrev pub Apart : {E B : Type 0} → List (View E B) → Type 0
 Apart {E} {B} views = (i j : ℕ) (v w : View E B) (t : ℕ) → get_elem? views i ≡ some v → get_elem? views j ≡ some w → v.ticket ≡ Some t → w.ticket ≡ Some t → i ≡ j
 
--- the value is in its slot, or out with the seat of this number
+-- The value is in its slot, or out with the seat of this number.
 pub data Phase : Type 0 where
   home : Phase
   out : ℕ → Phase
