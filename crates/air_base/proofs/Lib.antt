@@ -10,3 +10,5 @@ pub mod Cuts
 pub mod ListFronts
 pub mod PlainLists
 pub mod BadParts
+pub mod NumberExamples
+pub mod ListExamples

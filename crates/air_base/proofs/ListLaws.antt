@@ -11,7 +11,7 @@ use Rattle.std.proofs.lemmas.List.Elements.{All-cons, All-head, All-nil, All-tai
 use Rattle.std.proofs.lemmas.List.Sums.{AllPass-from_list_all}
 use Rattle.std.proofs.lemmas.List.Splits.{join_with_byte-slice_split, slice_split_at, slice_split_none}
 use Rattle.air_base.specs.Numbers.{number_of, number_text}
-use Rattle.air_base.specs.NumberLists.{all_some, bad_part_at, list_of, list_text, part_start, parts_of, ListIsItsPartsLaw, ListOrBadPartLaw, ListTextSpellsLaw, OneListSpellingLaw}
+use Rattle.air_base.specs.NumberLists.{all_some, bad_part_at, list_of, list_text, part_start, parts_of}
 use Rattle.air_base.proofs.NumberFacts.{number_digits, one_spelling, text_spells}
 use Rattle.air_base.proofs.PartFacts.{all_some-Some, parts_of-pieces, pieces}
 
@@ -57,7 +57,7 @@ Some-all_some {A = A} (Some x ∷ xs) items e = by (all_some xs) (Some-all_some 
     by None rest items e = cc e
     by (Some ys) rest items e = let same : x ∷ ys ≡ items = cc e in ap (λ l. Some x ∷ l) (rest ys refl) ∙ ap (map Some) same
 
-pub list_is_its_parts : ListIsItsPartsLaw
+pub list_is_its_parts : (text ns : List ℕ) → (list_of number_of text ≡ Some ns) ↔ (map number_of (parts_of text) ≡ map Some ns)
 list_is_its_parts text ns = (Some-all_some (map number_of (parts_of text)) ns, all_some-Some (map number_of (parts_of text)) ns)
 
 module _ {A : Type 0} (item : List ℕ → Option A) where
@@ -111,7 +111,7 @@ module _ {A : Type 0} (item : List ℕ → Option A) where
           let test = found (nat_lt (first_bad (parts_of text)) (length (parts_of text))) (first_bad (parts_of text)) e in
           ap is_some (none_from_bad (parts_of text) (grind (arith, nat_tests, test)))
 
-pub list_or_bad_part : ListOrBadPartLaw
+pub list_or_bad_part : (text : List ℕ) → IsNone (list_of number_of text) ↔ IsSome (bad_part_at number_of text)
 list_or_bad_part text = none-bad_part_at number_of text
 
 no_space : (b : ℕ) → is_ascii_digit b ≡ true → eqb b 32 ≡ false
@@ -136,7 +136,7 @@ numbers_spelled [] below = refl
 numbers_spelled (n ∷ ns) below =
     rw (text_spells n (All-head (λ n. n < 2 ^ 64) n ns below), numbers_spelled ns (All-tail (λ n. n < 2 ^ 64) n ns below)) refl
 
-pub list_text_spells : ListTextSpellsLaw
+pub list_text_spells : (ns : List ℕ) → All (λ n. n < 2 ^ 64) ns → list_of number_of (list_text (map number_text ns)) ≡ Some ns
 list_text_spells ns below =
     all_some-Some (map number_of (parts_of (list_text (map number_text ns)))) ns
     (ap (map number_of) (parts_of-list_text (map number_text ns) (number_parts ns below)) ∙ numbers_spelled ns below)
@@ -152,6 +152,6 @@ parts_spelled (part ∷ parts) (n ∷ ns) e =
     let more = parts_spelled parts ns rest in
     cc
 
-pub one_list_spelling : OneListSpellingLaw
+pub one_list_spelling : (text ns : List ℕ) → list_of number_of text ≡ Some ns → text ≡ list_text (map number_text ns)
 one_list_spelling text ns e =
     sym (list_text-parts_of text) ∙ ap list_text (parts_spelled (parts_of text) ns (Some-all_some (map number_of (parts_of text)) ns e))

@@ -16,7 +16,7 @@ use Rattle.std.proofs.lemmas.List.Folds.{list_all_at, list_all_more}
 use Rattle.std.proofs.lemmas.Str.{digit_value_digit}
 use Rattle.std.proofs.lemmas.Str.Parse.{IsNumeralModel, digits_value-take-le, numerals_by_value}
 use Rattle.air_base.specs.Fronts.{DigitsRead}
-use Rattle.air_base.specs.Numbers.{is_numeral, number_of, number_text, last_digits, TextSpellsLaw, OneSpellingLaw}
+use Rattle.air_base.specs.Numbers.{is_numeral, number_of, number_text, last_digits}
 
 -- The library's laws on digits, at this test of digits.
 own : IsNumeralModel (λ ds. list_all is_ascii_digit ds ≡ true) (digits_value 10)
@@ -111,14 +111,14 @@ decimal_numeral n below =
     alone zero below e = ap length (decimal_digit 0 (omega arith))
     alone (suc n) below e = absurd (omega (arith, first_decimal (suc n) (omega arith) below))
 
-pub text_spells : TextSpellsLaw
+pub text_spells : (n : ℕ) → n < 2 ^ 64 → number_of (number_text n) ≡ Some n
 unfolding number_of
 text_spells n below =
     let value : digits_value 10 (decimal n) ≡ n = digits_value-decimal own n below in
     let fits : nat_lt n (2 ^ 64) ≡ true = grind arith in
     rw (number_text-decimal n below, decimal_numeral n below, value, fits) refl
 
-pub one_spelling : OneSpellingLaw
+pub one_spelling : (text : List ℕ) (n : ℕ) → number_of text ≡ Some n → text ≡ number_text n
 unfolding number_of
 one_spelling text n spelled = by (is_numeral text) (nat_lt (digits_value 10 text) (2 ^ 64)) refl refl spelled
   where

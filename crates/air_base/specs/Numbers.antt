@@ -1,9 +1,8 @@
 -- Numbers as texts: decimal digits without sign and without a leading zero except for `0` itself.
 --
--- `number_of` says which number a text spells, `number_text` how a number is spelled. The two laws say
--- that they answer each other, so each number of 64 bits has one text. Whatever is read or printed
--- stands on them.
-use Rattle.std.specs.Prelude.{◌≡◌, ◌==◌, ◌&&◌, ◌||◌, ◌+◌, ◌/◌, ◌%◌, ◌^◌, ◌<◌, ◌++◌, ℕ, zero, suc, List, [], ◌∷◌, Bool, false, not, Option, Some, None, length, nat_lt, if◌then◌else◌, codes, refl}
+-- `number_of` says which number a text spells, `number_text` how a number is spelled. The laws in `src/texts.rt` say
+-- that they answer each other, so each number of 64 bits has one text. Whatever is read or printed stands on them.
+use Rattle.std.specs.Prelude.{◌==◌, ◌&&◌, ◌||◌, ◌+◌, ◌/◌, ◌%◌, ◌^◌, ◌++◌, ℕ, zero, suc, List, [], ◌∷◌, Bool, false, not, Option, Some, None, length, nat_lt, if◌then◌else◌}
 use Rattle.std.specs.Char.{is_ascii_digit}
 use Rattle.std.specs.List.{list_all}
 use Rattle.std.specs.Str.Parse.{digits_value}
@@ -25,47 +24,3 @@ last_digits (suc many) n = if nat_lt n 10 then (48 + n) ∷ [] else last_digits 
 -- The text of a number of 64 bits: its digits, of which there are at most 20.
 unfoldable pub number_text : ℕ → List ℕ
 number_text n = last_digits 20 n
-
--- The text of a number of 64 bits spells that number.
-abbrev pub TextSpellsLaw : Type 0
-TextSpellsLaw = (n : ℕ) → n < 2 ^ 64 → number_of (number_text n) ≡ Some n
-
--- No other text spells it.
-abbrev pub OneSpellingLaw : Type 0
-OneSpellingLaw = (text : List ℕ) (n : ℕ) → number_of text ≡ Some n → text ≡ number_text n
-
-zero_alone : number_of (codes "0") ≡ Some 0
-unfolding number_of
-zero_alone = refl
-
-zero_first : number_of (codes "01") ≡ None
-unfolding number_of
-zero_first = refl
-
-plus_first : number_of (codes "+1") ≡ None
-unfolding number_of
-plus_first = refl
-
-no_digit : number_of [] ≡ None
-unfolding number_of
-no_digit = refl
-
-greatest : number_of (codes "18446744073709551615") ≡ Some 18446744073709551615
-unfolding number_of
-greatest = refl
-
-one_more : number_of (codes "18446744073709551616") ≡ None
-unfolding number_of
-one_more = refl
-
-zero_text : number_text 0 ≡ codes "0"
-unfolding number_text
-zero_text = refl
-
-small_text : number_text 1200 ≡ codes "1200"
-unfolding number_text
-small_text = refl
-
-greatest_text : number_text 18446744073709551615 ≡ codes "18446744073709551615"
-unfolding number_text
-greatest_text = refl

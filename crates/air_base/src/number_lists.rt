@@ -3,9 +3,9 @@
 //! The empty text is the empty list. A leading, trailing or double space makes an empty part, which
 //! spells no number. The first part that spells none is reported by the byte at which it begins.
 
-ghost use Rattle.std.specs.Prelude.{◌≡◌, ◌<◌, ◌^◌, length, Some, IfOk, IfErr};
-ghost use Rattle.air_base.specs.Numbers.{number_of};
-ghost use Rattle.air_base.specs.NumberLists.{list_of, bad_part_at, ListIsItsPartsLaw, ListOrBadPartLaw, ListTextSpellsLaw, OneListSpellingLaw};
+ghost use Rattle.std.specs.Prelude.{◌≡◌, ◌↔◌, ◌<◌, ◌^◌, ℕ, List, length, map, All, Some, IsNone, IsSome, IfOk, IfErr};
+ghost use Rattle.air_base.specs.Numbers.{number_of, number_text};
+ghost use Rattle.air_base.specs.NumberLists.{list_of, bad_part_at, list_text, parts_of};
 ghost use Rattle.air_base.specs.ListFault.{TellsBadPart};
 
 use crate::number_fronts::number_front;
@@ -70,20 +70,20 @@ pub fn read_list(alloc: Global, text: &[u8]) -> Result<Vec<u64>, ListFault>
 
 /// A list has the numbers of its parts, one for each.
 pub fn list_is_its_parts_law()
-    ensures { ListIsItsPartsLaw }
+    ensures { (text ns : List ℕ) → (list_of number_of text ≡ Some ns) ↔ (map number_of (parts_of text) ≡ map Some ns) }
 {}
 
 /// A text that spells no list has a first part that spells no number, and no other text has one.
 pub fn list_or_bad_part_law()
-    ensures { ListOrBadPartLaw }
+    ensures { (text : List ℕ) → IsNone (list_of number_of text) ↔ IsSome (bad_part_at number_of text) }
 {}
 
 /// The texts of numbers with one space between each two spell these numbers.
 pub fn list_text_spells_law()
-    ensures { ListTextSpellsLaw }
+    ensures { (ns : List ℕ) → All (λ n. n < 2 ^ 64) ns → list_of number_of (list_text (map number_text ns)) ≡ Some ns }
 {}
 
 /// No other text spells them.
 pub fn one_list_spelling_law()
-    ensures { OneListSpellingLaw }
+    ensures { (text ns : List ℕ) → list_of number_of text ≡ Some ns → text ≡ list_text (map number_text ns) }
 {}

@@ -3,8 +3,8 @@
 //! A number has no sign and no leading zero except for `0` itself, and is at most 18446744073709551615.
 //! Decks, reports and command lines are read and printed by these calls.
 
-ghost use Rattle.std.specs.Prelude.{◌≡◌, ◌++◌, OnOk, OnErr};
-ghost use Rattle.air_base.specs.Numbers.{number_of, number_text, TextSpellsLaw, OneSpellingLaw};
+ghost use Rattle.std.specs.Prelude.{◌≡◌, ◌<◌, ◌^◌, ◌++◌, ℕ, List, Some, OnOk, OnErr};
+ghost use Rattle.air_base.specs.Numbers.{number_of, number_text};
 
 use crate::memory::NoMemory;
 use crate::number_fronts::leading_number;
@@ -32,12 +32,12 @@ pub fn write_u64(n: u64, out: &mut Vec<u8>) -> Result<(), NoMemory>
     Ok(())
 }
 
-/// The text of a number spells that number.
+/// The text of a number of 64 bits spells that number.
 pub fn text_spells_law()
-    ensures { TextSpellsLaw }
+    ensures { (n : ℕ) → n < 2 ^ 64 → number_of (number_text n) ≡ Some n }
 {}
 
 /// No other text spells it.
 pub fn one_spelling_law()
-    ensures { OneSpellingLaw }
+    ensures { (text : List ℕ) (n : ℕ) → number_of text ≡ Some n → text ≡ number_text n }
 {}

@@ -12,7 +12,7 @@ use Rattle.air_history.specs.Histories.{is_start, starts}
 use Rattle.air_model.specs.Buckets.{Bucket}
 use Rattle.air_model.specs.Aired.{Air, bucket_of, buckets_of}
 use Rattle.air_model.proofs.LaterLemmas.{later}
-use Rattle.air_sender.specs.BoardBuckets.{GrowLaw, last_cycle}
+use Rattle.air_sender.specs.BoardBuckets.{last_cycle}
 
 -- ---- ranges of numbers
 
@@ -55,7 +55,8 @@ cycles_kept : (values : List ℕ) (air : Air) (G : List Event) (e : Event) →
     flat_map (buckets_in values air (G ++ e ∷ [])) (range_with_len 1 (starts G)) ≡ flat_map (buckets_in values air G) (range_with_len 1 (starts G))
 cycles_kept values air G e = range_same _ _ 1 (starts G) (λ c low high. cycle_kept values air G e c (omega arith))
 
-pub grow : GrowLaw
+pub grow : (values : List ℕ) (air : Air) (G : List Event) (e : Event) →
+    buckets_of values air (G ++ e ∷ []) ≡ buckets_of values air G ++ cond (is_start e) (last_cycle values air (G ++ e ∷ [])) []
 unfolding buckets_of
 grow values air G e = elim (cases_Bool (is_start e)) as (λ _. buckets_of values air (G ++ e ∷ []) ≡ buckets_of values air G ++ cond (is_start e) (last_cycle values air (G ++ e ∷ [])) []) [
   | inl start ↦ (let more : starts (G ++ e ∷ []) ≡ starts G + 1 = starts_more G e ∙ ap (λ n. starts G + n) (cond-true (is_start e) 1 0 start) in

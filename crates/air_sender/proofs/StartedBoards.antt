@@ -20,8 +20,8 @@ use Rattle.air_history.proofs.PlaceLemmas.{greatest_below}
 use Rattle.air_history.proofs.HistoryLemmas.{front_cycle, front_cycle_same, writer_before_some}
 use Rattle.control_matrix.proofs.BoardLemmas.{board_push, start_board}
 use Rattle.air_model.specs.Buckets.{Body, Bucket}
-use Rattle.air_model.specs.Aired.{Air, aired_as, body_of, bucket_of}
-use Rattle.air_sender.specs.BoardBuckets.{BelowLaw, EntriesBelow, OwnCycleLaw, body_on, bucket_on, cycle_buckets, entries_on}
+use Rattle.air_model.specs.Aired.{Air, SlotsFit, aired_as, body_of, bucket_of}
+use Rattle.air_sender.specs.BoardBuckets.{EntriesBelow, body_on, bucket_on, cycle_buckets, entries_on}
 
 -- ---- the front of the last cycle
 
@@ -109,6 +109,12 @@ unfolding bucket_on bucket_of
 slot_bucket values air G s n h =
     ap (λ y. let b : Bucket = record { edition = 0; cycle = starts G + 1; slot = s; body = y } in b) (slot_body values air G (get_or air.slots s None) n h)
 
+-- The law that `own_cycle_law` has, for those who take it from there.
+abbrev pub OwnCycleLaw : Type 0
+OwnCycleLaw = (values : List ℕ) (air : Air) (G : List Event) → air.items ≡ length values → SlotsFit air →
+    cycle_buckets air.scheme.policy air.slots (board_of values (G ++ Start ∷ []))
+    ≡ map (bucket_of values air (G ++ Start ∷ []) (starts (G ++ Start ∷ []))) (range_with_len 0 (length air.slots))
+
 pub own_cycle : OwnCycleLaw
 own_cycle values air G n fit =
     let H = G ++ Start ∷ [] in
@@ -146,7 +152,7 @@ row_below P f n h k d l =
     let within : k < n = omega (arith, length-map-range_with_len f 0 n) in
     subst P (sym (get_or-map-range_with_len f 0 n k k d within (omega arith))) (h k)
 
-pub below : BelowLaw
+pub below : (values : List ℕ) (G : List Event) → EntriesBelow (board_of values (G ++ Start ∷ []))
 below values G = subst EntriesBelow (sym (started values G)) (record {
   columns = row_below (All (λ e. e < starts G + 1)) (column (length values) G) (length values) (λ j. row_below (λ e. e < starts G + 1) (column_entry G j) (length values) (column_below G j));
   vector = row_below (λ e. e < starts G + 1) (vector_entry G) (length values) (vector_below G);

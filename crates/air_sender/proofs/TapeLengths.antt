@@ -12,11 +12,11 @@ use Rattle.air_history.specs.declared.histories.Event.{Event}
 use Rattle.air_history.specs.Histories.{starts}
 use Rattle.air_model.specs.Buckets.{entries_of, spelling}
 use Rattle.air_model.specs.Tapes.{record_bytes, tape_of}
-use Rattle.air_model.specs.Aired.{Air, aired_as, body_of, bucket_of, buckets_of}
+use Rattle.air_model.specs.Aired.{Air, aired_as, body_of, bucket_of, buckets_of, history_tape}
 use Rattle.air_model.proofs.AiredLemmas.{entries_long}
 use Rattle.bucket_codec.proofs.EncodingFacts.{length_spelling}
 use Rattle.bucket_codec.proofs.TapeReadFacts.{record_size as record_long}
-use Rattle.air_sender.specs.TapeSizes.{TapeSizeLaw, cycle_size, record_size}
+use Rattle.air_sender.specs.TapeSizes.{cycle_size, record_size}
 
 -- ---- one record
 
@@ -74,6 +74,11 @@ cycles_size values air H (c ∷ cs) =
     let one : length (tape_of (map spelling here)) ≡ m = whole_cycle values air H c in
     let more : length (tape_of (map spelling rest)) ≡ length cs * m = cycles_size values air H cs in
     ap length joined ∙ length-append (tape_of (map spelling here)) (tape_of (map spelling rest)) ∙ omega (arith, one, more, suc-mul (length cs) m)
+
+-- The law that `tape_size_law` has, for those who take it from there.
+abbrev pub TapeSizeLaw : Type 0
+TapeSizeLaw = (values : List ℕ) (air : Air) (H : List Event) →
+    length (history_tape values air H) ≡ starts H * cycle_size air.items air.slots
 
 pub tape_size : TapeSizeLaw
 unfolding buckets_of

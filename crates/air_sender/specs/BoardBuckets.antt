@@ -1,14 +1,14 @@
--- What a board airs: the bucket of each slot, and the law that ties it to the history of the board.
-use Rattle.std.specs.Prelude.{◌≡◌, ℕ, ◌<◌, List, [], ◌∷◌, ◌++◌, All, cond, length, map, get_or, Option, Some, None}
+-- What a board airs: the bucket of each slot, and the last cycle of a history.
+use Rattle.std.specs.Prelude.{◌≡◌, ℕ, ◌<◌, List, [], ◌∷◌, ◌++◌, All, length, map, get_or, Option, Some, None}
 use Rattle.std.specs.List.{range_with_len}
 use Rattle.air_base.specs.declared.verdicts.Policy.{Policy}
 use Rattle.air_base.specs.declared.verdicts.Policy.TheVariants.{FMatrix, Datacycle, RMatrix}
 use Rattle.air_history.specs.declared.histories.Event.{Event}
 use Rattle.air_history.specs.declared.histories.Event.TheVariants.{Start}
-use Rattle.air_history.specs.Histories.{is_start, starts}
+use Rattle.air_history.specs.Histories.{starts}
 use Rattle.air_history.specs.Boards.{Board, board_of}
 use Rattle.air_model.specs.Buckets.{Bucket, Body, Idle, spelling}
-use Rattle.air_model.specs.Aired.{Air, SlotsFit, aired_as, bucket_of, buckets_of}
+use Rattle.air_model.specs.Aired.{Air, aired_as, bucket_of}
 
 -- The entries that a policy airs with an item: its control column, or the write vector.
 abbrev pub entries_on : Policy → Board → ℕ → List ℕ
@@ -52,18 +52,3 @@ pub record IsLastBoard (values : List ℕ) (air : Air) (G : List Event) (by : Po
   pub items : air.items ≡ length values
   pub policy : air.scheme.policy ≡ by
   pub slots : air.slots ≡ program
-
--- The board of a history that ends with a start airs the history's buckets of that cycle.
-abbrev pub OwnCycleLaw : Type 0
-OwnCycleLaw = (values : List ℕ) (air : Air) (G : List Event) → air.items ≡ length values → SlotsFit air →
-    cycle_buckets air.scheme.policy air.slots (board_of values (G ++ Start ∷ []))
-    ≡ map (bucket_of values air (G ++ Start ∷ []) (starts (G ++ Start ∷ []))) (range_with_len 0 (length air.slots))
-
--- And its entries are below that cycle.
-abbrev pub BelowLaw : Type 0
-BelowLaw = (values : List ℕ) (G : List Event) → EntriesBelow (board_of values (G ++ Start ∷ []))
-
--- One more event airs the buckets of the cycle that it starts, where it is a start, and else nothing.
-abbrev pub GrowLaw : Type 0
-GrowLaw = (values : List ℕ) (air : Air) (G : List Event) (e : Event) →
-    buckets_of values air (G ++ e ∷ []) ≡ buckets_of values air G ++ cond (is_start e) (last_cycle values air (G ++ e ∷ [])) []

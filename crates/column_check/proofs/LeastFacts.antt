@@ -7,8 +7,7 @@ use Rattle.std.proofs.lemmas.List.Elements.{All-cons}
 use Rattle.air_base.specs.declared.verdicts.Clash.{Clash}
 use Rattle.air_base.specs.declared.verdicts.Policy.TheVariants.{FMatrix}
 use Rattle.air_history.specs.Clashes.{lesser, least, Heard, read_at, heard_clash, clash_by_entries}
-use Rattle.column_check.specs.Searches.{clash_of, disagree}
-use Rattle.column_check.specs.HeldLaws.{IsLeastClash, NamesLeastLaw}
+use Rattle.column_check.specs.Searches.{clash_of, disagree, IsLeastClash}
 use Rattle.column_check.proofs.HeldLemmas.{least_is}
 
 any_here : {X : Type 0} (P : X → Type 0) (x : X) (xs : List X) → P x → Any P (x ∷ xs)
@@ -84,7 +83,8 @@ some_passes test (r ∷ R) c e = by (test r) refl e (some_passes test R)
           least = All-cons (λ r. test r ≡ true → c.item ≤ r.item) r R (λ t. absurd (both_ways _ h t)) found.least;
         }
 
-pub names_least : NamesLeastLaw
+pub names_least : (R : List Heard) (x : Heard) →
+    MatchOption (clash_by_entries FMatrix R x) (All (λ r. disagree x r ≡ false) R) (IsLeastClash R x)
 names_least R x = by (heard_clash (disagree x) R) refl (least_is R x)
   where
     by : (o : Option Clash) → heard_clash (disagree x) R ≡ o → heard_clash (disagree x) R ≡ clash_by_entries FMatrix R x →

@@ -1,13 +1,22 @@
 //! The laws of held reads, each carried by a function that does nothing.
 
-ghost use Rattle.column_check.specs.HeldLaws.{NamesLeastLaw, AiredIsNewLaw};
+ghost use Rattle.std.specs.Prelude.{◌≡◌, ◌≢◌, false, List, All, MatchOption};
+ghost use Rattle.air_base.specs.declared.verdicts.Policy.TheVariants.{FMatrix};
+ghost use Rattle.air_history.specs.declared.histories.Event.{Event};
+ghost use Rattle.air_history.specs.Clashes.{Heard, clash_by_entries};
+ghost use Rattle.air_history.specs.ClashLaws.{IsHeard};
+ghost use Rattle.air_history.specs.Columns.{scheme_of};
+ghost use Rattle.air_history.specs.HeldReads.{HeldReads, IsNew};
+ghost use Rattle.column_check.specs.Searches.{disagree, IsLeastClash};
 
-/// A clash is named exactly if a held read disagrees with the new one, and it is that of least item number.
+/// F-Matrix names no clash where no held read disagrees with the new one, and else that of least item number.
 pub fn names_least_law()
-    ensures { NamesLeastLaw }
+    ensures { (R : List Heard) (x : Heard) →
+        MatchOption (clash_by_entries FMatrix R x) (All (λ r. disagree x r ≡ false) R) (IsLeastClash R x) }
 {}
 
-/// Each read whose column a history has at its cycle may be tried, if its item isn't held.
+/// A read of an item that isn't held, with the column of a history at its cycle, is a new one: it may be tried.
 pub fn aired_is_new_law()
-    ensures { AiredIsNewLaw }
+    ensures { (held : HeldReads) (H : List Event) (x : Heard) →
+        IsHeard (scheme_of FMatrix) held.n H x → All (λ r. r.item ≢ x.item) held.reads → IsNew held x }
 {}

@@ -17,7 +17,7 @@ use Rattle.air_history.proofs.ScanLemmas.{cycle_all, start_writes_nothing}
 use Rattle.air_history.proofs.TableLemmas.{table_nil, table_push}
 use Rattle.history_laws.proofs.AloneLemmas.{not_written, written_same}
 use Rattle.control_matrix.specs.Columns.{entry_in, written_entry, next_column, next_columns}
-use Rattle.control_matrix.specs.BoardSteps.{next_vector, step_board, StepLaw}
+use Rattle.control_matrix.specs.BoardSteps.{next_vector, step_board}
 use Rattle.control_matrix.proofs.EntryLemmas.{greatest_of_within, reads_fit}
 
 -- Boards with the same fields are the same.
@@ -106,7 +106,8 @@ vector_push n G e =
 
 -- ---- the board
 
-pub board_push : StepLaw
+pub board_push : (values : List ℕ) (G : List Event) (e : Event) → ItemsFit (length values) e → BasesRead e →
+    step_board (board_of values G) e ≡ board_of values (G ++ e ∷ [])
 unfolding step_board
 board_push values G e fits bases =
     let sized : length (table_list values G) ≡ length values = length-map-range_with_len (table (values_of values) G) 0 (length values) in

@@ -1,10 +1,10 @@
--- How one event steps a board, for every board and every event, and the law that ties it to lists of events.
-use Rattle.std.specs.Prelude.{◌≡◌, ℕ, ◌+◌, cond, List, [], ◌∷◌, ◌++◌, length, get_or, map}
+-- How one event steps a board, for every board and every event.
+use Rattle.std.specs.Prelude.{ℕ, ◌+◌, cond, List, [], ◌∷◌, length, get_or, map}
 use Rattle.std.specs.List.{range_with_len}
 use Rattle.air_history.specs.declared.histories.Event.{Event}
-use Rattle.air_history.specs.Histories.{is_start, writes, ItemsFit}
-use Rattle.air_history.specs.Tables.{table_list, BasesRead}
-use Rattle.air_history.specs.Boards.{Board, board_of}
+use Rattle.air_history.specs.Histories.{is_start, writes}
+use Rattle.air_history.specs.Tables.{table_list}
+use Rattle.air_history.specs.Boards.{Board}
 use Rattle.control_matrix.specs.Columns.{next_columns}
 
 -- The write vector of n items after the event: the cycle at the items that it writes, else what it was.
@@ -20,9 +20,3 @@ step_board b e = record {
   columns = next_columns (length b.values) b.cycle b.columns e;
   vector = next_vector (length b.values) b.cycle b.vector e;
 }
-
--- Where the event's items are below the number of values and its bases are read, the step of the board of a list
--- of events is the board of the list with the event added.
-abbrev pub StepLaw : Type 0
-StepLaw = (values : List ℕ) (G : List Event) (e : Event) → ItemsFit (length values) e → BasesRead e →
-    step_board (board_of values G) e ≡ board_of values (G ++ e ∷ [])

@@ -1,8 +1,15 @@
 //! The laws of the board's step, each carried by a function that does nothing.
 
-ghost use Rattle.control_matrix.specs.BoardSteps.{StepLaw};
+ghost use Rattle.std.specs.Prelude.{◌≡◌, ℕ, List, [], ◌∷◌, ◌++◌, length};
+ghost use Rattle.air_history.specs.declared.histories.Event.{Event};
+ghost use Rattle.air_history.specs.Histories.{ItemsFit};
+ghost use Rattle.air_history.specs.Tables.{BasesRead};
+ghost use Rattle.air_history.specs.Boards.{board_of};
+ghost use Rattle.control_matrix.specs.BoardSteps.{step_board};
 
-/// The step of the board of a list of events by one more event is the board of the longer list.
+/// Where the event's items are below the number of values and its bases are read, the step of the board of a list of
+/// events is the board of the list with the event added.
 pub fn step_law()
-    ensures { StepLaw }
+    ensures { (values : List ℕ) (G : List Event) (e : Event) → ItemsFit (length values) e → BasesRead e →
+        step_board (board_of values G) e ≡ board_of values (G ++ e ∷ []) }
 {}

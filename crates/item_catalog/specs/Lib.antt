@@ -10,7 +10,6 @@ pub mod DeckLimits
 pub mod DeckView
 pub mod Faults
 pub mod Grammar
-pub mod GrammarLaws
 pub mod ListKinds
 pub mod ScriptView
 pub mod Drafts

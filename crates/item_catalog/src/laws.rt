@@ -1,28 +1,33 @@
-//! The laws of the grammar: each function's contract is one law of `specs/GrammarLaws.antt`; the bodies are empty.
+//! The laws of the grammar: every text spells one deck or has one fault, and never both; and what is spelled keeps
+//! everything that a deck has to keep. Each is carried by a function that does nothing.
 
-ghost use Rattle.item_catalog.specs.GrammarLaws.{DeckOrFaultLaw, NotBothLaw, OneDeckLaw, OneFaultLaw, WellMadeLaw};
+ghost use Rattle.std.specs.Prelude.{◌≡◌, ◌⊎◌, ℕ, List};
+ghost use Rattle.air_model.specs.Decks.{Deck, IsDeck};
+ghost use Rattle.item_catalog.specs.DeckLimits.{WithinLimits};
+ghost use Rattle.item_catalog.specs.Grammar.{Spells, HasFault};
 
 /// Every text spells a deck or has a fault.
 pub fn deck_or_fault_law()
-    ensures { DeckOrFaultLaw }
+    ensures { (text : List ℕ) → ((deck : Deck) × Spells text deck) ⊎ ((row : ℕ) × (kind : ℕ) × HasFault text row kind) }
 {}
 
 /// No text spells a deck and has a fault.
 pub fn not_both_law()
-    ensures { NotBothLaw }
+    ensures { (text : List ℕ) (deck : Deck) (row kind : ℕ) → Spells text deck → HasFault text row kind → ⊥ }
 {}
 
 /// No text spells two decks.
 pub fn one_deck_law()
-    ensures { OneDeckLaw }
+    ensures { (text : List ℕ) (a b : Deck) → Spells text a → Spells text b → a ≡ b }
 {}
 
 /// No text has two faults.
 pub fn one_fault_law()
-    ensures { OneFaultLaw }
+    ensures { (text : List ℕ) (row1 kind1 row2 kind2 : ℕ) →
+        HasFault text row1 kind1 → HasFault text row2 kind2 → (row1 ≡ row2) × (kind1 ≡ kind2) }
 {}
 
 /// What a text spells is well made, and within the limits.
 pub fn well_made_law()
-    ensures { WellMadeLaw }
+    ensures { (text : List ℕ) (deck : Deck) → Spells text deck → IsDeck deck × WithinLimits deck }
 {}

@@ -1,0 +1,64 @@
+-- Lists of numbers as texts on small examples: what a text spells, and where its first bad part begins.
+use Rattle.std.specs.Prelude.{◌≡◌, [], ◌∷◌, Some, None, codes, refl}
+use Rattle.air_base.specs.Numbers.{number_of}
+use Rattle.air_base.specs.NumberLists.{all_some, bad_part_at, list_of}
+
+empty_list : list_of number_of ([]) ≡ Some []
+unfolding all_some number_of
+empty_list = refl
+
+two_numbers : list_of number_of (codes "1 2") ≡ Some (1 ∷ 2 ∷ [])
+unfolding all_some number_of
+two_numbers = refl
+
+leading_space : list_of number_of (codes " 1") ≡ None
+unfolding all_some number_of
+leading_space = refl
+
+leading_space_at : bad_part_at number_of (codes " 1") ≡ Some 0
+unfolding bad_part_at number_of
+leading_space_at = refl
+
+double_space : list_of number_of (codes "1  2") ≡ None
+unfolding all_some number_of
+double_space = refl
+
+double_space_at : bad_part_at number_of (codes "1  2") ≡ Some 2
+unfolding bad_part_at number_of
+double_space_at = refl
+
+trailing_space : list_of number_of (codes "1 ") ≡ None
+unfolding all_some number_of
+trailing_space = refl
+
+trailing_space_at : bad_part_at number_of (codes "1 ") ≡ Some 2
+unfolding bad_part_at number_of
+trailing_space_at = refl
+
+no_number : list_of number_of (codes "1 x 2") ≡ None
+unfolding all_some number_of
+no_number = refl
+
+no_number_at : bad_part_at number_of (codes "1 x 2") ≡ Some 2
+unfolding bad_part_at number_of
+no_number_at = refl
+
+two_bad_parts_at : bad_part_at number_of (codes "1 x y") ≡ Some 2
+unfolding bad_part_at number_of
+two_bad_parts_at = refl
+
+zero_first : list_of number_of (codes "10 01") ≡ None
+unfolding all_some number_of
+zero_first = refl
+
+zero_first_at : bad_part_at number_of (codes "10 01") ≡ Some 3
+unfolding bad_part_at number_of
+zero_first_at = refl
+
+one_above : list_of number_of (codes "18446744073709551616") ≡ None
+unfolding all_some number_of
+one_above = refl
+
+one_above_at : bad_part_at number_of (codes "18446744073709551616") ≡ Some 0
+unfolding bad_part_at number_of
+one_above_at = refl
