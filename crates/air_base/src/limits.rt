@@ -1,7 +1,11 @@
-//! The limits of decks, programs and files, each written here alone: clauses and definitions cite them from here.
+//! The limits of decks, programs and files, and the two settings whose value isn't 0 where a deck says none. Each is written
+//! here alone: clauses and definitions cite it from here.
 
 /// The most items of a deck.
 pub const MOST_ITEMS: usize = 256;
+
+/// The most values of a board.
+pub const MOST_VALUES: usize = 1_024;
 
 /// The greatest rate of an item.
 pub const MOST_RATE: u64 = 1_000_000;
@@ -57,6 +61,9 @@ pub const MOST_DELTA: u64 = 9;
 /// The most cycles of a run.
 pub const MOST_CYCLES: u64 = 10_000;
 
+/// The cycles of a run whose deck says none.
+pub const DEFAULT_CYCLES: u64 = 10;
+
 /// The greatest share of buckets that are lost, heard again or late, in a hundred.
 pub const MOST_SHARE: u64 = 100;
 
@@ -65,6 +72,9 @@ pub const MOST_MONITORS: u64 = 16;
 
 /// The most calls of `hear`.
 pub const MOST_HEARS: u64 = 100_000_000;
+
+/// The most calls of `hear` where the deck says nothing of them.
+pub const DEFAULT_HEARS: u64 = 1_000_000;
 
 /// The most slots of a program.
 pub const MOST_SLOTS: u64 = 16_384;

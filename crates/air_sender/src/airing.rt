@@ -21,8 +21,12 @@ use crate::buckets::slot_bucket;
 use air_base::Policy;
 use air_devices::{Failed, Mast};
 use bucket_codec::encode;
+use bucket_codec::offsets::{ENTRY_BYTES, HEAD_BYTES, LENGTH_BYTES};
 use chunk_program::Program;
 use control_matrix::Board;
+
+/// The bytes of a slot's record before its entries.
+const RECORD_HEAD: u64 = (LENGTH_BYTES + HEAD_BYTES) as u64;
 
 /// Why a cycle wasn't aired whole.
 #[derive(Clone, Copy, Debug, PartialEq, Eq)]
@@ -43,7 +47,7 @@ pub fn air_cycle<M: Mast>(
     requires started { 1 ≤ board.now.cycle }
     requires below { EntriesBelow board.now }
     requires items { length (all_items program.now) ≡ length board.now.values }
-    requires room { 24 + 4 * length board.now.values ≤ length buf.old }
+    requires room { HEAD_BYTES + ENTRY_BYTES * length board.now.values ≤ length buf.old }
     ensures aired { OnOk result (Changes (with_buckets (cycle_bytes policy (slots_of program.now) board.now)) (M.state mast.old).told (M.state mast.new).told) }
     ensures history { (values : List ℕ) (air : Air) (G : List Event) → IsLastBoard values air G policy (slots_of program.now) board.now →
         SendsUpToFault (last_bytes values air G) result (M.state mast.old).told (M.state mast.new).told }
@@ -76,7 +80,7 @@ fn air_slot<M: Mast>(
     requires started { 1 ≤ board.now.cycle }
     requires below { EntriesBelow board.now }
     requires items { length (all_items program.now) ≡ length board.now.values }
-    requires room { 24 + 4 * length board.now.values ≤ length buf.old }
+    requires room { HEAD_BYTES + ENTRY_BYTES * length board.now.values ≤ length buf.old }
     ensures sent { OnOk result (Changes (with_buckets (spelling (bucket_on policy (slots_of program.now) board.now slot) ∷ [])) (M.state mast.old).told (M.state mast.new).told) }
     ensures refused { OnErr result ((M.state mast.new).told ≡ (M.state mast.old).told) }
     ensures port { (M.state mast.new).port ≡ (M.state mast.old).port }
@@ -105,8 +109,8 @@ fn cycle_len(program: &Program, n: u16) -> u64
     let mut len = 0;
     for slot in 0..program.slots() {
         len += match program.slot_item(slot) {
-            None => 28,
-            Some(_) => 28 + 4 * u64::from(n),
+            None => RECORD_HEAD,
+            Some(_) => RECORD_HEAD + ENTRY_BYTES as u64 * u64::from(n),
         };
     }
     len

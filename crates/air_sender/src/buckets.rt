@@ -1,7 +1,9 @@
 //! The bucket of a slot in the board's cycle: its entries are lent from the board, and nothing is copied.
 
 ghost use Rattle.std.specs.Prelude.{◌≡◌, ◌<◌, ◌≤◌, ◌+◌, ◌*◌, ◌^◌, length, IfSome};
+ghost use Rattle.air_base.specs.declared.limits.TheConstants.{MOST_ITEMS};
 ghost use Rattle.air_model.specs.Aired.{aired_as};
+ghost use Rattle.bucket_codec.specs.declared.offsets.TheConstants.{ENTRY_BYTES, HEAD_BYTES};
 ghost use Rattle.air_model.specs.Buckets.{IsInRange, spelling};
 ghost use Rattle.bucket_codec.specs.BucketsToAir.{body_to_air, bucket_to_air};
 ghost use Rattle.air_sender.specs.BoardBuckets.{EntriesBelow, body_on, entries_on};
@@ -15,13 +17,13 @@ use control_matrix::Board;
 pub fn slot_bucket<'a>(board: &'a Board, policy: Policy, slot: u32, item: Option<u16>) -> Bucket<'a>
     requires within { IfSome item (λ i. i < length board.now.values) }
     requires slot { slot < 2 ^ 16 }
-    requires few { length board.now.values ≤ 256 }
+    requires few { length board.now.values ≤ MOST_ITEMS }
     requires started { 1 ≤ board.now.cycle }
     requires below { EntriesBelow board.now }
     ensures bucket { bucket_to_air result ≡ record { edition = 0; cycle = board.now.cycle; slot = slot; body = body_on policy board.now item } }
     ensures range { IsInRange (bucket_to_air result) }
-    ensures long { 24 ≤ length (spelling (bucket_to_air result)) }
-    ensures sized { length (spelling (bucket_to_air result)) ≤ 24 + 4 * length board.now.values }
+    ensures long { HEAD_BYTES ≤ length (spelling (bucket_to_air result)) }
+    ensures sized { length (spelling (bucket_to_air result)) ≤ HEAD_BYTES + ENTRY_BYTES * length board.now.values }
 {
     let cycle = board.cycle();
     let slot = slot as u16;

@@ -1,6 +1,6 @@
 //! A bucket to be aired, and its bytes.
 //!
-//! The head of 24 bytes is written from front to back and the entries behind it, each byte once. What stands behind
+//! The head is written from front to back and the entries behind it, each byte once. What stands behind
 //! the bucket isn't touched. The sender and the station air what is written here.
 
 ghost use Rattle.std.specs.Prelude.{◌≡◌, ◌≤◌, ◌<◌, ◌+◌, ◌*◌, ◌++◌, drop, length, take, Ok};
@@ -10,6 +10,7 @@ ghost use Rattle.air_model.specs.Buckets.{IsBucket, IsInRange, entries_of, readi
 ghost use Rattle.bucket_codec.specs.Heads.{head_bytes, head_of};
 ghost use Rattle.bucket_codec.specs.BucketsToAir.{bucket_to_air};
 
+use crate::offsets::{COUNT, CYCLE, EDITION, ENTRY_BYTES, HEAD_BYTES, ITEM, KIND, SLOT, VALUE};
 use byteorder::{BigEndian, ByteOrder};
 
 /// A bucket to be aired: its place on the air, and what it carries.
@@ -126,36 +127,36 @@ fn put_eight(out: &mut [u8], at: usize, n: u64)
 
 /// Writes the head to the front.
 fn put_head(out: &mut [u8], head: &Head)
-    requires { 24 ≤ length out.old }
-    ensures { out.new ≡ head_bytes head.now ++ drop 24 out.old }
+    requires { HEAD_BYTES ≤ length out.old }
+    ensures { out.new ≡ head_bytes head.now ++ drop HEAD_BYTES out.old }
 {
     out[0] = 0x41;
     out[1] = 0x44;
     out[2] = 1;
-    out[3] = head.kind;
-    put_two(out, 4, head.edition);
-    put_two(out, 6, head.count);
-    put_four(out, 8, head.cycle);
-    put_two(out, 12, head.slot);
-    put_two(out, 14, head.item);
-    put_eight(out, 16, head.value);
+    out[KIND] = head.kind;
+    put_two(out, EDITION, head.edition);
+    put_two(out, COUNT, head.count);
+    put_four(out, CYCLE, head.cycle);
+    put_two(out, SLOT, head.slot);
+    put_two(out, ITEM, head.item);
+    put_eight(out, VALUE, head.value);
 }
 
 /// Writes the entries behind the head.
 fn put_entries(out: &mut [u8], entries: &[u32])
-    requires { 24 + 4 * length entries.now ≤ length out.old }
-    ensures { out.new ≡ take 24 out.old ++ (flat_map (big_bytes 4) entries.now ++ drop (24 + 4 * length entries.now) out.old) }
+    requires { HEAD_BYTES + ENTRY_BYTES * length entries.now ≤ length out.old }
+    ensures { out.new ≡ take HEAD_BYTES out.old ++ (flat_map (big_bytes 4) entries.now ++ drop (HEAD_BYTES + ENTRY_BYTES * length entries.now) out.old) }
 {
     for (i, entry) in entries.iter().enumerate() {
-        put_four(out, 24 + 4 * i, *entry);
+        put_four(out, HEAD_BYTES + ENTRY_BYTES * i, *entry);
     }
 }
 
-/// How many bytes a bucket has: 24, and four for each entry.
+/// How many bytes a bucket has: those of the head and of each entry.
 pub fn size_of(bucket: &Bucket<'_>) -> usize
     ensures { result ≡ length (spelling (bucket_to_air bucket.now)) }
 {
-    24 + 4 * entries(bucket).len()
+    HEAD_BYTES + ENTRY_BYTES * entries(bucket).len()
 }
 
 /// Writes a bucket's bytes to the front of `out` and answers how many there are.
@@ -169,5 +170,5 @@ pub fn encode(bucket: &Bucket<'_>, out: &mut [u8]) -> usize
     let entries = entries(bucket);
     put_head(out, &head_numbers(bucket));
     put_entries(out, entries);
-    24 + 4 * entries.len()
+    HEAD_BYTES + ENTRY_BYTES * entries.len()
 }

@@ -1,11 +1,12 @@
 //! Buckets and tapes as bytes, both ways.
 //!
 //! `encoding` writes the one spelling of a bucket, `view` reads a bucket out of a datagram or names its first fault,
-//! `tape` writes records and reads them back. The words of the contracts are those of `air_model`. No call takes
+//! `tape` writes records and reads them back; `offsets` says where each field stands. The words of the contracts are those of `air_model`. No call takes
 //! memory: entries and records are lent from the bytes that were given.
 #![tactic(auto)]
 
 pub mod encoding;
+pub mod offsets;
 pub mod tape;
 pub mod view;
 

@@ -9,6 +9,7 @@ ghost use Rattle.air_model.specs.Tapes.{ends_inside, record_bytes, tape_read, wi
 ghost use Rattle.bucket_codec.specs.Readers.{nothing_left, only_cut_at};
 
 use crate::encoding::put_four;
+use crate::offsets::LENGTH_BYTES;
 use byteorder::{BigEndian, ByteOrder};
 use std::error::Error;
 use std::fmt;
@@ -34,30 +35,30 @@ impl Error for TapeFault {}
 /// Writes the length and the bytes of a record to the front of `out` and answers how many there are.
 pub fn tape_record(bytes: &[u8], out: &mut [u8]) -> usize
     requires short { length bytes.now < 2 ^ 32 }
-    requires room { 4 + length bytes.now ≤ length out.old }
+    requires room { LENGTH_BYTES + length bytes.now ≤ length out.old }
     ensures len { result ≡ length (record_bytes bytes.now) }
     ensures bytes { out.new ≡ record_bytes bytes.now ++ drop result out.old }
 {
     put_four(out, 0, bytes.len() as u32);
-    out[4..4 + bytes.len()].copy_from_slice(bytes);
-    4 + bytes.len()
+    out[LENGTH_BYTES..LENGTH_BYTES + bytes.len()].copy_from_slice(bytes);
+    LENGTH_BYTES + bytes.len()
 }
 
 /// The first record of what is left of a tape, or none where the tape ends inside it.
 fn first_record<'a>(rest: &'a [u8]) -> Option<&'a [u8]>
     requires { 0 < length rest.now }
-    ensures first { MatchOption result (ends_inside rest.now ≡ true) (λ r. rest.now ≡ record_bytes r.now ++ drop (4 + length r.now) rest.now) }
-    ensures within { IfSome result (λ r. 4 + length r.now ≤ length rest.now) }
+    ensures first { MatchOption result (ends_inside rest.now ≡ true) (λ r. rest.now ≡ record_bytes r.now ++ drop (LENGTH_BYTES + length r.now) rest.now) }
+    ensures within { IfSome result (λ r. LENGTH_BYTES + length r.now ≤ length rest.now) }
     ensures short { IfSome result (λ r. length r.now < 2 ^ 32) }
 {
-    if rest.len() < 4 {
+    if rest.len() < LENGTH_BYTES {
         return None;
     }
     let len = BigEndian::read_u32(rest) as usize;
-    if rest.len() - 4 < len {
+    if rest.len() - LENGTH_BYTES < len {
         return None;
     }
-    Some(&rest[4..4 + len])
+    Some(&rest[LENGTH_BYTES..LENGTH_BYTES + len])
 }
 
 /// The records of a tape, one after the other, lent from its bytes.
@@ -99,7 +100,7 @@ impl<'a> TapeReader<'a> {
         match first_record(rest) {
             None => Err(TapeFault::Cut { at: self.at }),
             Some(record) => {
-                let len = 4 + record.len();
+                let len = LENGTH_BYTES + record.len();
                 self.rest = &rest[len..];
                 self.at += len as u64;
                 Ok(Some(record))

@@ -9,6 +9,8 @@ ghost use Rattle.byteorder.specs.Endian.{big_bytes};
 ghost use Rattle.air_model.specs.Buckets.{IsBucket, bucket_at, count_of, entries_at, entries_of, entry_count, fault_of, is_placed, is_shaped, item_of, kind_of, number_at, reading, value_of};
 ghost use Rattle.bucket_codec.specs.DatagramKinds.{IsNoBucket, kind_number};
 
+use crate::offsets::{COUNT, CYCLE, EDITION, ENTRY_BYTES, HEAD_BYTES, ITEM, KIND, SLOT, VALUE};
+use air_base::limits::MOST_ITEMS;
 use air_model::bucket::BucketFault;
 use byteorder::{BigEndian, ByteOrder};
 use std::marker::Model;
@@ -67,15 +69,15 @@ fn eight_at(bytes: &[u8], at: usize) -> u64
 
 /// The entry of an item.
 fn entry_at(bytes: &[u8], i: u16) -> u32
-    requires { 24 + 4 * i + 4 ≤ length bytes.now }
-    ensures { result ≡ number_at (24 + 4 * i) 4 bytes.now }
+    requires { HEAD_BYTES + ENTRY_BYTES * i + ENTRY_BYTES ≤ length bytes.now }
+    ensures { result ≡ number_at (HEAD_BYTES + ENTRY_BYTES * i) ENTRY_BYTES bytes.now }
 {
-    four_at(bytes, 24 + 4 * i as usize)
+    four_at(bytes, HEAD_BYTES + ENTRY_BYTES * i as usize)
 }
 
 /// Whether each of the first `n` entries is below the cycle. It looks at all of them, several at a time.
 fn entries_below(bytes: &[u8], n: u16, cycle: u32) -> bool
-    requires { 24 + 4 * n ≤ length bytes.now }
+    requires { HEAD_BYTES + ENTRY_BYTES * n ≤ length bytes.now }
     ensures { result ≡ list_all (λ e. nat_lt e cycle) (entries_at n bytes.now) }
 {
     let mut below = true;
@@ -99,9 +101,9 @@ fn has_place(kind: u8, item: u16, value: u64, count: u16) -> bool
 
 /// Whether count and cycle are in their limits.
 fn in_limits(count: u16, cycle: u32) -> bool
-    ensures { result ≡ (nat_le 1 count && nat_le count 256 && nat_le 1 cycle) }
+    ensures { result ≡ (nat_le 1 count && nat_le count MOST_ITEMS && nat_le 1 cycle) }
 {
-    count >= 1 && count <= 256 && cycle >= 1
+    count >= 1 && count as usize <= MOST_ITEMS && cycle >= 1
 }
 
 /// How many entries there are.
@@ -114,15 +116,15 @@ fn entries(kind: u8, count: u16) -> u16
 
 /// Whether each number is in its range.
 fn has_shape(bytes: &[u8], kind: u8, count: u16, n: u16) -> bool
-    requires long { 24 + 4 * n ≤ length bytes.now }
-    requires kind { kind ≡ slice_index bytes.now 3 }
-    requires count { count ≡ number_at 6 2 bytes.now }
+    requires long { HEAD_BYTES + ENTRY_BYTES * n ≤ length bytes.now }
+    requires kind { kind ≡ slice_index bytes.now KIND }
+    requires count { count ≡ number_at COUNT 2 bytes.now }
     requires entries { n ≡ entry_count kind count }
     ensures { result ≡ is_shaped bytes.now }
 {
-    let cycle = four_at(bytes, 8);
-    let item = two_at(bytes, 14);
-    let value = eight_at(bytes, 16);
+    let cycle = four_at(bytes, CYCLE);
+    let item = two_at(bytes, ITEM);
+    let value = eight_at(bytes, VALUE);
     in_limits(count, cycle) & has_place(kind, item, value, count) & entries_below(bytes, n, cycle)
 }
 
@@ -130,7 +132,7 @@ fn has_shape(bytes: &[u8], kind: u8, count: u16, n: u16) -> bool
 fn first_fault(bytes: &[u8]) -> Option<BucketFault>
     ensures { result ≡ fault_of bytes.now }
 {
-    if bytes.len() < 24 {
+    if bytes.len() < HEAD_BYTES {
         return Some(BucketFault::Short {
             at: bytes.len() as u32,
         });
@@ -141,13 +143,13 @@ fn first_fault(bytes: &[u8]) -> Option<BucketFault>
     if bytes[2] != 1 {
         return Some(BucketFault::Version);
     }
-    let kind = bytes[3];
+    let kind = bytes[KIND];
     if kind > 2 {
         return Some(BucketFault::Kind);
     }
-    let count = two_at(bytes, 6);
+    let count = two_at(bytes, COUNT);
     let n = entries(kind, count);
-    if bytes.len() != 24 + 4 * n as usize {
+    if bytes.len() != HEAD_BYTES + ENTRY_BYTES * n as usize {
         return Some(BucketFault::Length);
     }
     if !has_shape(bytes, kind, count, n) {
@@ -169,11 +171,11 @@ pub fn decode<'a>(bytes: &'a [u8]) -> Result<BucketView<'a>, BucketFault>
 
 /// The bytes of the entries of a bucket.
 fn entry_part<'a>(bytes: &'a [u8]) -> &'a [u8]
-    requires long { 24 ≤ length bytes.now }
+    requires long { HEAD_BYTES ≤ length bytes.now }
     requires whole { reading bytes.now ≡ Ok (bucket_at bytes.now) }
     ensures { result.now ≡ flat_map (big_bytes 4) (entries_of (bucket_at bytes.now).body) }
 {
-    &bytes[24..]
+    &bytes[HEAD_BYTES..]
 }
 
 impl<'a> BucketView<'a> {
@@ -181,35 +183,35 @@ impl<'a> BucketView<'a> {
     pub fn edition(&self) -> u16
         ensures { result ≡ self.now.edition }
     {
-        two_at(self.bytes, 4)
+        two_at(self.bytes, EDITION)
     }
 
     /// The number of items.
     pub fn count(&self) -> u16
         ensures { result ≡ count_of self.now.body }
     {
-        two_at(self.bytes, 6)
+        two_at(self.bytes, COUNT)
     }
 
     /// The cycle.
     pub fn cycle(&self) -> u32
         ensures { result ≡ self.now.cycle }
     {
-        four_at(self.bytes, 8)
+        four_at(self.bytes, CYCLE)
     }
 
     /// The slot.
     pub fn slot(&self) -> u16
         ensures { result ≡ self.now.slot }
     {
-        two_at(self.bytes, 12)
+        two_at(self.bytes, SLOT)
     }
 
     /// What the bucket carries.
     pub fn kind(&self) -> ViewKind
         ensures { kind_number result ≡ kind_of self.now.body }
     {
-        match self.bytes[3] {
+        match self.bytes[KIND] {
             0 => ViewKind::Idle,
             1 => ViewKind::Column,
             _ => ViewKind::Vector,
@@ -220,14 +222,14 @@ impl<'a> BucketView<'a> {
     pub fn item(&self) -> u16
         ensures { result ≡ item_of self.now.body }
     {
-        two_at(self.bytes, 14)
+        two_at(self.bytes, ITEM)
     }
 
     /// The value; 0 in an idle slot.
     pub fn value(&self) -> u64
         ensures { result ≡ value_of self.now.body }
     {
-        eight_at(self.bytes, 16)
+        eight_at(self.bytes, VALUE)
     }
 
     /// The entry of an item, where the slot isn't idle.

@@ -4,7 +4,7 @@
 //! the laid out slots, and all that is asked of an item from its home: each in one step.
 
 ghost use Rattle.std.specs.Prelude.{◌≡◌, ◌<◌, ◌≤◌, ◌*◌, All, length, slice_get, IfOk, IfErr, IfSome};
-ghost use Rattle.air_base.specs.declared.limits.TheConstants.{MOST_ITEMS};
+ghost use Rattle.air_base.specs.declared.limits.TheConstants.{MOST_ITEMS, MOST_RATE};
 ghost use Rattle.air_model.specs.Disks.{all_items};
 ghost use Rattle.air_model.specs.Decks.{disks_in};
 ghost use Rattle.air_model.specs.Programs.{chunk_len, minor_len, num_chunks, num_minors, program};
@@ -223,7 +223,7 @@ impl Program {
     /// The item's PIX number at a rate: the rate times the number of chunks of the item's disk.
     pub fn pix(&self, item: u16, rate: u32) -> u64
         requires item { item < length (all_items self.now) }
-        requires rate { rate ≤ 1000000 }
+        requires rate { rate ≤ MOST_RATE }
         ensures { result ≡ pix_number self.now item rate }
     {
         u64::from(rate) * u64::from(self.home(item).chunks)

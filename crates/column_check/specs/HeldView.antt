@@ -1,5 +1,6 @@
 -- The fields of held reads: sixteen places, of which the first ones hold reads.
 use Rattle.std.specs.Prelude.{◌≡◌, ◌<◌, ◌≤◌, length, map, take, All}
+use Rattle.column_check.specs.declared.held.TheConstants.{ROOM}
 use Rattle.column_check.specs.declared.held.Held.TheInside.{Inside}
 use Rattle.column_check.specs.HeardReads.{heard_of}
 use Rattle.air_history.specs.HeldReads.{HeldReads}
@@ -10,7 +11,7 @@ held_reads h = record { n = h.n; reads = map heard_of (take h.len h.places.items
 
 -- There are sixteen places, each has room for a column over n items, and each held item is one of the n.
 pub record KeepsRoom (h : Inside) : Type 0 where
-  pub places : length h.places.items ≡ 16
-  pub within : h.len ≤ 16
+  pub places : length h.places.items ≡ ROOM
+  pub within : h.len ≤ ROOM
   pub columns : All (λ r. length r.column.items ≡ h.n) h.places.items
   pub items : All (λ r. r.item < h.n) (take h.len h.places.items)

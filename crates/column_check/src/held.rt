@@ -18,12 +18,13 @@ ghost use Rattle.column_check.specs.HeldCycles.{cycles_of};
 
 use crate::cycles::{first_clash, lesser_of_two};
 use crate::reads::{HeldRead, least_clash};
+use air_base::limits::MOST_ASKED;
 use air_base::{Clash, NoMemory};
 use std::alloc::Global;
 use std::marker::Model;
 
-/// How many reads there is room for.
-pub const ROOM: usize = 16;
+/// How many reads there is room for: as many as a query has items.
+pub const ROOM: usize = MOST_ASKED;
 
 /// The held reads of an attempt, in order.
 #[derive(Debug, Drop)]

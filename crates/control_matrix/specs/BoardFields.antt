@@ -1,5 +1,6 @@
 -- What contracts see of the fields of a board, and what always holds of them.
 use Rattle.std.specs.Prelude.{◌≡◌, ◌*◌, ◌≤◌, length}
+use Rattle.air_base.specs.declared.limits.TheConstants.{MOST_VALUES}
 use Rattle.air_history.specs.Boards.{Board}
 use Rattle.control_matrix.specs.declared.board.Board.TheInside.{Inside}
 use Rattle.control_matrix.specs.Columns.{columns_in}
@@ -16,7 +17,7 @@ board_in b = record {
 -- There are 1 to 1,024 values, as many columns of as many entries, as many vector entries, and room for a column and marks.
 pub record IsBoard (b : Inside) : Type 0 where
   pub some : 1 ≤ length b.values.items
-  pub few : length b.values.items ≤ 1024
+  pub few : length b.values.items ≤ MOST_VALUES
   pub columns : length b.columns.items ≡ length b.values.items * length b.values.items
   pub vector : length b.vector.items ≡ length b.values.items
   pub spare : length b.spare.items ≡ length b.values.items

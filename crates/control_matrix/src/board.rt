@@ -5,6 +5,7 @@
 //! the definition's record.
 
 ghost use Rattle.std.specs.Prelude.{◌≡◌, ℕ, ◌+◌, ◌<◌, ◌≤◌, ◌^◌, List, [], ◌∷◌, ◌++◌, length, get_or, slice_index, replicate, IfOk};
+ghost use Rattle.air_base.specs.declared.limits.TheConstants.{MOST_VALUES};
 ghost use Rattle.air_history.specs.declared.histories.Event.{Event};
 ghost use Rattle.air_history.specs.Histories.{starts, ItemsFit};
 ghost use Rattle.air_history.specs.Columns.{column, vector};
@@ -47,7 +48,7 @@ impl Board {
     /// The board of the empty history: the given values, and all entries 0.
     pub fn new(alloc: Global, values: &[u64]) -> Result<Board, NoMemory>
         requires some { 1 ≤ length values.now }
-        requires few { length values.now ≤ 1024 }
+        requires few { length values.now ≤ MOST_VALUES }
         ensures empty { IfOk result (λ b. b ≡ board_of values.now []) }
         ensures zeros { IfOk result (λ b. b ≡ record {
           cycle = 0;
@@ -97,7 +98,7 @@ impl Board {
     pub fn n(&self) -> u16
         ensures counted { result ≡ length self.now.values }
         ensures some { 1 ≤ result }
-        ensures few { result ≤ 1024 }
+        ensures few { result ≤ MOST_VALUES }
     {
         self.values.len() as u16
     }

@@ -1,6 +1,6 @@
 -- Settings: which name and value a record may give one, and what all settings are where some were set.
 use Rattle.std.specs.Prelude.{ℕ, Bool, true, false, List, [], ◌∷◌, Option, Some, None, option_map, unwrap_or, codes, if◌then◌else◌}
-use Rattle.air_base.specs.declared.limits.TheConstants.{MOST_CYCLES, MOST_DELTA, MOST_HEARS, MOST_MONITORS, MOST_SHARE}
+use Rattle.air_base.specs.declared.limits.TheConstants.{DEFAULT_CYCLES, DEFAULT_HEARS, MOST_CYCLES, MOST_DELTA, MOST_HEARS, MOST_MONITORS, MOST_SHARE}
 use Rattle.air_base.specs.Numbers.{number_of}
 use Rattle.air_base.specs.declared.verdicts.Policy.{Policy}
 use Rattle.air_base.specs.declared.verdicts.Policy.TheVariants.{FMatrix, Datacycle, RMatrix}
@@ -26,13 +26,13 @@ range_of Hears = (1, MOST_HEARS)
 -- Its value where it isn't set.
 abbrev pub default_of : Name → ℕ
 default_of Delta = 0
-default_of Cycles = 10
+default_of Cycles = DEFAULT_CYCLES
 default_of Seed = 0
 default_of Loss = 0
 default_of Again = 0
 default_of Late = 0
 default_of Monitors = 0
-default_of Hears = 1000000
+default_of Hears = DEFAULT_HEARS
 
 -- The setting of this name that is a number, if there is one.
 abbrev pub name_of : List ℕ → Option Name

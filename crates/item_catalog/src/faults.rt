@@ -25,7 +25,7 @@ impl fmt::Display for DeckFault {
             4 => "an item or a reader isn't declared before it",
             5 => "an item stands twice in a list",
             6 => "the sizes of the disks don't add up to the number of items",
-            7 => "a limit is passed, or there is no item and no disk",
+            7 => "a limit is passed, or there is no item or no disk",
             8 => "a base isn't among the reads",
             9 => "its tag is unknown",
             10 => "its setting is unknown, was set before, or has no such value",

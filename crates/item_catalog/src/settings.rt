@@ -5,7 +5,9 @@ ghost use Rattle.std.specs.List.{list_any};
 ghost use Rattle.item_catalog.specs.DeckLimits.{SettingsWithin};
 ghost use Rattle.item_catalog.specs.Settings.{default_of, name_of, number_in, number_said, number_set, policy_in, policy_of, range_of, same_setting, setting_of, settings_in};
 
-use air_base::limits::{MOST_CYCLES, MOST_DELTA, MOST_HEARS, MOST_MONITORS, MOST_SHARE};
+use air_base::limits::{
+    DEFAULT_CYCLES, DEFAULT_HEARS, MOST_CYCLES, MOST_DELTA, MOST_HEARS, MOST_MONITORS, MOST_SHARE,
+};
 use air_base::{Policy, read_u64};
 use air_model::deck::Settings;
 
@@ -135,8 +137,8 @@ fn default_of(name: Name) -> u64
     ensures { result ≡ default_of name }
 {
     match name {
-        Name::Cycles => 10,
-        Name::Hears => 1_000_000,
+        Name::Cycles => DEFAULT_CYCLES,
+        Name::Hears => DEFAULT_HEARS,
         _ => 0,
     }
 }

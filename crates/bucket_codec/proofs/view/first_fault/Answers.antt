@@ -3,8 +3,8 @@ use Rattle.bucket_codec.proofs.FaultFacts.{fault_kind, fault_length, fault_magic
 use Rattle.bucket_codec.proofs.view.first_fault.Goals as goal
 use Rattle.bucket_codec.proofs.view.first_fault.Goals.{then-bytes-ne65-via-then-bytes-ne65, then-bytes-ne65-via-else-bytes-ne65+then-bytes-ne68}
 
-pub returns-then-bytes-lt24 : goal.returns-then-bytes-lt24
-returns-then-bytes-lt24 c = sym (fault_short c.args.bytes.now (omega arith))
+pub returns-then-bytes-lt-HEAD_BYTES : goal.returns-then-bytes-lt-HEAD_BYTES
+returns-then-bytes-lt-HEAD_BYTES c = sym (fault_short c.args.bytes.now (omega arith))
 
 pub returns-then-bytes-ne65 : goal.returns-then-bytes-ne65
 returns-then-bytes-ne65 c =
