@@ -104,7 +104,7 @@ pub fn tape_bytes(program: &Program, n: u16, cycles: u32) -> u64
 fn cycle_len(program: &Program, n: u16) -> u64
     requires { n ≤ MOST_ITEMS }
     ensures len { result ≡ cycle_size n (slots_of program.now) }
-    ensures few { result ≤ 1052 * MOST_SLOTS }
+    ensures few { result ≤ (LENGTH_BYTES + HEAD_BYTES + ENTRY_BYTES * MOST_ITEMS) * MOST_SLOTS }
 {
     let mut len = 0;
     for slot in 0..program.slots() {
