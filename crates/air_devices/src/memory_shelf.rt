@@ -219,9 +219,7 @@ fn unpicked_files(alloc: Global, files: Vec<(String, Vec<u8>)>) -> Result<Vec<Me
     let mut shelved = Vec::new(alloc);
     for (name, bytes) in files {
         let at = bytes.len();
-        if shelved.push(MemFile { name, bytes, at }).is_err() {
-            return Err(NoMemory);
-        }
+        shelved.push(MemFile { name, bytes, at })?;
     }
     Ok(shelved)
 }
@@ -233,9 +231,7 @@ fn empty_outputs(alloc: Global, names: Vec<String>, room: usize) -> Result<Vec<M
     let mut outputs = Vec::new(alloc);
     for name in names {
         let written = FixedBytes::new(alloc, room)?;
-        if outputs.push(MemOutput { name, written }).is_err() {
-            return Err(NoMemory);
-        }
+        outputs.push(MemOutput { name, written })?;
     }
     Ok(outputs)
 }

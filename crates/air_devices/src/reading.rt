@@ -11,7 +11,7 @@ ghost use Rattle.air_devices.specs.Told.{ToldIs};
 ghost use Rattle.air_devices.specs.Reading.{IsTooLarge};
 
 use crate::shelves::Shelf;
-use std::alloc::Global;
+use std::alloc::{AllocError, Global};
 use std::error::Error;
 use std::fmt;
 
@@ -37,6 +37,17 @@ impl fmt::Display for ReadFileError {
 }
 
 impl Error for ReadFileError {}
+
+impl From<AllocError> for ReadFileError {
+    ghost use Rattle.std.specs.Prelude.{◌≡◌};
+    ghost use Rattle.air_devices.specs.declared.reading.ReadFileError.TheVariants.{NoMemory};
+
+    ghost from_gives = { λ _ e. e ≡ NoMemory };
+
+    fn from(_error: AllocError) -> Self {
+        ReadFileError::NoMemory
+    }
+}
 
 /// How many bytes one read asks for at most.
 const BLOCK: usize = 16_384;
@@ -71,9 +82,7 @@ pub fn read_file<S: Shelf>(
         if count == 0 {
             return Ok(bytes);
         }
-        if bytes.extend_from_slice(&part[..count]).is_err() {
-            return Err(ReadFileError::NoMemory);
-        }
+        bytes.extend_from_slice(&part[..count])?;
     }
     Err(ReadFileError::TooLarge)
 }

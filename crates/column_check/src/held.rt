@@ -56,10 +56,7 @@ impl Held {
         let cycles = vec![in alloc; u32::MAX; n as usize]?;
         let mut places = Vec::new(alloc);
         for _ in 0..ROOM {
-            let place = HeldRead::blank(alloc, n)?;
-            let Ok(()) = places.push(place) else {
-                return Err(NoMemory);
-            };
+            places.push(HeldRead::blank(alloc, n)?)?;
         }
         Ok(Held {
             n,
