@@ -10,7 +10,7 @@ ghost use Rattle.air_history.specs.UpdateRules.{has_repeat, item_of, base_is_rea
 use air_base::NoMemory;
 use air_base::limits::{MOST_READS, MOST_WRITES};
 use arrayvec::ArrayVec;
-use std::alloc::Global;
+use std::alloc::{AllocError, Global};
 use std::error::Error;
 use std::fmt;
 use std::marker::Model;
@@ -50,6 +50,17 @@ impl fmt::Display for UpdateFault {
 
 impl Error for UpdateFault {}
 
+impl From<AllocError> for UpdateFault {
+    ghost use Rattle.std.specs.Prelude.{◌≡◌};
+    ghost use Rattle.air_history.specs.declared.updates.UpdateFault.TheVariants.{NoMemory};
+
+    ghost from_gives = { λ _ e. e ≡ NoMemory };
+
+    fn from(_error: AllocError) -> Self {
+        UpdateFault::NoMemory
+    }
+}
+
 /// An update: the items that it reads, and its writes.
 #[derive(Debug, Drop)]
 pub struct Update {
@@ -86,12 +97,9 @@ impl Update {
         if !all_based(reads, writes) {
             return Err(UpdateFault::BaseNotRead);
         }
-        let Ok(writes) = writes.to_vec(alloc) else {
-            return Err(UpdateFault::NoMemory);
-        };
         Ok(Update {
             reads: inline(reads),
-            writes,
+            writes: writes.to_vec(alloc)?,
         })
     }
 
