@@ -95,15 +95,29 @@ fn a_tape_is_heard_exactly_where_its_last_record_is_whole(rt: HostRuntime) {
 fn first_other_place<R: Threads + Sync>(
     rt: &R,
     alloc: Global,
+    places: &[usize],
+    status: Status,
+    printed: Parts<'_>,
+) -> Option<(usize, Other)> {
+    for place in places {
+        let tape = [Part::Flipped(*place, TAPE)];
+        let case = tuned(&tape, status, printed);
+        if let Some(other) = difference(rt, alloc, &case) {
+            return Some((*place, other));
+        }
+    }
+    None
+}
+
+/// The same over these lists of places, each with what its changes leave.
+fn first_other_change<R: Threads + Sync>(
+    rt: &R,
+    alloc: Global,
     changes: &[(&[usize], Status, Parts<'_>)],
 ) -> Option<(usize, Other)> {
     for (places, status, printed) in changes {
-        for place in *places {
-            let tape = [Part::Flipped(*place, TAPE)];
-            let case = tuned(&tape, *status, printed);
-            if let Some(other) = difference(rt, alloc, &case) {
-                return Some((*place, other));
-            }
+        if let Some(other) = first_other_place(rt, alloc, places, *status, printed) {
+            return Some(other);
         }
     }
     None
@@ -118,7 +132,7 @@ fn a_changed_byte_of_length_or_head_cuts_refuses_or_makes_foreign(rt: HostRuntim
         (&[28, 29, 30, 31, 32, 33, 34, 35], Status::Ok, FIRST_REFUSED),
         (&[8, 9, 16, 17], Status::Ok, FIRST_FOREIGN),
     ];
-    assert_eq!(rt; first_other_place(&rt, rt.alloc(), &changes), None);
+    assert_eq!(rt; first_other_change(&rt, rt.alloc(), &changes), None);
 }
 
 /// What stands before and behind the first read of the first tape's report.

@@ -5,8 +5,9 @@
 use crate::shelves::{Call, first_other};
 use air_devices::{Failed, FileShelf, Shelf};
 use std::alloc::{AllocError, Global};
-use std::fs;
+use std::rt::Files;
 use std::test::Fail;
+use std::{fs, io};
 
 /// The name `l.deck` behind so many `./`.
 fn name_behind(alloc: Global, times: usize) -> Result<String, AllocError> {
@@ -51,6 +52,22 @@ const FILES: [&str; 17] = [
     "room.j", "room.k", "room.l", "room.m", "room.n", "room.o", "room.p", "room.q",
 ];
 
+/// Makes the seventeen files.
+fn make_files<R: Files>(rt: &R) -> io::Result<()> {
+    for name in FILES {
+        fs::write(rt, name, b"item")?;
+    }
+    Ok(())
+}
+
+/// Removes the seventeen files.
+fn remove_files<R: Files>(rt: &R) -> io::Result<()> {
+    for name in FILES {
+        fs::remove_file(rt, name)?;
+    }
+    Ok(())
+}
+
 /// The place of the first file that the shelf doesn't pick.
 fn first_refused<S: Shelf>(shelf: &mut S) -> Option<usize> {
     for (place, name) in FILES.iter().enumerate() {
@@ -63,9 +80,7 @@ fn first_refused<S: Shelf>(shelf: &mut S) -> Option<usize> {
 
 #[test]
 fn sixteen_files_are_picked_and_a_seventeenth_fails(rt: HostRuntime) -> Result<(), Fail> {
-    for name in FILES {
-        fs::write(&rt, name, b"item")?;
-    }
+    make_files(&rt)?;
     let mut shelf = FileShelf::new(rt.clone()?);
     let refused = first_refused(&mut shelf);
     let calls = [
@@ -77,9 +92,7 @@ fn sixteen_files_are_picked_and_a_seventeenth_fails(rt: HostRuntime) -> Result<(
         Call::Create("room.q", Ok(())),
     ];
     let other = first_other(rt.alloc(), &mut shelf, &calls);
-    for name in FILES {
-        fs::remove_file(&rt, name)?;
-    }
+    remove_files(&rt)?;
     assert_eq!(rt; (refused, other), (Some(16), None));
     Ok(())
 }
