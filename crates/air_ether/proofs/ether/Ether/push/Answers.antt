@@ -1,0 +1,65 @@
+use Rattle.std.proofs.Common.{arith, sym, ap, subst, ◌∙◌, ◌≡◌, ◌+◌, ◌*◌, ◌%◌, ◌≤◌, ◌<◌, List, [], ◌∷◌, ◌++◌, false, length, map}
+use Rattle.std.proofs.Math.ListN.{set}
+use Rattle.std.proofs.Math.Nat.{mod-lt}
+use Rattle.std.proofs.lemmas.List.{length-map, map-set}
+use Rattle.std.proofs.lemmas.List.Elements.{All-set}
+use Rattle.std.proofs.Common.{length-set}
+use Rattle.rand_pcg.specs.Pcg.{pcg32}
+use Rattle.air_model.specs.Draws.{generator}
+use Rattle.air_ether.specs.HeardSoFar.{Ether, Follows, limit_of}
+use Rattle.air_ether.specs.KeptPushes.{Push, push_of}
+use Rattle.air_ether.specs.PushWords.{left_by}
+use Rattle.air_ether.specs.EtherView.{ether_of}
+use Rattle.air_ether.proofs.EtherLemmas.{followed, one_more, open_after, open_window, pushed_window}
+use Rattle.air_ether.proofs.WordLemmas.{due_drawn, left_from, times_drawn}
+use Rattle.air_ether.proofs.ether.Ether.push.Goals as goal
+
+pub fill-requires : goal.fill-requires
+fill-requires c =
+    let small : c.self.inside.pushes % 9 < 9 = mod-lt c.self.inside.pushes (omega arith) in
+    let room = c.index_mut-room.result.now in
+    let size = c.self.invariant.sized (c.self.inside.pushes % 9) room (omega (arith, c.self.invariant.nine)) in
+    let same = ap (λ w. length w.room.items) c.index_mut-room.ensures.value in
+    let most = ap (λ s. s.most) c.self.view_is in
+    omega (arith, c.requires.room)
+
+pub invariant_of-self : goal.invariant_of-self
+invariant_of-self c =
+    let n = c.self.inside.pushes in
+    let items = c.self.inside.rooms.items in
+    let small : n % 9 < 9 = mod-lt n (omega arith) in
+    let room = c.index_mut-room.result.now in
+    let size = c.self.invariant.sized (n % 9) room (omega (arith, c.self.invariant.nine)) in
+    let same = ap (λ w. length w.room.items) c.index_mut-room.ensures.value in
+    let most = ap (λ s. s.most) c.self.view_is in
+    let quiet : c.self.inside.cursor.number ≡ limit_of c.self.inside.ended n = subst (λ (s : Ether). s.cursor.number ≡ limit_of s.ended s.pushes) (sym c.self.view_is) c.requires.quiet in
+    let opened : c.self.inside.ended ≡ false = ap (λ s. s.ended) c.self.view_is ∙ c.requires.open in
+    let pushes = ap (λ s. s.pushes) c.self.view_is in
+    record {
+      nine = length-set items (n % 9) c.fill.new.self ∙ c.self.invariant.nine;
+      sized = All-set (λ w. length w.room.items ≡ c.self.inside.most) items (n % 9) c.fill.new.self (c.fill.ensures.room ∙ same ∙ size) c.self.invariant.sized;
+      short = All-set (λ w. w.len ≤ c.self.inside.most) items (n % 9) c.fill.new.self (omega (arith, c.fill.ensures.len, c.requires.room)) c.self.invariant.short;
+      twice = All-set (λ w. w.times ≤ 2) items (n % 9) c.fill.new.self (let t = ap (λ w. w.times) c.fill.ensures.value in omega (arith, c.draw-hearing.ensures.few)) c.self.invariant.twice;
+      few = omega (arith, c.requires.few);
+      within = open_after (n + 1) c.self.inside.ended _ c.self.inside.cursor opened
+          (pushed_window n (map push_of items) _ c.self.inside.cursor (open_window n c.self.inside.ended (map push_of items) c.self.inside.cursor opened c.self.invariant.within)
+          (subst (λ b. c.self.inside.cursor.number ≡ limit_of b n) opened quiet));
+    }
+
+pub returns-clause-follows : goal.returns-clause-follows
+returns-clause-follows c = λ seed number given pushed given_that.
+    let e : Ether = ether_of c.self.inside in
+    let n = e.pushes in
+    let f : Follows seed number pushed given e = subst (Follows seed number pushed given) (sym c.self.view_is) given_that in
+    let start : e.generator ≡ left_by pcg32 (3 * n) (generator seed number) = f.drawn ∙ ap (λ k. left_by pcg32 (3 * k) (generator seed number)) (sym f.pushes) in
+    let due = c.draw-hearing.ensures.due ∙ due_drawn e.odds seed number n _ (ap (λ g. (pcg32 g).0) (left_from e.generator seed number n 2 start)) in
+    let times = c.draw-hearing.ensures.times ∙ times_drawn e.odds seed number n _ _
+    (ap (λ g. (pcg32 g).0) (left_from e.generator seed number n 0 start)) (ap (λ g. (pcg32 g).0) (left_from e.generator seed number n 1 start)) in
+    let rooms = map-set push_of c.self.inside.rooms.items (n % 9) c.fill.new.self ∙ ap (set e.rooms (n % 9)) c.fill.ensures.value in
+    let upto : c.self.inside.cursor.number ≤ n =
+    (let quiet : c.self.inside.cursor.number ≡ limit_of c.self.inside.ended n = subst (λ (s : Ether). s.cursor.number ≡ limit_of s.ended s.pushes) (sym c.self.view_is) c.requires.quiet in
+    let opened : c.self.inside.ended ≡ false = ap (λ s. s.ended) c.self.view_is ∙ c.requires.open in
+    let at : c.self.inside.cursor.number ≡ n = subst (λ b. c.self.inside.cursor.number ≡ limit_of b n) opened quiet in omega arith) in
+    subst (λ (r : List Push). Follows seed number (pushed ++ c.args.bytes.now ∷ []) given (record (one_more seed number given pushed c.args.bytes.now e c.draw-hearing.result.due c.draw-hearing.result.times c.draw-hearing.new.generator) { rooms = r })) (sym rooms)
+    (followed seed number given pushed c.args.bytes.now e c.draw-hearing.result.due c.draw-hearing.result.times c.draw-hearing.new.generator
+    f (length-map c.self.inside.rooms.items push_of ∙ c.self.invariant.nine) upto due times c.draw-hearing.ensures.after)

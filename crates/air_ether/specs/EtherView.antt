@@ -1,0 +1,33 @@
+-- The fields of an ether.
+use Rattle.std.specs.Prelude.{◌≡◌, ◌≤◌, ◌-◌, ◌^◌, length, map, All}
+use Rattle.air_model.specs.Ethers as model
+use Rattle.air_ether.specs.declared.odds.Odds.{Odds}
+use Rattle.air_ether.specs.declared.ether.Ether.TheInside.{Inside}
+use Rattle.air_ether.specs.HeardPositions.{InWindow}
+use Rattle.air_ether.specs.HeardSoFar.{Ether, limit_of}
+use Rattle.air_ether.specs.KeptPushes.{push_of}
+
+-- The odds as the model has them.
+abbrev pub odds_of : Odds → model.Odds
+odds_of o = record { loss = o.loss; again = o.again; late = o.late }
+
+-- What the fields tell.
+abbrev pub ether_of : Inside → Ether
+ether_of e = record {
+  odds = odds_of e.odds;
+  most = e.most;
+  generator = e.generator;
+  pushes = e.pushes;
+  ended = e.ended;
+  cursor = e.cursor;
+  rooms = map push_of e.rooms.items;
+}
+
+-- There are nine rooms, each for the longest bucket, and the cursor is in the window.
+pub record IsEther (e : Inside) : Type 0 where
+  pub nine : length e.rooms.items ≡ 9
+  pub sized : All (λ w. length w.room.items ≡ e.most) e.rooms.items
+  pub short : All (λ w. w.len ≤ e.most) e.rooms.items
+  pub twice : All (λ w. w.times ≤ 2) e.rooms.items
+  pub few : e.pushes ≤ 2 ^ 64 - 16
+  pub within : InWindow e.pushes (limit_of e.ended e.pushes) (map push_of e.rooms.items) e.cursor

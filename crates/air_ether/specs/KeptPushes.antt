@@ -1,0 +1,32 @@
+-- What an ether keeps of its last nine pushes: each has the room of its place modulo nine.
+use Rattle.std.specs.Prelude.{◌≡◌, ℕ, ◌+◌, ◌%◌, ◌<◌, ◌≤◌, ◌==◌, if◌then◌else◌, List, [], take, get_or}
+use Rattle.air_ether.specs.declared.waiting.Waiting.{Waiting}
+
+-- What is kept of a push: its due number, how often it is heard, and its bytes.
+pub record Push : Type 0 where
+  pub due : ℕ
+  pub times : ℕ
+  pub bytes : List ℕ
+
+-- What is kept where nothing was pushed.
+abbrev pub nothing : Push
+nothing = record { due = 0; times = 0; bytes = [] }
+
+-- What a room holds.
+abbrev pub push_of : Waiting → Push
+push_of w = record { due = w.due; times = w.times; bytes = take w.len w.room.items }
+
+-- How often a push is heard at a due number.
+abbrev pub copies_of : Push → ℕ → ℕ
+copies_of push number = if push.due == number then push.times else 0
+
+-- What is kept of the push at a place.
+abbrev pub push_in : List Push → ℕ → Push
+push_in rooms place = get_or rooms (place % 9) nothing
+
+-- The due number and the number of copies of each push are told by these, and the rooms have those of the last nine.
+pub record Waits (due times : ℕ → ℕ) (pushes : ℕ) (rooms : List Push) : Type 0 where
+  pub low : (p : ℕ) → p ≤ due p
+  pub high : (p : ℕ) → due p < p + 9
+  pub due_kept : (p : ℕ) → p < pushes → pushes ≤ p + 9 → (push_in rooms p).due ≡ due p
+  pub times_kept : (p : ℕ) → p < pushes → pushes ≤ p + 9 → (push_in rooms p).times ≡ times p

@@ -1,0 +1,6 @@
+pub mod PushWords
+pub mod KeptPushes
+pub mod HeardPositions
+pub mod HeardSoFar
+pub mod EtherView
+pub mod LentBuckets

@@ -1,0 +1,45 @@
+//! The place in the heard list: due number by due number, at each the places in order, at each its copies.
+
+ghost use Rattle.std.specs.Prelude.{◌≡◌, ◌≤◌, ◌<◌, ◌+◌, ◌-◌, ◌%◌, ◌^◌, ◌↔◌, ℕ, length, map, true, false, IsTrue, get_or};
+ghost use Rattle.air_ether.specs.HeardPositions.{InWindow, copies_at, left_at, position};
+ghost use Rattle.air_ether.specs.KeptPushes.{Waits, push_of};
+
+use crate::waiting::{KEPT, Waiting};
+
+/// What is given next: copy `copy` of the push at `place`, if that is due at `number`.
+#[derive(Clone, Copy, Debug, Drop)]
+pub struct Cursor {
+    pub number: u64,
+    pub place: u64,
+    pub copy: u32,
+}
+
+/// Moves the cursor to the next copy with a due number below `limit`, or to the limit where there is none. At most nine
+/// places are looked at for each number.
+pub fn seek(cursor: &mut Cursor, rooms: &[Waiting], pushes: u64, limit: u64) -> bool
+    requires nine { length rooms.now ≡ 9 }
+    requires fits { pushes ≤ 2 ^ 64 - 16 }
+    requires far { limit ≤ pushes + 8 }
+    requires within { InWindow pushes limit (map push_of rooms.now) cursor.old }
+    ensures within { InWindow pushes limit (map push_of rooms.now) cursor.new }
+    ensures found { IsTrue result → (cursor.new.number < limit) × (cursor.new.place < pushes) × (cursor.new.copy < copies_at (map push_of rooms.now) cursor.new) }
+    ensures none { result ≡ false → cursor.new.number ≡ limit }
+    ensures fewer { left_at limit cursor.new ≤ left_at limit cursor.old }
+    ensures same { (due times : ℕ → ℕ) → Waits due times pushes (map push_of rooms.now) →
+        position due times pushes cursor.new ≡ position due times pushes cursor.old }
+{
+    while cursor.number < limit {
+        if cursor.place < pushes && cursor.place <= cursor.number {
+            let waiting = &rooms[(cursor.place % KEPT) as usize];
+            if cursor.copy < waiting.copies(cursor.number) {
+                return true;
+            }
+            cursor.place += 1;
+        } else {
+            cursor.number += 1;
+            cursor.place = cursor.number.saturating_sub(8);
+        }
+        cursor.copy = 0;
+    }
+    false
+}

@@ -1,0 +1,144 @@
+//! The ether itself: its contracts say which pushed list it follows, and how many members of what is heard of it were given.
+//!
+//! `due_of` is what is due of a pushed list, after the end all that is heard of it. `next` gives its members one by one.
+
+ghost use Rattle.std.specs.Prelude.{◌≡◌, ℕ, ◌+◌, ◌-◌, ◌<◌, ◌≤◌, ◌^◌, List, [], ◌∷◌, ◌++◌, true, false, length, IfOk, Some, Contains, IfSome, MatchOption, slice_get};
+ghost use Rattle.air_base.specs.declared.limits.TheConstants.{MOST_SHARE};
+ghost use Rattle.air_ether.specs.HeardSoFar.{Follows, IsQuiet, due_of, limit_of};
+ghost use Rattle.air_ether.specs.declared.ether.TheConstants.{MOST_BYTES, MOST_PUSHES};
+
+use crate::cursor::{Cursor, seek};
+use crate::odds::Odds;
+use crate::waiting::{KEPT, Waiting, rooms};
+use air_base::NoMemory;
+use rand_pcg::Lcg64Xsh32;
+use std::alloc::Global;
+use std::marker::Model;
+
+/// The most bytes of a bucket: those of the longest datagram.
+pub const MOST_BYTES: usize = 65_507;
+
+/// The most pushes: no due number goes over 64 bits.
+pub const MOST_PUSHES: u64 = 18_446_744_073_709_551_600;
+
+/// Due numbers below this are due: after the end, all of them.
+fn limit_of(ended: bool, pushes: u64) -> u64
+    requires { pushes ≤ 2 ^ 64 - 16 }
+    ensures { result ≡ limit_of ended pushes }
+{
+    if ended { pushes + 8 } else { pushes }
+}
+
+/// The ether of one reader: its odds, the most bytes of a bucket, its words, how many buckets were pushed, whether the end was
+/// told, where it stands in the heard list, and the last nine pushes.
+#[derive(Drop)]
+pub struct Ether {
+    odds: Odds,
+    most: usize,
+    generator: Lcg64Xsh32,
+    pushes: u64,
+    ended: bool,
+    cursor: Cursor,
+    rooms: Vec<Waiting>,
+}
+
+impl Model for Ether {
+    ghost use Rattle.air_ether.specs.HeardSoFar.{Ether};
+
+    ghost Value = { Ether };
+
+    ghost use Rattle.air_ether.specs.EtherView.{IsEther, ether_of};
+
+    ghost view = { ether_of };
+
+    ghost invariant = { IsEther };
+}
+
+impl Ether {
+    ghost use Rattle.std.specs.Borrow.{sem};
+    ghost use Rattle.air_ether.specs.LentBuckets.{Gives};
+
+    /// The ether of a seed and a reader's number, before any push, with room for buckets of at most `most` bytes.
+    pub fn new(
+        alloc: Global,
+        seed: u64,
+        number: u32,
+        loss: u32,
+        again: u32,
+        late: u32,
+        most: usize,
+    ) -> Result<Ether, NoMemory>
+        requires loss { loss ≤ MOST_SHARE }
+        requires again { again ≤ MOST_SHARE }
+        requires late { late ≤ MOST_SHARE }
+        requires most { most ≤ MOST_BYTES }
+        ensures room { IfOk result (λ e. e.most ≡ most) }
+        ensures odds { IfOk result (λ e. e.odds ≡ record { loss = loss; again = again; late = late }) }
+        ensures open { IfOk result (λ e. (e.ended ≡ false) × (e.pushes ≡ 0) × IsQuiet e) }
+        ensures follows { IfOk result (λ e. Follows seed number [] 0 e) }
+    {
+        Ok(Ether {
+            odds: Odds { loss, again, late },
+            most,
+            generator: Lcg64Xsh32::new(seed, u64::from(number)),
+            pushes: 0,
+            ended: false,
+            cursor: Cursor {
+                number: 0,
+                place: 0,
+                copy: 0,
+            },
+            rooms: rooms(alloc, most)?,
+        })
+    }
+
+    /// Pushes a bucket. It takes constant time.
+    pub fn push(&mut self, bytes: &[u8])
+        requires room { length bytes.now ≤ self.old.most }
+        requires quiet { IsQuiet self.old }
+        requires open { self.old.ended ≡ false }
+        requires few { self.old.pushes < MOST_PUSHES }
+        ensures room { self.new.most ≡ self.old.most }
+        ensures odds { self.new.odds ≡ self.old.odds }
+        ensures open { self.new.ended ≡ false }
+        ensures pushes { self.new.pushes ≡ self.old.pushes + 1 }
+        ensures follows { (seed number given : ℕ) (pushed : List (List ℕ)) → Follows seed number pushed given self.old →
+            Follows seed number (pushed ++ bytes.now ∷ []) given self.new }
+    {
+        let hearing = self.odds.draw(&mut self.generator, self.pushes);
+        let room = &mut self.rooms[(self.pushes % KEPT) as usize];
+        room.fill(hearing, bytes);
+        self.pushes += 1;
+    }
+
+    /// The next heard bucket, or none where no further one is due.
+    pub fn next(&mut self) -> Option<&[u8]>
+        ensures pushed { (seed number given : ℕ) (pushed : List (List ℕ)) → Follows seed number pushed given self.old →
+            IfSome result (λ b. Contains pushed b.now) }
+        ensures given { (seed number given : ℕ) (pushed : List (List ℕ)) → Follows seed number pushed given self.old →
+            MatchOption result (given ≡ length (due_of seed number self.old.odds pushed self.old.ended))
+            (λ b. slice_get (due_of seed number self.old.odds pushed self.old.ended) given ≡ Some b.now) }
+        ensures* after { sem 𝓛 (Gives self.entry result) }
+    {
+        let limit = limit_of(self.ended, self.pushes);
+        if !seek(&mut self.cursor, &self.rooms, self.pushes, limit) {
+            return None;
+        }
+        self.cursor.copy += 1;
+        let room = (self.cursor.place % KEPT) as usize;
+        Some(self.rooms[room].bytes())
+    }
+
+    /// Makes all the rest due.
+    pub fn end(&mut self)
+        requires { IsQuiet self.old }
+        ensures room { self.new.most ≡ self.old.most }
+        ensures odds { self.new.odds ≡ self.old.odds }
+        ensures ended { self.new.ended ≡ true }
+        ensures pushes { self.new.pushes ≡ self.old.pushes }
+        ensures follows { (seed number given : ℕ) (pushed : List (List ℕ)) → Follows seed number pushed given self.old →
+            Follows seed number pushed given self.new }
+    {
+        self.ended = true;
+    }
+}
