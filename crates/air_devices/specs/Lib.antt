@@ -10,5 +10,5 @@ pub mod Written
 pub mod Masts
 pub mod Recordings
 pub mod MemoryMasts
-pub mod ReadFiles
 pub mod FileFailures
+pub mod Steps

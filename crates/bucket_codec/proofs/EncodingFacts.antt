@@ -6,7 +6,7 @@ use Rattle.std.proofs.lemmas.List.{take_at}
 use Rattle.byteorder.specs.Endian.{big_bytes}
 use Rattle.air_model.specs.Buckets.{Bucket, IsInRange, entries_of, reading, spelling}
 use Rattle.air_model.proofs.BucketFacts.{ok_from_whole, whole_from_bucket}
-use Rattle.bucket_codec.specs.Heads.{head_bytes, head_of}
+use Rattle.bucket_codec.specs.Steps.Heads.{head_bytes, head_of}
 use Rattle.bucket_codec.proofs.WriteFacts.{length_numbers, put_next}
 
 spelling_is : (b : Bucket) → head_bytes (head_of b) ++ flat_map (big_bytes 4) (entries_of b.body) ≡ spelling b

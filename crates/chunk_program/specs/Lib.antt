@@ -1,8 +1,8 @@
 pub mod Places
 pub mod PlaceTables
 pub mod ProgramView
-pub mod Ranks
 pub mod CutConditions
 pub mod CutView
 pub mod Homes
 pub mod Plans
+pub mod Steps

@@ -4,7 +4,7 @@
 
 ghost use Rattle.std.specs.Prelude.{◌≡◌, ◌≤◌, IfOk, length};
 ghost use Rattle.air_model.specs.Disks.{order};
-ghost use Rattle.chunk_program.specs.Ranks.{ranks};
+ghost use Rattle.chunk_program.specs.Steps.Ranks.{ranks};
 
 use std::alloc::{AllocError, Global};
 use std::cmp::Reverse;

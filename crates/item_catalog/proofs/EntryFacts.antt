@@ -18,7 +18,7 @@ use Rattle.item_catalog.specs.declared.kinds.FaultKind.{FaultKind}
 use Rattle.item_catalog.specs.declared.kinds.FaultKind.TheVariants as fault
 use Rattle.item_catalog.specs.Faults.{first_of, script_passes, update_tests}
 use Rattle.update_texts.specs.ListTests.{is_unread, option_any, reaches, write_reaches}
-use Rattle.item_catalog.specs.ScriptView.{EventsRead}
+use Rattle.item_catalog.specs.Steps.ScriptView.{EventsRead}
 use Rattle.update_texts.specs.KeptLists.{ReadIs}
 use Rattle.air_base.proofs.NumberFronts.{spelled_fits}
 

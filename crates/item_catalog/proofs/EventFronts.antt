@@ -8,7 +8,7 @@ use Rattle.air_base.specs.Numbers.{number_of}
 use Rattle.air_base.specs.Fronts.{front, is_no_space, first_part, after_part, ends_part}
 use Rattle.air_base.proofs.NumberFronts.{ended, goes_on}
 use Rattle.item_catalog.specs.Fields.{◌is◌, event_of}
-use Rattle.item_catalog.specs.ScriptView.{begins_start}
+use Rattle.item_catalog.specs.Steps.ScriptView.{begins_start}
 
 -- The first part is `s`, or isn't.
 pub start_part : (text : List ℕ) → begins_start text ≡ true → first_part text ≡ 115 ∷ []

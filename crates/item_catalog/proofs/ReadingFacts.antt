@@ -7,7 +7,7 @@ use Rattle.csv.specs.declared.parser.State.{State}
 use Rattle.csv.specs.declared.parser.State.TheVariants as st
 use Rattle.air_model.specs.Decks.{Deck}
 use Rattle.item_catalog.specs.Drafts.{DraftValue, deck_from, draft_of, judged}
-use Rattle.item_catalog.specs.ReadEnds.{CanEnd, EndsBy}
+use Rattle.item_catalog.specs.Steps.ReadEnds.{CanEnd, EndsBy}
 use Rattle.item_catalog.specs.DeckEntries.{entry_of}
 use Rattle.item_catalog.specs.Faults.{end_tests, entries_in, first_of}
 use Rattle.item_catalog.specs.Grammar.{Faultless, HasFault, IsAnswer, IsFirstFault, RowsSpell, Spells}

@@ -9,7 +9,7 @@ use Rattle.air_history.specs.UpdateRules.{has_repeat, item_of}
 use Rattle.item_catalog.specs.Faults.{first_of, query_tests, update_tests}
 use Rattle.update_texts.specs.ListTests.{is_unread, reaches, write_reaches}
 use Rattle.update_texts.specs.KeptLists.{ItemsSeen, WritesSeen, among, items_seen, no_writes, see_write, writes_seen}
-use Rattle.item_catalog.specs.ListKinds.{seen_query_kind, seen_update_kind}
+use Rattle.item_catalog.specs.Steps.ListKinds.{seen_query_kind, seen_update_kind}
 use Rattle.update_texts.proofs.RepeatFacts.{or_false, repeat_push}
 use Rattle.update_texts.proofs.SeenFacts.{AllSeen, all_seen, left_false, or_true}
 

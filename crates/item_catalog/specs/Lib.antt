@@ -10,8 +10,6 @@ pub mod DeckLimits
 pub mod DeckView
 pub mod Faults
 pub mod Grammar
-pub mod ListKinds
-pub mod ScriptView
 pub mod Drafts
 pub mod DraftView
-pub mod ReadEnds
+pub mod Steps

@@ -3,7 +3,7 @@
 ghost use Rattle.std.specs.Prelude.{◌≡◌, option_map};
 ghost use Rattle.air_base.specs.Fronts.{FrontIs};
 ghost use Rattle.item_catalog.specs.Fields.{event_of};
-ghost use Rattle.item_catalog.specs.ScriptView.{begins_start};
+ghost use Rattle.item_catalog.specs.Steps.ScriptView.{begins_start};
 
 use air_base::{ends_part, number_front};
 

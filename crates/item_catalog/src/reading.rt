@@ -3,7 +3,7 @@
 ghost use Rattle.std.specs.Prelude.{◌≡◌, ◌≤◌, length, IfErr, IfOk, None};
 ghost use Rattle.air_base.specs.declared.limits.TheConstants.{MOST_DECK_BYTES};
 ghost use Rattle.item_catalog.specs.Drafts.{deck_from};
-ghost use Rattle.item_catalog.specs.ReadEnds.{CanEnd, EndsBy};
+ghost use Rattle.item_catalog.specs.Steps.ReadEnds.{CanEnd, EndsBy};
 ghost use Rattle.item_catalog.specs.Faults.{end_tests, first_of};
 ghost use Rattle.item_catalog.specs.Grammar.{IsAnswer, Spells};
 

@@ -8,7 +8,7 @@ ghost use Rattle.air_base.specs.NumberLists.{list_of};
 ghost use Rattle.air_model.specs.Decks.{count_parts};
 ghost use Rattle.item_catalog.specs.Fields.{event_of};
 ghost use Rattle.item_catalog.specs.Faults.{count_starts, script_passes, some_below};
-ghost use Rattle.item_catalog.specs.ScriptView.{EventsRead};
+ghost use Rattle.item_catalog.specs.Steps.ScriptView.{EventsRead};
 
 use crate::events::event_front;
 use crate::parts::Updates;
@@ -26,7 +26,7 @@ pub struct Script {
 
 impl Model for Script {
     ghost use Rattle.std.specs.Prelude.{List, Option, ℕ};
-    ghost use Rattle.item_catalog.specs.ScriptView.{ScriptKept};
+    ghost use Rattle.item_catalog.specs.Steps.ScriptView.{ScriptKept};
 
     ghost Value = { List (Option ℕ) };
 

@@ -26,7 +26,7 @@ use Rattle.air_devices.specs.Masts.{Masted, Sent, fresh_mast}
 use Rattle.air_sender.specs.TapeMasts.{masted_of}
 use Rattle.script_run.specs.declared.runs.ScriptRun.{ScriptRun}
 use Rattle.script_run.specs.AiredBytes.{aired_bytes}
-use Rattle.script_run.specs.RunSteps.{IsScriptRun}
+use Rattle.script_run.specs.Steps.RunSteps.{IsScriptRun}
 use Rattle.air_model.proofs.DeckLemmas.{air}
 use Rattle.air_model.proofs.ItemOrder.{cut_items, length-order}
 use Rattle.air_model.proofs.LaterLemmas.{later}

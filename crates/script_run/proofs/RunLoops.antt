@@ -9,7 +9,7 @@ use Rattle.air_history.proofs.ScanLemmas.{starts_within}
 use Rattle.air_model.specs.Decks.{Deck, IsDeck, event_of, script_history}
 use Rattle.air_model.proofs.DeckLemmas.{items_fit, events}
 use Rattle.air_model.proofs.ScriptLemmas.{script}
-use Rattle.script_run.specs.RunSteps.{CountsParts, IsScriptRun}
+use Rattle.script_run.specs.Steps.RunSteps.{CountsParts, IsScriptRun}
 use Rattle.script_run.specs.declared.runs.ScriptRun.{ScriptRun}
 
 -- The event of the part at a place.

@@ -1,2 +1,2 @@
 pub mod AiredBytes
-pub mod RunSteps
+pub mod Steps

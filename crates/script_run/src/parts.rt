@@ -2,7 +2,7 @@
 
 ghost use Rattle.std.specs.Prelude.{◌≡◌, ◌<◌, ◌+◌, None, IfOk, get_or, length, take};
 ghost use Rattle.air_model.specs.Decks.{event_of, values_in};
-ghost use Rattle.script_run.specs.RunSteps.{CountsParts};
+ghost use Rattle.script_run.specs.Steps.RunSteps.{CountsParts};
 
 use air_base::NoMemory;
 use air_history::Event;

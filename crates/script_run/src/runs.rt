@@ -9,7 +9,7 @@ ghost use Rattle.air_history.specs.Histories.{ItemsFit, starts};
 ghost use Rattle.air_model.specs.Decks.{disks_in, script_history, values_in};
 ghost use Rattle.air_sender.specs.TapeMasts.{told_by};
 ghost use Rattle.script_run.specs.AiredBytes.{aired_bytes};
-ghost use Rattle.script_run.specs.RunSteps.{IsScriptRun};
+ghost use Rattle.script_run.specs.Steps.RunSteps.{IsScriptRun};
 
 use crate::parts::{count_part, event_at, values_of};
 use air_base::NoMemory;

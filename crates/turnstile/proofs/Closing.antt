@@ -8,7 +8,7 @@ use native.Mathlib.Decide.{ℕ_discrete}
 use lib.ListN.{get_elem?}
 use Rattle.atomic_table.specs.Table.{State, Final, Seen}
 use Rattle.turnstile.specs.declared.views.View.{View}
-use Rattle.turnstile.specs.TurnstileRule.{Phase, home, out, InPhase, Kept}
+use Rattle.turnstile.specs.Steps.TurnstileRule.{Phase, home, out, InPhase, Kept}
 use Rattle.turnstile.proofs.Numbers.{some_number}
 use Rattle.turnstile.proofs.EntryLists.{seen_whole}
 use Rattle.turnstile.proofs.Standing.{below_of, shared_no}

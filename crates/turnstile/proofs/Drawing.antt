@@ -7,9 +7,9 @@ use mathlib.Core.Option.{some, none}
 use lib.ListN.{get_elem?}
 use Rattle.atomic_table.specs.Table.{State, Me, step, keeps, Allows}
 use Rattle.turnstile.specs.declared.views.View.{View}
-use Rattle.turnstile.specs.SeatViews.{times, counted, waits, share}
-use Rattle.turnstile.specs.TurnstileRule.{total, Knows, Kept}
-use Rattle.turnstile.specs.SeatSteps.{drew}
+use Rattle.turnstile.specs.Steps.SeatViews.{times, counted, waits, share}
+use Rattle.turnstile.specs.Steps.TurnstileRule.{total, Knows, Kept}
+use Rattle.turnstile.specs.Steps.SeatSteps.{drew}
 use Rattle.turnstile.proofs.Totals.{total_set}
 use Rattle.turnstile.proofs.Tickets.{far}
 use Rattle.turnstile.proofs.Seats.{seats, apart_set}

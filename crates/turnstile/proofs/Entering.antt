@@ -6,7 +6,7 @@ use mathlib.Core.Option.{none}
 use Rattle.atomic_table.specs.Table.{State, Me, step, rest}
 use Rattle.turnstile.specs.declared.views.View.{View}
 use Rattle.turnstile.specs.PassEntries.{Continues}
-use Rattle.turnstile.specs.SeatSteps.{served}
+use Rattle.turnstile.specs.Steps.SeatSteps.{served}
 
 module _ {K E B : Type 0} (entries : K → List (ℕ × E)) (base : K → B) where
   abbrev V : Type 0

@@ -11,9 +11,9 @@ use Rattle.atomic_table.proofs.Lists.{set_else}
 use Rattle.turnstile.specs.declared.views.Sight.{Sight}
 use Rattle.turnstile.specs.declared.views.View.{View}
 use Rattle.turnstile.specs.PassEntries.{Continues}
-use Rattle.turnstile.specs.SeatViews.{times, counted, waits, share, united, spent}
-use Rattle.turnstile.specs.TurnstileRule.{total, Knows, Kept}
-use Rattle.turnstile.specs.SeatSteps.{compared}
+use Rattle.turnstile.specs.Steps.SeatViews.{times, counted, waits, share, united, spent}
+use Rattle.turnstile.specs.Steps.TurnstileRule.{total, Knows, Kept}
+use Rattle.turnstile.specs.Steps.SeatSteps.{compared}
 use Rattle.turnstile.proofs.Totals.{total_set}
 use Rattle.turnstile.proofs.Numbers.{times_append}
 use Rattle.turnstile.proofs.EntryLists.{foreign_none, longer_goes_on}

@@ -6,9 +6,9 @@ use mathlib.Core.Option.{some, none}
 use Rattle.atomic_table.specs.Table.{State, Me, step, gives, Allows, rest}
 use Rattle.turnstile.specs.declared.views.View.{View}
 use Rattle.turnstile.specs.PassEntries.{Own, Below}
-use Rattle.turnstile.specs.SeatViews.{times, counted, waits, share, gone}
-use Rattle.turnstile.specs.TurnstileRule.{total, home, Knows, Kept}
-use Rattle.turnstile.specs.SeatSteps.{left}
+use Rattle.turnstile.specs.Steps.SeatViews.{times, counted, waits, share, gone}
+use Rattle.turnstile.specs.Steps.TurnstileRule.{total, home, Knows, Kept}
+use Rattle.turnstile.specs.Steps.SeatSteps.{left}
 use Rattle.turnstile.proofs.Totals.{total_set, none_in}
 use Rattle.turnstile.proofs.EntryLists.{goes_on, all_seen, below_append, own_below, own_foreign}
 use Rattle.turnstile.proofs.Tickets.{nearer, closer, mod_here}

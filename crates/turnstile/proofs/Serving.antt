@@ -10,9 +10,9 @@ use lib.ListN.{get_elem?}
 use Rattle.atomic_table.specs.Table.{State, Me, step, keeps, takes, stepped, Allows}
 use Rattle.turnstile.specs.declared.views.View.{View}
 use Rattle.turnstile.specs.PassEntries.{Continues}
-use Rattle.turnstile.specs.SeatViews.{times, waits, share}
-use Rattle.turnstile.specs.TurnstileRule.{total, Phase, home, out, Knows, InPhase, Kept}
-use Rattle.turnstile.specs.SeatSteps.{Opens, served}
+use Rattle.turnstile.specs.Steps.SeatViews.{times, waits, share}
+use Rattle.turnstile.specs.Steps.TurnstileRule.{total, Phase, home, out, Knows, InPhase, Kept}
+use Rattle.turnstile.specs.Steps.SeatSteps.{Opens, served}
 use Rattle.turnstile.proofs.Totals.{total_set, set_at}
 use Rattle.turnstile.proofs.Seats.{seats, apart_set}
 use Rattle.turnstile.proofs.Standing.{stays, seat_of}

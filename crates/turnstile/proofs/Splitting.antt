@@ -5,8 +5,8 @@ use Rattle.std.proofs.lemmas.Option.{none-some}
 use Rattle.atomic_table.specs.Table.{State, Splits}
 use Rattle.atomic_table.proofs.Lists.{at_snoc}
 use Rattle.turnstile.specs.declared.views.View.{View}
-use Rattle.turnstile.specs.SeatViews.{times, counted, waits, share, without, with_one, numbered}
-use Rattle.turnstile.specs.TurnstileRule.{total, Knows, Kept}
+use Rattle.turnstile.specs.Steps.SeatViews.{times, counted, waits, share, without, with_one, numbered}
+use Rattle.turnstile.specs.Steps.TurnstileRule.{total, Knows, Kept}
 use Rattle.turnstile.proofs.Totals.{total_set, total_snoc, none_in}
 use Rattle.turnstile.proofs.Numbers.{part_times, part_length, taken_numbers, dropped_numbers}
 use Rattle.turnstile.proofs.EntryLists.{foreign_part}

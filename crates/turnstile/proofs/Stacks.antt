@@ -5,7 +5,7 @@ use Rattle.turnstile.specs.Passes.{GateId, newcomer}
 use Rattle.std.proofs.lemmas.Option.{none-some, same_Some}
 use Rattle.atomic_table.specs.Table.{Me}
 use Rattle.turnstile.specs.declared.views.View.{View}
-use Rattle.turnstile.specs.SeatViews.{numbers_from, idle, sight, without, with_one}
+use Rattle.turnstile.specs.Steps.SeatViews.{numbers_from, idle, sight, without, with_one}
 use Rattle.turnstile.proofs.Numbers.{length_from}
 
 pub each_snoc : {A : Type 0} (P : ℕ → A → Type 0) (xs : List A) (y : A) → ((k : ℕ) (p : A) → slice_get xs k ≡ Some p → P k p) → P (length xs) y → (k : ℕ) (p : A) → slice_get (xs ++ y ∷ []) k ≡ Some p → P k p

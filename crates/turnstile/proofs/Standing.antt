@@ -8,8 +8,8 @@ use lib.ListN.{get_elem?}
 use Rattle.atomic_table.specs.Table.{State, keeps, stepped}
 use Rattle.atomic_table.proofs.Lists.{at_longer, set_else, set_again}
 use Rattle.turnstile.specs.declared.views.View.{View}
-use Rattle.turnstile.specs.SeatViews.{times, waits, share}
-use Rattle.turnstile.specs.TurnstileRule.{total, Phase, home, out, InPhase, Kept}
+use Rattle.turnstile.specs.Steps.SeatViews.{times, waits, share}
+use Rattle.turnstile.specs.Steps.TurnstileRule.{total, Phase, home, out, InPhase, Kept}
 use Rattle.turnstile.proofs.Totals.{total_at, total_two, total_le}
 use Rattle.turnstile.proofs.Numbers.{times_in, once_low, once_in}
 use Rattle.turnstile.proofs.Tickets.{counted_le}

@@ -6,8 +6,8 @@ use mathlib.Core.Option.{some-ne-none}
 use Rattle.atomic_table.specs.Table.{State, opening}
 use Rattle.turnstile.specs.declared.views.View.{View}
 use Rattle.turnstile.specs.PassEntries.{Below}
-use Rattle.turnstile.specs.SeatViews.{numbers_from, first}
-use Rattle.turnstile.specs.TurnstileRule.{home, Knows, Kept}
+use Rattle.turnstile.specs.Steps.SeatViews.{numbers_from, first}
+use Rattle.turnstile.specs.Steps.TurnstileRule.{home, Knows, Kept}
 use Rattle.turnstile.proofs.Numbers.{length_from, once_from}
 use Rattle.turnstile.proofs.EntryLists.{all_seen}
 use Rattle.turnstile.proofs.Seats.{alone}

@@ -3,7 +3,7 @@ use Rattle.std.proofs.Common.{◌≡◌, ℕ, zero, suc, ◌+◌, ◌%◌, ◌<�
 use Rattle.std.specs.Prelude.{Option, Some, None}
 use Rattle.std.proofs.Math.Nat.{mod-add-mod, mod-eq_of_lt}
 use Rattle.atomic_table.proofs.Lists.{one_turn}
-use Rattle.turnstile.specs.SeatViews.{counted}
+use Rattle.turnstile.specs.Steps.SeatViews.{counted}
 
 pub counted_le : (o : Option ℕ) (n : ℕ) → ((t : ℕ) → o ≡ Some t → 0 < n) → counted o ≤ n
 counted_le None n h = omega arith

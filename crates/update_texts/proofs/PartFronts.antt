@@ -8,7 +8,7 @@ use Rattle.air_base.specs.Fronts.{after_digits, after_part, begins, digits_of, e
 use Rattle.air_base.proofs.FrontFacts.{front_all}
 use Rattle.air_base.proofs.NumberFronts.{after_byte, after_ends, behind_byte, behind_digits, part_ends, part_with}
 use Rattle.update_texts.specs.Writes.{changed, constant, value_of, write_of}
-use Rattle.update_texts.specs.WriteParts.{sign_of}
+use Rattle.update_texts.specs.Steps.WriteParts.{sign_of}
 use Rattle.update_texts.proofs.WriteFronts.{value_minus, value_number, value_other, value_no_item, value_plus, write_digits, write_equals, write_other}
 
 digits : (text : List ℕ) → list_all is_ascii_digit (digits_of text) ≡ true

@@ -8,7 +8,7 @@ use Rattle.air_base.proofs.NumberFronts.{after_byte, front_moved}
 use Rattle.air_base.proofs.PlainNumbers.{byte_then, number_then}
 use Rattle.air_history.specs.declared.updates.Write.{Write}
 use Rattle.update_texts.specs.declared.write_fronts.WritePart.{WritePart}
-use Rattle.update_texts.specs.WriteParts.{sign_of, write_said}
+use Rattle.update_texts.specs.Steps.WriteParts.{sign_of, write_said}
 use Rattle.update_texts.specs.Writes.{changed, value_of, write_of}
 use Rattle.update_texts.proofs.PartFronts.{value_signed_front, write_value_front}
 

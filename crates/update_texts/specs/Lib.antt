@@ -1,4 +1,4 @@
 pub mod Writes
 pub mod ListTests
-pub mod WriteParts
 pub mod KeptLists
+pub mod Steps

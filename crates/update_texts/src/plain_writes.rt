@@ -7,7 +7,7 @@
 ghost use Rattle.std.specs.Prelude.{◌≡◌, ◌==◌, ◌<◌, ◌≤◌, ◌+◌, length, IfSome, MatchOption, Some, false};
 ghost use Rattle.air_base.specs.ReadParts.{PlainAt};
 ghost use Rattle.update_texts.specs.Writes.{value_of, write_of};
-ghost use Rattle.update_texts.specs.WriteParts.{sign_of, write_said};
+ghost use Rattle.update_texts.specs.Steps.WriteParts.{sign_of, write_said};
 
 use crate::write_fronts::WritePart;
 use air_base::{plain_number, short_number};

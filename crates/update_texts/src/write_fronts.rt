@@ -6,7 +6,7 @@ ghost use Rattle.std.specs.Prelude.{◌≡◌, ◌∷◌, option_map, MatchOptio
 ghost use Rattle.air_base.specs.Numbers.{number_of};
 ghost use Rattle.air_base.specs.Fronts.{FrontIs, begins};
 ghost use Rattle.update_texts.specs.Writes.{changed, value_of, write_of};
-ghost use Rattle.update_texts.specs.WriteParts.{sign_of, write_said};
+ghost use Rattle.update_texts.specs.Steps.WriteParts.{sign_of, write_said};
 
 use crate::plain_writes::last_write;
 use air_base::{after_byte, ends_part, leading_number, number_front};

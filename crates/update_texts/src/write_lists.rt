@@ -8,7 +8,7 @@ ghost use Rattle.update_texts.specs.Writes.{write_of};
 ghost use Rattle.update_texts.specs.ListTests.{is_unread, write_reaches};
 ghost use Rattle.air_base.specs.ReadParts.{ReadsTo};
 ghost use Rattle.update_texts.specs.KeptLists.{ReadIs, no_writes, see_write, writes_seen};
-ghost use Rattle.update_texts.specs.WriteParts.{write_said};
+ghost use Rattle.update_texts.specs.Steps.WriteParts.{write_said};
 
 use crate::item_lists::ItemList;
 use crate::plain_writes::plain_write;

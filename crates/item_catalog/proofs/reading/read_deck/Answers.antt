@@ -5,7 +5,7 @@ use Rattle.csv.specs.declared.parser.State.TheVariants as st
 use Rattle.csv.proofs.ReadFacts.{rows-end, rows-more}
 use Rattle.item_catalog.specs.Kinds.{code_of}
 use Rattle.item_catalog.specs.Drafts.{DraftValue, draft_of, judged, with_spelled}
-use Rattle.item_catalog.specs.ReadEnds.{CanEnd}
+use Rattle.item_catalog.specs.Steps.ReadEnds.{CanEnd}
 use Rattle.item_catalog.specs.DeckEntries.{entry_of}
 use Rattle.item_catalog.specs.Faults.{entries_in}
 use Rattle.item_catalog.specs.Grammar.{HasFault, IsAnswer, Spells}

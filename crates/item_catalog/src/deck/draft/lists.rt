@@ -5,7 +5,7 @@ ghost use Rattle.csv.specs.Records.{fields_of};
 ghost use Rattle.item_catalog.specs.Drafts.{Adds, QueryRead, UpdateRead};
 ghost use Rattle.item_catalog.specs.DeckEntries.{query_by, script_by, update_by};
 ghost use Rattle.air_base.specs.Pieces.{one_of, three_of, two_of};
-ghost use Rattle.item_catalog.specs.ListKinds.{seen_query_kind, seen_update_kind};
+ghost use Rattle.item_catalog.specs.Steps.ListKinds.{seen_query_kind, seen_update_kind};
 
 use crate::deck::draft::Draft;
 use crate::fields::{one, three, two};

@@ -1,7 +1,7 @@
 use Rattle.std.proofs.Common.{◌≡◌, ◌+◌, ◌<◌, ◌∙◌, length, sym, ap, subst, arith}
 use Rattle.std.proofs.lemmas.List.{with_items_is}
 use Rattle.script_run.specs.AiredBytes.{aired_bytes}
-use Rattle.script_run.specs.RunSteps.{CountsParts}
+use Rattle.script_run.specs.Steps.RunSteps.{CountsParts}
 use Rattle.script_run.proofs.RunLoops.{event_all, event_more, few_starts, next_fits}
 use Rattle.script_run.proofs.runs.run_script.Goals as goal
 

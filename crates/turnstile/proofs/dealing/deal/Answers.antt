@@ -1,7 +1,7 @@
 use Rattle.std.proofs.Common.{◌≡◌, ◌<◌, ◌-◌, ◌+◌, length, [], arith, ap, sym, refl, ◌∙◌, slice_get, Some}
 use Rattle.std.proofs.lemmas.Option.{none-some}
 use Rattle.turnstile.specs.Passes.{newcomer}
-use Rattle.turnstile.specs.SeatViews.{numbers_from, idle, sight}
+use Rattle.turnstile.specs.Steps.SeatViews.{numbers_from, idle, sight}
 use Rattle.turnstile.proofs.Splitting.{splits}
 use Rattle.turnstile.proofs.Stacks.{each_snoc, stack_step, stack_two, sound_one, known_one}
 use Rattle.turnstile.proofs.dealing.deal.Goals as goal

@@ -1,6 +1,6 @@
 use Rattle.std.proofs.Common.{drop, length, replicate}
 use Rattle.update_texts.specs.Writes.{write_of}
-use Rattle.update_texts.specs.WriteParts.{write_said}
+use Rattle.update_texts.specs.Steps.WriteParts.{write_said}
 use Rattle.air_base.proofs.PlainNumbers.{last_plain, spaces_end}
 use Rattle.update_texts.proofs.plain_writes.last_write.Goals as goal
 

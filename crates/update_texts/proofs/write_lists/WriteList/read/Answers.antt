@@ -4,7 +4,7 @@ use Rattle.std.proofs.lemmas.Bool.Decides.{nat_tests}
 use Rattle.update_texts.specs.Writes.{write_of}
 use Rattle.air_base.specs.NumberLists.{list_of}
 use Rattle.update_texts.specs.KeptLists.{see_write, writes_seen}
-use Rattle.update_texts.specs.WriteParts.{write_said}
+use Rattle.update_texts.specs.Steps.WriteParts.{write_said}
 use Rattle.air_base.proofs.ListFronts.{after_short, list_bad, list_empty, list_last, list_more}
 use Rattle.air_base.specs.ReadParts.{joined, spelled}
 use Rattle.air_base.proofs.PlainNumbers.{from_place}

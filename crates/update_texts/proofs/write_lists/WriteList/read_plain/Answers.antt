@@ -1,7 +1,7 @@
 use Rattle.std.proofs.Common.{◌≡◌, ◌≤◌, ◌∙◌, length, ◌++◌, ◌∷◌, [], ap, arith, sym}
 use Rattle.update_texts.specs.Writes.{write_of}
 use Rattle.update_texts.specs.KeptLists.{writes_seen, see_write}
-use Rattle.update_texts.specs.WriteParts.{write_said}
+use Rattle.update_texts.specs.Steps.WriteParts.{write_said}
 use Rattle.air_base.proofs.PlainLists.{plain_further, reads_more, reads_none}
 use Rattle.update_texts.proofs.SeenFacts.{writes_more}
 use Rattle.update_texts.proofs.write_lists.WriteList.read_plain.Goals as goal

@@ -3,7 +3,7 @@ use Rattle.std.specs.Prelude.{◌||◌}
 use Rattle.air_history.specs.UpdateRules.{item_of}
 use Rattle.air_base.specs.declared.limits.TheConstants.{MOST_ITEMS}
 use Rattle.update_texts.specs.KeptLists.{KeptOnce, WritesSeen, among, see_write}
-use Rattle.update_texts.specs.WriteParts.{write_said}
+use Rattle.update_texts.specs.Steps.WriteParts.{write_said}
 use Rattle.update_texts.proofs.RepeatFacts.{or_false}
 use Rattle.update_texts.proofs.SeenFacts.{or_true}
 use Rattle.update_texts.proofs.KeptOnceFacts.{item_inside, one_taken, write_kept, write_room, writes_kept}

@@ -9,7 +9,7 @@ use Rattle.item_catalog.specs.DeckEntries.{Entry, query_by}
 use Rattle.item_catalog.specs.Faults.{first_of, query_tests}
 use Rattle.air_base.specs.Pieces.{two_of}
 use Rattle.update_texts.specs.KeptLists.{ItemsSeen, items_seen}
-use Rattle.item_catalog.specs.ListKinds.{seen_query_kind}
+use Rattle.item_catalog.specs.Steps.ListKinds.{seen_query_kind}
 use Rattle.item_catalog.proofs.EntryFacts.{query_spelled, read_is_some}
 use Rattle.item_catalog.proofs.WriteFacts.{query_kept, query_seen}
 use Rattle.item_catalog.proofs.deck.draft.Draft.read_query.Goals as goal

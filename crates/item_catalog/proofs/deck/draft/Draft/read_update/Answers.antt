@@ -13,7 +13,7 @@ use Rattle.item_catalog.specs.Faults.{first_of, update_tests}
 use Rattle.air_base.specs.Pieces.{three_of}
 use Rattle.update_texts.specs.Writes.{write_of}
 use Rattle.update_texts.specs.KeptLists.{ItemsSeen, WritesSeen, items_seen, writes_seen}
-use Rattle.item_catalog.specs.ListKinds.{seen_update_kind}
+use Rattle.item_catalog.specs.Steps.ListKinds.{seen_update_kind}
 use Rattle.item_catalog.proofs.EntryFacts.{read_is_some, rules_kept, update_spelled, writes_signed}
 use Rattle.item_catalog.proofs.WriteFacts.{update_kept, update_seen}
 use Rattle.item_catalog.proofs.deck.draft.Draft.read_update.Goals as goal

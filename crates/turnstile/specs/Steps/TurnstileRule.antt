@@ -1,7 +1,8 @@
--- The rule of a turnstile: what holds of its two words, its slot and the views of all passes between any two steps.
--- Word 0 is the next ticket, word 1 the one that is served, and the slot has the value while no pass is in a turn.
--- The tickets that are out stand at the distances 0, 1, .. from the one that is served, one view each; each number below
--- the number of passes is in just one view; and each view has seen a beginning of the one list, with all that is its own.
+-- For private steps alone. The rule of a turnstile: what holds of its two words, its slot and the views of all passes
+-- between any two steps. Word 0 is the next ticket, word 1 the one that is served, and the slot has the value while no
+-- pass is in a turn. The tickets that are out stand at the distances 0, 1, .. from the one that is served, one view
+-- each; each number below the number of passes is in just one view; and each view has seen a beginning of the one list,
+-- with all that is its own.
 use Rattle.std.specs.Prelude.{◌≡◌, ℕ, suc, ◌+◌, ◌%◌, ◌<◌, cond, leb, List, [], ◌∷◌, length, Contains, Option, Some, None}
 use mathlib.Core.Option.{some, none}
 use mathlib.Core.Option as maybe
@@ -10,7 +11,7 @@ use Rattle.atomic_table.specs.Table.{State}
 use Rattle.turnstile.specs.declared.views.Sight.{Sight}
 use Rattle.turnstile.specs.declared.views.View.{View}
 use Rattle.turnstile.specs.PassEntries.{Below, Continues}
-use Rattle.turnstile.specs.SeatViews.{times, waits, share}
+use Rattle.turnstile.specs.Steps.SeatViews.{times, waits, share}
 
 -- f of each, added up.
 abbrev pub total : {A : Type 0} → (A → ℕ) → List A → ℕ

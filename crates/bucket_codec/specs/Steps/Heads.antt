@@ -1,5 +1,4 @@
--- The head of a bucket: its 24 bytes before the entries, and the numbers in them.
--- Only the steps of `encode` speak of it.
+-- For private steps alone. The head of a bucket: its 24 bytes before the entries, and the numbers in them.
 use Rattle.std.specs.Prelude.{ℕ, List, [], ◌∷◌, ◌++◌}
 use Rattle.byteorder.specs.Endian.{big_bytes}
 use Rattle.air_model.specs.Buckets.{Bucket, count_of, item_of, kind_of, value_of}

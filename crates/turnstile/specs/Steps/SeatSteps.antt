@@ -1,4 +1,5 @@
--- What each step tells the pass that makes it: the seat before, the number found, and the seat after.
+-- For private steps alone. What each step tells the pass that makes it: the seat before, the number found, and the seat
+-- after.
 use Rattle.std.specs.Prelude.{◌≡◌, ◌≢◌, ℕ, List, [], ◌∷◌, Option, Some}
 use mathlib.Core.Option.{some}
 use lib.ListN.{get_elem?}
@@ -6,7 +7,7 @@ use Rattle.atomic_table.specs.Table.{Me, Step}
 use Rattle.turnstile.specs.declared.views.Sight.{Sight}
 use Rattle.turnstile.specs.declared.views.View.{View}
 use Rattle.turnstile.specs.PassEntries.{Continues}
-use Rattle.turnstile.specs.SeatViews.{gone}
+use Rattle.turnstile.specs.Steps.SeatViews.{gone}
 
 module _ {K E B : Type 0} (entries : K → List (ℕ × E)) (base : K → B) where
   abbrev Sat : Type 0

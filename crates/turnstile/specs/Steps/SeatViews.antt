@@ -1,4 +1,4 @@
--- Views: what the rule knows of each seat, and what the steps make of them. No clause of a layer above needs them.
+-- For private steps alone. Views: what the rule knows of each seat, and what the steps make of them.
 use Rattle.std.specs.Prelude.{ℕ, zero, suc, ◌+◌, ◌==◌, cond, List, [], ◌∷◌, ◌++◌, length, take, drop, Option, Some, None}
 use Rattle.turnstile.specs.declared.views.Sight.{Sight}
 use Rattle.turnstile.specs.declared.views.View.{View}

@@ -1,4 +1,5 @@
--- The end of a reading: what a deck needs of the parts, and what is answered where a kind applies.
+-- For private steps alone. The end of a reading: what a deck needs of the parts, and what is answered where a kind
+-- applies.
 use Rattle.std.specs.Prelude.{◌≡◌, ◌≤◌, ℕ, Option, Some, None, length, option_map}
 use Rattle.air_base.specs.declared.limits.TheConstants.{MOST_DELTA}
 use Rattle.air_model.specs.Decks.{IsDeck}

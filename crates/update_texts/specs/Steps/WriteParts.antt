@@ -1,6 +1,5 @@
--- What the readers of writes speak of, beside what a write is: signs, and a write before its numbers are looked at.
---
--- Only private steps cite these.
+-- For private steps alone. What the readers of writes speak of, beside what a write is: signs, and a write before its
+-- numbers are looked at.
 use Rattle.std.specs.Prelude.{ℕ, Bool, if◌then◌else◌}
 use Rattle.air_history.specs.declared.updates.Write.{Write}
 use Rattle.update_texts.specs.declared.write_fronts.WritePart.{WritePart}

@@ -1,4 +1,4 @@
--- What is kept while a deck's script is run; only the private steps from part to part speak of it.
+-- For private steps alone. What is kept while a deck's script is run.
 use Rattle.std.specs.Prelude.{◌≡◌, ◌+◌, ◌*◌, ◌<◌, ℕ, List, length, get_or, take}
 use Rattle.air_history.specs.Boards.{board_of}
 use Rattle.air_model.specs.Decks.{Deck, count_parts, values_in}

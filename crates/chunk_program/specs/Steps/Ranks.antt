@@ -1,4 +1,4 @@
--- The ranks by which the items are sorted.
+-- For private steps alone. The ranks by which the items are sorted.
 use Rattle.std.specs.Prelude.{ℕ, List, length, map, slice_index}
 use Rattle.std.specs.List.{range_with_len}
 use Rattle.std.specs.declared.cmp.Reverse.{Reverse}

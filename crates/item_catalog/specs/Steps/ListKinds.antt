@@ -1,4 +1,4 @@
--- The first kind that an update or a query has, by what was kept of its lists.
+-- For private steps alone. The first kind that an update or a query has, by what was kept of its lists.
 use Rattle.std.specs.Prelude.{◌||◌, ℕ, [], ◌∷◌, Option, length, nat_le, nat_lt}
 use Rattle.air_base.specs.declared.limits.TheConstants.{MOST_ASKED, MOST_QUERIES, MOST_READS, MOST_UPDATERS, MOST_UPDATES, MOST_WRITES}
 use Rattle.update_texts.specs.KeptLists.{ItemsSeen, WritesSeen}

@@ -1,5 +1,5 @@
--- What the reader of a script speaks of: a start at the front, the answer for a list, and what a script keeps, its limits and
--- its counts.
+-- For private steps alone. What the reader of a script speaks of: a start at the front, the answer for a list, and what
+-- a script keeps, its limits and its counts.
 use Rattle.std.specs.Prelude.{◌≡◌, ◌<◌, ◌≤◌, ◌==◌, ◌&&◌, ◌++◌, ℕ, List, [], ◌∷◌, Bool, false, Option, Some, None, length, get_or}
 use Rattle.air_base.specs.declared.limits.TheConstants.{MOST_EVENTS, MOST_STARTS, MOST_UPDATERS}
 use Rattle.air_base.specs.Fronts.{ends_part}

@@ -1,4 +1,4 @@
--- What is told of a session at its end. Only the private steps that end one speak of it.
+-- For private steps alone. What is told of a session at its end.
 use Rattle.std.specs.Prelude.{List}
 use Rattle.air_base.specs.declared.verdicts.Counts.{Counts}
 use Rattle.air_model.specs.Sessions.{Line, State}
