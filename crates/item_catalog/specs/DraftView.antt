@@ -4,6 +4,7 @@ use Rattle.air_base.specs.declared.limits.TheConstants.{MOST_DISKS, MOST_ITEMS, 
 use Rattle.item_catalog.specs.Drafts.{DraftValue}
 use Rattle.item_catalog.specs.declared.deck.draft.Draft.TheInside.{Inside}
 
+-- The parts that the fields of a draft have.
 abbrev pub draft_seen : Inside → DraftValue
 draft_seen d = record {
   items = d.items.items;
@@ -18,6 +19,7 @@ draft_seen d = record {
   set = d.set.items;
 }
 
+-- What the fields of a draft keep to: the limits, and a list for each updater and each reader that there can be.
 pub record DraftKept (d : Inside) : Type 0 where
   pub items : length d.items.items ≤ MOST_ITEMS
   pub disks : length d.disks.items ≤ MOST_DISKS

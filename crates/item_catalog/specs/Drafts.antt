@@ -31,6 +31,7 @@ pub record DraftValue : Type 0 where
   pub script : List (Option ℕ)
   pub set : List Setting
 
+-- The parts that the entries so far declare.
 abbrev pub draft_of : List Entry → DraftValue
 draft_of entries = record {
   items = items_in entries;
@@ -90,6 +91,7 @@ abbrev pub judged : DraftValue → Result Entry FaultKind → Option FaultKind
 judged d (Err kind) = Some kind
 judged d (Ok entry) = first_of (draft_tests d entry)
 
+-- The parts after a record: one more entry where it spells one, else as before.
 abbrev pub with_spelled : DraftValue → Result Entry FaultKind → DraftValue
 with_spelled d (Err kind) = d
 with_spelled d (Ok entry) = with_entry d entry

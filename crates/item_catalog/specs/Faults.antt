@@ -115,6 +115,7 @@ abbrev pub entry_if : Result Entry FaultKind → Option Entry
 entry_if (Err kind) = None
 entry_if (Ok entry) = Some entry
 
+-- The entries that the records spell, without those that spell none.
 abbrev pub entries_in : List (List (List ℕ)) → List Entry
 entries_in rows = filter_map (λ row. entry_if (entry_of row)) rows
 

@@ -20,6 +20,7 @@ abbrev pub base_or : Option Base → Base
 base_or None = ([], 0)
 base_or (Some base) = base
 
+-- The base that a pass has, of what it has seen.
 abbrev pub base_in : Inner → Base
 base_in pass = base_or pass.base
 

@@ -14,10 +14,12 @@ abbrev pub numbers_from : ℕ → ℕ → List ℕ
 numbers_from k zero = []
 numbers_from k (suc n) = k ∷ numbers_from (suc k) n
 
+-- 1 where there is a ticket, else 0.
 abbrev pub counted : Option ℕ → ℕ
 counted None = 0
 counted (Some t) = 1
 
+-- The entries that are seen, beside the numbers that the pass stands for.
 abbrev pub sight : {E : Type 0} → List (ℕ × E) → List ℕ → Sight E
 sight es ns = record { entries = es; numbers = ns }
 
