@@ -108,13 +108,38 @@ pub fn first_false(
     Ok(None)
 }
 
-/// Whether the history begins with these events.
-pub fn begins_with(history: &History, events: &[Event]) -> bool {
-    let all = history.events();
-    events.len() <= all.len()
-        && events.iter().zip(all).all(|(one, other)| {
+/// Whether both lists have the same events.
+fn are_equal(events: &[Event], others: &[Event]) -> bool {
+    events.len() == others.len()
+        && events.iter().zip(others).all(|(one, other)| {
             mark_of(one) == mark_of(other)
                 && one.reads() == other.reads()
                 && one.writes() == other.writes()
         })
+}
+
+/// The events up to the first start, with it.
+fn first_cycle(events: &[Event]) -> Option<&[Event]> {
+    let mut length = 1_usize;
+    for event in events {
+        if event.is_start() {
+            return events.get(..length);
+        }
+        length = length.saturating_add(1);
+    }
+    None
+}
+
+/// How many starts gave the history's events since the one before, with their own; or the first that gave others.
+pub fn count_cycles(history: &History, fresh: &[Vec<Event>]) -> Result<usize, usize> {
+    let mut from = 0_usize;
+    for (place, given) in fresh.iter().enumerate() {
+        match history.events().get(from..).and_then(first_cycle) {
+            Some(cycle) if are_equal(given, cycle) => {
+                from = from.saturating_add(cycle.len());
+            }
+            _ => return Err(place),
+        }
+    }
+    Ok(fresh.len())
 }

@@ -1,9 +1,9 @@
 //! Updaters and the conductor in threads: the closing history has each call once, in its caller's order; each receipt has its
-//! place there, and each tenth is true by the slow programs.
+//! place there, and each tenth is true by the slow programs; each start gave the events since the one before, and itself.
 ghost use Rattle.std.specs.Prelude.{◌<◌};
 
 use crate::crews::{gather, hire, run_all};
-use crate::histories::{begins_with, counts, first_false, values_at};
+use crate::histories::{count_cycles, counts, first_false, values_at};
 use crate::stations::closed;
 use crate::workers::{Conductor, Task};
 use air_history::{Event, History};
@@ -28,8 +28,8 @@ struct Case {
 }
 
 /// What is found at the end: whether all had memory, how many events and starts there are, the first two values, the first
-/// updater whose commits do not count, a false receipt by updater and number, and whether the conductor's events begin the
-/// history.
+/// updater whose commits do not count, a false receipt by updater and number, and how many starts gave the events of their
+/// cycle, or the first that gave others.
 #[derive(Clone, Copy, Debug, PartialEq, Eq)]
 struct Found {
     done: bool,
@@ -38,7 +38,7 @@ struct Found {
     values: [u64; 2],
     apart: Option<u32>,
     false_receipt: Option<(u32, u32)>,
-    begins: bool,
+    fresh: Result<usize, usize>,
 }
 
 /// The first values of the deck's items.
@@ -77,7 +77,7 @@ fn look_at(
     alloc: Global,
     history: &History,
     tasks: &[Task],
-    fresh: &[Event],
+    fresh: &[Vec<Event>],
     case: Case,
 ) -> Result<Found, Fail> {
     let values = match values_at(alloc, history, &FIRST, history.len())? {
@@ -94,7 +94,7 @@ fn look_at(
         values,
         apart: first_apart(history, 2, case.commits),
         false_receipt: any_false(alloc, history, tasks)?,
-        begins: begins_with(history, fresh),
+        fresh: count_cycles(history, fresh),
     })
 }
 
@@ -149,7 +149,7 @@ fn two_updaters_with_a_thousand_commits_and_fifty_starts(rt: HostRuntime) -> Res
         values: [3010, 3020],
         apart: None,
         false_receipt: None,
-        begins: true,
+        fresh: Ok(50),
     };
     assert_eq!(rt; played(&rt, rt.alloc(), case)?, Some(told));
     Ok(())
@@ -169,7 +169,7 @@ fn two_updaters_by_one_thread_and_no_start(rt: HostRuntime) -> Result<(), Fail> 
         values: [19, 29],
         apart: None,
         false_receipt: None,
-        begins: true,
+        fresh: Ok(0),
     };
     assert_eq!(rt; played(&rt, rt.alloc(), case)?, Some(told));
     Ok(())

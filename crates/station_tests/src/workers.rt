@@ -24,11 +24,11 @@ pub struct Worker {
     pub task: Task,
 }
 
-/// The conductor's pass, the events that its starts gave, in order, and whether all starts had memory.
+/// The conductor's pass, the events that each of its starts gave, in order, and whether all starts had memory.
 #[derive(Drop)]
 pub struct Conductor {
     pub pass: ConductorPass,
-    pub fresh: Vec<Event>,
+    pub fresh: Vec<Vec<Event>>,
     pub done: bool,
 }
 
@@ -81,7 +81,7 @@ impl Conductor {
             }
             let mut fresh = Vec::new(alloc);
             station.start_cycle(wait, alloc, &mut self.pass, &mut fresh)?;
-            self.fresh.append(&mut fresh)?;
+            self.fresh.push(fresh)?;
         }
         Ok(())
     }
