@@ -1,0 +1,3 @@
+pub mod HeardReads
+pub mod HeldView
+pub mod HeldCycles

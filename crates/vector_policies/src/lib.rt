@@ -1,0 +1,15 @@
+//! The held reads of Datacycle and R-Matrix: whether a new read goes together with those that an attempt holds.
+//!
+//! Each read comes with the vector of last write cycles that was heard with it. `DataHeld` keeps its reads current at the
+//! newest cycle that it holds; `RHeld` takes reads in the order of cycles. Both name the clash of least item.
+#![tactic(auto)]
+
+mod cycles;
+pub mod datacycle;
+pub mod r_matrix;
+mod reads;
+mod vectors;
+
+pub use datacycle::DataHeld;
+pub use r_matrix::RHeld;
+pub use vectors::ROOM;
