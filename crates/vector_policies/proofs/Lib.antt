@@ -4,3 +4,5 @@ pub mod ArrayLemmas
 pub mod ReachedLemmas
 pub mod HeldLemmas
 pub mod PolicyLemmas
+pub mod NewLemmas
+pub mod CycleExamples

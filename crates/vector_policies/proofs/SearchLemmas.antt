@@ -74,7 +74,3 @@ search_miss test best places i p l e miss so_far =
     so_far
     ∙ sym (ap (heard_clash test) (taken_more places i p l e) ∙ clash_push test (map heard_of (take i places)) (heard_of p)
     ∙ ap (λ b. cond b (Some (lesser_of (heard_clash test (map heard_of (take i places))) (clash_of (heard_of p)))) (heard_clash test (map heard_of (take i places)))) miss)
-
-pub nothing_named : (test : Heard → Bool) → None ≡ heard_clash test []
-unfolding least
-nothing_named test = refl

@@ -87,6 +87,7 @@ impl DataHeld {
     }
 
     /// The held read of least item number that the entries name.
+    #[tactic(auto, using(crate::proofs::PolicyLemmas::named_at_newest, crate::proofs::PolicyLemmas::none_at_newest, crate::proofs::PolicyLemmas::named_of_newest))]
     fn named(&self, item: u16, cycle: u32, vector: &[u32]) -> Option<Clash>
         requires { IsNew self.now (heard item cycle vector.now) }
         ensures { result ≡ clash_by_entries Datacycle self.now.reads (heard item cycle vector.now) }

@@ -6,6 +6,7 @@
 
 mod cycles;
 pub mod datacycle;
+pub mod laws;
 pub mod r_matrix;
 mod reads;
 mod vectors;

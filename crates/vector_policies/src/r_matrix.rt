@@ -94,6 +94,7 @@ impl RHeld {
     }
 
     /// The held read of least item number that the entries name.
+    #[tactic(auto, using(crate::proofs::PolicyLemmas::none_below_first, crate::proofs::PolicyLemmas::named_from_first))]
     fn named(&self, item: u16, cycle: u32, vector: &[u32]) -> Option<Clash>
         requires { IsNew self.now (heard item cycle vector.now) }
         ensures { result ≡ clash_by_entries RMatrix self.now.reads (heard item cycle vector.now) }

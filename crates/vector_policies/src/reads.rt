@@ -65,6 +65,7 @@ pub fn first_entry(reads: &[HeldRead], cycle: u32, item: u16) -> u32
 }
 
 /// The read of least item number among those of the cycle.
+#[tactic(auto, using(crate::proofs::SearchLemmas::search_hit, crate::proofs::SearchLemmas::search_miss), unfolding(air_history::specs::Clashes::least))]
 pub fn least_in(reads: &[HeldRead], cycle: u32) -> Option<Clash>
     ensures { result ≡ heard_clash (λ r. r.cycle == cycle) (map heard_of reads.now) }
 {
