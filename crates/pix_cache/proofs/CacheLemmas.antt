@@ -1,0 +1,134 @@
+-- The copies that the fields of a cache hold, and what each call changes of them.
+use Rattle.std.proofs.Common.{◌≡◌, ◌≢◌, ℕ, zero, suc, ◌+◌, ◌-◌, ◌*◌, ◌<◌, ◌≤◌, Bool, true, false, not, cond, ◌==◌, nat_lt, if◌then◌else◌, List, [], ◌∷◌, ◌++◌, length, get_or, take, drop, All, Option, Some, None, IsTrue, refl, sym, ◌∙◌, ap, subst, arith, ◌⊎◌, inl, inr, append-nil, length-append, length-drop, length-set}
+use Rattle.std.specs.List.{count_by, filter, find, range_with_len}
+use Rattle.std.specs.Option.{is_some, option_map}
+use Rattle.std.proofs.Math.ListN.{set}
+use Rattle.std.proofs.lemmas.Bool.{cases_eq, cases_lt, cases_order, eq-eqb, eqb-true, ne_eqb}
+use Rattle.std.proofs.lemmas.List.{get_or-set_other, get_or-set_same, get_or_default, get_or_past, same_lists, set-get_or, set-set}
+use Rattle.std.proofs.lemmas.List.Elements.{All-append}
+use Rattle.std.proofs.lemmas.List.FromFn.{get_or-map-range_with_len, length-map-range_with_len}
+use Rattle.std.proofs.lemmas.List.Sums.{sum_by-cons, sum_by-set}
+use Rattle.air_model.specs.Reads.{Read}
+use Rattle.air_model.specs.Copies.{goes_before, keep, pix_of, without}
+use Rattle.air_model.proofs.CopyOrders.{count_all, count_missing, goes_to, keep_all, keep_one}
+use Rattle.pix_cache.specs.Stores.{Stored, no_store}
+use Rattle.pix_cache.specs.Caches.{copy, copy_of}
+use Rattle.pix_cache.specs.CacheFields.{Agree, copies_at, read_in, somes}
+use Rattle.pix_cache.proofs.SomeLemmas.{Placed, all_somes, copy_is, count_somes, left, taken, with_is, without_is}
+
+-- ---- the copies by place
+pub long : (stores : List Stored) (places : List (Option ℕ)) → length (copies_at stores places) ≡ length places
+long stores places = length-map-range_with_len (λ item. option_map (read_in stores item) (get_or places item None)) 0 (length places)
+
+pub at_place : (stores : List Stored) (places : List (Option ℕ)) (item : ℕ) → item < length places → get_or (copies_at stores places) item None ≡ option_map (read_in stores item) (get_or places item None)
+at_place stores places item l = get_or-map-range_with_len (λ item. option_map (read_in stores item) (get_or places item None)) 0 (length places) item item None l (omega arith)
+
+pub placed : (stores : List Stored) (places : List (Option ℕ)) → Placed 0 (copies_at stores places)
+placed stores places k r e = by (cases_lt k (length places))
+  where
+    item : (o : Option ℕ) → option_map (read_in stores k) o ≡ Some r → r.item ≡ k
+    item None f = cc
+    item (Some slot) f = let same : Some (read_in stores k slot) ≡ Some r = f in let s : read_in stores k slot ≡ r = cc in sym (ap (λ x. x.item) s)
+
+    by : (k < length places) ⊎ (length places ≤ k) → r.item ≡ 0 + k
+    by (inl l) = let i = item (get_or places k None) (sym (at_place stores places k l) ∙ e) in omega arith
+    by (inr past) = let none : get_or (copies_at stores places) k None ≡ None = get_or_past (copies_at stores places) k None (omega (arith, long stores places)) in cc
+
+pub kept_copy : (stores : List Stored) (places : List (Option ℕ)) (item slot : ℕ) → item < length places → get_or places item None ≡ Some slot → copy_of item (somes (copies_at stores places)) ≡ Some (read_in stores item slot)
+kept_copy stores places item slot l e =
+    copy_is (copies_at stores places) item (omega (arith, long stores places)) (placed stores places) ∙ at_place stores places item l ∙ ap (option_map (read_in stores item)) e
+
+pub no_copy : (stores : List Stored) (places : List (Option ℕ)) (item : ℕ) → item < length places → get_or places item None ≡ None → copy_of item (somes (copies_at stores places)) ≡ None
+no_copy stores places item l e =
+    copy_is (copies_at stores places) item (omega (arith, long stores places)) (placed stores places) ∙ at_place stores places item l ∙ ap (option_map (read_in stores item)) e
+
+
+-- ---- how many
+count_same : {X Y : Type 0} (p : X → Bool) (q : Y → Bool) (xs : List X) (ys : List Y) (d : X) (e : Y) → length xs ≡ length ys → ((k : ℕ) → k < length xs → p (get_or xs k d) ≡ q (get_or ys k e)) → count_by p xs ≡ count_by q ys
+count_same p q [] [] d e l h = refl
+count_same p q [] (y ∷ ys) d e l h = absurd (omega arith)
+count_same p q (x ∷ xs) [] d e l h = absurd (omega arith)
+count_same p q (x ∷ xs) (y ∷ ys) d e l h =
+    let rest = count_same p q xs ys d e (omega arith) (λ k m. h (suc k) (omega arith)) in
+    let one = sum_by-cons (λ z. cond (p z) 1 0) x xs in
+    let two = sum_by-cons (λ z. cond (q z) 1 0) y ys in
+    let head : ◌≡◌ {A = ℕ} (cond (p x) 1 0) (cond (q y) 1 0) = ap (λ b. cond b 1 0) (h 0 (omega arith)) in
+    omega arith
+
+is_some_map : {X Y : Type 0} (f : X → Y) (o : Option X) → is_some (option_map f o) ≡ is_some o
+is_some_map f None = refl
+is_some_map f (Some x) = refl
+
+pub how_many : (stores : List Stored) (places : List (Option ℕ)) → length (somes (copies_at stores places)) ≡ count_by is_some places
+how_many stores places = count_somes (copies_at stores places) ∙ count_same is_some is_some (copies_at stores places) places None None (long stores places) (λ k l.
+    ap is_some (at_place stores places k (omega (arith, long stores places))) ∙ is_some_map (read_in stores k) (get_or places k None))
+
+-- ---- one copy changed
+pub by_place : (os rs : List (Option Read)) → length os ≡ length rs → ((k : ℕ) → k < length os → get_or os k None ≡ get_or rs k None) → os ≡ rs
+by_place os rs l h = same_lists os rs l (λ k d m. get_or_default os k d None m ∙ h k m ∙ get_or_default rs k None d (omega arith))
+
+pub same_read : (stores : List Stored) (slot : ℕ) (st : Stored) (k : ℕ) (o : Option ℕ) → o ≢ Some slot → option_map (read_in (set stores slot st) k) o ≡ option_map (read_in stores k) o
+same_read stores slot st k None ne = refl
+same_read stores slot st k (Some t) ne = ap (λ (s : Stored). Some (copy k s.cycle s.value s.entries)) (get_or-set_other stores slot t st no_store (λ same. ne (ap Some same)))
+
+pub put_is : (stores : List Stored) (places : List (Option ℕ)) (item slot : ℕ) (st : Stored) → item < length places → slot < length stores →
+    ((k : ℕ) → k < length places → k ≢ item → get_or places k None ≢ Some slot) →
+    copies_at (set stores slot st) (set places item (Some slot)) ≡ set (copies_at stores places) item (Some (copy item st.cycle st.value st.entries))
+put_is stores places item slot st li ls apart =
+    by_place (copies_at (set stores slot st) (set places item (Some slot))) (set (copies_at stores places) item (Some x))
+    (long (set stores slot st) (set places item (Some slot)) ∙ length-set places item (Some slot) ∙ sym (long stores places) ∙ sym (length-set (copies_at stores places) item (Some x)))
+    (λ k l. (let short : k < length places = omega (arith, long (set stores slot st) (set places item (Some slot)), length-set places item (Some slot)) in
+    at_place (set stores slot st) (set places item (Some slot)) k (omega (arith, length-set places item (Some slot))) ∙ by k short (cases_eq k item)))
+  where
+    x : Read
+    x = copy item st.cycle st.value st.entries
+
+    by : (k : ℕ) → k < length places → (k ≡ item) ⊎ (k ≡ item → ⊥) → option_map (read_in (set stores slot st) k) (get_or (set places item (Some slot)) k None) ≡ get_or (set (copies_at stores places) item (Some x)) k None
+    by k short (inl same) =
+        ap (λ j. option_map (read_in (set stores slot st) j) (get_or (set places item (Some slot)) j None)) same
+        ∙ ap (option_map (read_in (set stores slot st) item)) (get_or-set_same places item (Some slot) None li)
+        ∙ ap (λ (s : Stored). Some (copy item s.cycle s.value s.entries)) (get_or-set_same stores slot st no_store ls)
+        ∙ sym (ap (λ j. get_or (set (copies_at stores places) item (Some x)) j None) same ∙ get_or-set_same (copies_at stores places) item (Some x) None (omega (arith, long stores places)))
+    by k short (inr other) =
+        ap (option_map (read_in (set stores slot st) k)) (get_or-set_other places item k (Some slot) None other)
+        ∙ same_read stores slot st k (get_or places k None) (apart k short other)
+        ∙ sym (get_or-set_other (copies_at stores places) item k (Some x) None other ∙ at_place stores places k short)
+
+pub cleared_is : (stores : List Stored) (places : List (Option ℕ)) (item : ℕ) → item < length places → copies_at stores (set places item None) ≡ set (copies_at stores places) item None
+cleared_is stores places item li =
+    by_place (copies_at stores (set places item None)) (set (copies_at stores places) item None)
+    (long stores (set places item None) ∙ length-set places item None ∙ sym (long stores places) ∙ sym (length-set (copies_at stores places) item None))
+    (λ k l. (let short : k < length places = omega (arith, long stores (set places item None), length-set places item None) in
+    at_place stores (set places item None) k (omega (arith, length-set places item None)) ∙ by k short (cases_eq k item)))
+  where
+    by : (k : ℕ) → k < length places → (k ≡ item) ⊎ (k ≡ item → ⊥) → option_map (read_in stores k) (get_or (set places item None) k None) ≡ get_or (set (copies_at stores places) item None) k None
+    by k short (inl same) =
+        ap (λ j. option_map (read_in stores j) (get_or (set places item None) j None)) same
+        ∙ ap (option_map (read_in stores item)) (get_or-set_same places item None None li)
+        ∙ sym (ap (λ j. get_or (set (copies_at stores places) item None) j None) same ∙ get_or-set_same (copies_at stores places) item None None (omega (arith, long stores places)))
+    by k short (inr other) =
+        ap (option_map (read_in stores k)) (get_or-set_other places item k None None other)
+        ∙ sym (get_or-set_other (copies_at stores places) item k None None other ∙ at_place stores places k short)
+
+-- ---- what the code read and wrote
+pub read_place : (places : List (Option ℕ)) (item : ℕ) (r o : Option ℕ) → item < length places → r ≡ get_or places item r → r ≡ o → get_or places item None ≡ o
+read_place places item r o l e f = get_or_default places item None r l ∙ sym e ∙ f
+
+
+-- ---- a copy dropped
+pub dropped : (stores : List Stored) (places : List (Option ℕ)) (item : ℕ) → item < length places → somes (copies_at stores (set places item None)) ≡ without item (somes (copies_at stores places))
+dropped stores places item l =
+    ap somes (cleared_is stores places item l) ∙ sym (without_is (copies_at stores places) item (omega (arith, long stores places)) (placed stores places))
+
+pub none_dropped : (stores : List Stored) (places : List (Option ℕ)) (item : ℕ) → item < length places → get_or places item None ≡ None → somes (copies_at stores places) ≡ without item (somes (copies_at stores places))
+none_dropped stores places item l e =
+    ap (λ p. somes (copies_at stores p)) (sym (ap (set places item) (sym e) ∙ set-get_or places item None)) ∙ dropped stores places item l
+
+-- ---- no copies
+pub none_at_all : (stores : List Stored) (places : List (Option ℕ)) → ((i : ℕ) → i < length places → get_or places i None ≡ None) → somes (copies_at stores places) ≡ []
+none_at_all stores places none = empty (copies_at stores places) (λ k l. (let s : k < length places = omega (arith, long stores places) in at_place stores places k s ∙ ap (option_map (read_in stores k)) (none k s)))
+  where
+    empty : (os : List (Option Read)) → ((k : ℕ) → k < length os → get_or os k None ≡ None) → somes os ≡ []
+    empty [] h = refl
+    empty (None ∷ os) h = empty os (λ k l. h (suc k) (omega arith))
+    empty (Some r ∷ os) h = let f : Some r ≡ None = h 0 (omega arith) in cc

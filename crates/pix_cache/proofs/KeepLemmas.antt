@@ -1,0 +1,315 @@
+-- What becomes of a newcomer: by its item's copy, by an empty room, or by the weight of the least copy.
+use Rattle.std.proofs.Common.{◌≡◌, ◌≢◌, ℕ, zero, suc, ◌+◌, ◌-◌, ◌*◌, ◌<◌, ◌≤◌, Bool, true, false, cond, ◌==◌, if◌then◌else◌, List, [], ◌∷◌, ◌++◌, length, get_or, take, drop, All, Option, Some, None, IsTrue, refl, sym, ◌∙◌, ap, subst, arith, ◌⊎◌, inl, inr, length-append, length-drop, length-set}
+use Rattle.std.specs.List.{count_by}
+use Rattle.std.specs.Option.{is_some, option_map}
+use Rattle.std.proofs.Math.ListN.{set}
+use Rattle.std.proofs.lemmas.Bool.{cases_eq, cases_lt, cases_order, eq-eqb}
+use Rattle.std.proofs.lemmas.List.{get_or-set_other, get_or-set_same, get_or_default, set-get_or, set-set}
+use Rattle.std.proofs.lemmas.List.Elements.{All-head, All-tail}
+use Rattle.std.proofs.lemmas.List.Sums.{count_by-le-length, sum_by-cons}
+use Rattle.air_model.specs.Reads.{Read}
+use Rattle.air_model.specs.Copies.{goes_before, keep, with_copy}
+use Rattle.air_model.proofs.CopyOrders.{goes_to, keep_all, keep_one}
+use Rattle.pix_cache.specs.declared.leaf.Leaf.{Leaf}
+use Rattle.pix_cache.specs.declared.cache.KeepAnswer.{KeepAnswer}
+use Rattle.pix_cache.specs.declared.cache.KeepAnswer.TheVariants.{Evicted, Placed}
+use Rattle.pix_cache.specs.Answers.{IsAnswer}
+use Rattle.pix_cache.specs.Stores.{Stored, no_store}
+use Rattle.pix_cache.specs.Leaves.{empty_leaf, nowhere, weight}
+use Rattle.pix_cache.specs.Caches.{Cache, copy, copy_of}
+use Rattle.pix_cache.specs.CacheFields.{Agree, copies_at, read_in, somes}
+use Rattle.pix_cache.proofs.SomeLemmas.{all_somes, count_somes, left, taken, with_is}
+use Rattle.pix_cache.proofs.AgreeLemmas.{agree_put, counts, handed_on, new_leaf}
+use Rattle.pix_cache.proofs.CacheLemmas.{at_place, by_place, cleared_is, how_many, kept_copy, long, no_copy, placed, put_is}
+use Rattle.pix_cache.proofs.NodeLemmas.{copy_weight}
+
+-- ---- counts
+one_or_none : (b : Bool) → cond b 1 0 ≤ 1
+one_or_none true = omega arith
+one_or_none false = omega arith
+
+some_fails : {X : Type 0} (p : X → Bool) (xs : List X) (k : ℕ) (d : X) → k < length xs → p (get_or xs k d) ≡ false → count_by p xs < length xs
+some_fails p [] k d l e = absurd (omega arith)
+some_fails p (x ∷ xs) zero d l e =
+    let rest = count_by-le-length p xs in
+    let head : ◌≡◌ {A = ℕ} (cond (p x) 1 0) 0 = ap (λ b. cond b 1 0) e in
+    let sum = sum_by-cons (λ z. cond (p z) 1 0) x xs in
+    omega arith
+some_fails p (x ∷ xs) (suc k) d l e =
+    let rest = some_fails p xs k d (omega arith) e in
+    let head = one_or_none (p x) in
+    let sum = sum_by-cons (λ z. cond (p z) 1 0) x xs in
+    omega arith
+
+all_pass : {X : Type 0} (p : X → Bool) (xs : List X) → All (λ x. p x ≡ true) xs → count_by p xs ≡ length xs
+all_pass p [] h = refl
+all_pass p (x ∷ xs) h =
+    let rest = all_pass p xs (All-tail (λ x. p x ≡ true) x xs h) in
+    let head : ◌≡◌ {A = ℕ} (cond (p x) 1 0) 1 = ap (λ b. cond b 1 0) (All-head (λ x. p x ≡ true) x xs h) in
+    let sum = sum_by-cons (λ z. cond (p z) 1 0) x xs in
+    omega arith
+
+-- ---- weights
+heavy_kept : (a : Leaf) → 0 < weight a → a.kept ≡ true
+heavy_kept a l = by a.kept l
+  where
+    by : (b : Bool) → 0 < (if b then a.pix * 65538 + (65536 - a.item) + 1 else 0) → b ≡ true
+    by true l = refl
+    by false l = absurd (omega arith)
+
+-- the copy of a heavier leaf goes before that of a lighter one
+goes : (pix : List ℕ) (r s : Read) (a b : Leaf) → a.kept ≡ true → b.kept ≡ true → a.item ≡ s.item → b.item ≡ r.item → a.pix ≡ get_or pix s.item 0 → b.pix ≡ get_or pix r.item 0 →
+    s.item < 65536 → r.item < 65536 → s.item ≢ r.item → weight a ≤ weight b → goes_before pix r s ≡ true
+goes pix r s a b ka kb ia ib pa pb ls lr ne le = goes_to pix r s (by (cases_order (get_or pix s.item 0) (get_or pix r.item 0)) (cases_lt r.item s.item))
+  where
+    by : (get_or pix s.item 0 ≡ get_or pix r.item 0) ⊎ ((get_or pix s.item 0 < get_or pix r.item 0) ⊎ (get_or pix r.item 0 < get_or pix s.item 0)) → (r.item < s.item) ⊎ (s.item ≤ r.item)
+        → (get_or pix s.item 0 < get_or pix r.item 0) ⊎ ((get_or pix s.item 0 ≡ get_or pix r.item 0) × (r.item < s.item))
+    by (inr (inl less)) i = inl less
+    by (inr (inr more)) i = let wa = copy_weight a ka in let wb = copy_weight b kb in absurd (omega arith)
+    by (inl same) (inl i) = inr (same, i)
+    by (inl same) (inr i) = let wa = copy_weight a ka in let wb = copy_weight b kb in absurd (let less : s.item < r.item = omega (arith, ne) in omega arith)
+
+-- ---- one copy too many
+least_out : (room : ℕ) (pix : List ℕ) (os : List (Option Read)) (m : ℕ) (r : Read) → m < length os → get_or os m None ≡ Some r → length (somes os) ≡ room + 1 →
+    ((k : ℕ) (s : Read) → k < length os → get_or os k None ≡ Some s → k ≢ m → goes_before pix s r ≡ true) → keep room pix (somes os) ≡ somes (set os m None)
+least_out room pix os m r l e size others =
+    ap (keep room pix) (taken os m l r e)
+    ∙ keep_one room pix (somes (take m os)) (somes (drop (suc m) os)) r
+    (let n = ap length (taken os m l r e) in
+    let two = length-append (somes (take m os)) (r ∷ somes (drop (suc m) os)) in
+    let one = length-append (somes (take m os)) (somes (drop (suc m) os)) in omega arith)
+    (subst (All (λ s. IsTrue (goes_before pix s r))) (left os m l) (all_somes (λ s. IsTrue (goes_before pix s r)) (set os m None) (λ k s lk es. by k s (omega (arith, length-set os m None)) es (cases_eq k m))))
+    ∙ sym (left os m l)
+  where
+    by : (k : ℕ) (s : Read) → k < length os → get_or (set os m None) k None ≡ Some s → (k ≡ m) ⊎ (k ≡ m → ⊥) → goes_before pix s r ≡ true
+    by k s lk es (inl same) = let f : None ≡ Some s = sym (get_or-set_same os m None None l) ∙ ap (λ j. get_or (set os m None) j None) (sym same) ∙ es in cc
+    by k s lk es (inr other) = others k s lk (sym (get_or-set_other os m k None None other) ∙ es) other
+
+module _ (pix : List ℕ) (places : List (Option ℕ)) (leaves : List Leaf) (stores : List Stored) (a : Agree pix places leaves) (same : length stores ≡ length leaves) (small : length places ≤ 65536)
+    (item : ℕ) (li : item < length places) (st : Stored) where
+  abbrev os : List (Option Read)
+  os = copies_at stores places
+
+  abbrev copies : List Read
+  copies = somes (copies_at stores places)
+
+  abbrev x : Read
+  x = copy item st.cycle st.value st.entries
+
+  long_os : item < length os
+  long_os = omega (arith, long stores places)
+
+  size : length copies ≡ count_by (λ (l : Leaf). l.kept) leaves
+  size = how_many stores places ∙ a.counted
+
+  joined : with_copy x copies ≡ somes (set os item (Some x))
+  joined = with_is os item long_os x refl (placed stores places)
+
+  -- the item's own copy
+  alone : (slot : ℕ) → get_or places item None ≡ Some slot → (k : ℕ) → k < length places → k ≢ item → get_or places k None ≢ Some slot
+  alone slot e k l ne f = ne (ap (λ (b : Leaf). b.item) (sym (a.leaf k slot l f) ∙ a.leaf item slot li e))
+
+  pub replaced : (slot : ℕ) → get_or places item None ≡ Some slot → keep (length leaves) pix (with_copy x copies) ≡ somes (copies_at (set stores slot st) places)
+  replaced slot e =
+      let within = a.within item slot li e in
+      ap (keep (length leaves) pix) joined
+      ∙ keep_all (length leaves) pix (somes (set os item (Some x)))
+      (let n = count_somes (set os item (Some x)) in
+      let m = count_somes os in
+      let one = counts is_some os item (Some x) None true true long_os (ap is_some (at_place stores places item li ∙ ap (option_map (read_in stores item)) e)) refl in
+      let few = count_by-le-length (λ (l : Leaf). l.kept) leaves in
+      let s = size in omega arith)
+      ∙ sym (ap somes (ap (copies_at (set stores slot st)) (sym (ap (set places item) (sym e) ∙ set-get_or places item None))
+      ∙ put_is stores places item slot st li (omega arith) (alone slot e)))
+
+  module _ (none : get_or places item None ≡ None) where
+    nothing_here : get_or os item None ≡ None
+    nothing_here = at_place stores places item li ∙ ap (option_map (read_in stores item)) none
+
+    one_more : length (somes (set os item (Some x))) ≡ length copies + 1
+    one_more =
+        let n = count_somes (set os item (Some x)) in
+        let m = count_somes os in
+        let one = counts is_some os item (Some x) None false true long_os (ap is_some nothing_here) refl in
+        omega arith
+
+    -- a free room
+    free_alone : (slot : ℕ) → (get_or leaves slot nowhere).kept ≡ false → (k : ℕ) → k < length places → k ≢ item → get_or places k None ≢ Some slot
+    free_alone slot free k l ne f = let t : true ≡ false = sym (ap (λ (b : Leaf). b.kept) (a.leaf k slot l f)) ∙ free in cc
+
+    pub fewer : (slot : ℕ) → slot < length leaves → (get_or leaves slot nowhere).kept ≡ false → length copies < length leaves
+    fewer slot ls free = let f = some_fails (λ (l : Leaf). l.kept) leaves slot nowhere ls free in let s = size in omega arith
+
+    pub put_in : (slot : ℕ) → slot < length leaves → (get_or leaves slot nowhere).kept ≡ false → keep (length leaves) pix (with_copy x copies) ≡ somes (copies_at (set stores slot st) (set places item (Some slot)))
+    put_in slot ls free =
+        ap (keep (length leaves) pix) joined
+        ∙ keep_all (length leaves) pix (somes (set os item (Some x))) (let f = fewer slot ls free in let m = one_more in omega arith)
+        ∙ sym (ap somes (put_is stores places item slot st li (omega arith) (free_alone slot free)))
+
+    -- the leaf of another copy
+    leaf_of : (k : ℕ) (s : Read) → k < length places → get_or os k None ≡ Some s → (slot : ℕ) × (slot < length leaves) × (get_or leaves slot nowhere ≡ new_leaf pix k slot) × (s.item ≡ k)
+    leaf_of k s l e = by (get_or places k None) refl (sym (at_place stores places k l) ∙ e)
+      where
+        by : (o : Option ℕ) → get_or places k None ≡ o → option_map (read_in stores k) (get_or places k None) ≡ Some s → (slot : ℕ) × (slot < length leaves) × (get_or leaves slot nowhere ≡ new_leaf pix k slot) × (s.item ≡ k)
+        by None f g = let h : None ≡ Some s = sym (ap (option_map (read_in stores k)) f) ∙ g in cc
+        by (Some slot) f g =
+            let h : Some (read_in stores k slot) ≡ Some s = sym (ap (option_map (read_in stores k)) f) ∙ g in
+            let i : read_in stores k slot ≡ s = cc in
+            (slot, a.within k slot l f, a.leaf k slot l f, sym (ap (λ (r : Read). r.item) i))
+
+    full : ((s : ℕ) → s < length leaves → 0 < weight (get_or leaves s nowhere)) → length copies ≡ length leaves
+    full heavy = size ∙ all_pass (λ (l : Leaf). l.kept) leaves (λ k d l. subst (λ (b : Leaf). b.kept ≡ true) (get_or_default leaves k nowhere d l) (heavy_kept (get_or leaves k nowhere) (heavy k l)))
+
+    -- the newcomer is lighter than each
+    module _ (n : ℕ) (lighter : (s : ℕ) → s < length leaves → weight (new_leaf pix item n) < weight (get_or leaves s nowhere)) where
+      pub declined_full : length copies ≡ length leaves
+      declined_full = full (λ s l. let w = lighter s l in omega arith)
+
+      behind : (k : ℕ) (s : Read) → k < length places → get_or os k None ≡ Some s → k ≢ item → goes_before pix s x ≡ true
+      behind k s l e ne =
+          let f = leaf_of k s l e in
+          let w = lighter f.0 f.1 in
+          let leaf = f.2 in
+          let at = f.3 in
+          let heavy = ap weight leaf in
+          goes pix s x (new_leaf pix item n) (new_leaf pix k f.0) refl refl refl (sym at) refl (ap (λ j. get_or pix j 0) (sym at)) (omega arith) (omega arith) (λ i. ne (sym at ∙ sym i)) (omega arith)
+
+      not_here : (k : ℕ) (s : Read) → get_or os k None ≡ Some s → k ≢ item
+      not_here k s e i = let f : None ≡ Some s = sym nothing_here ∙ ap (λ j. get_or os j None) (sym i) ∙ e in cc
+
+      pub all_before : All (λ r. IsTrue (goes_before pix r x)) copies
+      all_before = all_somes (λ r. IsTrue (goes_before pix r x)) os (λ k s l e. behind k s (omega (arith, long stores places)) e (not_here k s e))
+
+      pub declined : keep (length leaves) pix (with_copy x copies) ≡ copies
+      declined =
+          ap (keep (length leaves) pix) joined
+          ∙ least_out (length leaves) pix (set os item (Some x)) item x (omega (arith, length-set os item (Some x), long_os)) (get_or-set_same os item (Some x) None long_os)
+          (let m = one_more in let f = declined_full in omega arith)
+          (λ k s l e ne. behind k s (omega (arith, length-set os item (Some x), long stores places)) (sym (get_or-set_other os item k (Some x) None ne) ∙ e) ne)
+          ∙ ap somes (set-set os item (Some x) None ∙ ap (set os item) (sym nothing_here) ∙ set-get_or os item None)
+
+    -- another is lighter than each, and than the newcomer
+    module _ (m slot n : ℕ) (lm : m < length places) (its : get_or places m None ≡ Some slot) (least : (s : ℕ) → s < length leaves → weight (get_or leaves slot nowhere) ≤ weight (get_or leaves s nowhere))
+        (heavier : weight (get_or leaves slot nowhere) ≤ weight (new_leaf pix item n)) where
+      abbrev r : Read
+      r = read_in stores m slot
+
+      other_item : m ≢ item
+      other_item i = let f : None ≡ Some slot = sym none ∙ ap (λ j. get_or places j None) (sym i) ∙ its in cc
+
+      some_weight : 0 < weight (get_or leaves slot nowhere)
+      some_weight = let e = ap weight (a.leaf m slot lm its) in omega arith
+
+      pub evicted_full : length copies ≡ length leaves
+      evicted_full = full (λ s l. let w = least s l in let p = some_weight in omega arith)
+
+      pub newcomer_before : goes_before pix x r ≡ true
+      newcomer_before =
+          let e = ap weight (a.leaf m slot lm its) in
+          goes pix x r (new_leaf pix m slot) (new_leaf pix item n) refl refl refl refl refl refl (omega arith) (omega arith) other_item (omega arith)
+
+      rest_before : (k : ℕ) (s : Read) → k < length places → get_or os k None ≡ Some s → k ≢ m → goes_before pix s r ≡ true
+      rest_before k s l e ne =
+          let f = leaf_of k s l e in
+          let w = least f.0 f.1 in
+          let leaf = f.2 in
+          let at = f.3 in
+          let heavy = ap weight leaf in
+          let light = ap weight (a.leaf m slot lm its) in
+          goes pix s r (new_leaf pix m slot) (new_leaf pix k f.0) refl refl refl (sym at) refl (ap (λ j. get_or pix j 0) (sym at)) (omega arith) (omega arith) (λ i. ne (sym at ∙ sym i)) (omega arith)
+
+      pub least_last : All (λ s. IsTrue (s.item == m) ⊎ IsTrue (goes_before pix s r)) copies
+      least_last = all_somes (λ s. IsTrue (s.item == m) ⊎ IsTrue (goes_before pix s r)) os (λ k s l e. by k s (omega (arith, long stores places)) e (cases_eq k m))
+        where
+          by : (k : ℕ) (s : Read) → k < length places → get_or os k None ≡ Some s → (k ≡ m) ⊎ (k ≡ m → ⊥) → IsTrue (s.item == m) ⊎ IsTrue (goes_before pix s r)
+          by k s l e (inl i) = inl (eq-eqb s.item m ((leaf_of k s l e).3 ∙ i))
+          by k s l e (inr ne) = inr (rest_before k s l e ne)
+
+      held : get_or os m None ≡ Some r
+      held = at_place stores places m lm ∙ ap (option_map (read_in stores m)) its
+
+      swapped : set (set os item (Some x)) m None ≡ set (set os m None) item (Some x)
+      swapped = by_place (set (set os item (Some x)) m None) (set (set os m None) item (Some x))
+          (length-set (set os item (Some x)) m None ∙ length-set os item (Some x) ∙ sym (length-set os m None) ∙ sym (length-set (set os m None) item (Some x)))
+          (λ k l. by k (cases_eq k m) (cases_eq k item))
+        where
+          by : (k : ℕ) → (k ≡ m) ⊎ (k ≡ m → ⊥) → (k ≡ item) ⊎ (k ≡ item → ⊥) → get_or (set (set os item (Some x)) m None) k None ≡ get_or (set (set os m None) item (Some x)) k None
+          by k (inl i) (inl j) = absurd (other_item (sym i ∙ j))
+          by k (inl i) (inr nj) =
+              ap (λ j. get_or (set (set os item (Some x)) m None) j None) i ∙ get_or-set_same (set os item (Some x)) m None None (omega (arith, length-set os item (Some x), long stores places))
+              ∙ sym (get_or-set_other (set os m None) item k (Some x) None nj ∙ ap (λ j. get_or (set os m None) j None) i ∙ get_or-set_same os m None None (omega (arith, long stores places)))
+          by k (inr ni) (inl j) =
+              get_or-set_other (set os item (Some x)) m k None None ni ∙ ap (λ i. get_or (set os item (Some x)) i None) j ∙ get_or-set_same os item (Some x) None long_os
+              ∙ sym (ap (λ i. get_or (set (set os m None) item (Some x)) i None) j ∙ get_or-set_same (set os m None) item (Some x) None (omega (arith, length-set os m None, long_os)))
+          by k (inr ni) (inr nj) =
+              get_or-set_other (set os item (Some x)) m k None None ni ∙ get_or-set_other os item k (Some x) None nj
+              ∙ sym (get_or-set_other (set os m None) item k (Some x) None nj ∙ get_or-set_other os m k None None ni)
+
+      left_alone : (k : ℕ) → k < length (set places m None) → k ≢ item → get_or (set places m None) k None ≢ Some slot
+      left_alone k l ne f = by (cases_eq k m)
+        where
+          by : (k ≡ m) ⊎ (k ≡ m → ⊥) → ⊥
+          by (inl i) = let g : None ≡ Some slot = sym (get_or-set_same places m None None lm) ∙ ap (λ j. get_or (set places m None) j None) (sym i) ∙ f in cc
+          by (inr ni) = ni (ap (λ (b : Leaf). b.item) (sym (a.leaf k slot (omega (arith, length-set places m None)) (sym (get_or-set_other places m k None None ni) ∙ f)) ∙ a.leaf m slot lm its))
+
+      pub evicted : keep (length leaves) pix (with_copy x copies) ≡ somes (copies_at (set stores slot st) (set (set places m None) item (Some slot)))
+      evicted =
+          let within = a.within m slot lm its in
+          ap (keep (length leaves) pix) joined
+          ∙ least_out (length leaves) pix (set os item (Some x)) m r (omega (arith, length-set os item (Some x), long stores places)) (get_or-set_other os item m (Some x) None other_item ∙ held)
+          (let p = one_more in let f = evicted_full in omega arith)
+          (λ k s l e ne. by k s (omega (arith, length-set os item (Some x), long stores places)) e ne (cases_eq k item))
+          ∙ ap somes (swapped ∙ ap (λ o. set o item (Some x)) (sym (cleared_is stores places m lm)) ∙ sym (put_is stores (set places m None) item slot st (omega (arith, length-set places m None)) (omega arith) left_alone))
+        where
+          by : (k : ℕ) (s : Read) → k < length places → get_or (set os item (Some x)) k None ≡ Some s → k ≢ m → (k ≡ item) ⊎ (k ≡ item → ⊥) → goes_before pix s r ≡ true
+          by k s l e ne (inl i) =
+              let f : Some x ≡ Some s = sym (get_or-set_same os item (Some x) None long_os) ∙ ap (λ j. get_or (set os item (Some x)) j None) (sym i) ∙ e in
+              let g : x ≡ s = cc in subst (λ (t : Read). goes_before pix t r ≡ true) g newcomer_before
+          by k s l e ne (inr nj) = rest_before k s l (sym (get_or-set_other os item k (Some x) None nj) ∙ e) ne
+
+    -- The lightest room, which the newcomer takes.
+    module _ (r : Leaf) (lr : r.slot < length leaves) (at : get_or leaves r.slot nowhere ≡ r) (heavier : weight r ≤ weight (new_leaf pix item 0)) (light : All (λ b. weight r ≤ weight b) leaves) where
+      -- What is so once the newcomer has that room, by the places that were left.
+      abbrev pub Outcome : List (Option ℕ) → KeepAnswer → Type 0
+      Outcome rest answer = Agree pix (set rest item (Some r.slot)) (set leaves r.slot (new_leaf pix item r.slot))
+          × (keep (length leaves) pix (with_copy x copies) ≡ somes (copies_at (set stores r.slot st) (set rest item (Some r.slot))))
+          × IsAnswer (length leaves) pix copies x answer
+
+      pub outcome : Outcome (if r.kept then set places r.item None else places) (if r.kept then Evicted r.item else Placed)
+      outcome = by r.kept refl
+        where
+          weighs : weight (get_or leaves r.slot nowhere) ≡ weight r
+          weighs = ap weight at
+
+          by : (b : Bool) → r.kept ≡ b → Outcome (if b then set places r.item None else places) (if b then Evicted r.item else Placed)
+          by true e =
+              let kept : (get_or leaves r.slot nowhere).kept ≡ true = ap (λ (b : Leaf). b.kept) at ∙ e in
+              let lm : r.item < length places = subst (λ (b : Leaf). b.item < length places) at (a.item r.slot lr kept) in
+              let its : get_or places r.item None ≡ Some r.slot = subst (λ (b : Leaf). get_or places b.item None ≡ Some r.slot) at (a.place r.slot lr kept) in
+              let least : (s : ℕ) → s < length leaves → weight (get_or leaves r.slot nowhere) ≤ weight (get_or leaves s nowhere) = λ s l. (let w = light s nowhere l in let v = weighs in omega arith) in
+              let heavy : weight (get_or leaves r.slot nowhere) ≤ weight (new_leaf pix item r.slot) = (let v = weighs in omega arith) in
+              let full = evicted_full r.item r.slot r.slot lm its least heavy in (
+                handed_on pix places leaves r.item item r.slot a lm li lr its none,
+                evicted r.item r.slot r.slot lm its least heavy,
+                (
+                  (no_copy stores places item li none, omega arith),
+                  read_in stores r.item r.slot,
+                  kept_copy stores places r.item r.slot lm its,
+                  newcomer_before r.item r.slot r.slot lm its least heavy,
+                  least_last r.item r.slot r.slot lm its least heavy,
+                ),
+              )
+          by false e =
+              let free : (get_or leaves r.slot nowhere).kept ≡ false = ap (λ (b : Leaf). b.kept) at ∙ e in (
+                agree_put pix places leaves item r.slot a li lr none free,
+                put_in r.slot lr free,
+                (no_copy stores places item li none, fewer r.slot lr free),
+              )
+
+-- ---- the clause, from what the fields say
+pub kept_form : (pix : List ℕ) (rooms k n : ℕ) (kept new : List Read) (y : Read) (self : Cache) → ◌≡◌ {A = Cache} (record { room = rooms; pix = pix; copies = kept }) self → k ≡ rooms → n ≡ rooms →
+    keep k pix (with_copy y kept) ≡ new → ◌≡◌ {A = Cache} (record { room = n; pix = pix; copies = new }) (record { room = self.room; pix = self.pix; copies = keep self.room self.pix (with_copy y self.copies) })
+kept_form pix rooms k n kept new y self view ek en h =
+    ap {B = Cache} (λ (m : ℕ). record { room = m; pix = pix; copies = new }) en
+    ∙ ap {B = Cache} (λ (c : List Read). record { room = rooms; pix = pix; copies = c }) (sym h ∙ ap (λ m. keep m pix (with_copy y kept)) ek)
+    ∙ ap {B = Cache} (λ (s : Cache). record { room = s.room; pix = s.pix; copies = keep s.room s.pix (with_copy y s.copies) }) view

@@ -1,0 +1,9 @@
+pub mod NodeLemmas
+pub mod StoreLemmas
+pub mod SomeLemmas
+pub mod AgreeLemmas
+pub mod CacheLemmas
+pub mod KeepLemmas
+pub mod FieldLemmas
+pub mod OtherLemmas
+pub mod AnswerLemmas

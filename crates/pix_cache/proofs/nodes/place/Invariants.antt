@@ -1,0 +1,15 @@
+use Rattle.std.proofs.Common.{◌≡◌, ◌≢◌, ℕ, ◌/◌, ◌*◌, ◌<◌, ◌≤◌, drop, length}
+use Rattle.std.specs.Prelude.{slice_set}
+use Rattle.pix_cache.specs.Trees.{IsNode}
+use Rattle.pix_cache.proofs.nodes.place.Given as goal
+
+abbrev pub invariant-loop-node : goal.invariant-loop-node
+invariant-loop-node l = record {
+  some : 1 ≤ l.node;
+  within : l.node < 2 * l.rooms;
+  nodes : (v : ℕ) → 1 ≤ v → v < l.rooms → v ≢ l.node / 2 → IsNode l.nodes v;
+  leaves : drop l.rooms l.nodes ≡ slice_set (drop l.rooms l.fn.nodes) l.fn.leaf.slot l.fn.leaf;
+}
+
+abbrev pub decreases-loop-node : goal.decreases-loop-node
+decreases-loop-node l = l.node

@@ -1,0 +1,21 @@
+-- What contracts see of the rooms for copies: what each holds, and how many entries a copy has.
+use Rattle.std.specs.Prelude.{ℕ, List, []}
+
+-- What a room holds of a copy.
+pub record Stored : Type 0 where
+  pub cycle : ℕ
+  pub value : ℕ
+  pub entries : List ℕ
+
+-- A copy as a room holds it.
+abbrev pub stored : ℕ → ℕ → List ℕ → Stored
+stored cycle value entries = record { cycle = cycle; value = value; entries = entries }
+
+-- What is read where there is no room.
+abbrev pub no_store : Stored
+no_store = stored 0 0 []
+
+-- The rooms, and how many entries each has room for.
+pub record Store : Type 0 where
+  pub width : ℕ
+  pub stores : List Stored

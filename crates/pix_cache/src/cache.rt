@@ -1,0 +1,182 @@
+//! The cache: contracts see its room, the PIX numbers and the kept copies by rising item.
+//!
+//! `places` has the room of each item that is kept, `store` what each room holds, `tree` the room to take next.
+
+ghost use Rattle.std.specs.Prelude.{◌≡◌, ◌≢◌, ◌↔◌, ◌<◌, ◌≤◌, ◌++◌, ℕ, true, [], List, length, sum_by, None, if◌then◌else◌, IfOk, MatchOption, IsPermutation, slice_set};
+ghost use Rattle.air_base.specs.declared.limits.TheConstants.{MOST_ROOM};
+ghost use Rattle.air_model.specs.Reads.{Read};
+ghost use Rattle.air_model.specs.Copies.{keep, pix_of, with_copy, without};
+ghost use Rattle.pix_cache.specs.Caches.{FindsRoom, GivesWay, HasCopy, IsLeast, copy, copy_of};
+ghost use Rattle.pix_cache.specs.Answers.{IsAnswer};
+ghost use Rattle.pix_cache.specs.declared.cache.KeepAnswer.TheVariants.{Declined, Evicted, Placed, Replaced};
+
+use crate::leaf::Leaf;
+use crate::store::{Kept, Store};
+use crate::tree::Tree;
+use air_base::NoMemory;
+use std::alloc::Global;
+use std::marker::Model;
+
+/// What became of a newcomer.
+#[derive(Clone, Copy, Debug, PartialEq, Eq, Drop)]
+pub enum KeepAnswer {
+    /// It took the place of its item's copy.
+    Replaced,
+    /// There was room.
+    Placed,
+    /// It is the least of all.
+    Declined,
+    /// It took the place of the least copy, that of this item.
+    Evicted(u16),
+}
+
+/// At most so many copies, each of an item of its own.
+#[derive(Drop)]
+pub struct PixCache {
+    pix: Vec<u64>,
+    places: Vec<Option<u16>>,
+    store: Store,
+    tree: Tree,
+}
+
+impl Model for PixCache {
+    ghost use Rattle.pix_cache.specs.Caches.{Cache};
+
+    ghost Value = { Cache };
+
+    ghost use Rattle.pix_cache.specs.CacheFields.{KeepsCopies, cache_of};
+
+    ghost view = { cache_of };
+
+    ghost invariant = { KeepsCopies };
+}
+
+/// Takes its room from the copy that the leaf is of, if it is of one.
+fn leave(places: &mut [Option<u16>], leaf: &Leaf)
+    requires { leaf.now.kept ≡ true → leaf.now.item < length places.old }
+    ensures { places.new ≡ (if leaf.now.kept then slice_set places.old leaf.now.item None else places.old) }
+{
+    if leaf.kept {
+        places[leaf.item as usize] = None;
+    }
+}
+
+/// The answer to a newcomer that takes this room.
+fn answer(leaf: &Leaf) -> KeepAnswer
+    ensures { result ≡ (if leaf.now.kept then Evicted leaf.now.item else Placed) }
+{
+    if leaf.kept {
+        KeepAnswer::Evicted(leaf.item)
+    } else {
+        KeepAnswer::Placed
+    }
+}
+
+impl PixCache {
+    /// No copies yet, and room for so many, over as many items as there are PIX numbers. It takes all memory.
+    pub fn new(alloc: Global, room: u32, pix: &[u64]) -> Result<PixCache, NoMemory>
+        requires room { room ≤ MOST_ROOM }
+        requires items { length pix.now ≤ 65536 }
+        ensures { IfOk result (λ c. c ≡ record { room = room; pix = pix.now; copies = [] }) }
+    {
+        let rooms = room as usize;
+        Ok(PixCache {
+            pix: pix.to_vec(alloc)?,
+            places: vec![in alloc; None; pix.len()]?,
+            store: Store::new(alloc, rooms, pix.len())?,
+            tree: Tree::new(alloc, rooms)?,
+        })
+    }
+
+    /// The kept copy of an item. It takes constant time.
+    pub fn get(&self, item: u16) -> Option<Kept<'_>>
+        requires { item < length self.now.pix }
+        ensures { MatchOption result (copy_of item self.now.copies ≡ None)
+            (λ k. copy_of item self.now.copies ≡ Some (copy item k.cycle k.value k.column.now)) }
+    {
+        let slot = self.places[item as usize]?;
+        Some(self.store.get(slot))
+    }
+
+    /// Keeps the newcomer, if it is not the least of all: in place of its item's copy, in a free room, or in that of the
+    /// least copy. It takes time for the column, and for each doubling of the room.
+    pub fn keep(&mut self, item: u16, cycle: u32, value: u64, column: &[u32]) -> KeepAnswer
+        requires item { item < length self.old.pix }
+        requires column { length column.now ≡ length self.old.pix }
+
+        // The copies are the greatest by PIX number of those before and the newcomer, as many as there is room for.
+        ensures kept { let x = copy item cycle value column.now in
+            self.new ≡ record self.old { copies = keep self.old.room self.old.pix (with_copy x self.old.copies) } }
+
+        // No choice of as many of these has a greater sum.
+        ensures most { let x = copy item cycle value column.now in (chosen rest : List Read) →
+            IsPermutation (chosen ++ rest) (with_copy x self.old.copies) → length chosen ≤ length self.new.copies →
+            sum_by (pix_of self.old.pix) chosen ≤ sum_by (pix_of self.old.pix) self.new.copies }
+
+        // The copies of other items stay, but for the one that gives way.
+        ensures others { (other : ℕ) → other < length self.old.pix → other ≢ item → result ≢ Evicted other →
+            copy_of other self.new.copies ≡ copy_of other self.old.copies }
+
+        // Each answer comes exactly where it says.
+        ensures replaced { let x = copy item cycle value column.now in (result ≡ Replaced) ↔ HasCopy self.old.copies x }
+        ensures placed { let x = copy item cycle value column.now in (result ≡ Placed) ↔ FindsRoom self.old.room self.old.copies x }
+        ensures declined { let x = copy item cycle value column.now in
+            (result ≡ Declined) ↔ IsLeast self.old.room self.old.pix self.old.copies x }
+        ensures evicted { let x = copy item cycle value column.now in (least : ℕ) →
+            (result ≡ Evicted least) ↔ GivesWay self.old.room self.old.pix self.old.copies x least }
+    {
+        self.offer(item, cycle, value, column)
+    }
+
+    /// `keep`, with its answer by case.
+    fn offer(&mut self, item: u16, cycle: u32, value: u64, column: &[u32]) -> KeepAnswer
+        requires item { item < length self.old.pix }
+        requires column { length column.now ≡ length self.old.pix }
+        ensures kept { let x = copy item cycle value column.now in
+            self.new ≡ record self.old { copies = keep self.old.room self.old.pix (with_copy x self.old.copies) } }
+        ensures others { (other : ℕ) → other < length self.old.pix → other ≢ item → result ≢ Evicted other →
+            copy_of other self.new.copies ≡ copy_of other self.old.copies }
+        ensures answer { let x = copy item cycle value column.now in
+            IsAnswer self.old.room self.old.pix self.old.copies x result }
+    {
+        if let Some(slot) = self.places[item as usize] {
+            self.store.put(slot, cycle, value, column);
+            return KeepAnswer::Replaced;
+        }
+        let pix = self.pix[item as usize];
+        let Some(least) = self.tree.room_for(item, pix) else {
+            return KeepAnswer::Declined;
+        };
+        leave(&mut self.places, &least);
+        let slot = least.slot;
+        self.places[item as usize] = Some(slot);
+        self.store.put(slot, cycle, value, column);
+        self.tree.put(Leaf {
+            slot,
+            kept: true,
+            pix,
+            item,
+        });
+        answer(&least)
+    }
+
+    /// Drops the copy of an item, if there is one.
+    pub fn drop_copy(&mut self, item: u16)
+        requires { item < length self.old.pix }
+        ensures { self.new ≡ record self.old { copies = without item self.old.copies } }
+    {
+        if let Some(slot) = self.places[item as usize] {
+            self.places[item as usize] = None;
+            self.tree.put(Leaf::empty(slot));
+        }
+    }
+
+    /// Takes other PIX numbers; the copies stay.
+    pub fn reorder(&mut self, pix: &[u64])
+        requires { length pix.now ≡ length self.old.pix }
+        ensures { self.new ≡ record self.old { pix = pix.now } }
+    {
+        self.pix.copy_from_slice(pix);
+        self.tree.reorder(pix);
+    }
+}
