@@ -33,7 +33,7 @@ module _ (r : Receiver) where
   stepped_settles : settle (judge_of r) r.air r.reader (stepped r) ≡ settle (judge_of r) r.air r.reader r.state
   stepped_settles = by (nat_lt 0 (length r.state.lines))
     where
-      by : (b : Bool) → settle (judge_of r) r.air r.reader (cond b r.state (Steps.step (judge_of r) r.air r.reader r.state)) ≡ settle (judge_of r) r.air r.reader r.state
+      by : (b : Bool) → settle (judge_of r) r.air r.reader (cond b r.state (ReceiverSteps.step (judge_of r) r.air r.reader r.state)) ≡ settle (judge_of r) r.air r.reader r.state
       by true = refl
       by false = (on_the_way (judge_of r) r.air r.reader r.state).steps
 
@@ -41,8 +41,8 @@ module _ (r : Receiver) where
   no_line_settles : (stepped r).lines ≡ [] → stepped r ≡ settle (judge_of r) r.air r.reader r.state
   no_line_settles none = by (nat_lt 0 (length r.state.lines)) refl none
     where
-      by : (b : Bool) → nat_lt 0 (length r.state.lines) ≡ b → (cond b r.state (Steps.step (judge_of r) r.air r.reader r.state)).lines ≡ []
-          → cond b r.state (Steps.step (judge_of r) r.air r.reader r.state) ≡ settle (judge_of r) r.air r.reader r.state
+      by : (b : Bool) → nat_lt 0 (length r.state.lines) ≡ b → (cond b r.state (ReceiverSteps.step (judge_of r) r.air r.reader r.state)).lines ≡ []
+          → cond b r.state (ReceiverSteps.step (judge_of r) r.air r.reader r.state) ≡ settle (judge_of r) r.air r.reader r.state
       by true some none = absurd (let more = ltb-true 0 (length r.state.lines) some in let empty : length r.state.lines ≡ 0 = ap length none in omega arith)
       by false waits none = (on_the_way (judge_of r) r.air r.reader r.state).no_line none
 

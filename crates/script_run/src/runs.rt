@@ -16,6 +16,7 @@ use air_base::NoMemory;
 use air_history::Event;
 use air_sender::laws::{below_law, own_cycle_law};
 use air_sender::{TapeMast, air_cycle, tape_bytes};
+use bucket_codec::offsets::{ENTRY_BYTES, HEAD_BYTES};
 use chunk_program::Program;
 use control_matrix::Board;
 use item_catalog::Deck;
@@ -62,7 +63,7 @@ impl ScriptRun {
             events: Vec::new(alloc),
             board: Board::new(alloc, &values)?,
             tape: TapeMast::new(alloc, bytes)?,
-            room: vec![in alloc; 0; 24 + 4 * n as usize]?,
+            room: vec![in alloc; 0; HEAD_BYTES + ENTRY_BYTES * n as usize]?,
         })
     }
 
@@ -71,9 +72,9 @@ impl ScriptRun {
         requires planned { program.now ≡ disks_in deck.now }
         requires stepped { self.old.board ≡ board_of (values_in deck.now) (self.old.events.items ++ event.now ∷ []) }
         requires aired { (told_by self.old.tape).buckets ≡ aired_bytes deck.now self.old.events.items }
-        requires room { length self.old.room.items ≡ 24 + 4 * length deck.now.items }
+        requires room { length self.old.room.items ≡ HEAD_BYTES + ENTRY_BYTES * length deck.now.items }
         ensures aired { OnOk result ((told_by self.new.tape).buckets ≡ aired_bytes deck.now (self.old.events.items ++ event.now ∷ [])) }
-        ensures room { length self.new.room.items ≡ 24 + 4 * length deck.now.items }
+        ensures room { length self.new.room.items ≡ HEAD_BYTES + ENTRY_BYTES * length deck.now.items }
         ensures events { self.new.events ≡ self.old.events }
         ensures board { self.new.board ≡ self.old.board }
     {
