@@ -1,5 +1,5 @@
 -- That rooms and items agree: a copy put into an empty room, a room emptied, and other PIX numbers.
-use Rattle.std.proofs.Common.{◌≡◌, ◌≢◌, ℕ, zero, suc, ◌+◌, ◌-◌, ◌*◌, ◌<◌, ◌≤◌, Bool, true, false, cond, ◌==◌, if◌then◌else◌, List, [], ◌∷◌, length, map, get_or, Option, Some, None, refl, sym, ◌∙◌, ap, subst, arith, ◌⊎◌, inl, inr, length-set}
+use Rattle.std.proofs.Common.{◌≡◌, ◌≢◌, ℕ, suc, ◌+◌, ◌<◌, Bool, true, false, cond, if◌then◌else◌, List, [], ◌∷◌, length, map, get_or, Option, Some, None, refl, sym, ◌∙◌, ap, subst, arith, ◌⊎◌, inl, inr, length-set}
 use Rattle.std.specs.List.{count_by}
 use Rattle.std.specs.Option.{is_some}
 use Rattle.std.proofs.Math.ListN.{set}
@@ -14,7 +14,7 @@ use Rattle.pix_cache.specs.CacheFields.{Agree}
 abbrev pub new_leaf : List ℕ → ℕ → ℕ → Leaf
 new_leaf pix item slot = copy_leaf slot (get_or pix item 0) item
 
--- how a count changes where one element does
+-- How a count changes where one element does.
 pub counts : {X : Type 0} (p : X → Bool) (xs : List X) (i : ℕ) (y d : X) (was now : Bool) → i < length xs → p (get_or xs i d) ≡ was → p y ≡ now → count_by p (set xs i y) + cond was 1 0 ≡ count_by p xs + cond now 1 0
 counts p xs i y d was now l e f =
     let s = sum_by-set (λ x. cond (p x) 1 0) xs i y d l in
@@ -22,6 +22,7 @@ counts p xs i y d was now l e f =
     let b : ◌≡◌ {A = ℕ} (cond (p y) 1 0) (cond now 1 0) = ap (λ b. cond b 1 0) f in
     omega arith
 
+-- Two lists that pass alike at each place have as many that pass.
 count_alike : {X : Type 0} (p : X → Bool) (xs ys : List X) (d : X) → length xs ≡ length ys → ((k : ℕ) → k < length xs → p (get_or xs k d) ≡ p (get_or ys k d)) → count_by p xs ≡ count_by p ys
 count_alike p [] [] d l h = refl
 count_alike p [] (y ∷ ys) d l h = absurd (omega arith)
@@ -33,6 +34,7 @@ count_alike p (x ∷ xs) (y ∷ ys) d l h =
     let head : ◌≡◌ {A = ℕ} (cond (p x) 1 0) (cond (p y) 1 0) = ap (λ b. cond b 1 0) (h 0 (omega arith)) in
     omega arith
 
+-- Where none passes, the count is 0.
 no_count : {X : Type 0} (p : X → Bool) (xs : List X) (d : X) → ((k : ℕ) → k < length xs → p (get_or xs k d) ≡ false) → count_by p xs ≡ 0
 no_count p [] d h = refl
 no_count p (x ∷ xs) d h =
@@ -82,6 +84,7 @@ module _ (pix : List ℕ) (places : List (Option ℕ)) (leaves : List Leaf) (ite
         let apart : (get_or leaves s nowhere).item ≢ item = λ same. (let f : None ≡ Some s = sym none ∙ ap (λ k. get_or places k None) (sym same) ∙ was in cc) in
         ap (λ (x : Leaf). get_or places_p x.item None) e ∙ get_or-set_other places item (get_or leaves s nowhere).item (Some slot) None apart ∙ was
 
+    -- A copy put into an empty room keeps rooms and items in agreement.
     pub agree_put : Agree pix places_p leaves_p
     agree_put = record {
       within = λ i s l e. (let w = put_within i s (cases_eq i item) (omega (arith, length-set places item (Some slot))) e in omega (arith, length-set leaves slot (new_leaf pix item slot)));
@@ -124,6 +127,7 @@ module _ (pix : List ℕ) (places : List (Option ℕ)) (leaves : List Leaf) (ite
         let apart : (get_or leaves s nowhere).item ≢ item = λ same. h.0 (let f : Some s ≡ Some slot = sym was ∙ ap (λ k. get_or places k None) same ∙ some in cc) in
         ap (λ (x : Leaf). get_or places_d x.item None) h.1 ∙ get_or-set_other places item (get_or leaves s nowhere).item None None apart ∙ was
 
+    -- So does a room emptied.
     pub agree_drop : Agree pix places_d leaves_d
     agree_drop = record {
       within = λ i s l e. (let w = a.within i s (omega (arith, length-set places item None)) (still i s (cases_eq i item) e).1 in omega (arith, length-set leaves slot (empty_leaf slot)));
@@ -136,7 +140,6 @@ module _ (pix : List ℕ) (places : List (Option ℕ)) (leaves : List Leaf) (ite
           omega (arith, a.counted));
     }
 
--- ---- a room that changes hands
 -- A room taken from one item and given to another.
 pub handed_on : (pix : List ℕ) (places : List (Option ℕ)) (leaves : List Leaf) (m item slot : ℕ) → Agree pix places leaves → m < length places → item < length places → slot < length leaves →
     get_or places m None ≡ Some slot → get_or places item None ≡ None → Agree pix (set (set places m None) item (Some slot)) (set leaves slot (new_leaf pix item slot))
@@ -149,6 +152,7 @@ handed_on pix places leaves m item slot a lm li ls its none =
     (ap (λ (b : Leaf). b.kept) (get_or-set_same leaves slot (empty_leaf slot) nowhere ls)))
 
 -- ---- a cache with no copies
+-- Where no item has a room and no room a copy, they agree.
 pub agree_none : (pix : List ℕ) (places : List (Option ℕ)) (leaves : List Leaf) → ((i : ℕ) → i < length places → get_or places i None ≡ None) → ((s : ℕ) → s < length leaves → get_or leaves s nowhere ≡ empty_leaf s) → Agree pix places leaves
 agree_none pix places leaves none empty = record {
   within = λ i s l e. (let f : None ≡ Some s = sym (none i l) ∙ e in cc);
@@ -162,6 +166,7 @@ agree_none pix places leaves none empty = record {
     is_none i l = ap is_some (none i l)
 
 -- ---- other PIX numbers
+-- So they do once each leaf has its item's new number.
 pub agree_renumbered : (was pix : List ℕ) (places : List (Option ℕ)) (leaves now : List Leaf) → Agree was places leaves → length now ≡ length leaves → ((s : ℕ) → s < length leaves → get_or now s nowhere ≡ renumbered pix (get_or leaves s nowhere)) → Agree pix places now
 agree_renumbered was pix places leaves now a same each = record {
   within = λ i s l e. (let w = a.within i s l e in omega arith);

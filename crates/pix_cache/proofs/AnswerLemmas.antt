@@ -1,5 +1,5 @@
 -- The four answers exclude one another, so each comes exactly where it says.
-use Rattle.std.proofs.Common.{◌≡◌, ◌≢◌, ℕ, ◌<◌, ◌≤◌, Bool, true, ◌==◌, ◌↔◌, List, [], ◌∷◌, length, All, Option, Some, None, IsTrue, refl, sym, ◌∙◌, ap, subst, arith, ◌⊎◌, inl, inr}
+use Rattle.std.proofs.Common.{◌≡◌, ℕ, true, ◌==◌, ◌↔◌, List, [], ◌∷◌, All, Some, None, IsTrue, refl, sym, ◌∙◌, ap, subst, arith, ◌⊎◌, inl, inr}
 use Rattle.std.specs.Option.{is_some}
 use Rattle.std.proofs.lemmas.Bool.{cases_eq, eqb-true, false≢true}
 use Rattle.air_model.specs.Reads.{Read}
@@ -57,24 +57,28 @@ module _ (room : ℕ) (pix : List ℕ) (copies : List Read) (x : Read) where
       by (inl e) = e
       by (inr ne) = absurd (ordered ne s_left.0 r_left.0)
 
+  -- `Replaced` comes exactly where a copy of the item is kept.
   pub exactly_replaced : (a : KeepAnswer) → IsAnswer room pix copies x a → (a ≡ Replaced) ↔ HasCopy copies x
   exactly_replaced Replaced h = ((λ _. h), (λ _. refl))
   exactly_replaced Placed h = ((λ e. cc), (λ has. absurd (one_of_two has h.0)))
   exactly_replaced Declined h = ((λ e. cc), (λ has. absurd (one_of_two has h.0.0)))
   exactly_replaced (Evicted m) h = ((λ e. cc), (λ has. absurd (one_of_two has h.0.0)))
 
+  -- `Placed` comes exactly where the newcomer finds room.
   pub exactly_placed : (a : KeepAnswer) → IsAnswer room pix copies x a → (a ≡ Placed) ↔ FindsRoom room copies x
   exactly_placed Replaced h = ((λ e. cc), (λ finds. absurd (one_of_two h finds.0)))
   exactly_placed Placed h = ((λ _. h), (λ _. refl))
   exactly_placed Declined h = ((λ e. cc), (λ finds. absurd (let a = finds.1 in let b = h.0.1 in omega arith)))
   exactly_placed (Evicted m) h = ((λ e. cc), (λ finds. absurd (let a = finds.1 in let b = h.0.1 in omega arith)))
 
+  -- `Declined` comes exactly where the newcomer is the least of all.
   pub exactly_declined : (a : KeepAnswer) → IsAnswer room pix copies x a → (a ≡ Declined) ↔ IsLeast room pix copies x
   exactly_declined Replaced h = ((λ e. cc), (λ least. absurd (one_of_two h least.0.0)))
   exactly_declined Placed h = ((λ e. cc), (λ least. absurd (let a = h.1 in let b = least.0.1 in omega arith)))
   exactly_declined Declined h = ((λ _. h), (λ _. refl))
   exactly_declined (Evicted m) h = ((λ e. cc), (λ least. absurd (not_least m least h)))
 
+  -- `Evicted` comes exactly for the item whose copy gives way.
   pub exactly_evicted : (a : KeepAnswer) → IsAnswer room pix copies x a → (item : ℕ) → (a ≡ Evicted item) ↔ GivesWay room pix copies x item
   exactly_evicted Replaced h item = ((λ e. cc), (λ gives. absurd (one_of_two h gives.0.0)))
   exactly_evicted Placed h item = ((λ e. cc), (λ gives. absurd (let a = h.1 in let b = gives.0.1 in omega arith)))

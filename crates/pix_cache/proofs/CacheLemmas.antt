@@ -1,28 +1,29 @@
 -- The copies that the fields of a cache hold, and what each call changes of them.
-use Rattle.std.proofs.Common.{◌≡◌, ◌≢◌, ℕ, zero, suc, ◌+◌, ◌-◌, ◌*◌, ◌<◌, ◌≤◌, Bool, true, false, not, cond, ◌==◌, nat_lt, if◌then◌else◌, List, [], ◌∷◌, ◌++◌, length, get_or, take, drop, All, Option, Some, None, IsTrue, refl, sym, ◌∙◌, ap, subst, arith, ◌⊎◌, inl, inr, append-nil, length-append, length-drop, length-set}
-use Rattle.std.specs.List.{count_by, filter, find, range_with_len}
+use Rattle.std.proofs.Common.{◌≡◌, ◌≢◌, ℕ, suc, ◌+◌, ◌<◌, ◌≤◌, Bool, cond, List, [], ◌∷◌, length, get_or, Option, Some, None, refl, sym, ◌∙◌, ap, arith, ◌⊎◌, inl, inr, length-set}
+use Rattle.std.specs.List.{count_by}
 use Rattle.std.specs.Option.{is_some, option_map}
 use Rattle.std.proofs.Math.ListN.{set}
-use Rattle.std.proofs.lemmas.Bool.{cases_eq, cases_lt, cases_order, eq-eqb, eqb-true, ne_eqb}
-use Rattle.std.proofs.lemmas.List.{get_or-set_other, get_or-set_same, get_or_default, get_or_past, same_lists, set-get_or, set-set}
-use Rattle.std.proofs.lemmas.List.Elements.{All-append}
+use Rattle.std.proofs.lemmas.Bool.{cases_eq, cases_lt}
+use Rattle.std.proofs.lemmas.List.{get_or-set_other, get_or-set_same, get_or_default, get_or_past, same_lists, set-get_or}
 use Rattle.std.proofs.lemmas.List.FromFn.{get_or-map-range_with_len, length-map-range_with_len}
-use Rattle.std.proofs.lemmas.List.Sums.{sum_by-cons, sum_by-set}
+use Rattle.std.proofs.lemmas.List.Sums.{sum_by-cons}
 use Rattle.air_model.specs.Reads.{Read}
-use Rattle.air_model.specs.Copies.{goes_before, keep, pix_of, without}
-use Rattle.air_model.proofs.CopyOrders.{count_all, count_missing, goes_to, keep_all, keep_one}
+use Rattle.air_model.specs.Copies.{without}
 use Rattle.pix_cache.specs.Stores.{Stored, no_store}
 use Rattle.pix_cache.specs.Caches.{copy, copy_of}
-use Rattle.pix_cache.specs.CacheFields.{Agree, copies_at, read_in, somes}
-use Rattle.pix_cache.proofs.SomeLemmas.{Placed, all_somes, copy_is, count_somes, left, taken, with_is, without_is}
+use Rattle.pix_cache.specs.CacheFields.{copies_at, read_in, somes}
+use Rattle.pix_cache.proofs.SomeLemmas.{Placed, copy_is, count_somes, without_is}
 
 -- ---- the copies by place
+-- There is one place for each item.
 pub long : (stores : List Stored) (places : List (Option ℕ)) → length (copies_at stores places) ≡ length places
 long stores places = length-map-range_with_len (λ item. option_map (read_in stores item) (get_or places item None)) 0 (length places)
 
+-- At an item's place stands what its room holds.
 pub at_place : (stores : List Stored) (places : List (Option ℕ)) (item : ℕ) → item < length places → get_or (copies_at stores places) item None ≡ option_map (read_in stores item) (get_or places item None)
 at_place stores places item l = get_or-map-range_with_len (λ item. option_map (read_in stores item) (get_or places item None)) 0 (length places) item item None l (omega arith)
 
+-- Each copy stands at its item's place.
 pub placed : (stores : List Stored) (places : List (Option ℕ)) → Placed 0 (copies_at stores places)
 placed stores places k r e = by (cases_lt k (length places))
   where
@@ -34,16 +35,18 @@ placed stores places k r e = by (cases_lt k (length places))
     by (inl l) = let i = item (get_or places k None) (sym (at_place stores places k l) ∙ e) in omega arith
     by (inr past) = let none : get_or (copies_at stores places) k None ≡ None = get_or_past (copies_at stores places) k None (omega (arith, long stores places)) in cc
 
+-- The copy of an item with a room is what the room holds.
 pub kept_copy : (stores : List Stored) (places : List (Option ℕ)) (item slot : ℕ) → item < length places → get_or places item None ≡ Some slot → copy_of item (somes (copies_at stores places)) ≡ Some (read_in stores item slot)
 kept_copy stores places item slot l e =
     copy_is (copies_at stores places) item (omega (arith, long stores places)) (placed stores places) ∙ at_place stores places item l ∙ ap (option_map (read_in stores item)) e
 
+-- An item without a room has no copy.
 pub no_copy : (stores : List Stored) (places : List (Option ℕ)) (item : ℕ) → item < length places → get_or places item None ≡ None → copy_of item (somes (copies_at stores places)) ≡ None
 no_copy stores places item l e =
     copy_is (copies_at stores places) item (omega (arith, long stores places)) (placed stores places) ∙ at_place stores places item l ∙ ap (option_map (read_in stores item)) e
 
-
 -- ---- how many
+-- Two lists that pass alike at each place have as many that pass.
 count_same : {X Y : Type 0} (p : X → Bool) (q : Y → Bool) (xs : List X) (ys : List Y) (d : X) (e : Y) → length xs ≡ length ys → ((k : ℕ) → k < length xs → p (get_or xs k d) ≡ q (get_or ys k e)) → count_by p xs ≡ count_by q ys
 count_same p q [] [] d e l h = refl
 count_same p q [] (y ∷ ys) d e l h = absurd (omega arith)
@@ -59,18 +62,22 @@ is_some_map : {X Y : Type 0} (f : X → Y) (o : Option X) → is_some (option_ma
 is_some_map f None = refl
 is_some_map f (Some x) = refl
 
+-- There are as many copies as items with a room.
 pub how_many : (stores : List Stored) (places : List (Option ℕ)) → length (somes (copies_at stores places)) ≡ count_by is_some places
 how_many stores places = count_somes (copies_at stores places) ∙ count_same is_some is_some (copies_at stores places) places None None (long stores places) (λ k l.
     ap is_some (at_place stores places k (omega (arith, long stores places))) ∙ is_some_map (read_in stores k) (get_or places k None))
 
 -- ---- one copy changed
+-- Two lists with the same at each place are the same.
 pub by_place : (os rs : List (Option Read)) → length os ≡ length rs → ((k : ℕ) → k < length os → get_or os k None ≡ get_or rs k None) → os ≡ rs
 by_place os rs l h = same_lists os rs l (λ k d m. get_or_default os k d None m ∙ h k m ∙ get_or_default rs k None d (omega arith))
 
+-- What is read in one room is the same after a change of another.
 pub same_read : (stores : List Stored) (slot : ℕ) (st : Stored) (k : ℕ) (o : Option ℕ) → o ≢ Some slot → option_map (read_in (set stores slot st) k) o ≡ option_map (read_in stores k) o
 same_read stores slot st k None ne = refl
 same_read stores slot st k (Some t) ne = ap (λ (s : Stored). Some (copy k s.cycle s.value s.entries)) (get_or-set_other stores slot t st no_store (λ same. ne (ap Some same)))
 
+-- A copy put into a room of its own stands at its item's place, and all others stay.
 pub put_is : (stores : List Stored) (places : List (Option ℕ)) (item slot : ℕ) (st : Stored) → item < length places → slot < length stores →
     ((k : ℕ) → k < length places → k ≢ item → get_or places k None ≢ Some slot) →
     copies_at (set stores slot st) (set places item (Some slot)) ≡ set (copies_at stores places) item (Some (copy item st.cycle st.value st.entries))
@@ -94,6 +101,7 @@ put_is stores places item slot st li ls apart =
         ∙ same_read stores slot st k (get_or places k None) (apart k short other)
         ∙ sym (get_or-set_other (copies_at stores places) item k (Some x) None other ∙ at_place stores places k short)
 
+-- A room taken from an item leaves its place empty, and all others stay.
 pub cleared_is : (stores : List Stored) (places : List (Option ℕ)) (item : ℕ) → item < length places → copies_at stores (set places item None) ≡ set (copies_at stores places) item None
 cleared_is stores places item li =
     by_place (copies_at stores (set places item None)) (set (copies_at stores places) item None)
@@ -111,20 +119,23 @@ cleared_is stores places item li =
         ∙ sym (get_or-set_other (copies_at stores places) item k None None other ∙ at_place stores places k short)
 
 -- ---- what the code read and wrote
+-- What the code read of a place is what stands there.
 pub read_place : (places : List (Option ℕ)) (item : ℕ) (r o : Option ℕ) → item < length places → r ≡ get_or places item r → r ≡ o → get_or places item None ≡ o
 read_place places item r o l e f = get_or_default places item None r l ∙ sym e ∙ f
 
-
 -- ---- a copy dropped
+-- Without its room an item's copy is gone.
 pub dropped : (stores : List Stored) (places : List (Option ℕ)) (item : ℕ) → item < length places → somes (copies_at stores (set places item None)) ≡ without item (somes (copies_at stores places))
 dropped stores places item l =
     ap somes (cleared_is stores places item l) ∙ sym (without_is (copies_at stores places) item (omega (arith, long stores places)) (placed stores places))
 
+-- Where an item has no copy, to drop it changes nothing.
 pub none_dropped : (stores : List Stored) (places : List (Option ℕ)) (item : ℕ) → item < length places → get_or places item None ≡ None → somes (copies_at stores places) ≡ without item (somes (copies_at stores places))
 none_dropped stores places item l e =
     ap (λ p. somes (copies_at stores p)) (sym (ap (set places item) (sym e) ∙ set-get_or places item None)) ∙ dropped stores places item l
 
 -- ---- no copies
+-- Where no item has a room, there are no copies.
 pub none_at_all : (stores : List Stored) (places : List (Option ℕ)) → ((i : ℕ) → i < length places → get_or places i None ≡ None) → somes (copies_at stores places) ≡ []
 none_at_all stores places none = empty (copies_at stores places) (λ k l. (let s : k < length places = omega (arith, long stores places) in at_place stores places k s ∙ ap (option_map (read_in stores k)) (none k s)))
   where

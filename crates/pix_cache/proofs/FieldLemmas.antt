@@ -1,6 +1,5 @@
 -- The fields of a cache, as each call finds them, and what each call's clauses say of those that it leaves.
-use Rattle.std.proofs.Common.{◌≡◌, ℕ, ◌<◌, ◌≤◌, Bool, true, if◌then◌else◌, List, [], length, map, get_or, All, Option, Some, None, refl, sym, ◌∙◌, ap, subst, arith, length-set}
-use Rattle.std.specs.Option.{option_map}
+use Rattle.std.proofs.Common.{◌≡◌, ℕ, ◌<◌, ◌≤◌, if◌then◌else◌, List, length, get_or, All, Option, Some, None, refl, sym, ◌∙◌, ap, subst, arith, length-set}
 use Rattle.std.proofs.Math.ListN.{set}
 use Rattle.air_model.specs.Reads.{Read}
 use Rattle.air_model.specs.Copies.{keep, with_copy, without}
@@ -10,11 +9,11 @@ use Rattle.pix_cache.specs.declared.cache.KeepAnswer.{KeepAnswer}
 use Rattle.pix_cache.specs.declared.cache.KeepAnswer.TheVariants.{Evicted, Placed}
 use Rattle.pix_cache.specs.Answers.{IsAnswer}
 use Rattle.pix_cache.specs.Stores.{Stored}
-use Rattle.pix_cache.specs.Leaves.{copy_leaf, empty_leaf, nowhere, weight}
-use Rattle.pix_cache.specs.Caches.{Cache, HasCopy, IsLeast, copy, copy_of}
+use Rattle.pix_cache.specs.Leaves.{copy_leaf, nowhere, weight}
+use Rattle.pix_cache.specs.Caches.{Cache, IsLeast, copy, copy_of}
 use Rattle.pix_cache.specs.CacheFields.{Agree, KeepsCopies, cache_of, copies_at, read_in, somes}
-use Rattle.pix_cache.proofs.AgreeLemmas.{agree_drop, new_leaf}
-use Rattle.pix_cache.proofs.CacheLemmas.{dropped, kept_copy, no_copy, none_dropped}
+use Rattle.pix_cache.proofs.AgreeLemmas.{new_leaf}
+use Rattle.pix_cache.proofs.CacheLemmas.{kept_copy, no_copy}
 use Rattle.pix_cache.proofs.KeepLemmas.{Outcome, all_before, declined, declined_full, kept_form, outcome, replaced}
 
 module _ (i : Inside) (k : KeepsCopies i) (self : Cache) (view : cache_of i ≡ self) (item : ℕ) (asked : item < length self.pix) where
@@ -28,9 +27,11 @@ module _ (i : Inside) (k : KeepsCopies i) (self : Cache) (view : cache_of i ≡ 
   pub within : item < length i.places.items
   within = let wide = ap (λ (s : Cache). length s.pix) view in omega (arith, k.items)
 
+  -- There is a leaf for each room.
   pub same : length i.store.stores ≡ length i.tree
   same = sym k.rooms
 
+  -- There are at most as many places as item numbers.
   pub small : length i.places.items ≤ 65536
   small = omega (arith, k.items, k.many)
 
@@ -50,6 +51,7 @@ module _ (i : Inside) (k : KeepsCopies i) (self : Cache) (view : cache_of i ≡ 
   with_copies : (new copies : List Read) → new ≡ copies → ◌≡◌ {A = Cache} (record { room = length stores; pix = i.pix.items; copies = new }) (record { room = length stores; pix = i.pix.items; copies = copies })
   with_copies new copies e = ap {B = Cache} (λ (c : List Read). record { room = length stores; pix = i.pix.items; copies = c }) e
 
+  -- The clause of a drop, by the places that are left.
   pub drop_form : (rest : List (Option ℕ)) → somes (copies_at i.store.stores rest) ≡ without item (somes (copies_at i.store.stores i.places.items)) →
       ◌≡◌ {A = Cache} (record { room = length i.store.stores; pix = i.pix.items; copies = somes (copies_at i.store.stores rest) }) (record { room = self.room; pix = self.pix; copies = without item self.copies })
   drop_form rest e = with_copies (somes (copies_at stores rest)) (without item (somes (copies_at stores places))) e
@@ -60,6 +62,7 @@ module _ (i : Inside) (k : KeepsCopies i) (self : Cache) (view : cache_of i ≡ 
     abbrev x : Read
     x = copy item st.cycle st.value st.entries
 
+    -- The copies are those kept of all with the newcomer.
     pub replace_form : (slot : ℕ) → get_or i.places.items item None ≡ Some slot → (new : List Stored) → new ≡ set i.store.stores slot st →
         ◌≡◌ {A = Cache} (record { room = length new; pix = i.pix.items; copies = somes (copies_at new i.places.items) }) (record { room = self.room; pix = self.pix; copies = keep self.room self.pix (with_copy (copy item st.cycle st.value st.entries) self.copies) })
     replace_form slot e new put =
@@ -71,15 +74,17 @@ module _ (i : Inside) (k : KeepsCopies i) (self : Cache) (view : cache_of i ≡ 
       lighter : (s : ℕ) → s < length i.tree → weight (new_leaf i.pix.items item 0) < weight (get_or i.tree s nowhere)
       lighter s l = let w = light s nowhere l in let n = ap (λ p. weight (copy_leaf 0 p item)) number in omega arith
 
+      -- The copies before are those kept of all with the newcomer.
       pub decline_form : self ≡ record { room = self.room; pix = self.pix; copies = keep self.room self.pix (with_copy (copy item st.cycle st.value st.entries) self.copies) }
       decline_form = sym view
           ∙ kept_form i.pix.items (length stores) (length i.tree) (length stores) (somes (copies_at stores places)) _ x self view k.rooms refl (declined i.pix.items places i.tree stores k.agree same small item within st none 0 lighter)
 
+      -- The newcomer is the least of all.
       pub decline_answer : IsLeast self.room self.pix self.copies (copy item st.cycle st.value st.entries)
       decline_answer = subst (λ (s : Cache). IsLeast s.room s.pix s.copies x) view (
-            (no_copy stores places item within none, (let full = declined_full i.pix.items places i.tree stores k.agree same small item within st none 0 lighter in omega (arith, k.rooms))),
-            all_before i.pix.items places i.tree stores k.agree same small item within st none 0 lighter,
-          )
+        (no_copy stores places item within none, (let full = declined_full i.pix.items places i.tree stores k.agree same small item within st none 0 lighter in omega (arith, k.rooms))),
+        all_before i.pix.items places i.tree stores k.agree same small item within st none 0 lighter,
+      )
 
     -- A newcomer in the lightest room, by what is left of the places, of what the rooms hold and of the tree.
     module _ (none : get_or i.places.items item None ≡ None) (pix : ℕ) (number : get_or i.pix.items item 0 ≡ pix) (r : Leaf) (lr : r.slot < length i.tree) (at : get_or i.tree r.slot nowhere ≡ r)
@@ -92,15 +97,18 @@ module _ (i : Inside) (k : KeepsCopies i) (self : Cache) (view : cache_of i ≡ 
           (subst (Outcome i.pix.items places i.tree stores k.agree same small item within st none r lr at heavier light (if r.kept then set places r.item None else places)) (sym said)
           (outcome i.pix.items places i.tree stores k.agree same small item within st none r lr at heavier light))
 
+      -- Rooms and items agree once the room has changed hands.
       pub take_agree : (tree : List Leaf) → tree ≡ set i.tree r.slot (copy_leaf r.slot pix item) → Agree i.pix.items (set rest item (Some r.slot)) tree
       take_agree tree put = subst (Agree i.pix.items (set rest item (Some r.slot))) (ap (λ p. set i.tree r.slot (copy_leaf r.slot p item)) number ∙ sym put) (taken _ refl).0
 
+      -- The copies are those kept of all with the newcomer.
       pub take_form : (new : List Stored) → new ≡ set i.store.stores r.slot st →
           ◌≡◌ {A = Cache} (record { room = length new; pix = i.pix.items; copies = somes (copies_at new (set rest item (Some r.slot))) }) (record { room = self.room; pix = self.pix; copies = keep self.room self.pix (with_copy (copy item st.cycle st.value st.entries) self.copies) })
       take_form new put =
           kept_form i.pix.items (length stores) (length i.tree) (length new) (somes (copies_at stores places)) _ x self view k.rooms (ap length put ∙ length-set stores r.slot st)
           ((taken _ refl).1 ∙ ap (λ (t : List Stored). somes (copies_at t (set rest item (Some r.slot)))) (sym put))
 
+      -- The answer names what became of the newcomer.
       pub take_answer : (answer : KeepAnswer) → answer ≡ (if r.kept then Evicted r.item else Placed) → IsAnswer self.room self.pix self.copies (copy item st.cycle st.value st.entries) answer
       take_answer answer said = subst (λ (s : Cache). IsAnswer s.room s.pix s.copies x answer) view
           (subst (λ n. IsAnswer n i.pix.items (somes (copies_at stores places)) x answer) k.rooms (taken answer said).2)

@@ -1,89 +1,26 @@
 -- What becomes of a newcomer: by its item's copy, by an empty room, or by the weight of the least copy.
-use Rattle.std.proofs.Common.{◌≡◌, ◌≢◌, ℕ, zero, suc, ◌+◌, ◌-◌, ◌*◌, ◌<◌, ◌≤◌, Bool, true, false, cond, ◌==◌, if◌then◌else◌, List, [], ◌∷◌, ◌++◌, length, get_or, take, drop, All, Option, Some, None, IsTrue, refl, sym, ◌∙◌, ap, subst, arith, ◌⊎◌, inl, inr, length-append, length-drop, length-set}
+use Rattle.std.proofs.Common.{◌≡◌, ◌≢◌, ℕ, ◌+◌, ◌<◌, ◌≤◌, Bool, true, false, ◌==◌, if◌then◌else◌, List, length, get_or, All, Option, Some, None, IsTrue, refl, sym, ◌∙◌, ap, subst, arith, ◌⊎◌, inl, inr, length-set}
 use Rattle.std.specs.List.{count_by}
 use Rattle.std.specs.Option.{is_some, option_map}
 use Rattle.std.proofs.Math.ListN.{set}
-use Rattle.std.proofs.lemmas.Bool.{cases_eq, cases_lt, cases_order, eq-eqb}
+use Rattle.std.proofs.lemmas.Bool.{cases_eq, eq-eqb}
 use Rattle.std.proofs.lemmas.List.{get_or-set_other, get_or-set_same, get_or_default, set-get_or, set-set}
-use Rattle.std.proofs.lemmas.List.Elements.{All-head, All-tail}
-use Rattle.std.proofs.lemmas.List.Sums.{count_by-le-length, sum_by-cons}
+use Rattle.std.proofs.lemmas.List.Sums.{count_by-le-length}
 use Rattle.air_model.specs.Reads.{Read}
 use Rattle.air_model.specs.Copies.{goes_before, keep, with_copy}
-use Rattle.air_model.proofs.CopyOrders.{goes_to, keep_all, keep_one}
+use Rattle.air_model.proofs.CopyOrders.{keep_all}
 use Rattle.pix_cache.specs.declared.leaf.Leaf.{Leaf}
 use Rattle.pix_cache.specs.declared.cache.KeepAnswer.{KeepAnswer}
 use Rattle.pix_cache.specs.declared.cache.KeepAnswer.TheVariants.{Evicted, Placed}
 use Rattle.pix_cache.specs.Answers.{IsAnswer}
-use Rattle.pix_cache.specs.Stores.{Stored, no_store}
-use Rattle.pix_cache.specs.Leaves.{empty_leaf, nowhere, weight}
-use Rattle.pix_cache.specs.Caches.{Cache, copy, copy_of}
+use Rattle.pix_cache.specs.Stores.{Stored}
+use Rattle.pix_cache.specs.Leaves.{nowhere, weight}
+use Rattle.pix_cache.specs.Caches.{Cache, copy}
 use Rattle.pix_cache.specs.CacheFields.{Agree, copies_at, read_in, somes}
-use Rattle.pix_cache.proofs.SomeLemmas.{all_somes, count_somes, left, taken, with_is}
+use Rattle.pix_cache.proofs.SomeLemmas.{all_somes, count_somes, with_is}
 use Rattle.pix_cache.proofs.AgreeLemmas.{agree_put, counts, handed_on, new_leaf}
 use Rattle.pix_cache.proofs.CacheLemmas.{at_place, by_place, cleared_is, how_many, kept_copy, long, no_copy, placed, put_is}
-use Rattle.pix_cache.proofs.NodeLemmas.{copy_weight}
-
--- ---- counts
-one_or_none : (b : Bool) → cond b 1 0 ≤ 1
-one_or_none true = omega arith
-one_or_none false = omega arith
-
-some_fails : {X : Type 0} (p : X → Bool) (xs : List X) (k : ℕ) (d : X) → k < length xs → p (get_or xs k d) ≡ false → count_by p xs < length xs
-some_fails p [] k d l e = absurd (omega arith)
-some_fails p (x ∷ xs) zero d l e =
-    let rest = count_by-le-length p xs in
-    let head : ◌≡◌ {A = ℕ} (cond (p x) 1 0) 0 = ap (λ b. cond b 1 0) e in
-    let sum = sum_by-cons (λ z. cond (p z) 1 0) x xs in
-    omega arith
-some_fails p (x ∷ xs) (suc k) d l e =
-    let rest = some_fails p xs k d (omega arith) e in
-    let head = one_or_none (p x) in
-    let sum = sum_by-cons (λ z. cond (p z) 1 0) x xs in
-    omega arith
-
-all_pass : {X : Type 0} (p : X → Bool) (xs : List X) → All (λ x. p x ≡ true) xs → count_by p xs ≡ length xs
-all_pass p [] h = refl
-all_pass p (x ∷ xs) h =
-    let rest = all_pass p xs (All-tail (λ x. p x ≡ true) x xs h) in
-    let head : ◌≡◌ {A = ℕ} (cond (p x) 1 0) 1 = ap (λ b. cond b 1 0) (All-head (λ x. p x ≡ true) x xs h) in
-    let sum = sum_by-cons (λ z. cond (p z) 1 0) x xs in
-    omega arith
-
--- ---- weights
-heavy_kept : (a : Leaf) → 0 < weight a → a.kept ≡ true
-heavy_kept a l = by a.kept l
-  where
-    by : (b : Bool) → 0 < (if b then a.pix * 65538 + (65536 - a.item) + 1 else 0) → b ≡ true
-    by true l = refl
-    by false l = absurd (omega arith)
-
--- the copy of a heavier leaf goes before that of a lighter one
-goes : (pix : List ℕ) (r s : Read) (a b : Leaf) → a.kept ≡ true → b.kept ≡ true → a.item ≡ s.item → b.item ≡ r.item → a.pix ≡ get_or pix s.item 0 → b.pix ≡ get_or pix r.item 0 →
-    s.item < 65536 → r.item < 65536 → s.item ≢ r.item → weight a ≤ weight b → goes_before pix r s ≡ true
-goes pix r s a b ka kb ia ib pa pb ls lr ne le = goes_to pix r s (by (cases_order (get_or pix s.item 0) (get_or pix r.item 0)) (cases_lt r.item s.item))
-  where
-    by : (get_or pix s.item 0 ≡ get_or pix r.item 0) ⊎ ((get_or pix s.item 0 < get_or pix r.item 0) ⊎ (get_or pix r.item 0 < get_or pix s.item 0)) → (r.item < s.item) ⊎ (s.item ≤ r.item)
-        → (get_or pix s.item 0 < get_or pix r.item 0) ⊎ ((get_or pix s.item 0 ≡ get_or pix r.item 0) × (r.item < s.item))
-    by (inr (inl less)) i = inl less
-    by (inr (inr more)) i = let wa = copy_weight a ka in let wb = copy_weight b kb in absurd (omega arith)
-    by (inl same) (inl i) = inr (same, i)
-    by (inl same) (inr i) = let wa = copy_weight a ka in let wb = copy_weight b kb in absurd (let less : s.item < r.item = omega (arith, ne) in omega arith)
-
--- ---- one copy too many
-least_out : (room : ℕ) (pix : List ℕ) (os : List (Option Read)) (m : ℕ) (r : Read) → m < length os → get_or os m None ≡ Some r → length (somes os) ≡ room + 1 →
-    ((k : ℕ) (s : Read) → k < length os → get_or os k None ≡ Some s → k ≢ m → goes_before pix s r ≡ true) → keep room pix (somes os) ≡ somes (set os m None)
-least_out room pix os m r l e size others =
-    ap (keep room pix) (taken os m l r e)
-    ∙ keep_one room pix (somes (take m os)) (somes (drop (suc m) os)) r
-    (let n = ap length (taken os m l r e) in
-    let two = length-append (somes (take m os)) (r ∷ somes (drop (suc m) os)) in
-    let one = length-append (somes (take m os)) (somes (drop (suc m) os)) in omega arith)
-    (subst (All (λ s. IsTrue (goes_before pix s r))) (left os m l) (all_somes (λ s. IsTrue (goes_before pix s r)) (set os m None) (λ k s lk es. by k s (omega (arith, length-set os m None)) es (cases_eq k m))))
-    ∙ sym (left os m l)
-  where
-    by : (k : ℕ) (s : Read) → k < length os → get_or (set os m None) k None ≡ Some s → (k ≡ m) ⊎ (k ≡ m → ⊥) → goes_before pix s r ≡ true
-    by k s lk es (inl same) = let f : None ≡ Some s = sym (get_or-set_same os m None None l) ∙ ap (λ j. get_or (set os m None) j None) (sym same) ∙ es in cc
-    by k s lk es (inr other) = others k s lk (sym (get_or-set_other os m k None None other) ∙ es) other
+use Rattle.pix_cache.proofs.OrderLemmas.{all_pass, goes, heavy_kept, least_out, some_fails}
 
 module _ (pix : List ℕ) (places : List (Option ℕ)) (leaves : List Leaf) (stores : List Stored) (a : Agree pix places leaves) (same : length stores ≡ length leaves) (small : length places ≤ 65536)
     (item : ℕ) (li : item < length places) (st : Stored) where
@@ -105,10 +42,11 @@ module _ (pix : List ℕ) (places : List (Option ℕ)) (leaves : List Leaf) (sto
   joined : with_copy x copies ≡ somes (set os item (Some x))
   joined = with_is os item long_os x refl (placed stores places)
 
-  -- the item's own copy
+  -- The item's own copy.
   alone : (slot : ℕ) → get_or places item None ≡ Some slot → (k : ℕ) → k < length places → k ≢ item → get_or places k None ≢ Some slot
   alone slot e k l ne f = ne (ap (λ (b : Leaf). b.item) (sym (a.leaf k slot l f) ∙ a.leaf item slot li e))
 
+  -- A copy in place of that of its item: all stay.
   pub replaced : (slot : ℕ) → get_or places item None ≡ Some slot → keep (length leaves) pix (with_copy x copies) ≡ somes (copies_at (set stores slot st) places)
   replaced slot e =
       let within = a.within item slot li e in
@@ -133,20 +71,22 @@ module _ (pix : List ℕ) (places : List (Option ℕ)) (leaves : List Leaf) (sto
         let one = counts is_some os item (Some x) None false true long_os (ap is_some nothing_here) refl in
         omega arith
 
-    -- a free room
+    -- A free room.
     free_alone : (slot : ℕ) → (get_or leaves slot nowhere).kept ≡ false → (k : ℕ) → k < length places → k ≢ item → get_or places k None ≢ Some slot
     free_alone slot free k l ne f = let t : true ≡ false = sym (ap (λ (b : Leaf). b.kept) (a.leaf k slot l f)) ∙ free in cc
 
+    -- An empty room is one more than there are copies.
     pub fewer : (slot : ℕ) → slot < length leaves → (get_or leaves slot nowhere).kept ≡ false → length copies < length leaves
     fewer slot ls free = let f = some_fails (λ (l : Leaf). l.kept) leaves slot nowhere ls free in let s = size in omega arith
 
+    -- A newcomer in an empty room: all stay.
     pub put_in : (slot : ℕ) → slot < length leaves → (get_or leaves slot nowhere).kept ≡ false → keep (length leaves) pix (with_copy x copies) ≡ somes (copies_at (set stores slot st) (set places item (Some slot)))
     put_in slot ls free =
         ap (keep (length leaves) pix) joined
         ∙ keep_all (length leaves) pix (somes (set os item (Some x))) (let f = fewer slot ls free in let m = one_more in omega arith)
         ∙ sym (ap somes (put_is stores places item slot st li (omega arith) (free_alone slot free)))
 
-    -- the leaf of another copy
+    -- The leaf of another copy.
     leaf_of : (k : ℕ) (s : Read) → k < length places → get_or os k None ≡ Some s → (slot : ℕ) × (slot < length leaves) × (get_or leaves slot nowhere ≡ new_leaf pix k slot) × (s.item ≡ k)
     leaf_of k s l e = by (get_or places k None) refl (sym (at_place stores places k l) ∙ e)
       where
@@ -157,11 +97,13 @@ module _ (pix : List ℕ) (places : List (Option ℕ)) (leaves : List Leaf) (sto
             let i : read_in stores k slot ≡ s = cc in
             (slot, a.within k slot l f, a.leaf k slot l f, sym (ap (λ (r : Read). r.item) i))
 
+    -- Where each room weighs something, all rooms are taken.
     full : ((s : ℕ) → s < length leaves → 0 < weight (get_or leaves s nowhere)) → length copies ≡ length leaves
     full heavy = size ∙ all_pass (λ (l : Leaf). l.kept) leaves (λ k d l. subst (λ (b : Leaf). b.kept ≡ true) (get_or_default leaves k nowhere d l) (heavy_kept (get_or leaves k nowhere) (heavy k l)))
 
-    -- the newcomer is lighter than each
+    -- The newcomer is lighter than each.
     module _ (n : ℕ) (lighter : (s : ℕ) → s < length leaves → weight (new_leaf pix item n) < weight (get_or leaves s nowhere)) where
+      -- All rooms are taken.
       pub declined_full : length copies ≡ length leaves
       declined_full = full (λ s l. let w = lighter s l in omega arith)
 
@@ -177,9 +119,11 @@ module _ (pix : List ℕ) (places : List (Option ℕ)) (leaves : List Leaf) (sto
       not_here : (k : ℕ) (s : Read) → get_or os k None ≡ Some s → k ≢ item
       not_here k s e i = let f : None ≡ Some s = sym nothing_here ∙ ap (λ j. get_or os j None) (sym i) ∙ e in cc
 
+      -- Each kept copy goes before the newcomer.
       pub all_before : All (λ r. IsTrue (goes_before pix r x)) copies
       all_before = all_somes (λ r. IsTrue (goes_before pix r x)) os (λ k s l e. behind k s (omega (arith, long stores places)) e (not_here k s e))
 
+      -- The copies before stay.
       pub declined : keep (length leaves) pix (with_copy x copies) ≡ copies
       declined =
           ap (keep (length leaves) pix) joined
@@ -188,7 +132,7 @@ module _ (pix : List ℕ) (places : List (Option ℕ)) (leaves : List Leaf) (sto
           (λ k s l e ne. behind k s (omega (arith, length-set os item (Some x), long stores places)) (sym (get_or-set_other os item k (Some x) None ne) ∙ e) ne)
           ∙ ap somes (set-set os item (Some x) None ∙ ap (set os item) (sym nothing_here) ∙ set-get_or os item None)
 
-    -- another is lighter than each, and than the newcomer
+    -- Another is lighter than each, and than the newcomer.
     module _ (m slot n : ℕ) (lm : m < length places) (its : get_or places m None ≡ Some slot) (least : (s : ℕ) → s < length leaves → weight (get_or leaves slot nowhere) ≤ weight (get_or leaves s nowhere))
         (heavier : weight (get_or leaves slot nowhere) ≤ weight (new_leaf pix item n)) where
       abbrev r : Read
@@ -200,9 +144,11 @@ module _ (pix : List ℕ) (places : List (Option ℕ)) (leaves : List Leaf) (sto
       some_weight : 0 < weight (get_or leaves slot nowhere)
       some_weight = let e = ap weight (a.leaf m slot lm its) in omega arith
 
+      -- All rooms are taken.
       pub evicted_full : length copies ≡ length leaves
       evicted_full = full (λ s l. let w = least s l in let p = some_weight in omega arith)
 
+      -- The newcomer goes before the copy in that room.
       pub newcomer_before : goes_before pix x r ≡ true
       newcomer_before =
           let e = ap weight (a.leaf m slot lm its) in
@@ -218,6 +164,7 @@ module _ (pix : List ℕ) (places : List (Option ℕ)) (leaves : List Leaf) (sto
           let light = ap weight (a.leaf m slot lm its) in
           goes pix s r (new_leaf pix m slot) (new_leaf pix k f.0) refl refl refl (sym at) refl (ap (λ j. get_or pix j 0) (sym at)) (omega arith) (omega arith) (λ i. ne (sym at ∙ sym i)) (omega arith)
 
+      -- So does each other copy.
       pub least_last : All (λ s. IsTrue (s.item == m) ⊎ IsTrue (goes_before pix s r)) copies
       least_last = all_somes (λ s. IsTrue (s.item == m) ⊎ IsTrue (goes_before pix s r)) os (λ k s l e. by k s (omega (arith, long stores places)) e (cases_eq k m))
         where
@@ -252,6 +199,7 @@ module _ (pix : List ℕ) (places : List (Option ℕ)) (leaves : List Leaf) (sto
           by (inl i) = let g : None ≡ Some slot = sym (get_or-set_same places m None None lm) ∙ ap (λ j. get_or (set places m None) j None) (sym i) ∙ f in cc
           by (inr ni) = ni (ap (λ (b : Leaf). b.item) (sym (a.leaf k slot (omega (arith, length-set places m None)) (sym (get_or-set_other places m k None None ni) ∙ f)) ∙ a.leaf m slot lm its))
 
+      -- The newcomer takes the room of that copy, and all others stay.
       pub evicted : keep (length leaves) pix (with_copy x copies) ≡ somes (copies_at (set stores slot st) (set (set places m None) item (Some slot)))
       evicted =
           let within = a.within m slot lm its in
@@ -275,6 +223,7 @@ module _ (pix : List ℕ) (places : List (Option ℕ)) (leaves : List Leaf) (sto
           × (keep (length leaves) pix (with_copy x copies) ≡ somes (copies_at (set stores r.slot st) (set rest item (Some r.slot))))
           × IsAnswer (length leaves) pix copies x answer
 
+      -- The room changes hands: rooms and items agree, the copies are those kept, and the answer is told.
       pub outcome : Outcome (if r.kept then set places r.item None else places) (if r.kept then Evicted r.item else Placed)
       outcome = by r.kept refl
         where
@@ -306,7 +255,7 @@ module _ (pix : List ℕ) (places : List (Option ℕ)) (leaves : List Leaf) (sto
                 (no_copy stores places item li none, fewer r.slot lr free),
               )
 
--- ---- the clause, from what the fields say
+-- The clause of an offer, from what the fields say.
 pub kept_form : (pix : List ℕ) (rooms k n : ℕ) (kept new : List Read) (y : Read) (self : Cache) → ◌≡◌ {A = Cache} (record { room = rooms; pix = pix; copies = kept }) self → k ≡ rooms → n ≡ rooms →
     keep k pix (with_copy y kept) ≡ new → ◌≡◌ {A = Cache} (record { room = n; pix = pix; copies = new }) (record { room = self.room; pix = self.pix; copies = keep self.room self.pix (with_copy y self.copies) })
 kept_form pix rooms k n kept new y self view ek en h =

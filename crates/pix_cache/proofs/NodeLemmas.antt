@@ -1,15 +1,15 @@
 -- The tree over the rooms: what weighs less, what a changed place leaves, and what the root is.
-use Rattle.std.proofs.Common.{◌≡◌, ◌≢◌, ℕ, zero, suc, ◌+◌, ◌-◌, ◌*◌, ◌/◌, ◌%◌, ◌<◌, ◌≤◌, Bool, true, false, ◌==◌, if◌then◌else◌, nat_lt, List, length, get_or, map, drop, All, length-drop, replicate, refl, sym, ◌∙◌, ap, subst, arith, ◌⊎◌, inl, inr}
+use Rattle.std.proofs.Common.{◌≡◌, ◌≢◌, ℕ, zero, suc, ◌+◌, ◌-◌, ◌*◌, ◌/◌, ◌<◌, ◌≤◌, Bool, true, false, if◌then◌else◌, nat_lt, List, length, get_or, map, drop, All, length-drop, refl, sym, ◌∙◌, ap, subst, arith, ◌⊎◌, inl, inr}
 use Rattle.std.proofs.Math.ListN.{set}
-use Rattle.std.proofs.lemmas.Bool.{cases_eq, cases_lt, eq-eqb, le-ltb, lt-ltb, ne_eqb}
-use Rattle.std.proofs.lemmas.List.{drop-set-lt, drop-set-add, get_or-drop, get_or-map, get_or-replicate, get_or-set_other, get_or-set_same, get_or_default, length-map, length-replicate, same_lists}
+use Rattle.std.proofs.lemmas.Bool.{cases_eq, cases_lt, le-ltb, lt-ltb}
+use Rattle.std.proofs.lemmas.List.{get_or-drop, get_or-map, get_or-set_other, get_or-set_same, get_or_default, length-map, same_lists}
 use Rattle.pix_cache.specs.declared.leaf.Leaf.{Leaf}
 use Rattle.pix_cache.specs.Leaves.{lighter, nowhere, weight}
 use Rattle.pix_cache.specs.Trees.{IsNode, IsTree}
 use Rattle.pix_cache.specs.TreeFields.{TellSlots}
 
 -- ---- weights
--- two tests that decide the same are the same
+-- Two tests that decide the same are the same.
 pub same_test : (m n p q : ℕ) → (m < n → p < q) → (n ≤ m → q ≤ p) → nat_lt m n ≡ nat_lt p q
 same_test m n p q less more = by (cases_lt m n)
   where
@@ -17,6 +17,7 @@ same_test m n p q less more = by (cases_lt m n)
     by (inl l) = lt-ltb m n l ∙ sym (lt-ltb p q (less l))
     by (inr l) = le-ltb m n l ∙ sym (le-ltb p q (more l))
 
+-- An empty room is lighter than a copy.
 pub empty_lighter : (a b : Leaf) → a.kept ≡ false → b.kept ≡ nat_lt (weight a) (weight b)
 empty_lighter a b e = by a.kept b.kept e
   where
@@ -25,25 +26,29 @@ empty_lighter a b e = by a.kept b.kept e
     by false true e = sym (lt-ltb 0 (b.pix * 65538 + (65536 - b.item) + 1) (omega arith))
     by false false e = refl
 
+-- A copy isn't lighter than an empty room.
 pub copy_heavier : (a b : Leaf) → b.kept ≡ false → false ≡ nat_lt (weight a) (weight b)
 copy_heavier a b e = sym (le-ltb (weight a) (weight b) (let none : weight b ≡ 0 = ap (λ (x : Bool). if x then b.pix * 65538 + (65536 - b.item) + 1 else 0) e in omega arith))
 
+-- What a copy weighs.
 pub copy_weight : (a : Leaf) → a.kept ≡ true → weight a ≡ a.pix * 65538 + (65536 - a.item) + 1
 copy_weight a e = ap (λ (x : Bool). if x then a.pix * 65538 + (65536 - a.item) + 1 else 0) e
 
+-- Of two copies with different numbers the one of lesser number is lighter.
 pub pix_lighter : (a b : Leaf) → a.kept ≡ true → b.kept ≡ true → (a.pix ≡ b.pix → ⊥) → nat_lt a.pix b.pix ≡ nat_lt (weight a) (weight b)
 pix_lighter a b ka kb ne =
     let wa = copy_weight a ka in
     let wb = copy_weight b kb in
     same_test a.pix b.pix (weight a) (weight b) (λ l. omega arith) (λ l. let less : b.pix < a.pix = omega (arith, ne) in omega arith)
 
+-- Of two copies with one number the one of greater item is lighter.
 pub item_lighter : (a b : Leaf) → a.item < 65536 → b.item < 65536 → a.kept ≡ true → b.kept ≡ true → a.pix ≡ b.pix → nat_lt b.item a.item ≡ nat_lt (weight a) (weight b)
 item_lighter a b la lb ka kb same =
     let wa = copy_weight a ka in
     let wb = copy_weight b kb in
     same_test b.item a.item (weight a) (weight b) (λ l. omega arith) (λ l. omega arith)
 
--- the lighter of two weighs no more than either, and is one of them
+-- The lighter of two weighs no more than either, and is one of them.
 pub lighter_least : (a b : Leaf) → (weight (lighter a b) ≤ weight a) × (weight (lighter a b) ≤ weight b)
 lighter_least a b = by (cases_lt (weight b) (weight a))
   where
@@ -59,14 +64,14 @@ lighter_one a b = by (nat_lt (weight b) (weight a))
     by false = inl refl
 
 -- ---- one place changed
--- a node stays one where neither it nor a child was changed
+-- A node stays one where neither it nor a child was changed.
 pub node_kept : (tree : List Leaf) (u : ℕ) (x : Leaf) (v : ℕ) → v ≢ u → v ≢ u / 2 → IsNode tree v → IsNode (set tree u x) v
 node_kept tree u x v other apart h =
     get_or-set_other tree u v x nowhere other ∙ h
     ∙ ap (λ a. lighter a (get_or tree (2 * v + 1) nowhere)) (sym (get_or-set_other tree u (2 * v) x nowhere (λ e. apart (omega arith))))
     ∙ ap (lighter (get_or (set tree u x) (2 * v) nowhere)) (sym (get_or-set_other tree u (2 * v + 1) x nowhere (λ e. apart (omega arith))))
 
--- a mended node is one
+-- A mended node is one.
 pub node_mended : (tree : List Leaf) (v : ℕ) → 1 ≤ v → v < length tree → IsNode (set tree v (lighter (get_or tree (2 * v) nowhere) (get_or tree (2 * v + 1) nowhere))) v
 node_mended tree v some l =
     let x = lighter (get_or tree (2 * v) nowhere) (get_or tree (2 * v + 1) nowhere) in
@@ -78,6 +83,7 @@ node_mended tree v some l =
 at_leaf : (tree : List Leaf) (rooms s : ℕ) → get_or (drop rooms tree) s nowhere ≡ get_or tree (rooms + s) nowhere
 at_leaf tree rooms s = get_or-drop rooms tree s nowhere
 
+-- The root weighs no more than any node, by the way up.
 least_to : (rooms : ℕ) (tree : List Leaf) (fuel u : ℕ) → IsTree rooms tree → u ≤ fuel → 1 ≤ u → u < 2 * rooms → weight (get_or tree 1 nowhere) ≤ weight (get_or tree u nowhere)
 least_to rooms tree zero u t f some l = absurd (omega arith)
 least_to rooms tree (suc fuel) u t f some l = by (least_to rooms tree fuel) (cases_lt u 2)
@@ -98,10 +104,11 @@ least_to rooms tree (suc fuel) u t f some l = by (least_to rooms tree fuel) (cas
         side (inl even) up node left right = subst (λ v. weight (get_or tree 1 nowhere) ≤ weight (get_or tree v nowhere)) (sym even) (omega arith)
         side (inr odd) up node left right = subst (λ v. weight (get_or tree 1 nowhere) ≤ weight (get_or tree v nowhere)) (let e : 2 * (u / 2) + 1 ≡ u = omega (arith, odd) in e) (omega arith)
 
--- the root weighs no more than any leaf
+-- The root weighs no more than any leaf.
 pub root_least : (rooms : ℕ) (tree : List Leaf) (s : ℕ) → IsTree rooms tree → s < rooms → weight (get_or tree 1 nowhere) ≤ weight (get_or (drop rooms tree) s nowhere)
 root_least rooms tree s t l = subst (λ (a : Leaf). weight (get_or tree 1 nowhere) ≤ weight a) (sym (at_leaf tree rooms s)) (least_to rooms tree (rooms + s) (rooms + s) t (omega arith) (omega arith) (omega arith))
 
+-- Each node is some leaf, by the way down.
 leaf_from : (rooms : ℕ) (tree : List Leaf) (fuel v : ℕ) → IsTree rooms tree → 2 * rooms ≤ v + fuel → 1 ≤ v → v < 2 * rooms → (s : ℕ) × (s < rooms) × (get_or tree v nowhere ≡ get_or tree (rooms + s) nowhere)
 leaf_from rooms tree zero v t f some l = absurd (omega arith)
 leaf_from rooms tree (suc fuel) v t f some l = by (leaf_from rooms tree fuel) (cases_lt v rooms)
@@ -115,7 +122,7 @@ leaf_from rooms tree (suc fuel) v t f some l = by (leaf_from rooms tree fuel) (c
         side (inl left) = let r = down (2 * v) t (omega arith) (omega arith) (omega arith) in (r.0, r.1, t.nodes v some node ∙ left ∙ r.2)
         side (inr right) = let r = down (2 * v + 1) t (omega arith) (omega arith) (omega arith) in (r.0, r.1, t.nodes v some node ∙ right ∙ r.2)
 
--- the root is the leaf of its slot
+-- The root is the leaf of its slot.
 pub root_leaf : (rooms : ℕ) (tree : List Leaf) → IsTree rooms tree → 1 ≤ rooms → ((s : ℕ) → s < rooms → (get_or (drop rooms tree) s nowhere).slot ≡ s) →
     ((get_or tree 1 nowhere).slot < rooms) × (get_or (drop rooms tree) (get_or tree 1 nowhere).slot nowhere ≡ get_or tree 1 nowhere)
 root_leaf rooms tree t some told =
@@ -123,24 +130,6 @@ root_leaf rooms tree t some told =
     let slot : (get_or tree 1 nowhere).slot ≡ r.0 = ap (λ a. a.slot) (r.2 ∙ sym (at_leaf tree rooms r.0)) ∙ told r.0 r.1 in
     let below = r.1 in
     (omega arith, ap (λ s. get_or (drop rooms tree) s nowhere) slot ∙ at_leaf tree rooms r.0 ∙ sym r.2)
-
--- a tree of empty rooms that are all told alike
-pub blank_tree : (rooms : ℕ) (tree : List Leaf) → tree ≡ replicate (2 * rooms) nowhere → IsTree rooms tree
-blank_tree rooms tree e = record {
-  size = ap length e ∙ length-replicate (2 * rooms) nowhere;
-  nodes = λ v some l. subst (λ (t : List Leaf). IsNode t v) (sym e) (
-      get_or-replicate (2 * rooms) v nowhere nowhere (omega arith)
-      ∙ ap (λ a. lighter a nowhere) (sym (get_or-replicate (2 * rooms) (2 * v) nowhere nowhere (omega arith)))
-      ∙ ap (lighter (get_or (replicate (2 * rooms) nowhere) (2 * v) nowhere)) (sym (get_or-replicate (2 * rooms) (2 * v + 1) nowhere nowhere (omega arith))));
-}
-
--- a list with one place set, at each place
-pub set_at : (leaves : List Leaf) (slot : ℕ) (x : Leaf) (s : ℕ) → slot < length leaves → get_or (set leaves slot x) s nowhere ≡ (if s == slot then x else get_or leaves s nowhere)
-set_at leaves slot x s l = by (cases_eq s slot)
-  where
-    by : (s ≡ slot) ⊎ (s ≡ slot → ⊥) → get_or (set leaves slot x) s nowhere ≡ (if s == slot then x else get_or leaves s nowhere)
-    by (inl same) = ap (λ k. get_or (set leaves slot x) k nowhere) same ∙ get_or-set_same leaves slot x nowhere l ∙ sym (ap (λ (b : Bool). if b then x else get_or leaves s nowhere) (eq-eqb s slot same))
-    by (inr other) = get_or-set_other leaves slot s x nowhere other ∙ sym (ap (λ (b : Bool). if b then x else get_or leaves s nowhere) (ne_eqb s slot other))
 
 -- The root is a leaf, and no leaf weighs less.
 pub root_is : (rooms : ℕ) (tree : List Leaf) (r : Leaf) → IsTree rooms tree → TellSlots (drop rooms tree) → 1 ≤ rooms → r ≡ get_or tree 1 r →

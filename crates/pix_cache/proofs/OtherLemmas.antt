@@ -1,10 +1,8 @@
 -- What a newcomer leaves of the copies of other items.
-use Rattle.std.proofs.Common.{◌≡◌, ◌≢◌, ℕ, ◌<◌, ◌≤◌, Bool, true, false, if◌then◌else◌, List, length, get_or, Option, Some, None, refl, sym, ◌∙◌, ap, subst, arith, ◌⊎◌, inl, inr, length-set}
+use Rattle.std.proofs.Common.{◌≡◌, ◌≢◌, ℕ, ◌<◌, Bool, true, false, if◌then◌else◌, List, length, get_or, Option, Some, None, refl, sym, ◌∙◌, ap, arith, length-set}
 use Rattle.std.specs.Option.{option_map}
 use Rattle.std.proofs.Math.ListN.{set}
-use Rattle.std.proofs.lemmas.Bool.{cases_eq}
 use Rattle.std.proofs.lemmas.List.{get_or-set_other}
-use Rattle.air_model.specs.Reads.{Read}
 use Rattle.pix_cache.specs.declared.leaf.Leaf.{Leaf}
 use Rattle.pix_cache.specs.declared.cache.KeepAnswer.{KeepAnswer}
 use Rattle.pix_cache.specs.declared.cache.KeepAnswer.TheVariants.{Evicted, Placed}
@@ -58,6 +56,7 @@ module _ (i : Inside) (k : KeepsCopies i) (self : Cache) (view : cache_of i ≡ 
         let leaf = sym at ∙ k.agree.leaf other r.slot (within i k self view other asked) e in
         gave_way (ap (λ (b : Leaf). b.kept) leaf) (ap (λ (b : Leaf). b.item) leaf)
 
+    -- So an item's copy stays while the newcomer takes that room.
     pub stays_behind : (item : ℕ) → other ≢ item → (rest : List (Option ℕ)) → rest ≡ (if r.kept then set i.places.items r.item None else i.places.items) → (st : Stored) (new : List Stored) → new ≡ set i.store.stores r.slot st →
         copy_of other (somes (copies_at new (set rest item (Some r.slot)))) ≡ copy_of other self.copies
     stays_behind item apart_from rest left st new put = copy_stays r.slot st new put (set rest item (Some r.slot))

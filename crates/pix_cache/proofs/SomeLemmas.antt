@@ -1,11 +1,11 @@
 -- Copies by rising item: the list of those that there are, against the list with one place for each item.
-use Rattle.std.proofs.Common.{◌≡◌, ◌≢◌, ℕ, zero, suc, ◌+◌, ◌-◌, ◌<◌, ◌≤◌, Bool, true, false, not, cond, ◌==◌, nat_lt, List, [], ◌∷◌, ◌++◌, length, get_or, take, drop, All, Option, Some, None, refl, sym, ◌∙◌, ap, subst, arith, ◌⊎◌, inl, inr, append-nil, append_assoc, length-append}
+use Rattle.std.proofs.Common.{◌≡◌, ℕ, suc, ◌+◌, ◌<◌, ◌≤◌, Bool, true, false, not, cond, ◌==◌, nat_lt, List, [], ◌∷◌, ◌++◌, length, get_or, take, drop, All, Option, Some, None, refl, sym, ◌∙◌, ap, subst, arith, ◌⊎◌, inl, inr, append-nil}
 use Rattle.std.specs.List.{count_by, filter, find}
 use Rattle.std.specs.Option.{is_some, option_or}
 use Rattle.std.proofs.Math.ListN.{set}
-use Rattle.std.proofs.lemmas.Bool.{cases_eq, cases_lt, cond-false, eq-eqb, le-ltb, lt-ltb, ne_eqb}
-use Rattle.std.proofs.lemmas.List.{get_or-append-add, get_or-set_other, get_or-set_same, get_or_append_left, get_or_past, length-take-le, set-get_or, set_split}
-use Rattle.std.proofs.lemmas.List.Elements.{All-append, All-cons, All-head, All-tail, All-weaker, filter-append}
+use Rattle.std.proofs.lemmas.Bool.{cases_lt, cond-false, eq-eqb, le-ltb, lt-ltb, ne_eqb}
+use Rattle.std.proofs.lemmas.List.{get_or-append-add, get_or_append_left, get_or_past, length-take-le, set-get_or, set_split}
+use Rattle.std.proofs.lemmas.List.Elements.{All-cons, All-head, All-tail, All-weaker, filter-append}
 use Rattle.std.proofs.lemmas.List.Folds.{find-append}
 use Rattle.std.proofs.lemmas.List.Sums.{sum_by-cons}
 use Rattle.air_model.specs.Reads.{Read}
@@ -14,15 +14,17 @@ use Rattle.air_model.proofs.CopyOrders.{filter_all}
 use Rattle.pix_cache.specs.Caches.{copy_of}
 use Rattle.pix_cache.specs.CacheFields.{somes}
 
--- each copy stands at its item's place, counted from a first one
+-- Each copy stands at its item's place, counted from a first one.
 abbrev pub Placed : ℕ → List (Option Read) → Type 0
 Placed a os = (k : ℕ) (r : Read) → get_or os k None ≡ Some r → r.item ≡ a + k
 
+-- The copies of two lists are those of the first and then those of the second.
 somes-append : (xs ys : List (Option Read)) → somes (xs ++ ys) ≡ somes xs ++ somes ys
 somes-append [] ys = refl
 somes-append (None ∷ xs) ys = somes-append xs ys
 somes-append (Some r ∷ xs) ys = ap (λ l. r ∷ l) (somes-append xs ys)
 
+-- Copies that stand at their items' places are of items of that range.
 items_in : (a : ℕ) (os : List (Option Read)) → Placed a os → All (λ r. (a ≤ r.item) × (r.item < a + length os)) (somes os)
 items_in a [] h = λ k d l. absurd (omega arith)
 items_in a (None ∷ os) h =
@@ -41,6 +43,7 @@ find_no : (f : Read → Bool) (R : List Read) → All (λ r. f r ≡ false) R �
 find_no f [] h = refl
 find_no f (r ∷ R) h = cond-false (f r) _ _ (All-head (λ r. f r ≡ false) r R h) ∙ find_no f R (All-tail (λ r. f r ≡ false) r R h)
 
+-- The copy at one place, if there is one.
 one : Option Read → List Read
 one None = []
 one (Some r) = r ∷ []
@@ -70,7 +73,7 @@ module _ (f b : List (Option Read)) (o : Option Read) (h : Placed 0 (f ++ o ∷ 
   rights : All (λ r. length f < r.item) (somes b)
   rights = All-weaker (λ r. (length f + 1 ≤ r.item) × (r.item < length f + 1 + length b)) (λ r. length f < r.item) (λ r p. let low = p.0 in omega arith) (somes b) (items_in (length f + 1) b (placed_right f b o h))
 
-  -- the one in the middle, by a test that it fails or passes as its item says
+  -- The one in the middle, by a test that it fails or passes as its item says.
   mid_fails : (p : Read → Bool) → ((r : Read) → r.item ≡ length f → p r ≡ false) → All (λ r. p r ≡ false) (one o)
   unfolding one
   mid_fails p fails = by o (placed_mid f b o h)
@@ -129,12 +132,14 @@ module _ (os : List (Option Read)) (i : ℕ) (within : i < length os) where
   back : List (Option Read)
   back = drop (suc i) os
 
+  -- The list around a place.
   pub parts : os ≡ take i os ++ get_or os i None ∷ drop (suc i) os
   parts = sym (set-get_or os i None) ∙ set_split os i (get_or os i None) within
 
   size : length (take i os) ≡ i
   size = length-take-le i os (omega arith)
 
+  -- A copy put at its item's place is one put in place of that item's.
   pub with_is : (x : Read) → x.item ≡ i → Placed 0 os → with_copy x (somes os) ≡ somes (set os i (Some x))
   unfolding with_copy
   with_is x at h =
@@ -149,6 +154,7 @@ module _ (os : List (Option Read)) (i : ℕ) (within : i < length os) where
       ∙ ap (λ l. somes f ++ x ∷ l) (above f b o hp)
       ∙ sym (ap somes (set_split os i (Some x) within) ∙ somes-append f (Some x ∷ b))
 
+  -- The copies without an item's are those with its place empty.
   pub without_is : Placed 0 os → without i (somes os) ≡ somes (set os i None)
   unfolding without
   without_is h =
@@ -160,6 +166,7 @@ module _ (os : List (Option Read)) (i : ℕ) (within : i < length os) where
       ∙ others f b o (subst (Placed 0) parts h)
       ∙ sym (ap somes (set_split os i None within) ∙ somes-append f (None ∷ b))
 
+  -- An item's copy is what stands at its place.
   pub copy_is : Placed 0 os → copy_of i (somes os) ≡ get_or os i None
   unfolding copy_of
   copy_is h =
@@ -170,20 +177,21 @@ module _ (os : List (Option Read)) (i : ℕ) (within : i < length os) where
       ∙ ap (λ k. find (λ r. r.item == k) (somes (f ++ o ∷ b))) (sym size)
       ∙ found f b o (subst (Placed 0) parts h)
 
-  -- one copy taken out
+  -- One copy taken out.
   pub taken : (r : Read) → get_or os i None ≡ Some r → somes os ≡ somes (take i os) ++ r ∷ somes (drop (suc i) os)
   taken r e = ap somes (parts ∙ ap (λ o. take i os ++ o ∷ drop (suc i) os) e) ∙ somes-append (take i os) (Some r ∷ drop (suc i) os)
 
+  -- What is left without the one at a place.
   pub left : somes (set os i None) ≡ somes (take i os) ++ somes (drop (suc i) os)
   left = ap somes (set_split os i None within) ∙ somes-append (take i os) (None ∷ drop (suc i) os)
 
--- how many there are
+-- How many there are.
 pub count_somes : (os : List (Option Read)) → length (somes os) ≡ count_by is_some os
 count_somes [] = refl
 count_somes (None ∷ os) = count_somes os
 count_somes (Some r ∷ os) = let e = count_somes os in let s = sum_by-cons (λ o. cond (is_some o) 1 0) (Some r) os in omega arith
 
--- what holds of each copy by its place, holds of all
+-- What holds of each copy by its place, holds of all.
 pub all_somes : (P : Read → Type 0) (os : List (Option Read)) → ((k : ℕ) (r : Read) → k < length os → get_or os k None ≡ Some r → P r) → All P (somes os)
 all_somes P [] h = λ k d l. absurd (omega arith)
 all_somes P (None ∷ os) h = all_somes P os (λ k r l e. h (suc k) r (omega arith) e)

@@ -1,6 +1,5 @@
 -- The columns of rooms in a flat list: where each begins and ends, and one of them overwritten.
-use Rattle.std.proofs.Common.{◌≡◌, ℕ, ◌+◌, ◌*◌, ◌-◌, ◌<◌, ◌≤◌, ◌++◌, List, length, get_or, map, take, drop, sym, ◌∙◌, ap, ◌⊎◌, inl, inr, arith, length-append, length-drop, length-set}
-use Rattle.std.specs.List.{range_with_len}
+use Rattle.std.proofs.Common.{◌≡◌, ℕ, ◌+◌, ◌*◌, ◌-◌, ◌<◌, ◌≤◌, ◌++◌, List, length, get_or, take, drop, sym, ◌∙◌, ap, ◌⊎◌, inl, inr, arith, length-append, length-drop, length-set}
 use Rattle.std.proofs.Math.ListN.{set}
 use Rattle.std.proofs.lemmas.Bool.{cases_eq, cases_lt}
 use Rattle.std.proofs.lemmas.List.{drop-take, get_or-set_other, get_or-set_same, length-take-le, same_lists}
@@ -8,7 +7,7 @@ use Rattle.std.proofs.lemmas.List.FromFn.{get_or-map-range_with_len, length-map-
 use Rattle.std.proofs.lemmas.Slice.{take-put_mid_below, between-put_mid, drop-put_mid}
 use borrow.Rule.Slice.PartMut.{put_mid}
 use Rattle.pix_cache.specs.declared.store.Slot.{Slot}
-use Rattle.pix_cache.specs.Stores.{Stored, no_store, stored}
+use Rattle.pix_cache.specs.Stores.{Stored, stored}
 use Rattle.pix_cache.specs.StoreFields.{column_of, no_slot, stored_in, stored_of}
 
 -- The column of a room ends before that of a later one begins.

@@ -1,10 +1,11 @@
 -- The fields of a cache: the rooms, which item has which room, and the tree over the rooms.
-use Rattle.std.specs.Prelude.{◌≡◌, ◌<◌, ◌≤◌, ℕ, true, List, [], ◌∷◌, ◌++◌, length, map, get_or, count_by, Option, Some, None}
+use Rattle.std.specs.Prelude.{◌≡◌, ◌<◌, ◌≤◌, ℕ, true, List, [], ◌∷◌, length, map, get_or, count_by, Option, Some, None}
 use Rattle.std.specs.List.{range_with_len}
 use Rattle.std.specs.Option.{is_some, option_map}
 use Rattle.air_base.specs.declared.limits.TheConstants.{MOST_ROOM}
 use Rattle.air_model.specs.Reads.{Read}
 use Rattle.pix_cache.specs.declared.leaf.Leaf.{Leaf}
+use Rattle.pix_cache.specs.declared.store.TheConstants.{ITEM_NUMBERS}
 use Rattle.pix_cache.specs.declared.cache.PixCache.TheInside.{Inside}
 use Rattle.pix_cache.specs.Stores.{Stored, no_store}
 use Rattle.pix_cache.specs.Leaves.{copy_leaf, nowhere}
@@ -39,7 +40,7 @@ pub record Agree (pix : List ℕ) (places : List (Option ℕ)) (leaves : List Le
 -- There is a leaf for each room, a place and entries for each item, and rooms and items agree.
 pub record KeepsCopies (c : Inside) : Type 0 where
   pub few : length c.store.stores ≤ MOST_ROOM
-  pub many : length c.pix.items ≤ 65536
+  pub many : length c.pix.items ≤ ITEM_NUMBERS
   pub items : length c.places.items ≡ length c.pix.items
   pub width : c.store.width ≡ length c.pix.items
   pub rooms : length c.tree ≡ length c.store.stores

@@ -1,5 +1,5 @@
 -- The order of rooms: by what each holds, an empty one first, then the copy that goes first.
-use Rattle.std.specs.Prelude.{◌≡◌, ℕ, ◌+◌, ◌-◌, ◌*◌, Bool, true, false, if◌then◌else◌, nat_lt, List, get_or}
+use Rattle.std.specs.Prelude.{ℕ, ◌+◌, ◌-◌, ◌*◌, true, false, if◌then◌else◌, nat_lt, List, get_or}
 use Rattle.pix_cache.specs.declared.leaf.Leaf.{Leaf}
 
 -- The leaf of an empty room.

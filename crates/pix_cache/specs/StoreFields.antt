@@ -3,6 +3,7 @@ use Rattle.std.specs.Prelude.{◌≡◌, ◌≤◌, ◌*◌, ℕ, List, length, 
 use Rattle.std.specs.List.{range_with_len}
 use Rattle.air_base.specs.declared.limits.TheConstants.{MOST_ROOM}
 use Rattle.pix_cache.specs.declared.store.Slot.{Slot}
+use Rattle.pix_cache.specs.declared.store.TheConstants.{ITEM_NUMBERS}
 use Rattle.pix_cache.specs.declared.store.Store.TheInside.{Inside}
 use Rattle.pix_cache.specs.Stores.{Store, Stored, stored}
 
@@ -29,5 +30,5 @@ store_of s = record { width = s.n; stores = stored_of s.n s.slots.items s.entrie
 -- There are entries for the column of each room.
 pub record IsStore (s : Inside) : Type 0 where
   pub few : length s.slots.items ≤ MOST_ROOM
-  pub many : s.n ≤ 65536
+  pub many : s.n ≤ ITEM_NUMBERS
   pub sized : length s.entries.items ≡ length s.slots.items * s.n

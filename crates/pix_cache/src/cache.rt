@@ -8,6 +8,7 @@ ghost use Rattle.air_model.specs.Reads.{Read};
 ghost use Rattle.air_model.specs.Copies.{keep, pix_of, with_copy, without};
 ghost use Rattle.pix_cache.specs.Caches.{FindsRoom, GivesWay, HasCopy, IsLeast, copy, copy_of};
 ghost use Rattle.pix_cache.specs.Answers.{IsAnswer};
+ghost use Rattle.pix_cache.specs.declared.store.TheConstants.{ITEM_NUMBERS};
 ghost use Rattle.pix_cache.specs.declared.cache.KeepAnswer.TheVariants.{Declined, Evicted, Placed, Replaced};
 
 use crate::leaf::Leaf;
@@ -76,7 +77,7 @@ impl PixCache {
     /// No copies yet, and room for so many, over as many items as there are PIX numbers. It takes all memory.
     pub fn new(alloc: Global, room: u32, pix: &[u64]) -> Result<PixCache, NoMemory>
         requires room { room ≤ MOST_ROOM }
-        requires items { length pix.now ≤ 65536 }
+        requires items { length pix.now ≤ ITEM_NUMBERS }
         ensures { IfOk result (λ c. c ≡ record { room = room; pix = pix.now; copies = [] }) }
     {
         let rooms = room as usize;

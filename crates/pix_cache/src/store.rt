@@ -3,12 +3,16 @@
 //! A column stays where it was put until another is put over it.
 
 ghost use Rattle.std.specs.Prelude.{◌≡◌, ◌<◌, ◌≤◌, length, get_or, IfOk, slice_set};
-ghost use Rattle.pix_cache.specs.Stores.{no_store, stored};
 ghost use Rattle.air_base.specs.declared.limits.TheConstants.{MOST_ROOM};
+ghost use Rattle.pix_cache.specs.declared.store.TheConstants.{ITEM_NUMBERS};
+ghost use Rattle.pix_cache.specs.Stores.{no_store, stored};
 
 use air_base::NoMemory;
 use std::alloc::Global;
 use std::marker::Model;
+
+/// How many numbers there are for items.
+pub const ITEM_NUMBERS: usize = 65_536;
 
 /// A kept copy, lent.
 #[derive(Debug, Drop)]
@@ -49,7 +53,7 @@ impl Store {
     /// So many rooms for copies with `n` entries. It takes all memory.
     pub fn new(alloc: Global, rooms: usize, n: usize) -> Result<Store, NoMemory>
         requires few { rooms ≤ MOST_ROOM }
-        requires items { n ≤ 65536 }
+        requires items { n ≤ ITEM_NUMBERS }
         ensures width { IfOk result (λ s. s.width ≡ n) }
         ensures rooms { IfOk result (λ s. length s.stores ≡ rooms) }
     {

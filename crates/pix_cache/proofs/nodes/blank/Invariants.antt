@@ -1,4 +1,4 @@
-use Rattle.std.proofs.Common.{◌≡◌, ℕ, ◌*◌, ◌<◌, ◌≤◌, false, drop, get_or, length}
+use Rattle.std.proofs.Common.{◌≡◌, ℕ, ◌<◌, false, drop, get_or}
 use Rattle.pix_cache.specs.Leaves.{nowhere}
 use Rattle.pix_cache.specs.Trees.{IsTree}
 use Rattle.pix_cache.proofs.nodes.blank.Given as goal

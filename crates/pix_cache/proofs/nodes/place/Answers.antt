@@ -1,10 +1,10 @@
-use Rattle.std.proofs.Common.{◌≡◌, ◌≢◌, ◌+◌, ◌*◌, ◌/◌, ◌<◌, ◌≤◌, ℕ, List, length, get_or, drop, sym, ap, ◌∙◌, subst, arith, ◌⊎◌, inl, inr, refl, length-set, length-drop}
+use Rattle.std.proofs.Common.{◌≡◌, ◌≢◌, ◌+◌, ◌*◌, ◌/◌, ◌<◌, ◌≤◌, ℕ, List, length, get_or, sym, ◌∙◌, subst, arith, ◌⊎◌, inl, inr, length-set}
 use Rattle.std.proofs.Math.ListN.{set}
 use Rattle.std.proofs.lemmas.Bool.{cases_eq}
-use Rattle.std.proofs.lemmas.List.{drop-set-add, drop-set-lt, get_or-drop, get_or-set_other, get_or-set_same}
+use Rattle.std.proofs.lemmas.List.{drop-set-add, drop-set-lt}
 use Rattle.pix_cache.specs.declared.leaf.Leaf.{Leaf}
 use Rattle.pix_cache.specs.Leaves.{lighter, nowhere}
-use Rattle.pix_cache.specs.Trees.{IsNode, IsTree}
+use Rattle.pix_cache.specs.Trees.{IsNode}
 use Rattle.pix_cache.proofs.NodeLemmas.{node_kept, node_mended}
 use Rattle.pix_cache.proofs.nodes.place.Goals as goal
 

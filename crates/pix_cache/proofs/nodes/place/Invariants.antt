@@ -1,4 +1,4 @@
-use Rattle.std.proofs.Common.{◌≡◌, ◌≢◌, ℕ, ◌/◌, ◌*◌, ◌<◌, ◌≤◌, drop, length}
+use Rattle.std.proofs.Common.{◌≡◌, ◌≢◌, ℕ, ◌/◌, ◌*◌, ◌<◌, ◌≤◌, drop}
 use Rattle.std.specs.Prelude.{slice_set}
 use Rattle.pix_cache.specs.Trees.{IsNode}
 use Rattle.pix_cache.proofs.nodes.place.Given as goal

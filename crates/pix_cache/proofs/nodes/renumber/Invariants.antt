@@ -1,4 +1,4 @@
-use Rattle.std.proofs.Common.{◌≡◌, ℕ, ◌*◌, ◌<◌, ◌≤◌, false, drop, get_or, length}
+use Rattle.std.proofs.Common.{◌≡◌, ℕ, ◌<◌, ◌≤◌, drop, get_or}
 use Rattle.pix_cache.specs.Leaves.{nowhere, renumbered}
 use Rattle.pix_cache.specs.Trees.{IsTree}
 use Rattle.pix_cache.proofs.nodes.renumber.Given as goal

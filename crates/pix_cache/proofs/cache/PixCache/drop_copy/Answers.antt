@@ -1,6 +1,5 @@
-use Rattle.std.proofs.Common.{◌≡◌, ◌<◌, ◌∙◌, ℕ, List, length, get_or, Option, Some, None, sym, ap, subst, arith, length-set}
+use Rattle.std.proofs.Common.{◌≡◌, ◌∙◌, length, Some, None, sym, ap, subst, arith, length-set}
 use Rattle.std.proofs.Math.ListN.{set}
-use Rattle.air_model.specs.Copies.{without}
 use Rattle.pix_cache.specs.declared.leaf.Leaf.{Leaf}
 use Rattle.pix_cache.specs.Leaves.{empty_leaf}
 use Rattle.pix_cache.specs.CacheFields.{Agree}

@@ -1,4 +1,4 @@
-use Rattle.std.proofs.Common.{◌≡◌, ◌∙◌, get_or, Option, Some, None, MatchOption, sym, ap, subst}
+use Rattle.std.proofs.Common.{◌≡◌, ◌∙◌, get_or, Some, None, MatchOption, sym, ap, subst}
 use Rattle.std.proofs.lemmas.List.{get_or_default}
 use Rattle.pix_cache.specs.Stores.{Stored}
 use Rattle.pix_cache.specs.Caches.{copy, copy_of}

@@ -1,4 +1,4 @@
-use Rattle.std.proofs.Common.{◌≡◌, ◌≤◌, List, length, sym, ap, subst}
+use Rattle.std.proofs.Common.{◌≤◌, List, length, sym, ap, subst}
 use Rattle.std.specs.Prelude.{sum_by}
 use Rattle.air_model.specs.Reads.{Read}
 use Rattle.air_model.specs.Copies.{pix_of, with_copy}

@@ -1,11 +1,9 @@
-use Rattle.std.proofs.Common.{◌≡◌, ◌<◌, ◌≤◌, ◌∙◌, ℕ, List, if◌then◌else◌, length, get_or, All, Option, Some, None, refl, sym, ap, subst, arith, length-set}
+use Rattle.std.proofs.Common.{◌≡◌, ◌∙◌, ℕ, List, if◌then◌else◌, length, get_or, Option, Some, None, refl, sym, ap, arith, length-set}
 use Rattle.std.proofs.Math.ListN.{set}
 use Rattle.std.specs.Option.{is_some}
 use Rattle.std.proofs.lemmas.List.{get_or_default, with_items_is}
-use Rattle.pix_cache.specs.declared.leaf.Leaf.{Leaf}
 use Rattle.pix_cache.specs.Stores.{Store, Stored, stored}
-use Rattle.pix_cache.specs.Leaves.{copy_leaf, nowhere, weight}
-use Rattle.pix_cache.specs.Caches.{Cache}
+use Rattle.pix_cache.specs.Leaves.{copy_leaf}
 use Rattle.pix_cache.proofs.CacheLemmas.{read_place}
 use Rattle.pix_cache.proofs.FieldLemmas.{decline_answer, decline_form, has_copy, in_rooms, replace_form, take_agree, take_answer, take_form, within}
 use Rattle.pix_cache.proofs.OtherLemmas.{stays_behind, stays_beside}

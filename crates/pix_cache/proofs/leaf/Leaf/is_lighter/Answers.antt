@@ -1,5 +1,4 @@
-use Rattle.std.proofs.Common.{sym, arith}
-use Rattle.std.proofs.lemmas.Bool.{eqb-true}
+use Rattle.std.proofs.Common.{arith}
 use Rattle.pix_cache.proofs.NodeLemmas.{copy_heavier, empty_lighter, item_lighter, pix_lighter}
 use Rattle.pix_cache.proofs.leaf.Leaf.is_lighter.Goals as goal
 

@@ -1,4 +1,4 @@
-use Rattle.std.proofs.Common.{◌≡◌, ◌∙◌, length, sym, ap, arith}
+use Rattle.std.proofs.Common.{◌≡◌, ◌∙◌, length, arith}
 use Rattle.pix_cache.proofs.StoreLemmas.{stores_len}
 use Rattle.pix_cache.proofs.store.Store.new.Goals as goal
 

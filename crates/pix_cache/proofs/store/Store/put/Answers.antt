@@ -1,11 +1,11 @@
-use Rattle.std.proofs.Common.{rules, ◌≡◌, ◌<◌, ◌≤◌, ◌+◌, ◌-◌, ◌*◌, ◌∙◌, ℕ, List, length, sym, ap, arith}
+use Rattle.std.proofs.Common.{rules, ◌≡◌, ◌<◌, ◌+◌, ◌-◌, ◌*◌, ◌∙◌, List, length, sym, ap, arith}
 use Rattle.std.specs.Prelude.{slice_set}
 use Rattle.std.proofs.lemmas.List.{with_items_is}
 use Rattle.pix_cache.specs.declared.store.Slot.{Slot}
 use Rattle.std.proofs.Math.ListN.{set}
 use borrow.Rule.Slice.PartMut.{put_mid}
 use Rattle.pix_cache.specs.Stores.{Store, Stored, stored}
-use Rattle.pix_cache.specs.StoreFields.{stored_of, store_of}
+use Rattle.pix_cache.specs.StoreFields.{stored_of}
 use Rattle.pix_cache.proofs.StoreLemmas.{column_before, length_put, store_put, stores_len}
 use Rattle.pix_cache.proofs.store.Store.put.Goals as goal
 
@@ -37,7 +37,7 @@ returns c =
     let k = from + n - from in
     let long = length_put from k c.deref_mut.result.now c.copy_from_slice.new.self (omega (arith, c.self.invariant.sized, ap length c.deref_mut.ensures.value)) (omega (arith, sized)) in
     let put = with_items_is c.self.inside.entries (put_mid from k c.deref_mut.result.now c.copy_from_slice.new.self) (long ∙ ap length c.deref_mut.ensures.value ∙ sym c.self.inside.entries.ok.0)
-        ∙ ap (λ xs. put_mid from k xs c.copy_from_slice.new.self) c.deref_mut.ensures.value in
+    ∙ ap (λ xs. put_mid from k xs c.copy_from_slice.new.self) c.deref_mut.ensures.value in
     ap (λ (stores : List Stored). let s : Store = record { width = n; stores = stores } in s)
     (ap (stored_of n (set slots c.args.slot it)) put
     ∙ store_put n slots entries c.copy_from_slice.new.self c.args.slot k it (omega arith) within c.self.invariant.sized sized

@@ -1,8 +1,7 @@
-use Rattle.std.proofs.Common.{◌≡◌, ◌<◌, ◌≤◌, ◌∙◌, ℕ, List, All, length, get_or, sym, ap, subst, arith}
+use Rattle.std.proofs.Common.{◌≡◌, ◌<◌, ◌≤◌, ◌∙◌, List, All, length, get_or, sym, subst, arith}
 use Rattle.std.proofs.lemmas.Bool.{ltb-false, ltb-true}
 use Rattle.pix_cache.specs.declared.leaf.Leaf.{Leaf}
 use Rattle.pix_cache.specs.Leaves.{copy_leaf, nowhere, weight}
-use Rattle.pix_cache.specs.TreeFields.{leaves_of}
 use Rattle.pix_cache.proofs.NodeLemmas.{root_is}
 use Rattle.pix_cache.proofs.tree.Tree.room_for.Goals as goal
 
