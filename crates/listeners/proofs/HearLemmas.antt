@@ -1,8 +1,11 @@
 -- One listener hears member by member: what it is after a list, after its pieces, and at its end.
 -- The methods of `Listener` and the laws cite these.
-use Rattle.std.proofs.Common.{◌≡◌, ℕ, ◌+◌, ◌<◌, ◌^◌, List, [], ◌∷◌, ◌++◌, Option, length, map, take, get_or, refl, sym, ◌∙◌, ap, arith}
+use Rattle.std.proofs.Common.{◌≡◌, ℕ, ◌+◌, ◌<◌, ◌^◌, List, [], ◌∷◌, ◌++◌, Option, Result, Ok, Err, false, length, map, take, get_or, refl, sym, ◌∙◌, ap, arith}
+use Rattle.std.specs.Result.{result_ok}
+use Rattle.std.proofs.lemmas.Bool.{cond-false}
 use Rattle.std.proofs.lemmas.List.{append-nil, length-map, length-take, map_more}
-use Rattle.air_model.specs.Aired.{scheme_in}
+use Rattle.air_model.specs.declared.bucket.BucketFault.{BucketFault}
+use Rattle.air_model.specs.Aired.{fits, scheme_in}
 use Rattle.air_model.specs.Buckets.{Bucket}
 use Rattle.air_model.specs.Decks.{Deck}
 use Rattle.air_model.specs.Judges.{by_entries}
@@ -12,7 +15,7 @@ use Rattle.air_model.specs.SessionLaws.{after}
 use Rattle.air_model.proofs.LineLemmas.{lines}
 use Rattle.receiver_core.specs.Receivers.{Receiver}
 use Rattle.listeners.specs.Steps.Endings.{lines_and_counts}
-use Rattle.listeners.specs.Listeners.{Listener, ended, hears, hears_one, listener_of}
+use Rattle.listeners.specs.Listeners.{ChangesNoAttempt, Listener, ended, hears, hears_one, listener_of}
 use Rattle.listeners.specs.Listeners as listener
 use Rattle.listeners.proofs.CountLemmas.{heard_by, hear_counts, settle_counts}
 use Rattle.listeners.proofs.EndLemmas.{end_like}
@@ -46,6 +49,13 @@ listener_heard n {old} {mid} {M} {N} now o took air reader heard =
     ap (λ a. let l : Listener = record { number = n; air = a; reader = now.reader; state = after N now.state } in l) (air ∙ took.air)
     ∙ ap (λ d. let l : Listener = record { number = n; air = old.air; reader = d; state = after N now.state } in l) (reader ∙ took.reader)
     ∙ ap (λ s. let l : Listener = record { number = n; air = old.air; reader = old.reader; state = s } in l) state
+
+-- What is no bucket, or doesn't fit, changes no attempt.
+pub refused_alone : (h : Result Bucket BucketFault) (before now : Listener) → now ≡ hears_one (result_ok h) before → ChangesNoAttempt h before now
+unfolding hears_one hear
+refused_alone (Err fault) before now heard = heard
+refused_alone (Ok b) before now heard = λ foreign.
+    heard ∙ ap (λ s. let l : Listener = record before { state = s } in l) (cond-false (fits before.air b) _ _ foreign)
 
 -- A receiver whose last verdicts were taken and whose queries were ended has its session's lines and counts.
 pub listener_ended : (n : ℕ) {old mid : Receiver} {L M : List Line} (last : Receiver) (N : List Line) → Took old L mid M

@@ -8,7 +8,7 @@ ghost use Rattle.air_model.specs.Buckets.{IsInRange};
 ghost use Rattle.air_model.specs.Decks.{disks_in};
 ghost use Rattle.air_model.specs.Reports.{line_by};
 ghost use Rattle.receiver_core.specs.Receivers.{heard_count};
-ghost use Rattle.listeners.specs.Listeners.{CanListen, ended, hears, hears_one, listener_of};
+ghost use Rattle.listeners.specs.Listeners.{CanListen, ChangesNoAttempt, ended, hears, hears_one, listener_of};
 
 use crate::verdicts::{Line, end_queries, take_verdicts};
 use air_base::NoMemory;
@@ -65,7 +65,10 @@ impl Listener {
     ) -> Result<(), NoMemory>
         requires counts { heard_count self.old.state.counts + 1 < 2 ^ 64 }
         requires range { IfOk heard.now IsInRange }
-        ensures { OnOk result (self.new ≡ hears_one (result_ok heard.now) self.old) }
+        ensures heard { OnOk result (self.new ≡ hears_one (result_ok heard.now) self.old) }
+
+        // What is refused or foreign changes no attempt.
+        ensures alone { OnOk result (ChangesNoAttempt heard.now self.old self.new) }
     {
         take_verdicts(alloc, &mut self.receiver, &mut self.lines)?;
         self.receiver.hear(heard);

@@ -1,10 +1,12 @@
 -- What an answer of `feed` tells: which count rose, and that a refused or a foreign member changes nothing else. By every
 -- judge, and with copies as without.
-use Rattle.std.proofs.Common.{◌≡◌, ℕ, max, Bool, true, false, cond, nat_lt, [], ◌∷◌, ◌++◌, Option, Some, None, refl, sym}
+use Rattle.std.proofs.Common.{◌≡◌, ◌↔◌, ℕ, max, Bool, true, false, cond, nat_lt, [], ◌∷◌, ◌++◌, Option, Some, None, Result, Ok, Err, refl, sym}
 use Rattle.std.specs.Option.{is_some}
+use Rattle.std.specs.Result.{result_ok}
 use Rattle.air_base.specs.declared.verdicts.Clash.{Clash}
 use Rattle.air_model.specs.Aired.{fits}
 use Rattle.air_model.specs.Buckets.{Bucket}
+use Rattle.air_model.specs.declared.bucket.BucketFault.{BucketFault}
 use Rattle.air_model.specs.Judges.{Judge}
 use Rattle.air_model.specs.Reads.{Read}
 use Rattle.air_model.specs.Sessions.{State, abort, accept_if_whole, comes_late, count_dozed, count_foreign, count_late, count_opened, count_refused, decide, drop_copy, hear, hear_read, hold, is_wanted, next_attempt, next_query, offer, open_bucket, query_of, read_in, wanted, with_line}
@@ -39,10 +41,10 @@ module _ (judge : Judge) (r : Receiver) where
       by true false = open_counts x (at_cycle m r.state)
       by false l = refl
 
-  pub hear_counts : (o : Option Bucket) → (hear judge r.air r.reader o r.state).counts ≡ counted (fed_of r o) r.state.counts
+  pub hear_counts : (h : Result Bucket BucketFault) → (hear judge r.air r.reader (result_ok h) r.state).counts ≡ counted (fed_of r h) r.state.counts
   unfolding hear fed_of count_refused count_foreign
-  hear_counts None = refl
-  hear_counts (Some b) = by (fits r.air b) (read_counts (read_in b.cycle b.body))
+  hear_counts (Err fault) = refl
+  hear_counts (Ok b) = by (fits r.air b) (read_counts (read_in b.cycle b.body))
     where
       by : (f : Bool) → ((m : ℕ) → (hear_read judge r.air r.reader (read_in b.cycle b.body) (at_cycle m r.state)).counts ≡ counted (fed_read r (read_in b.cycle b.body)) r.state.counts) →
           (cond f (hear_read judge r.air r.reader (read_in b.cycle b.body) (at_cycle (max r.state.now b.cycle) r.state)) (count_foreign r.state)).counts
@@ -62,10 +64,10 @@ module _ (judge : Judge) (r : Receiver) where
       by true false = tt
       by false l = tt
 
-  pub alone : (o : Option Bucket) → r.state.lines ≡ [] → ChangesItsCountAlone (fed_of r o) r (in_state r (hear judge r.air r.reader o r.state))
+  pub alone : (h : Result Bucket BucketFault) → r.state.lines ≡ [] → ChangesItsCountAlone (fed_of r h) r (in_state r (hear judge r.air r.reader (result_ok h) r.state))
   unfolding hear fed_of count_refused count_foreign
-  alone None free = sym (quiet r (count_refused r.state) free)
-  alone (Some b) free = by (fits r.air b)
+  alone (Err fault) free = sym (quiet r (count_refused r.state) free)
+  alone (Ok b) free = by (fits r.air b)
     where
       by : (f : Bool) → ChangesItsCountAlone (cond f (fed_read r (read_in b.cycle b.body)) fed.Foreign) r
           (in_state r (cond f (hear_read judge r.air r.reader (read_in b.cycle b.body) (at_cycle (max r.state.now b.cycle) r.state)) (count_foreign r.state)))
@@ -74,20 +76,26 @@ module _ (judge : Judge) (r : Receiver) where
 
 -- ---- a bucket isn't refused
 
-read_not_refused : (r : Receiver) (o : Option Read) → fed_read r o ≡ fed.Refused → ⊥
+read_not_refused : (r : Receiver) (fault : BucketFault) (o : Option Read) → fed_read r o ≡ fed.Refused fault → ⊥
 unfolding fed_read
-read_not_refused r None e = cc
-read_not_refused r (Some x) e = by (is_wanted (wanted r.reader r.state) x.item) (comes_late r.air r.state x) e
+read_not_refused r fault None e = cc
+read_not_refused r fault (Some x) e = by (is_wanted (wanted r.reader r.state) x.item) (comes_late r.air r.state x) e
   where
-    by : (w l : Bool) → cond w (cond l fed.Late fed.Opened) fed.Dozed ≡ fed.Refused → ⊥
+    by : (w l : Bool) → cond w (cond l fed.Late fed.Opened) fed.Dozed ≡ fed.Refused fault → ⊥
     by true true e = cc
     by true false e = cc
     by false l e = cc
 
-pub bucket_not_refused : (r : Receiver) (b : Bucket) → fed_of r (Some b) ≡ fed.Refused → ⊥
+bucket_not_refused : (r : Receiver) (fault : BucketFault) (b : Bucket) → fed_of r (Ok b) ≡ fed.Refused fault → ⊥
 unfolding fed_of
-bucket_not_refused r b e = by (fits r.air b) e
+bucket_not_refused r fault b e = by (fits r.air b) e
   where
-    by : (f : Bool) → cond f (fed_read r (read_in b.cycle b.body)) fed.Foreign ≡ fed.Refused → ⊥
-    by true e = read_not_refused r (read_in b.cycle b.body) e
+    by : (f : Bool) → cond f (fed_read r (read_in b.cycle b.body)) fed.Foreign ≡ fed.Refused fault → ⊥
+    by true e = read_not_refused r fault (read_in b.cycle b.body) e
     by false e = cc
+
+-- What is refused has that fault, and what has a fault is refused with it.
+pub refused_is : (r : Receiver) (h : Result Bucket BucketFault) (fault : BucketFault) → (fed_of r h ≡ fed.Refused fault) ↔ (h ≡ Err fault)
+unfolding fed_of
+refused_is r (Err e) fault = (λ same. cc, λ same. cc)
+refused_is r (Ok b) fault = (λ same. absurd (bucket_not_refused r fault b same), λ same. absurd cc)

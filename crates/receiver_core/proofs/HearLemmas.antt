@@ -1,5 +1,5 @@
 -- What a heard bucket is to a receiver: what is answered, and what the rule does.
-use Rattle.std.proofs.Common.{◌≡◌, ◌≢◌, ℕ, ◌+◌, arith, max, true, false, ◌&&◌, ◌==◌, [], length, map, get_or, is_none, not, Option, Some, None, refl, sym, ◌∙◌, ap}
+use Rattle.std.proofs.Common.{◌≡◌, ◌≢◌, ℕ, ◌+◌, arith, max, true, false, ◌&&◌, ◌==◌, [], length, map, get_or, is_none, not, Option, Some, None, Ok, refl, sym, ◌∙◌, ap}
 use Rattle.std.proofs.lemmas.Bool.{and_parts, cond-false, cond-true, eqb-true}
 use Rattle.air_base.specs.declared.verdicts.Policy.TheVariants.{FMatrix}
 use Rattle.air_history.specs.Clashes.{is_late}
@@ -66,11 +66,11 @@ fits_counted air b f = fitting_count air (get_or air.slots b.slot None) b.body (
 
 -- ---- what is answered
 
-pub fed_foreign : (r : Receiver) (b : Bucket) → fits r.air b ≡ false → fed.Foreign ≡ fed_of r (Some b)
+pub fed_foreign : (r : Receiver) (b : Bucket) → fits r.air b ≡ false → fed.Foreign ≡ fed_of r (Ok b)
 unfolding fed_of
 fed_foreign r b f = sym (cond-false (fits r.air b) _ _ f)
 
-pub fed_dozed : (r : Receiver) (b : Bucket) → fits r.air b ≡ true → is_read_wanted (wanted r.reader r.state) (read_in b.cycle b.body) ≡ false → fed.Dozed ≡ fed_of r (Some b)
+pub fed_dozed : (r : Receiver) (b : Bucket) → fits r.air b ≡ true → is_read_wanted (wanted r.reader r.state) (read_in b.cycle b.body) ≡ false → fed.Dozed ≡ fed_of r (Ok b)
 unfolding fed_of fed_read
 fed_dozed r b f w = sym (cond-true (fits r.air b) _ _ f ∙ by (read_in b.cycle b.body) w)
   where
@@ -82,7 +82,7 @@ in_time : (air : Air) (s : State) (x : Read) → air.scheme.policy ≡ FMatrix �
 unfolding is_late
 in_time air s x p = ap (λ q. is_late q (map place_of s.held) (place_of x)) p
 
-pub fed_opened : (r : Receiver) (b : Bucket) → r.air.scheme.policy ≡ FMatrix → fits r.air b ≡ true → is_read_wanted (wanted r.reader r.state) (read_in b.cycle b.body) ≡ true → fed.Opened ≡ fed_of r (Some b)
+pub fed_opened : (r : Receiver) (b : Bucket) → r.air.scheme.policy ≡ FMatrix → fits r.air b ≡ true → is_read_wanted (wanted r.reader r.state) (read_in b.cycle b.body) ≡ true → fed.Opened ≡ fed_of r (Ok b)
 unfolding fed_of fed_read
 fed_opened r b p f w = sym (cond-true (fits r.air b) _ _ f ∙ by (read_in b.cycle b.body) w)
   where

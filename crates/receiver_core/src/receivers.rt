@@ -1,13 +1,12 @@
 //! A receiver: fed with the bytes that it hears, it judges its own queries.
 
-ghost use Rattle.std.specs.Prelude.{◌≡◌, ◌↔◌, ◌<◌, ◌≤◌, ◌+◌, ◌^◌, [], length, slice_get, IfOk, IfSome, IsErr, IsNone, IsTrue};
+ghost use Rattle.std.specs.Prelude.{◌≡◌, ◌↔◌, ◌<◌, ◌≤◌, ◌+◌, ◌^◌, [], length, slice_get, Err, IfOk, IfSome, IsNone, IsTrue};
 ghost use Rattle.std.specs.Result.{result_ok};
 ghost use Rattle.air_base.specs.declared.verdicts.Policy.TheVariants.{FMatrix};
-ghost use Rattle.air_model.specs.Buckets.{IsInRange, bucket_in};
+ghost use Rattle.air_model.specs.Buckets.{IsInRange, bucket_in, reading};
 ghost use Rattle.air_model.specs.Decks.{disks_in};
 ghost use Rattle.air_model.specs.Judges.{by_entries};
 ghost use Rattle.air_model.specs.Sessions.{end_query, hear, wanted};
-ghost use Rattle.bucket_codec.specs.DatagramKinds.{IsNoBucket};
 ghost use Rattle.receiver_core.specs.LinesGiven.{StepTells, lines_given, lines_of};
 ghost use Rattle.receiver_core.specs.FeedAnswers.{ChangesItsCountAlone, counted, fed_of};
 ghost use Rattle.receiver_core.specs.LastReads.{last_reads};
@@ -29,8 +28,8 @@ use std::marker::Model;
 /// What became of a heard bucket: the first of these rules that applies.
 #[derive(Clone, Copy, Debug, PartialEq, Eq)]
 pub enum Fed {
-    /// The bytes are no bucket.
-    Refused,
+    /// The bytes are no bucket, for this fault.
+    Refused(BucketFault),
     /// The bucket doesn't fit the deck.
     Foreign,
     /// The bucket isn't wanted.
@@ -132,9 +131,9 @@ impl Receiver {
         ensures reader { self.new.reader ≡ self.old.reader }
         ensures last { self.new.last ≡ last_reads self.new.state.lines self.old.last }
 
-        // The answer is the first rule that applies, and that count rises.
-        ensures fed { result ≡ fed_of self.old (bucket_in bytes.now) }
-        ensures refused { (result ≡ Fed.Refused) ↔ IsNoBucket bytes.now }
+        // The answer is the first rule that applies, and that count rises. What is refused or foreign changes no attempt.
+        ensures fed { result ≡ fed_of self.old (reading bytes.now) }
+        ensures refused { (fault : BucketFault) → (result ≡ Fed.Refused fault) ↔ (reading bytes.now ≡ Err fault) }
         ensures counted { self.new.state.counts ≡ counted result self.old.state.counts }
         ensures alone { ChangesItsCountAlone result self.old self.new }
     {
@@ -152,16 +151,16 @@ impl Receiver {
         ensures reader { self.new.reader ≡ self.old.reader }
         ensures last { self.new.last ≡ last_reads self.new.state.lines self.old.last }
 
-        // The answer is the first rule that applies, and that count rises.
-        ensures fed { result ≡ fed_of self.old (result_ok heard.now) }
-        ensures refused { (result ≡ Fed.Refused) ↔ IsErr heard.now }
+        // The answer is the first rule that applies, and that count rises. What is refused or foreign changes no attempt.
+        ensures fed { result ≡ fed_of self.old heard.now }
+        ensures refused { (fault : BucketFault) → (result ≡ Fed.Refused fault) ↔ (heard.now ≡ Err fault) }
         ensures counted { self.new.state.counts ≡ counted result self.old.state.counts }
         ensures alone { ChangesItsCountAlone result self.old self.new }
     {
         match heard {
-            Err(_) => {
+            Err(fault) => {
                 self.counts.refused += 1;
-                Fed::Refused
+                Fed::Refused(*fault)
             }
             Ok(bucket) => self.hear_bucket(bucket),
         }

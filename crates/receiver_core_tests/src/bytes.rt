@@ -3,6 +3,7 @@
 use crate::buckets::{DECK, FIRST, SECOND, with};
 use crate::calls::{Call, NONE, Other, first_other, read, verdict};
 use air_base::{Counts, VerdictKind};
+use bucket_codec::BucketFault;
 use receiver_core::{Fed, Step};
 use std::alloc::Global;
 use std::test::Fail;
@@ -21,6 +22,9 @@ const SHAPE: [u8; 32] = [
 
 /// No byte.
 const EMPTY: [u8; 0] = [];
+
+/// Three bytes with another mark than a bucket's.
+const OTHER_BYTES: [u8; 3] = [0x61, 0x64, 2];
 
 /// The bucket of item 0 with entries of three items.
 const OF_THREE: [u8; 36] = [
@@ -54,11 +58,15 @@ fn what_is_no_bucket_or_does_not_fit_is_counted_alone(rt: HostRuntime) -> Result
         ..NONE
     };
     let calls = [
-        Call::Hear(&LONGER, Fed::Refused, Step::Waiting),
+        Call::Hear(&LONGER, Fed::Refused(BucketFault::Length), Step::Waiting),
         Call::Wanted(Some(0)),
-        Call::Hear(&SHAPE, Fed::Refused, Step::Waiting),
+        Call::Hear(&SHAPE, Fed::Refused(BucketFault::Shape), Step::Waiting),
         Call::Wanted(Some(0)),
-        Call::Hear(&EMPTY, Fed::Refused, Step::Waiting),
+        Call::Hear(
+            &EMPTY,
+            Fed::Refused(BucketFault::Short { at: 0 }),
+            Step::Waiting,
+        ),
         Call::Wanted(Some(0)),
         Call::Hear(&OF_THREE, Fed::Foreign, Step::Waiting),
         Call::Wanted(Some(0)),
@@ -69,6 +77,27 @@ fn what_is_no_bucket_or_does_not_fit_is_counted_alone(rt: HostRuntime) -> Result
         Call::Hear(&NO_SLOT, Fed::Foreign, Step::Waiting),
         Call::Wanted(Some(0)),
         Call::Counts(counts),
+    ];
+    assert_eq!(rt; first_other(rt.alloc(), DECK, 0, &calls)?, None);
+    Ok(())
+}
+
+#[test]
+fn of_several_faults_the_first_is_told(rt: HostRuntime) -> Result<(), Fail> {
+    let magic = with(&FIRST, &[(0, 0), (2, 2)]);
+    let version = with(&FIRST, &[(2, 2), (3, 3)]);
+    let kind = with(&FIRST, &[(3, 3), (7, 3)]);
+    let length = with(&FIRST, &[(7, 3), (31, 1)]);
+    let calls = [
+        Call::Hear(
+            &OTHER_BYTES,
+            Fed::Refused(BucketFault::Short { at: 3 }),
+            Step::Waiting,
+        ),
+        Call::Hear(&magic, Fed::Refused(BucketFault::Magic), Step::Waiting),
+        Call::Hear(&version, Fed::Refused(BucketFault::Version), Step::Waiting),
+        Call::Hear(&kind, Fed::Refused(BucketFault::Kind), Step::Waiting),
+        Call::Hear(&length, Fed::Refused(BucketFault::Length), Step::Waiting),
     ];
     assert_eq!(rt; first_other(rt.alloc(), DECK, 0, &calls)?, None);
     Ok(())
@@ -87,22 +116,22 @@ use Flipped::{Not, Read};
 
 /// Byte by byte: mark, version, kind, edition, count, cycle, slot, item, value and column.
 const FLIPPED: [Flipped; 32] = [
-    Not(Fed::Refused),
-    Not(Fed::Refused),
-    Not(Fed::Refused),
-    Not(Fed::Refused),
+    Not(Fed::Refused(BucketFault::Magic)),
+    Not(Fed::Refused(BucketFault::Magic)),
+    Not(Fed::Refused(BucketFault::Version)),
+    Not(Fed::Refused(BucketFault::Kind)),
     Not(Fed::Foreign),
     Not(Fed::Foreign),
-    Not(Fed::Refused),
-    Not(Fed::Refused),
+    Not(Fed::Refused(BucketFault::Length)),
+    Not(Fed::Refused(BucketFault::Length)),
     Read(2_147_483_649, 10),
     Read(8_388_609, 10),
     Read(32_769, 10),
     Read(129, 10),
     Not(Fed::Foreign),
     Not(Fed::Foreign),
-    Not(Fed::Refused),
-    Not(Fed::Refused),
+    Not(Fed::Refused(BucketFault::Shape)),
+    Not(Fed::Refused(BucketFault::Shape)),
     Read(1, 9_223_372_036_854_775_818),
     Read(1, 36_028_797_018_963_978),
     Read(1, 140_737_488_355_338),
@@ -111,14 +140,14 @@ const FLIPPED: [Flipped; 32] = [
     Read(1, 8_388_618),
     Read(1, 32_778),
     Read(1, 138),
-    Not(Fed::Refused),
-    Not(Fed::Refused),
-    Not(Fed::Refused),
-    Not(Fed::Refused),
-    Not(Fed::Refused),
-    Not(Fed::Refused),
-    Not(Fed::Refused),
-    Not(Fed::Refused),
+    Not(Fed::Refused(BucketFault::Shape)),
+    Not(Fed::Refused(BucketFault::Shape)),
+    Not(Fed::Refused(BucketFault::Shape)),
+    Not(Fed::Refused(BucketFault::Shape)),
+    Not(Fed::Refused(BucketFault::Shape)),
+    Not(Fed::Refused(BucketFault::Shape)),
+    Not(Fed::Refused(BucketFault::Shape)),
+    Not(Fed::Refused(BucketFault::Shape)),
 ];
 
 /// What is answered otherwise when this byte is changed: the bucket is heard, and then that of item 1. Gives the place of the

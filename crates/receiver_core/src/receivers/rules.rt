@@ -3,7 +3,7 @@
 //! Each function does to the state what the word of that name in `air_model` says, where no copy is kept and there is
 //! room for none.
 
-ghost use Rattle.std.specs.Prelude.{◌≡◌, ◌≢◌, ◌<◌, ◌+◌, ◌^◌, [], length, Some};
+ghost use Rattle.std.specs.Prelude.{◌≡◌, ◌≢◌, ◌<◌, ◌+◌, ◌^◌, [], length, Ok, Some};
 ghost use Rattle.air_history.specs.Columns.{scheme_of};
 ghost use Rattle.air_base.specs.declared.verdicts.Policy.TheVariants.{FMatrix};
 ghost use Rattle.air_model.specs.Buckets.{IsInRange, count_of, item_of, kind_of};
@@ -24,7 +24,7 @@ impl Receiver {
         requires given { self.old.state.lines ≡ [] }
         requires counts { heard_count self.old.state.counts + 1 < 2 ^ 64 }
         requires range { IsInRange bucket.now }
-        ensures fed { result ≡ fed_of self.old (Some bucket.now) }
+        ensures fed { result ≡ fed_of self.old (Ok bucket.now) }
         ensures heard { self.new ≡ in_state self.old (hear (by_entries self.old.air.scheme) self.old.air self.old.reader (Some bucket.now) self.old.state) }
     {
         if !self.air.fits(bucket) {

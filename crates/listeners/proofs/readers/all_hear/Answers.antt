@@ -21,7 +21,7 @@ pub loop-listener-preserved : goal.loop-listener-preserved
 loop-listener-preserved c =
     let within = c.loop-listener-test.true in
     let long = c.loop-listener.invariant.long in
-    one_hears c.listener-item.result c.hear.new.self c.loop-listener.invariant (omega arith) c.in_ok-hear.ensures
+    one_hears c.listener-item.result c.hear.new.self c.loop-listener.invariant (omega arith) c.in_ok-hear.ensures.heard
 
 pub returns : goal.returns
 returns c =

@@ -1,4 +1,4 @@
-use Rattle.std.proofs.Common.{Some, max, ◌∙◌, ap, sym}
+use Rattle.std.proofs.Common.{Ok, Some, max, ◌∙◌, ap, sym}
 use Rattle.air_model.specs.Judges.{by_entries}
 use Rattle.air_model.specs.Sessions.{count_dozed, count_foreign, hear, query_of, wanted}
 use Rattle.receiver_core.specs.FeedAnswers.{fed_of}
@@ -10,7 +10,7 @@ use Rattle.receiver_core.proofs.receivers.Receiver.hear_bucket.Goals as goal
 
 pub returns-then-not-fits-clause-fed : goal.returns-then-not-fits-clause-fed
 returns-then-not-fits-clause-fed c =
-    fed_foreign (receiver_in c.self.inside) c.args.bucket.now (sym c.fits.ensures ∙ c.if-not-fits.true) ∙ ap (λ r. fed_of r (Some c.args.bucket.now)) c.self.view_is
+    fed_foreign (receiver_in c.self.inside) c.args.bucket.now (sym c.fits.ensures ∙ c.if-not-fits.true) ∙ ap (λ r. fed_of r (Ok c.args.bucket.now)) c.self.view_is
 
 pub returns-then-not-fits-clause-heard : goal.returns-then-not-fits-clause-heard
 unfolding count_foreign
@@ -21,7 +21,7 @@ returns-then-not-fits-clause-heard c =
 pub returns-then-not-wants-clause-fed : goal.returns-then-not-wants-clause-fed
 unfolding wanted query_of
 returns-then-not-wants-clause-fed c =
-    fed_dozed (receiver_in c.self.inside) c.args.bucket.now (sym c.fits.ensures ∙ c.if-not-fits.false) (sym c.wants.ensures ∙ c.if-not-wants.true) ∙ ap (λ r. fed_of r (Some c.args.bucket.now)) c.self.view_is
+    fed_dozed (receiver_in c.self.inside) c.args.bucket.now (sym c.fits.ensures ∙ c.if-not-fits.false) (sym c.wants.ensures ∙ c.if-not-wants.true) ∙ ap (λ r. fed_of r (Ok c.args.bucket.now)) c.self.view_is
 
 pub returns-then-not-wants-clause-heard : goal.returns-then-not-wants-clause-heard
 unfolding count_dozed wanted query_of
@@ -43,7 +43,7 @@ pub returns-clause-fed : goal.returns-clause-fed
 unfolding wanted query_of
 returns-clause-fed c =
     fed_opened (receiver_in c.self.inside) c.args.bucket.now c.self.invariant.policy (sym c.fits.ensures ∙ c.if-not-fits.false) (sym c.wants.ensures ∙ c.if-not-wants.false)
-    ∙ ap (λ r. fed_of r (Some c.args.bucket.now)) c.self.view_is
+    ∙ ap (λ r. fed_of r (Ok c.args.bucket.now)) c.self.view_is
 
 pub returns-clause-heard : goal.returns-clause-heard
 unfolding wanted query_of
