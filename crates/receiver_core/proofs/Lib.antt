@@ -8,4 +8,6 @@ pub mod OpenLemmas
 pub mod HearLemmas
 pub mod StepLemmas
 pub mod FeedLemmas
+pub mod HeldLemmas
+pub mod WantedLemmas
 pub mod StepExamples

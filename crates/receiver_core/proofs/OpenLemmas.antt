@@ -34,7 +34,7 @@ differs (y ∷ q) x zero i e s = λ same.
 differs (y ∷ q) x (suc k) i e s = differs q x k i (or_false (y == x) (list_any (λ z. z == x) q) e).1 s
 
 -- Of distinct items none before the one at a place is that one.
-before_differ : (q : List ℕ) (k i : ℕ) → has_repeat q ≡ false → slice_get q k ≡ Some i → All (λ j. j ≢ i) (take k q)
+pub before_differ : (q : List ℕ) (k i : ℕ) → has_repeat q ≡ false → slice_get q k ≡ Some i → All (λ j. j ≢ i) (take k q)
 unfolding has_repeat
 before_differ [] k i e s = absurd (let f : ◌≡◌ {A = Option ℕ} None (Some i) = s in cc)
 before_differ (x ∷ q) zero i e s = All-nil (λ j. j ≢ i)

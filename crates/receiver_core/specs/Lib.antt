@@ -8,4 +8,5 @@ pub mod Receivers
 pub mod LinesGiven
 pub mod LastReads
 pub mod FeedAnswers
+pub mod HeldTruths
 pub mod ReceiverView

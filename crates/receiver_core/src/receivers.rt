@@ -9,6 +9,7 @@ ghost use Rattle.air_model.specs.Judges.{by_entries};
 ghost use Rattle.air_model.specs.Sessions.{end_query, hear, wanted};
 ghost use Rattle.receiver_core.specs.LinesGiven.{StepTells, lines_given, lines_of};
 ghost use Rattle.receiver_core.specs.FeedAnswers.{ChangesItsCountAlone, counted, fed_of};
+ghost use Rattle.receiver_core.specs.HeldTruths.{first_unheld};
 ghost use Rattle.receiver_core.specs.LastReads.{last_reads};
 ghost use Rattle.receiver_core.specs.Receivers.{IsSettled, heard_count, receiver_of, stepped};
 
@@ -209,9 +210,10 @@ impl Receiver {
         self.last.as_slice()
     }
 
-    /// The wanted item; none where no query is left.
+    /// The wanted item: the first of the query that isn't held; none where no query is left.
     pub fn wanted(&self) -> Option<u16>
-        ensures { result ≡ wanted self.now.reader self.now.state }
+        ensures told { result ≡ wanted self.now.reader self.now.state }
+        ensures first { result ≡ first_unheld self.now.reader self.now.state }
     {
         self.reader.item(self.query, self.held.len())
     }

@@ -17,9 +17,9 @@ returns-then-is_none c =
     let old = c.args.self.now in
     let s = with_line (by_entries (scheme_of FMatrix)) Accept old.state in
     goes_on old c.give.new.self c.next_query.new.self (λ reader t. next_query t) s _ c.give.ensures c.next_query.ensures (next_query_lines s)
-    (whole_is old.air old.reader old.state (ap is_some (sym c.wanted.ensures) ∙ c.is_none.ensures ∙ ap not c.if-is_none.true))
+    (whole_is old.air old.reader old.state (ap is_some (sym c.wanted.ensures.told) ∙ c.is_none.ensures ∙ ap not c.if-is_none.true))
 
 pub returns-else-is_none : goal.returns-else-is_none
 returns-else-is_none c =
     let old = c.args.self.now in
-    in_own_state old c.requires.given ∙ ap (in_state old) (not_whole_is old.air old.reader old.state (ap is_some (sym c.wanted.ensures) ∙ c.is_none.ensures ∙ ap not c.if-is_none.false))
+    in_own_state old c.requires.given ∙ ap (in_state old) (not_whole_is old.air old.reader old.state (ap is_some (sym c.wanted.ensures.told) ∙ c.is_none.ensures ∙ ap not c.if-is_none.false))

@@ -16,4 +16,4 @@ returns-in-Column c =
       | inl column ↦ λ idle. no_kind_0 0 (sym (ap kind_number column) ∙ c.kind.ensures ∙ idle)
       | inr vector ↦ λ idle. no_kind_0 1 (sym (ap kind_number vector) ∙ c.kind.ensures ∙ idle)
     ] in
-    ap (λ i. c.in-Some.item == i) c.item.ensures ∙ ap (λ o. is_wanted o (item_of b.body)) (sym c.in-Some.is ∙ c.wanted.ensures) ∙ sym (busy_wanted w b.cycle b.body busy)
+    ap (λ i. c.in-Some.item == i) c.item.ensures ∙ ap (λ o. is_wanted o (item_of b.body)) (sym c.in-Some.is ∙ c.wanted.ensures.told) ∙ sym (busy_wanted w b.cycle b.body busy)

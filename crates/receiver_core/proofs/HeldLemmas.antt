@@ -1,0 +1,141 @@
+-- What a receiver holds of a history that aired what it heard: each call keeps it. An instance of the induction over the
+-- rules of a session, by the judge of the entries.
+use Rattle.std.proofs.Common.{◌≡◌, ℕ, zero, suc, ◌<◌, ◌≤◌, false, Option, Some, None, List, [], ◌∷◌, ◌++◌, length, map, get_or, All, refl, sym, ◌∙◌, ap, subst, arith}
+use Rattle.std.specs.Prelude.{AllPairs, IfSome, sum_by}
+use Rattle.std.proofs.lemmas.Bool.{and_parts, ltb-false, ltb-true}
+use Rattle.std.proofs.lemmas.List.{map-append}
+use Rattle.std.proofs.lemmas.List.Elements.{All-map, All-nil, All-push}
+use Rattle.std.proofs.lemmas.List.Quantifiers.{all_pairs_push}
+use Rattle.std.proofs.lemmas.Simd.{map-map}
+use Rattle.air_base.specs.declared.verdicts.Policy.{Policy}
+use Rattle.air_base.specs.declared.verdicts.Policy.TheVariants.{FMatrix, Datacycle, RMatrix}
+use Rattle.air_history.specs.declared.histories.Event.{Event}
+use Rattle.air_history.specs.Clashes.{clash_by_history, is_late, read_at}
+use Rattle.air_history.specs.ClashLaws.{Accepts, IsAllowed, IsHeard, IsSound}
+use Rattle.air_history.specs.Columns.{aired_entries}
+use Rattle.air_history.specs.Reads.{IsRead, ReadAt, last_cycle, read_value}
+use Rattle.air_history.specs.Tables.{values_of}
+use Rattle.history_laws.proofs.AcceptedLemmas.{accepted, accepts_none, accepts_push}
+use Rattle.history_laws.proofs.ClashLemmas.{clash}
+use Rattle.air_model.specs.Aired.{Air, SlotsFit, aired_as, body_of, bucket_of, fits}
+use Rattle.air_model.specs.Buckets.{Bucket}
+use Rattle.air_model.specs.Judges.{by_entries, heard_of, place_of}
+use Rattle.air_model.specs.Reads.{Read}
+use Rattle.air_model.specs.SessionLaws.{QueriesFilled}
+use Rattle.air_model.specs.Sessions.{Reader, State, end_query, hear, read_in, start, turn}
+use Rattle.air_model.proofs.MomentLemmas.{Gives, Good, Keeps, cond_keeps, end_query_good, hear_good, start_good, turn_good}
+use Rattle.receiver_core.specs.HeldTruths.{HoldsTruly, IsReadIn, WasAired}
+use Rattle.receiver_core.specs.ReceiverSteps.{step, turn_to_line}
+
+-- ---- the order of cycles
+
+at_most_last : (R : List ReadAt) → AllPairs (λ r s. r.cycle ≤ s.cycle) R → All (λ r. r.cycle ≤ last_cycle R) R
+at_most_last [] h k d l = absurd (omega arith)
+at_most_last (r ∷ []) h zero d l = omega arith
+at_most_last (r ∷ []) h (suc k) d l = absurd (omega arith)
+at_most_last (r ∷ s ∷ R) h zero d l =
+    let a : r.cycle ≤ s.cycle = h 0 1 d (omega arith) (omega arith) in
+    let b : s.cycle ≤ last_cycle (s ∷ R) = at_most_last (s ∷ R) (λ i j d a b. h (suc i) (suc j) d (omega arith) (omega arith)) 0 d (omega arith) in
+    omega arith
+at_most_last (r ∷ s ∷ R) h (suc k) d l = at_most_last (s ∷ R) (λ i j d a b. h (suc i) (suc j) d (omega arith) (omega arith)) k d (omega arith)
+
+allowed_none : (p : Policy) → IsAllowed p []
+allowed_none FMatrix = tt
+allowed_none Datacycle = tt
+allowed_none RMatrix = λ i j d a b. absurd (omega arith)
+
+allowed_more : (p : Policy) (R : List ReadAt) (x : ReadAt) → IsAllowed p R → is_late p R x ≡ false → IsAllowed p (R ++ x ∷ [])
+unfolding is_late
+allowed_more FMatrix R x h late = tt
+allowed_more Datacycle R x h late = tt
+allowed_more RMatrix R x h late =
+    let le = ltb-false x.cycle (last_cycle R) late in
+    all_pairs_push (λ r s. r.cycle ≤ s.cycle) R x h (λ k d l. let last = at_most_last R h k d l in omega arith)
+
+-- ---- what an aired bucket gives
+
+body_gives : (V : List ℕ) (air : Air) (H : List Event) (c : ℕ) → 1 ≤ c → (o : Option ℕ) → IfSome o (λ i. i < air.items) → IfSome (read_in c (body_of V air H c o)) (IsReadIn air H)
+unfolding body_of
+body_gives V air H c pos None h = tt
+body_gives V air H c pos (Some i) h = by air.scheme.policy
+  where
+    by : (p : Policy) → IfSome (read_in c (aired_as p i (read_value (values_of V) H (record { item = i; cycle = c })) (aired_entries air.scheme air.items H c i))) (IsReadIn air H)
+    by FMatrix = record { cycle = pos; within = h; entries = refl }
+    by Datacycle = record { cycle = pos; within = h; entries = refl }
+    by RMatrix = record { cycle = pos; within = h; entries = refl }
+
+aired_gives : (V : List ℕ) (air : Air) (H : List Event) → SlotsFit air → (o : Option Bucket) → WasAired V air H o → Gives air (IsReadIn air H) o
+unfolding fits bucket_of
+aired_gives V air H slots None h = tt
+aired_gives V air H slots (Some b) h = λ t.
+    let is = h t in
+    let within : b.slot < length air.slots = ltb-true b.slot (length air.slots) ((and_parts _ _ (and_parts _ _ t).0).1) in
+    subst (λ y. IfSome (read_in b.cycle y) (IsReadIn air H)) (sym (ap (λ (b : Bucket). b.body) is.same))
+    (body_gives V air H b.cycle is.from_one (get_or air.slots b.slot None) (slots b.slot None within))
+
+-- ---- at every moment
+
+module _ (air : Air) (H : List Event) (reader : Reader) (filled : QueriesFilled reader) where
+  -- what the held reads keep
+  abbrev K : ℕ → ℕ → List Read → Type 0
+  K q a R = All (IsReadIn air H) R × IsAllowed air.scheme.policy (map place_of R) × Accepts air.scheme.policy H (map place_of R)
+
+  abbrev ok : State → Type 0
+  ok = Good reader (IsReadIn air H) K (λ l. Unit {0})
+
+  -- a read that the entries let pass is one that the history lets pass
+  passes_too : (R : List Read) (x : Read) → All (IsReadIn air H) R → IsReadIn air H x → IsAllowed air.scheme.policy (map place_of R ++ place_of x ∷ []) →
+      (by_entries air.scheme).clash R x ≡ None → clash_by_history air.scheme.policy H (map place_of R) (place_of x) ≡ None
+  unfolding by_entries
+  passes_too R x are is allowed none =
+      let same : map read_at (map heard_of R) ≡ map place_of R = map-map read_at heard_of R in
+      subst (λ S. clash_by_history air.scheme.policy H S (place_of x) ≡ None) same
+      (clash air.scheme air.items H (map heard_of R) (heard_of x) (All-map (IsHeard air.scheme air.items H) heard_of R are) is
+      (subst (λ S. IsAllowed air.scheme.policy (S ++ place_of x ∷ [])) (sym same) allowed) ∙ none)
+
+  rules : Keeps (by_entries air.scheme) air reader (IsReadIn air H) K (λ l. Unit {0})
+  rules = record {
+    first = λ q. (All-nil (IsReadIn air H), allowed_none air.scheme.policy, accepts_none air.scheme.policy H);
+    again = λ q a R k l. (All-nil (IsReadIn air H), allowed_none air.scheme.policy, accepts_none air.scheme.policy H);
+    more = λ q a R x k is judged none.
+        let p = air.scheme.policy in
+        let pushed : map place_of R ++ place_of x ∷ [] ≡ map place_of (R ++ x ∷ []) = sym (map-append place_of R (x ∷ [])) in
+        let allowed = allowed_more p (map place_of R) (place_of x) k.1 judged.in_time in (
+          All-push (IsReadIn air H) R x k.0 is,
+          subst (IsAllowed p) pushed allowed,
+          subst (Accepts p H) pushed (accepts_push p H (map place_of R) (place_of x) k.2 judged.in_time (passes_too R x k.0 is allowed none)),
+        );
+    accepted = λ q a R k l e. tt;
+    aborted = λ q a R x c k is judged e. tt;
+    unfinished = λ q a R k e. tt;
+  }
+
+  good : (s : State) → HoldsTruly air H reader s → ok s
+  good s h = record { held = (h.held, h.allowed, h.accepted); copies = h.copies; lines = λ k d l. tt; unread = h.at_hand }
+
+  truly : (s : State) → ok s → HoldsTruly air H reader s
+  truly s g = record { held = g.held.0; copies = g.copies; allowed = g.held.1; accepted = g.held.2; at_hand = g.unread }
+
+  pub starts_truly : HoldsTruly air H reader start
+  starts_truly = truly start (start_good (by_entries air.scheme) air reader (IsReadIn air H) K (λ l. Unit {0}) filled rules)
+
+  pub hears_truly : (V : List ℕ) (o : Option Bucket) (s : State) → SlotsFit air → WasAired V air H o → HoldsTruly air H reader s → HoldsTruly air H reader (hear (by_entries air.scheme) air reader o s)
+  hears_truly V o s slots aired h =
+      truly _ (hear_good (by_entries air.scheme) air reader (IsReadIn air H) K (λ l. Unit {0}) filled rules o s (good s h) (aired_gives V air H slots o aired))
+
+  turns_truly : (n : ℕ) (s : State) → ok s → ok (turn_to_line (by_entries air.scheme) air reader n s)
+  unfolding turn_to_line
+  turns_truly zero s g = g
+  turns_truly (suc n) s g = cond_keeps ok _ _ _ (λ _. g)
+      (λ _. turns_truly n (turn (by_entries air.scheme) air reader s) (turn_good (by_entries air.scheme) air reader (IsReadIn air H) K (λ l. Unit {0}) filled rules s g))
+
+  pub steps_truly : (s : State) → HoldsTruly air H reader s → HoldsTruly air H reader (step (by_entries air.scheme) air reader s)
+  unfolding step
+  steps_truly s h = truly _ (turns_truly (sum_by length reader.queries) s (good s h))
+
+  pub ends_truly : (s : State) → HoldsTruly air H reader s → HoldsTruly air H reader (end_query (by_entries air.scheme) air reader s)
+  ends_truly s h = truly _ (end_query_good (by_entries air.scheme) air reader (IsReadIn air H) K (λ l. Unit {0}) filled rules s (good s h))
+
+-- Reads that are held truly are consistent, and share the policy's cycle.
+pub held_sound : (air : Air) (H : List Event) (reader : Reader) (s : State) → HoldsTruly air H reader s → IsSound air.scheme.policy H (map place_of s.held)
+held_sound air H reader s h = accepted air.scheme.policy H (map place_of s.held) (All-map IsRead place_of s.held (λ k d l. (h.held k d l).cycle)) h.accepted
