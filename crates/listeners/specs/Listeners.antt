@@ -1,7 +1,6 @@
 -- What contracts see of a listener, and what becomes of it as it hears: so a deck's readers hear one tape together.
 use Rattle.std.specs.Prelude.{◌≡◌, ℕ, false, List, [], ◌∷◌, All, Option, Result, Ok, Err, length, map}
 use Rattle.std.specs.List.{range_with_len}
-use Rattle.air_base.specs.declared.verdicts.Policy.TheVariants.{FMatrix}
 use Rattle.air_model.specs.declared.bucket.BucketFault.{BucketFault}
 use Rattle.air_model.specs.Aired.{Air, air_of, fits}
 use Rattle.air_model.specs.Buckets.{Bucket}
@@ -49,7 +48,6 @@ ended l = end (judge_of l) l.air l.reader (settle (judge_of l) l.air l.reader l.
 abbrev pub AreNumbered : List Listener → Type 0
 AreNumbered ls = map (λ l. l.number) ls ≡ range_with_len 0 (length ls)
 
--- Which decks have listeners yet: no reader keeps copies, and F-Matrix judges.
-pub record CanListen (deck : Deck) : Type 0 where
-  pub rooms : All (λ r. r.room ≡ 0) deck.readers
-  pub policy : deck.settings.policy ≡ FMatrix
+-- Which decks have listeners yet: those of which no reader keeps copies.
+abbrev pub CanListen : Deck → Type 0
+CanListen deck = All (λ r. r.room ≡ 0) deck.readers

@@ -1,40 +1,32 @@
--- When a bucket fits under F-Matrix, from what its head tells.
-use Rattle.std.proofs.Common.{◌≡◌, ◌≢◌, ℕ, ◌<◌, ◌≤◌, ◌==◌, Bool, true, false, ◌&&◌, nat_lt, length, get_or, not, Option, None, refl, sym, ◌∙◌, ap, arith}
+-- When a bucket fits, from what its head tells.
+use Rattle.std.proofs.Common.{◌≡◌, ◌≢◌, ℕ, ◌<◌, ◌≤◌, ◌==◌, Bool, true, false, ◌&&◌, nat_lt, length, get_or, Option, None, refl, sym, ◌∙◌, ap, arith}
 use Rattle.std.proofs.lemmas.Bool.{ne_eqb, le-ltb, lt-ltb}
 use Rattle.std.proofs.lemmas.List.{get_or_default}
-use Rattle.air_base.specs.declared.verdicts.Policy.TheVariants.{FMatrix}
-use Rattle.air_model.specs.Aired.{Air, airs_columns, body_fits, fits}
-use Rattle.air_model.specs.Airings.{carries}
+use Rattle.air_model.specs.Aired.{Air, body_fits, fits}
 use Rattle.air_model.specs.Buckets.{Body, Bucket, Idle, Column, Vector, count_of, item_of, kind_of}
 use Rattle.receiver_core.specs.declared.airs.Air.TheInside.{Inside}
 use Rattle.receiver_core.specs.AirView.{air_in}
 use Rattle.receiver_core.specs.SlotKinds.{kind_fits}
 
-and_true : (b : Bool) → (b && true) ≡ b
-and_true true = refl
-and_true false = refl
-
 and_false : (b : Bool) → (b && false) ≡ false
 and_false true = refl
 and_false false = refl
 
-body_is : (air : Air) (slot : Option ℕ) (body : Body) → air.scheme.policy ≡ FMatrix →
-    body_fits air slot body ≡ (kind_fits slot (kind_of body) (item_of body) && (count_of body == air.items))
+body_is : (air : Air) (slot : Option ℕ) (body : Body) →
+    body_fits air slot body ≡ (kind_fits air.scheme.policy slot (kind_of body) (item_of body) && (count_of body == air.items))
 unfolding body_fits kind_fits kind_of item_of count_of
-body_is air slot (Idle count) p = refl
-body_is air slot (Column item value entries) p =
-    ap (λ c. carries item slot && c && (length entries == air.items)) (ap airs_columns p) ∙ ap (λ c. c && (length entries == air.items)) (and_true (carries item slot))
-body_is air slot (Vector item value entries) p =
-    ap (λ c. carries item slot && c && (length entries == air.items)) (ap (λ q. not (airs_columns q)) p) ∙ ap (λ c. c && (length entries == air.items)) (and_false (carries item slot))
+body_is air slot (Idle count) = refl
+body_is air slot (Column item value entries) = refl
+body_is air slot (Vector item value entries) = refl
 
 -- In the deck's edition and within the program the body decides.
-fits_in_slot : (air : Air) (b : Bucket) → air.scheme.policy ≡ FMatrix → b.edition ≡ 0 → b.slot < length air.slots →
-    fits air b ≡ (kind_fits (get_or air.slots b.slot None) (kind_of b.body) (item_of b.body) && (count_of b.body == air.items))
+fits_in_slot : (air : Air) (b : Bucket) → b.edition ≡ 0 → b.slot < length air.slots →
+    fits air b ≡ (kind_fits air.scheme.policy (get_or air.slots b.slot None) (kind_of b.body) (item_of b.body) && (count_of b.body == air.items))
 unfolding fits
-fits_in_slot air b p e l =
+fits_in_slot air b e l =
     ap (λ n. (n == 0) && nat_lt b.slot (length air.slots) && body_fits air (get_or air.slots b.slot None) b.body) e
     ∙ ap (λ t. t && body_fits air (get_or air.slots b.slot None) b.body) (lt-ltb b.slot (length air.slots) l)
-    ∙ body_is air (get_or air.slots b.slot None) b.body p
+    ∙ body_is air (get_or air.slots b.slot None) b.body
 
 pub other_edition : (air : Air) (b : Bucket) → b.edition ≢ 0 → fits air b ≡ false
 unfolding fits
@@ -48,10 +40,10 @@ no_such_slot air b l =
 
 -- The same at the fields: the answer of the slot's test and the number of items.
 pub in_slot : (a : Inside) (air : Air) (b : Bucket) (s : ℕ) (item : Option ℕ) (right : Bool) (n : ℕ) → air_in a ≡ air → s ≡ b.slot → b.edition ≡ 0 → s < length a.slots.items →
-    item ≡ get_or a.slots.items s item → right ≡ kind_fits item (kind_of b.body) (item_of b.body) → n ≡ count_of b.body → (right && (n == a.items)) ≡ fits air b
+    item ≡ get_or a.slots.items s item → right ≡ kind_fits a.policy item (kind_of b.body) (item_of b.body) → n ≡ count_of b.body → (right && (n == a.items)) ≡ fits air b
 in_slot a air b s item right n is at first within carried stands counted =
     let here : get_or (air_in a).slots b.slot None ≡ item =
     get_or_default a.slots.items b.slot None item (omega arith) ∙ ap (λ k. get_or a.slots.items k item) (sym at) ∙ sym carried in
-    ap (λ t. t && (n == a.items)) stands ∙ ap (λ m. kind_fits item (kind_of b.body) (item_of b.body) && (m == a.items)) counted
-    ∙ ap (λ o. kind_fits o (kind_of b.body) (item_of b.body) && (count_of b.body == a.items)) (sym here)
-    ∙ sym (fits_in_slot (air_in a) b refl first (omega arith)) ∙ ap (λ (t : Air). fits t b) is
+    ap (λ t. t && (n == a.items)) stands ∙ ap (λ m. kind_fits a.policy item (kind_of b.body) (item_of b.body) && (m == a.items)) counted
+    ∙ ap (λ o. kind_fits a.policy o (kind_of b.body) (item_of b.body) && (count_of b.body == a.items)) (sym here)
+    ∙ sym (fits_in_slot (air_in a) b first (omega arith)) ∙ ap (λ (t : Air). fits t b) is

@@ -1,15 +1,12 @@
 -- What a heard bucket is to a receiver: what is answered, and what the rule does.
-use Rattle.std.proofs.Common.{◌≡◌, ◌≢◌, ℕ, ◌+◌, arith, max, true, false, ◌&&◌, ◌==◌, [], length, map, get_or, is_none, not, Option, Some, None, Ok, refl, sym, ◌∙◌, ap}
+use Rattle.std.proofs.Common.{◌≡◌, ◌≢◌, ℕ, ◌+◌, arith, cond, max, true, false, ◌&&◌, ◌==◌, [], length, get_or, is_none, not, Option, Some, None, Ok, refl, sym, ◌∙◌, ap}
 use Rattle.std.proofs.lemmas.Bool.{and_parts, cond-false, cond-true, eqb-true}
-use Rattle.air_base.specs.declared.verdicts.Policy.TheVariants.{FMatrix}
-use Rattle.air_history.specs.Clashes.{is_late}
-use Rattle.air_history.specs.Columns.{scheme_of}
 use Rattle.air_model.specs.Aired.{Air, airs_columns, body_fits, fits}
 use Rattle.air_model.specs.Airings.{carries}
 use Rattle.air_model.specs.Buckets.{Body, Bucket, Idle, Column, Vector, count_of, entries_of, item_of, kind_of, value_of}
-use Rattle.air_model.specs.Judges.{Judge, by_entries, place_of}
+use Rattle.air_model.specs.Judges.{Judge, by_entries}
 use Rattle.air_model.specs.Reads.{Read}
-use Rattle.air_model.specs.Sessions.{Reader, State, comes_late, count_dozed, count_foreign, hear, hear_read, is_wanted, open_bucket, query_of, read_in, wanted}
+use Rattle.air_model.specs.Sessions.{Reader, State, comes_late, count_dozed, count_foreign, count_late, hear, hear_read, is_wanted, open_bucket, query_of, read_in, wanted}
 use Rattle.air_model.proofs.MomentLemmas.{wanted_from}
 use Rattle.receiver_core.specs.Attempts.{is_read_wanted, read_of}
 use Rattle.receiver_core.specs.FeedAnswers.{fed_of, fed_read}
@@ -17,8 +14,8 @@ use Rattle.receiver_core.specs.LastReads.{in_state, last_reads}
 use Rattle.receiver_core.specs.Receivers.{Receiver}
 use Rattle.receiver_core.specs.declared.receivers.Fed.TheVariants as fed
 
-abbrev J : Judge
-J = by_entries (scheme_of FMatrix)
+abbrev J : Air → Judge
+J air = by_entries air.scheme
 
 -- ---- bodies
 
@@ -78,21 +75,26 @@ fed_dozed r b f w = sym (cond-true (fits r.air b) _ _ f ∙ by (read_in b.cycle 
     by None w = refl
     by (Some x) w = cond-false (is_wanted (wanted r.reader r.state) x.item) _ _ w
 
-in_time : (air : Air) (s : State) (x : Read) → air.scheme.policy ≡ FMatrix → comes_late air s x ≡ false
-unfolding is_late
-in_time air s x p = ap (λ q. is_late q (map place_of s.held) (place_of x)) p
-
-pub fed_opened : (r : Receiver) (b : Bucket) → r.air.scheme.policy ≡ FMatrix → fits r.air b ≡ true → is_read_wanted (wanted r.reader r.state) (read_in b.cycle b.body) ≡ true → fed.Opened ≡ fed_of r (Ok b)
+-- A wanted bucket is late or opened.
+fed_wanted : (r : Receiver) (b : Bucket) → fits r.air b ≡ true → is_read_wanted (wanted r.reader r.state) (read_in b.cycle b.body) ≡ true →
+    fed_of r (Ok b) ≡ cond (comes_late r.air r.state (read_of b)) fed.Late fed.Opened
 unfolding fed_of fed_read
-fed_opened r b p f w = sym (cond-true (fits r.air b) _ _ f ∙ by (read_in b.cycle b.body) w)
-  where
-    by : (o : Option Read) → is_read_wanted (wanted r.reader r.state) o ≡ true → fed_read r o ≡ fed.Opened
-    by None w = absurd (let g : false ≡ true = w in cc)
-    by (Some x) w = cond-true (is_wanted (wanted r.reader r.state) x.item) _ _ w ∙ cond-false (comes_late r.air r.state x) _ _ (in_time r.air r.state x p)
+fed_wanted r b f w =
+    let is = wanted_read (wanted r.reader r.state) b w in
+    cond-true (fits r.air b) _ _ f ∙ ap (fed_read r) is.read
+    ∙ cond-true (is_wanted (wanted r.reader r.state) (read_of b).item) _ _ (ap (is_read_wanted (wanted r.reader r.state)) (sym is.read) ∙ w)
+
+pub fed_late : (r : Receiver) (b : Bucket) → fits r.air b ≡ true → is_read_wanted (wanted r.reader r.state) (read_in b.cycle b.body) ≡ true →
+    comes_late r.air r.state (read_of b) ≡ true → fed.Late ≡ fed_of r (Ok b)
+fed_late r b f w late = sym (fed_wanted r b f w ∙ cond-true (comes_late r.air r.state (read_of b)) _ _ late)
+
+pub fed_opened : (r : Receiver) (b : Bucket) → fits r.air b ≡ true → is_read_wanted (wanted r.reader r.state) (read_in b.cycle b.body) ≡ true →
+    comes_late r.air r.state (read_of b) ≡ false → fed.Opened ≡ fed_of r (Ok b)
+fed_opened r b f w late = sym (fed_wanted r b f w ∙ cond-false (comes_late r.air r.state (read_of b)) _ _ late)
 
 -- ---- what the rule does
 
-pub hear_foreign : (air : Air) (reader : Reader) (b : Bucket) (s : State) → fits air b ≡ false → count_foreign s ≡ hear J air reader (Some b) s
+pub hear_foreign : (air : Air) (reader : Reader) (b : Bucket) (s : State) → fits air b ≡ false → count_foreign s ≡ hear (J air) air reader (Some b) s
 unfolding hear
 hear_foreign air reader b s f = sym (cond-false (fits air b) _ _ f)
 
@@ -101,22 +103,23 @@ abbrev pub at_cycle : ℕ → State → State
 at_cycle m s = record s { now = m }
 
 pub hear_dozed : (air : Air) (reader : Reader) (b : Bucket) (m : ℕ) (s : State) → m ≡ max s.now b.cycle → fits air b ≡ true →
-    is_read_wanted (wanted reader s) (read_in b.cycle b.body) ≡ false → count_dozed (at_cycle m s) ≡ hear J air reader (Some b) s
+    is_read_wanted (wanted reader s) (read_in b.cycle b.body) ≡ false → count_dozed (at_cycle m s) ≡ hear (J air) air reader (Some b) s
 unfolding hear hear_read wanted query_of
-hear_dozed air reader b m s e f w = sym (cond-true (fits air b) _ _ f ∙ ap (λ k. hear_read J air reader (read_in b.cycle b.body) (at_cycle k s)) (sym e) ∙ by (read_in b.cycle b.body) w)
+hear_dozed air reader b m s e f w = sym (cond-true (fits air b) _ _ f ∙ ap (λ k. hear_read (J air) air reader (read_in b.cycle b.body) (at_cycle k s)) (sym e) ∙ by (read_in b.cycle b.body) w)
   where
-    by : (o : Option Read) → is_read_wanted (wanted reader s) o ≡ false → hear_read J air reader o (at_cycle m s) ≡ count_dozed (at_cycle m s)
+    by : (o : Option Read) → is_read_wanted (wanted reader s) o ≡ false → hear_read (J air) air reader o (at_cycle m s) ≡ count_dozed (at_cycle m s)
     by None w = refl
     by (Some x) w = cond-false (is_wanted (wanted reader s) x.item) _ _ w
 
-pub hear_opened : (air : Air) (reader : Reader) (b : Bucket) (m : ℕ) (s : State) → m ≡ max s.now b.cycle → air.scheme.policy ≡ FMatrix → fits air b ≡ true →
-    is_read_wanted (wanted reader s) (read_in b.cycle b.body) ≡ true → open_bucket J air reader (read_of b) (at_cycle m s) ≡ hear J air reader (Some b) s
+-- A wanted bucket is counted as late or opened.
+hear_wanted : (air : Air) (reader : Reader) (b : Bucket) (m : ℕ) (s : State) → m ≡ max s.now b.cycle → fits air b ≡ true →
+    is_read_wanted (wanted reader s) (read_in b.cycle b.body) ≡ true →
+    hear (J air) air reader (Some b) s ≡ cond (comes_late air s (read_of b)) (count_late (at_cycle m s)) (open_bucket (J air) air reader (read_of b) (at_cycle m s))
 unfolding hear hear_read wanted query_of
-hear_opened air reader b m s e p f w =
+hear_wanted air reader b m s e f w =
     let is = wanted_read (wanted reader s) b w in
-    sym (cond-true (fits air b) _ _ f ∙ ap (λ k. hear_read J air reader (read_in b.cycle b.body) (at_cycle k s)) (sym e) ∙ ap (λ o. hear_read J air reader o (at_cycle m s)) is.read
+    cond-true (fits air b) _ _ f ∙ ap (λ k. hear_read (J air) air reader (read_in b.cycle b.body) (at_cycle k s)) (sym e) ∙ ap (λ o. hear_read (J air) air reader o (at_cycle m s)) is.read
     ∙ cond-true (is_wanted (wanted reader s) (read_of b).item) _ _ (ap (is_read_wanted (wanted reader s)) (sym is.read) ∙ w)
-    ∙ cond-false (comes_late air (at_cycle m s) (read_of b)) _ _ (in_time air (at_cycle m s) (read_of b) p))
 
 -- ---- the receiver after it
 
@@ -125,21 +128,25 @@ pub quiet : (v : Receiver) (s : State) → s.lines ≡ [] → (let t : Receiver 
 unfolding last_reads
 quiet v s e = ap (λ L. let t : Receiver = record v { state = s; last = last_reads L v.last } in t) (sym e)
 
-module _ (v : Receiver) (b : Bucket) (p : v.air.scheme.policy ≡ FMatrix) where
-  -- by the policy's entries as by F-Matrix
-  by_policy : in_state v (hear J v.air v.reader (Some b) v.state) ≡ in_state v (hear (by_entries v.air.scheme) v.air v.reader (Some b) v.state)
-  by_policy = ap (λ q. in_state v (hear (by_entries (scheme_of q)) v.air v.reader (Some b) v.state)) (sym p)
-
+module _ (v : Receiver) (b : Bucket) where
   pub foreign_heard : v.state.lines ≡ [] → fits v.air b ≡ false →
       (let t : Receiver = record v { state = count_foreign v.state } in t) ≡ in_state v (hear (by_entries v.air.scheme) v.air v.reader (Some b) v.state)
   unfolding count_foreign
-  foreign_heard free f = quiet v (count_foreign v.state) free ∙ ap (in_state v) (hear_foreign v.air v.reader b v.state f) ∙ by_policy
+  foreign_heard free f = quiet v (count_foreign v.state) free ∙ ap (in_state v) (hear_foreign v.air v.reader b v.state f)
 
   pub dozed_heard : (m : ℕ) → v.state.lines ≡ [] → m ≡ max v.state.now b.cycle → fits v.air b ≡ true → is_read_wanted (wanted v.reader v.state) (read_in b.cycle b.body) ≡ false →
       (let t : Receiver = record v { state = count_dozed (at_cycle m v.state) } in t) ≡ in_state v (hear (by_entries v.air.scheme) v.air v.reader (Some b) v.state)
   unfolding count_dozed
-  dozed_heard m free e f w = quiet v (count_dozed (at_cycle m v.state)) free ∙ ap (in_state v) (hear_dozed v.air v.reader b m v.state e f w) ∙ by_policy
+  dozed_heard m free e f w = quiet v (count_dozed (at_cycle m v.state)) free ∙ ap (in_state v) (hear_dozed v.air v.reader b m v.state e f w)
+
+  pub late_heard : (m : ℕ) → v.state.lines ≡ [] → m ≡ max v.state.now b.cycle → fits v.air b ≡ true → is_read_wanted (wanted v.reader v.state) (read_in b.cycle b.body) ≡ true →
+      comes_late v.air v.state (read_of b) ≡ true →
+      (let t : Receiver = record v { state = count_late (at_cycle m v.state) } in t) ≡ in_state v (hear (by_entries v.air.scheme) v.air v.reader (Some b) v.state)
+  unfolding count_late
+  late_heard m free e f w late = quiet v (count_late (at_cycle m v.state)) free
+      ∙ ap (in_state v) (sym (hear_wanted v.air v.reader b m v.state e f w ∙ cond-true (comes_late v.air v.state (read_of b)) _ _ late))
 
   pub opened_heard : (m : ℕ) → m ≡ max v.state.now b.cycle → fits v.air b ≡ true → is_read_wanted (wanted v.reader v.state) (read_in b.cycle b.body) ≡ true →
-      in_state v (open_bucket J v.air v.reader (read_of b) (at_cycle m v.state)) ≡ in_state v (hear (by_entries v.air.scheme) v.air v.reader (Some b) v.state)
-  opened_heard m e f w = ap (in_state v) (hear_opened v.air v.reader b m v.state e p f w) ∙ by_policy
+      comes_late v.air v.state (read_of b) ≡ false →
+      in_state v (open_bucket (by_entries v.air.scheme) v.air v.reader (read_of b) (at_cycle m v.state)) ≡ in_state v (hear (by_entries v.air.scheme) v.air v.reader (Some b) v.state)
+  opened_heard m e f w late = ap (in_state v) (sym (hear_wanted v.air v.reader b m v.state e f w ∙ cond-false (comes_late v.air v.state (read_of b)) _ _ late))

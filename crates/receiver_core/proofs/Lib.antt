@@ -1,3 +1,4 @@
+pub mod PolicyLemmas
 pub mod AttemptLemmas
 pub mod FitLemmas
 pub mod PixLemmas

@@ -1,18 +1,17 @@
 -- An opened bucket: its read is new to the held ones, and what it does is what the rule says.
-use Rattle.std.proofs.Common.{◌≡◌, ◌≢◌, ℕ, zero, suc, ◌+◌, ◌<◌, ◌≤◌, false, ◌==◌, List, [], ◌∷◌, ◌++◌, length, map, take, get_or, All, Option, Some, None, refl, sym, ◌∙◌, ap, subst, inl, inr, arith}
+use Rattle.std.proofs.Common.{◌≡◌, ◌≢◌, ℕ, zero, suc, ◌+◌, ◌<◌, ◌≤◌, Bool, false, ◌==◌, List, [], ◌∷◌, ◌++◌, length, map, take, get_or, All, Option, Some, None, refl, sym, ◌∙◌, ap, subst, inl, inr, arith}
 use Rattle.std.specs.List.{list_any, slice_get}
 use Rattle.std.proofs.lemmas.Bool.{eqb-false}
 use Rattle.std.proofs.lemmas.List.{length_push, map-append, take_more}
 use Rattle.std.proofs.lemmas.List.Elements.{All-cons, All-head, All-nil, All-tail}
 use Rattle.std.proofs.lemmas.Option.{get_or_from_slice_get, slice_get_within}
 use Rattle.air_base.specs.declared.verdicts.Clash.{Clash}
-use Rattle.air_base.specs.declared.verdicts.Policy.TheVariants.{FMatrix}
 use Rattle.air_history.specs.UpdateRules.{has_repeat}
-use Rattle.air_history.specs.Columns.{scheme_of}
+use Rattle.air_history.specs.Clashes.{is_late}
 use Rattle.air_model.specs.Buckets.{Bucket, IsInRange, count_of, item_of, kind_of}
-use Rattle.air_model.specs.Judges.{by_entries, heard_of}
+use Rattle.air_model.specs.Judges.{by_entries, heard_of, place_of}
 use Rattle.air_model.specs.Reads.{Read}
-use Rattle.air_model.specs.Sessions.{abort, accept_if_whole, count_opened, open_bucket, query_of, wanted}
+use Rattle.air_model.specs.Sessions.{abort, accept_if_whole, comes_late, count_opened, open_bucket, query_of, wanted}
 use Rattle.air_model.proofs.MomentLemmas.{or_false}
 use Rattle.air_history.specs.HeldReads.{IsNew}
 use Rattle.receiver_core.specs.Attempts.{HeldValues, columns_of, read_of}
@@ -77,6 +76,13 @@ new_read r b k range busy counted w =
       below = range.entries;
     }
 
+-- Whether a read comes too late is told by the policy of the held reads as by the deck's.
+pub late_at : (r : Inside) (x : Read) (b : Bool) → IsReceiver r → b ≡ is_late r.held.policy (map place_of r.held.reads) (place_of x) → b ≡ comes_late (receiver_in r).air (receiver_in r).state x
+late_at r x b k e = e ∙ ap (λ p. is_late p (map place_of r.held.reads) (place_of x)) k.policy
+
+pub in_time_at : (r : Inside) (x : Read) (b : Bool) → IsReceiver r → comes_late (receiver_in r).air (receiver_in r).state x ≡ b → is_late r.held.policy (map place_of r.held.reads) (place_of x) ≡ b
+in_time_at r x b k e = ap (λ p. is_late p (map place_of r.held.reads) (place_of x)) k.policy ∙ e
+
 -- The held items stay the query's first ones.
 pub more_first : (r : Inside) (held : HeldValues) (x : Read) → IsReceiver r → held ≡ record r.held { reads = r.held.reads ++ x ∷ [] } →
     wanted (receiver_in r).reader (receiver_in r).state ≡ Some x.item → map (λ y. y.item) held.reads ≡ take (length held.reads) (at_hand r)
@@ -94,18 +100,18 @@ abbrev pub opened_with : Inside → HeldValues → Inside
 opened_with r held = record r { counts = record r.counts { opened = r.counts.opened + 1 }; held = held }
 
 pub opened_clear : (r : Inside) (held : HeldValues) (x : Read) → IsReceiver r → held ≡ record r.held { reads = r.held.reads ++ x ∷ [] } →
-    (by_entries (scheme_of FMatrix)).clash r.held.reads x ≡ None →
-    in_state (receiver_in (opened_with r held)) (accept_if_whole (by_entries (scheme_of FMatrix)) r.air r.reader (receiver_in (opened_with r held)).state)
-    ≡ in_state (receiver_in r) (open_bucket (by_entries (scheme_of FMatrix)) r.air r.reader x (receiver_in r).state)
+    (by_entries r.air.scheme).clash r.held.reads x ≡ None →
+    in_state (receiver_in (opened_with r held)) (accept_if_whole (by_entries r.air.scheme) r.air r.reader (receiver_in (opened_with r held)).state)
+    ≡ in_state (receiver_in r) (open_bucket (by_entries r.air.scheme) r.air r.reader x (receiver_in r).state)
 unfolding count_opened
 opened_clear r held x k e none =
-    ap (λ h. in_state (receiver_in (opened_with r h)) (accept_if_whole (by_entries (scheme_of FMatrix)) r.air r.reader (receiver_in (opened_with r h)).state)) e
+    ap (λ h. in_state (receiver_in (opened_with r h)) (accept_if_whole (by_entries r.air.scheme) r.air r.reader (receiver_in (opened_with r h)).state)) e
     ∙ ap (in_state (receiver_in r)) (open_clear r.air r.reader x (receiver_in r).state k.room refl none)
 
-pub opened_clash : (r : Inside) (held : HeldValues) (x : Read) (c : Clash) → IsReceiver r → held ≡ r.held → (by_entries (scheme_of FMatrix)).clash r.held.reads x ≡ Some c →
-    in_state (receiver_in (opened_with r held)) (abort (by_entries (scheme_of FMatrix)) r.air r.reader x c.item (receiver_in (opened_with r held)).state)
-    ≡ in_state (receiver_in r) (open_bucket (by_entries (scheme_of FMatrix)) r.air r.reader x (receiver_in r).state)
+pub opened_clash : (r : Inside) (held : HeldValues) (x : Read) (c : Clash) → IsReceiver r → held ≡ r.held → (by_entries r.air.scheme).clash r.held.reads x ≡ Some c →
+    in_state (receiver_in (opened_with r held)) (abort (by_entries r.air.scheme) r.air r.reader x c.item (receiver_in (opened_with r held)).state)
+    ≡ in_state (receiver_in r) (open_bucket (by_entries r.air.scheme) r.air r.reader x (receiver_in r).state)
 unfolding count_opened
 opened_clash r held x c k e some =
-    ap (λ h. in_state (receiver_in (opened_with r h)) (abort (by_entries (scheme_of FMatrix)) r.air r.reader x c.item (receiver_in (opened_with r h)).state)) e
+    ap (λ h. in_state (receiver_in (opened_with r h)) (abort (by_entries r.air.scheme) r.air r.reader x c.item (receiver_in (opened_with r h)).state)) e
     ∙ ap (in_state (receiver_in r)) (open_clash r.air r.reader x c (receiver_in r).state k.room refl some)

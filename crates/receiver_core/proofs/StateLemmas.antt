@@ -4,8 +4,6 @@ use Rattle.std.specs.List.{slice_get}
 use Rattle.std.specs.Option.{is_some}
 use Rattle.std.proofs.lemmas.Bool.{cases_lt, cond-false, cond-true}
 use Rattle.std.proofs.lemmas.List.{get_or_past}
-use Rattle.air_history.specs.Columns.{scheme_of}
-use Rattle.air_base.specs.declared.verdicts.Policy.TheVariants.{FMatrix}
 use Rattle.air_base.specs.declared.verdicts.ReadOf.{ReadOf}
 use Rattle.air_base.specs.declared.verdicts.Verdict.{Verdict}
 use Rattle.air_base.specs.declared.verdicts.VerdictKind.{VerdictKind}
@@ -22,8 +20,8 @@ use Rattle.receiver_core.specs.ReceiverView.{receiver_in}
 use Rattle.receiver_core.specs.declared.receivers.Receiver.TheInside.{Inside}
 use Rattle.receiver_core.proofs.WordLemmas.{copy_none}
 
-abbrev J : Judge
-J = by_entries (scheme_of FMatrix)
+abbrev J : Air → Judge
+J air = by_entries air.scheme
 
 -- With no line waiting the receiver is in its own state.
 pub in_own_state : (r : Receiver) → r.state.lines ≡ [] → r ≡ in_state r r.state
@@ -46,11 +44,11 @@ pub next_attempt_lines : (reader : Reader) (s : State) → (next_attempt reader 
 unfolding next_attempt next_query
 next_attempt_lines reader s = cond_keeps (λ t. t.lines ≡ s.lines) (nat_lt s.attempt reader.plan.tries) _ _ (λ _. refl) (λ _. refl)
 
-pub whole_is : (air : Air) (reader : Reader) (s : State) → is_some (wanted reader s) ≡ false → next_query (with_line J Accept s) ≡ accept_if_whole J air reader s
+pub whole_is : (air : Air) (reader : Reader) (s : State) → is_some (wanted reader s) ≡ false → next_query (with_line (J air) Accept s) ≡ accept_if_whole (J air) air reader s
 unfolding accept_if_whole
 whole_is air reader s e = sym (cond-false (is_some (wanted reader s)) _ _ e)
 
-pub not_whole_is : (air : Air) (reader : Reader) (s : State) → is_some (wanted reader s) ≡ true → s ≡ accept_if_whole J air reader s
+pub not_whole_is : (air : Air) (reader : Reader) (s : State) → is_some (wanted reader s) ≡ true → s ≡ accept_if_whole (J air) air reader s
 unfolding accept_if_whole
 not_whole_is air reader s e = sym (cond-true (is_some (wanted reader s)) _ _ e)
 
@@ -66,16 +64,16 @@ left reader s i w = elim (cases_lt s.query (length reader.queries)) as (λ _. s.
 
 -- The verdict with the held reads.
 pub give_is : (r : Inside) (last : List ReadOf) (kind : VerdictKind) → (receiver_in r).state.lines ≡ [] → last ≡ map shown_of r.held.reads →
-    receiver_in (record r { waiting = Some (record { query = r.query; attempt = r.attempt; kind = kind }); last = last }) ≡ in_state (receiver_in r) (with_line J kind (receiver_in r).state)
+    receiver_in (record r { waiting = Some (record { query = r.query; attempt = r.attempt; kind = kind }); last = last }) ≡ in_state (receiver_in r) (with_line (J r.air) kind (receiver_in r).state)
 unfolding with_line line_of by_entries last_reads
 give_is r last kind free e =
     let v = receiver_in r in
-    let l = line_of J r.query r.attempt kind r.held.reads in
+    let l = line_of (J r.air) r.query r.attempt kind r.held.reads in
     ap (λ reads. receiver_in (record r { waiting = Some (record { query = r.query; attempt = r.attempt; kind = kind }); last = reads })) e
     ∙ ap (λ L. in_state v (record v.state { lines = L ++ l ∷ [] })) (sym free)
 
 -- The query at hand is still at hand after its verdict.
-pub still_left : (old given : Receiver) (kind : VerdictKind) → given ≡ in_state old (with_line J kind old.state) → old.state.query < length old.reader.queries →
+pub still_left : (old given : Receiver) (kind : VerdictKind) → given ≡ in_state old (with_line (J old.air) kind old.state) → old.state.query < length old.reader.queries →
     given.state.query < length given.reader.queries
 unfolding with_line
 still_left old given kind e l = subst (λ (r : Receiver). r.state.query < length r.reader.queries) (sym e) l

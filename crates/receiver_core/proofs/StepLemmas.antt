@@ -1,8 +1,6 @@
 -- What a step and an end hand out, at the fields.
 use Rattle.std.proofs.Common.{◌≡◌, ℕ, ◌<◌, ◌≤◌, Bool, false, IsTrue, inl, inr, nat_lt, List, [], ◌∷◌, ◌++◌, length, Option, Some, None, refl, sym, ◌∙◌, ap, arith}
 use Rattle.std.proofs.lemmas.Bool.{both_ways, cases_lt}
-use Rattle.air_history.specs.Columns.{scheme_of}
-use Rattle.air_base.specs.declared.verdicts.Policy.TheVariants.{FMatrix}
 use Rattle.air_base.specs.declared.verdicts.ReadOf.{ReadOf}
 use Rattle.air_base.specs.declared.verdicts.Verdict.{Verdict}
 use Rattle.air_base.specs.declared.verdicts.VerdictKind.TheVariants.{Unfinished}
@@ -62,21 +60,21 @@ ended_past old settled free past =
     ap (λ L. let t : State = record old.state { lines = L } in t) (sym settled.given) ∙ end_past (by_entries old.air.scheme) old.air old.reader old.state free past
 
 -- The receiver after the last verdict of a query at the end.
-pub ended : (old given now : Receiver) → given ≡ in_state old (with_line (by_entries (scheme_of FMatrix)) Unfinished old.state) → now ≡ record given { state = next_query given.state } →
-    now ≡ in_state old (next_query (with_line (by_entries (scheme_of FMatrix)) Unfinished old.state))
-ended old given now g n = goes_on old given now (λ reader s. next_query s) (with_line (by_entries (scheme_of FMatrix)) Unfinished old.state) _ g n (next_query_lines (with_line (by_entries (scheme_of FMatrix)) Unfinished old.state)) refl
+pub ended : (old given now : Receiver) → given ≡ in_state old (with_line (by_entries old.air.scheme) Unfinished old.state) → now ≡ record given { state = next_query given.state } →
+    now ≡ in_state old (next_query (with_line (by_entries old.air.scheme) Unfinished old.state))
+ended old given now g n = goes_on old given now (λ reader s. next_query s) (with_line (by_entries old.air.scheme) Unfinished old.state) _ g n (next_query_lines (with_line (by_entries old.air.scheme) Unfinished old.state)) refl
 
-pub ended_left : (old now : Receiver) → now ≡ in_state old (next_query (with_line (by_entries (scheme_of FMatrix)) Unfinished old.state)) → old.air.scheme.policy ≡ FMatrix → old.state.copies ≡ [] →
+pub ended_left : (old now : Receiver) → now ≡ in_state old (next_query (with_line (by_entries old.air.scheme) Unfinished old.state)) → old.state.copies ≡ [] →
     old.state.query < length old.reader.queries → now.state ≡ end_query (by_entries old.air.scheme) old.air old.reader old.state
-ended_left old now e p free here =
-    ap (λ (r : Receiver). r.state) e ∙ ap (λ q. next_query (with_line (by_entries (scheme_of q)) Unfinished old.state)) (sym p) ∙ end_left (by_entries old.air.scheme) old.air old.reader old.state free here
+ended_left old now e free here =
+    ap (λ (r : Receiver). r.state) e ∙ end_left (by_entries old.air.scheme) old.air old.reader old.state free here
 
 no_line_pushed : (L : List Line) (l : Line) → [] ≡ L ++ l ∷ [] → ⊥
 no_line_pushed [] l e = cc
 no_line_pushed (k ∷ L) l e = cc
 
 -- That verdict waits.
-pub ended_waits : (old : Receiver) (r : Inside) → receiver_in r ≡ in_state old (next_query (with_line (by_entries (scheme_of FMatrix)) Unfinished old.state)) → r.waiting ≡ None → ⊥
+pub ended_waits : (old : Receiver) (r : Inside) → receiver_in r ≡ in_state old (next_query (with_line (by_entries old.air.scheme) Unfinished old.state)) → r.waiting ≡ None → ⊥
 unfolding next_query with_line
 ended_waits old r e none = no_line_pushed old.state.lines _ (sym (ap (λ o. lines_of o r.last) none) ∙ ap (λ (t : Receiver). t.state.lines) e)
 

@@ -4,9 +4,7 @@ use Rattle.std.specs.Prelude.{sum_by}
 use Rattle.std.specs.List.{filter, count_by, find}
 use Rattle.std.specs.Option.{is_some}
 use Rattle.std.proofs.lemmas.Bool.{cond-true, cond-false, le-ltb, lt-ltb}
-use Rattle.air_history.specs.Columns.{scheme_of}
 use Rattle.air_base.specs.declared.verdicts.Clash.{Clash}
-use Rattle.air_base.specs.declared.verdicts.Policy.TheVariants.{FMatrix}
 use Rattle.air_base.specs.declared.verdicts.VerdictKind.TheVariants.{Abort, Unfinished}
 use Rattle.air_model.specs.Aired.{Air}
 use Rattle.air_model.specs.Copies.{goes_before, keep, with_copy, without}
@@ -16,8 +14,8 @@ use Rattle.air_model.specs.Sessions.{Reader, State, abort, accept_if_whole, copy
 use Rattle.receiver_core.specs.ReceiverSteps.{step, turn_to_line}
 use Rattle.air_model.proofs.MomentLemmas.{cond_keeps}
 
-abbrev J : Judge
-J = by_entries (scheme_of FMatrix)
+abbrev J : Air → Judge
+J air = by_entries air.scheme
 
 -- No copy is kept.
 abbrev pub NoCopies : State → Type 0
@@ -37,28 +35,28 @@ offer_none air reader x s room e = ap (λ cs. let t : State = record s { copies 
     (e ∙ sym (ap (λ n. filter (λ a. nat_lt (count_by (λ b. goes_before air.pix b a) (with_copy x s.copies)) n) (with_copy x s.copies)) room
     ∙ filter_none _ (with_copy x s.copies) (λ a. le-ltb (count_by (λ b. goes_before air.pix b a) (with_copy x s.copies)) 0 (omega arith))))
 
-pub abort_is : (air : Air) (reader : Reader) (x : Read) (i : ℕ) (s : State) → NoCopies s → next_attempt reader (with_line J (Abort x.item x.cycle i) s) ≡ abort J air reader x i s
+pub abort_is : (air : Air) (reader : Reader) (x : Read) (i : ℕ) (s : State) → NoCopies s → next_attempt reader (with_line (J air) (Abort x.item x.cycle i) s) ≡ abort (J air) air reader x i s
 unfolding abort with_line
-abort_is air reader x i s e = ap (next_attempt reader) (drop_none i (with_line J (Abort x.item x.cycle i) s) e)
+abort_is air reader x i s e = ap (next_attempt reader) (drop_none i (with_line (J air) (Abort x.item x.cycle i) s) e)
 
-decide_none : (air : Air) (reader : Reader) (x : Read) (o : Option Clash) (s : State) → NoCopies s → NoCopies (decide J air reader x o s)
+decide_none : (air : Air) (reader : Reader) (x : Read) (o : Option Clash) (s : State) → NoCopies s → NoCopies (decide (J air) air reader x o s)
 unfolding decide hold accept_if_whole abort next_attempt next_query with_line drop_copy without
 decide_none air reader x None s e = cond_keeps NoCopies (is_some (wanted reader (record s { held = s.held ++ x ∷ [] }))) _ _ (λ _. e) (λ _. e)
 decide_none air reader x (Some c) s e = cond_keeps NoCopies (nat_lt s.attempt reader.plan.tries) _ _ (λ _. ap (without c.item) e) (λ _. ap (without c.item) e)
 
 -- An opened bucket does what is decided on its read.
-open_is : (air : Air) (reader : Reader) (x : Read) (o : Option Clash) (s : State) → reader.plan.room ≡ 0 → NoCopies s → J.clash s.held x ≡ o → decide J air reader x o (count_opened s) ≡ open_bucket J air reader x s
+open_is : (air : Air) (reader : Reader) (x : Read) (o : Option Clash) (s : State) → reader.plan.room ≡ 0 → NoCopies s → (J air).clash s.held x ≡ o → decide (J air) air reader x o (count_opened s) ≡ open_bucket (J air) air reader x s
 unfolding open_bucket count_opened
 open_is air reader x o s room none e =
-    offer_none air reader x _ room (decide_none air reader x o (count_opened s) none) ∙ ap (λ p. offer air reader x (decide J air reader x p (count_opened s))) (sym e)
+    offer_none air reader x _ room (decide_none air reader x o (count_opened s) none) ∙ ap (λ p. offer air reader x (decide (J air) air reader x p (count_opened s))) (sym e)
 
-pub open_clear : (air : Air) (reader : Reader) (x : Read) (s : State) → reader.plan.room ≡ 0 → NoCopies s → J.clash s.held x ≡ None →
-    accept_if_whole J air reader (record (count_opened s) { held = s.held ++ x ∷ [] }) ≡ open_bucket J air reader x s
+pub open_clear : (air : Air) (reader : Reader) (x : Read) (s : State) → reader.plan.room ≡ 0 → NoCopies s → (J air).clash s.held x ≡ None →
+    accept_if_whole (J air) air reader (record (count_opened s) { held = s.held ++ x ∷ [] }) ≡ open_bucket (J air) air reader x s
 unfolding hold decide count_opened
 open_clear air reader x s room none e = open_is air reader x None s room none e
 
-pub open_clash : (air : Air) (reader : Reader) (x : Read) (c : Clash) (s : State) → reader.plan.room ≡ 0 → NoCopies s → J.clash s.held x ≡ Some c →
-    abort J air reader x c.item (count_opened s) ≡ open_bucket J air reader x s
+pub open_clash : (air : Air) (reader : Reader) (x : Read) (c : Clash) (s : State) → reader.plan.room ≡ 0 → NoCopies s → (J air).clash s.held x ≡ Some c →
+    abort (J air) air reader x c.item (count_opened s) ≡ open_bucket (J air) air reader x s
 unfolding decide
 open_clash air reader x c s room none e = open_is air reader x (Some c) s room none e
 

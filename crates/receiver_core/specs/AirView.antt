@@ -1,9 +1,8 @@
--- The fields of what all receivers know, for receivers that judge by F-Matrix.
-use Rattle.air_base.specs.declared.verdicts.Policy.TheVariants.{FMatrix}
+-- The fields of what all receivers know.
 use Rattle.air_model.specs.Aired.{Air}
 use Rattle.receiver_core.specs.declared.airs.Air.TheInside.{Inside}
 use Rattle.air_history.specs.Columns.{scheme_of}
 
 -- What the fields tell.
 abbrev pub air_in : Inside → Air
-air_in a = record { scheme = scheme_of FMatrix; items = a.items; slots = a.slots.items; pix = a.pix.items }
+air_in a = record { scheme = scheme_of a.policy; items = a.items; slots = a.slots.items; pix = a.pix.items }

@@ -1,9 +1,10 @@
--- The fields of an attempt: reads with their columns, and the same reads with their values.
+-- The fields of an attempt: reads with their entries, and the same reads with their values.
 use Rattle.std.specs.Prelude.{◌≡◌, List, [], ◌∷◌, length, map}
 use Rattle.air_base.specs.declared.verdicts.ReadOf.{ReadOf}
 use Rattle.air_history.specs.Clashes.{Heard}
 use Rattle.air_model.specs.Reads.{Read}
 use Rattle.receiver_core.specs.Attempts.{HeldValues, shown_of}
+use Rattle.receiver_core.specs.PolicyReads.{held_of, policy_of}
 use Rattle.receiver_core.specs.declared.attempts.Attempt.TheInside.{Inside}
 
 -- The reads with their entries from the one list and their values from the other.
@@ -14,10 +15,10 @@ with_values (h ∷ R) (v ∷ V) = record { item = h.item; cycle = h.cycle; value
 
 -- The held reads of the fields.
 abbrev pub held_values : Inside → HeldValues
-held_values a = record { items = a.held.n; reads = with_values a.held.reads a.shown }
+held_values a = record { policy = policy_of a.held; items = (held_of a.held).n; reads = with_values (held_of a.held).reads a.shown }
 
 -- Both lists are of the same reads, and there is room for one bucket's entries.
 pub record KeepsBoth (a : Inside) : Type 0 where
-  pub even : length a.shown ≡ length a.held.reads
-  pub same : map shown_of (with_values a.held.reads a.shown) ≡ a.shown
-  pub room : length a.entries.items ≡ a.held.n
+  pub even : length a.shown ≡ length (held_of a.held).reads
+  pub same : map shown_of (with_values (held_of a.held).reads a.shown) ≡ a.shown
+  pub room : length a.entries.items ≡ (held_of a.held).n

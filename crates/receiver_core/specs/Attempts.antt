@@ -1,5 +1,7 @@
--- What contracts see of an attempt: the number of items, and the held reads in order. And what a bucket gives to it.
+-- What contracts see of an attempt: the policy that checks it, the number of items, and the held reads in order. And what a
+-- bucket gives to it.
 use Rattle.std.specs.Prelude.{ℕ, Bool, false, List, map, Option, Some, None}
+use Rattle.air_base.specs.declared.verdicts.Policy.{Policy}
 use Rattle.air_base.specs.declared.verdicts.ReadOf.{ReadOf}
 use Rattle.air_model.specs.Buckets.{Bucket, item_of, value_of, entries_of}
 use Rattle.air_model.specs.Judges.{heard_of}
@@ -9,10 +11,11 @@ use Rattle.air_history.specs.HeldReads.{HeldReads}
 
 -- The held reads over so many items, each with its value and the entries that came with it.
 pub record HeldValues : Type 0 where
+  pub policy : Policy
   pub items : ℕ
   pub reads : List Read
 
--- The held reads without their values, as the check by columns knows them.
+-- The held reads without their values, as the policy's check knows them.
 abbrev pub columns_of : HeldValues → HeldReads
 columns_of a = record { n = a.items; reads = map heard_of a.reads }
 

@@ -1,3 +1,4 @@
+pub mod PolicyReads
 pub mod Attempts
 pub mod AttemptView
 pub mod AirView

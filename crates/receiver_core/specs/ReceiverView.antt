@@ -1,6 +1,5 @@
--- The fields of a receiver that keeps no copies and judges by F-Matrix.
+-- The fields of a receiver that keeps no copies.
 use Rattle.std.specs.Prelude.{◌≡◌, [], get_or, length, map, take}
-use Rattle.air_base.specs.declared.verdicts.Policy.TheVariants.{FMatrix}
 use Rattle.receiver_core.specs.declared.receivers.Receiver.TheInside.{Inside}
 use Rattle.receiver_core.specs.LinesGiven.{lines_of}
 use Rattle.receiver_core.specs.ReaderView.{AreDistinct, IsShort}
@@ -23,12 +22,12 @@ receiver_in r = record {
   last = r.last;
 }
 
--- It judges by F-Matrix and has room for no copy; its queries are short, and none has an item twice; the held reads are
--- over the deck's items, and are those of the first items of the query at hand.
+-- It has room for no copy; its queries are short, and none has an item twice; the held reads are checked by the deck's policy,
+-- are over the deck's items, and are those of the first items of the query at hand.
 pub record IsReceiver (r : Inside) : Type 0 where
-  pub policy : r.air.scheme.policy ≡ FMatrix
   pub room : r.reader.plan.room ≡ 0
   pub short : IsShort r.reader
   pub distinct : AreDistinct r.reader
+  pub policy : r.held.policy ≡ r.air.scheme.policy
   pub items : r.held.items ≡ r.air.items
   pub first : map (λ x. x.item) r.held.reads ≡ take (length r.held.reads) (get_or r.reader.queries r.query [])

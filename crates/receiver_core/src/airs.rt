@@ -1,25 +1,25 @@
-//! What all receivers of a deck know: the number of items, the item of each slot, and the PIX numbers.
+//! What all receivers of a deck know: the policy, the number of items, the item of each slot, and the PIX numbers.
 
 ghost use Rattle.std.specs.Prelude.{◌≡◌, ◌<◌, ◌≤◌, List, length, map, IfOk};
 ghost use Rattle.std.specs.List.{enumerate_from};
-ghost use Rattle.air_base.specs.declared.verdicts.Policy.TheVariants.{FMatrix};
 ghost use Rattle.air_model.specs.Buckets.{item_of, kind_of};
-ghost use Rattle.air_model.specs.Aired.{air_of, fits};
+ghost use Rattle.air_model.specs.Aired.{air_of, airs_columns, fits};
 ghost use Rattle.air_model.specs.Airings.{carries, pix_number};
 ghost use Rattle.air_model.specs.Decks.{disks_in, rates_in};
 ghost use Rattle.air_model.specs.Programs.{program};
 ghost use Rattle.receiver_core.specs.SlotKinds.{kind_fits};
 
-use air_base::NoMemory;
+use air_base::{NoMemory, Policy};
 use bucket_codec::{BucketView, ViewKind};
 use chunk_program::Program;
 use item_catalog::Deck;
 use std::alloc::Global;
 use std::marker::Model;
 
-/// The number of items, the item of each slot, and each item's PIX number; the policy is F-Matrix.
+/// The policy, the number of items, the item of each slot, and each item's PIX number.
 #[derive(Drop)]
 pub struct Air {
+    policy: Policy,
     items: u16,
     slots: Vec<Option<u16>>,
     pix: Vec<u64>,
@@ -38,15 +38,22 @@ impl Model for Air {
 impl Air {
     /// What the receivers of a deck know.
     pub fn new(alloc: Global, deck: &Deck, plan: &Program) -> Result<Air, NoMemory>
-        requires program { plan.now ≡ disks_in deck.now }
-        requires policy { deck.now.settings.policy ≡ FMatrix }
+        requires { plan.now ≡ disks_in deck.now }
         ensures { IfOk result (λ a. a ≡ air_of deck.now) }
     {
         Ok(Air {
+            policy: deck.settings().policy,
             items: deck.items(),
             slots: slots(alloc, plan)?,
             pix: pix_numbers(alloc, deck, plan)?,
         })
+    }
+
+    /// The policy.
+    pub fn policy(&self) -> Policy
+        ensures { result ≡ self.now.scheme.policy }
+    {
+        self.policy
     }
 
     /// The number of items.
@@ -64,7 +71,7 @@ impl Air {
         if bucket.edition() != 0 || slot >= self.slots.len() {
             return false;
         }
-        stands_right(self.slots[slot], bucket) && bucket.count() == self.items
+        stands_right(self.policy, self.slots[slot], bucket) && bucket.count() == self.items
     }
 }
 
@@ -78,15 +85,25 @@ fn carries(slot: Option<u16>, item: u16) -> bool
     }
 }
 
-/// Whether the bucket's kind and item are those for a slot with this item.
+/// Whether the policy airs control columns.
+fn airs_columns(policy: Policy) -> bool
+    ensures { result ≡ airs_columns policy }
+{
+    match policy {
+        Policy::FMatrix => true,
+        Policy::Datacycle | Policy::RMatrix => false,
+    }
+}
+
+/// Whether the bucket's kind and item are those that the policy airs in a slot with this item.
 #[tactic(auto, unfolding(crate::specs::SlotKinds::kind_fits))]
-fn stands_right(slot: Option<u16>, bucket: &BucketView<'_>) -> bool
-    ensures { result ≡ kind_fits slot (kind_of bucket.now.body) (item_of bucket.now.body) }
+fn stands_right(policy: Policy, slot: Option<u16>, bucket: &BucketView<'_>) -> bool
+    ensures { result ≡ kind_fits policy slot (kind_of bucket.now.body) (item_of bucket.now.body) }
 {
     match bucket.kind() {
         ViewKind::Idle => slot.is_none(),
-        ViewKind::Column => carries(slot, bucket.item()),
-        ViewKind::Vector => false,
+        ViewKind::Column => carries(slot, bucket.item()) && airs_columns(policy),
+        ViewKind::Vector => carries(slot, bucket.item()) && !airs_columns(policy),
     }
 }
 

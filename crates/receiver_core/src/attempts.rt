@@ -1,27 +1,28 @@
 //! The reads that an attempt holds, and the one rule for a further read.
 //!
-//! The columns stand in `Held`, which judges by them; beside it stand the reads as verdict lines show them. The
+//! The entries stand in `PolicyHeld`, which judges by them; beside it stand the reads as verdict lines show them. The
 //! entries of one bucket are filled into one place that is made once. Contracts see the held reads in order.
 
-ghost use Rattle.std.specs.Prelude.{◌≡◌, ◌≢◌, ◌<◌, [], ◌∷◌, ◌++◌, length, map, IfOk, MatchOption};
+ghost use Rattle.std.specs.Prelude.{◌≡◌, ◌≢◌, ◌<◌, [], ◌∷◌, ◌++◌, false, length, map, IfOk, MatchOption};
 ghost use Rattle.air_history.specs.Columns.{scheme_of};
-ghost use Rattle.air_base.specs.declared.verdicts.Policy.TheVariants.{FMatrix};
+ghost use Rattle.air_history.specs.Clashes.{is_late};
 ghost use Rattle.air_model.specs.Buckets.{kind_of};
-ghost use Rattle.air_model.specs.Judges.{by_entries, heard_of};
+ghost use Rattle.air_model.specs.Judges.{by_entries, heard_of, place_of};
 ghost use Rattle.air_history.specs.HeldReads.{IsNew};
 ghost use Rattle.receiver_core.specs.Attempts.{columns_of, read_of, shown_of};
 
+use crate::policy_held::PolicyHeld;
 use crate::reads::ReadList;
-use air_base::{Clash, NoMemory, ReadOf};
+use air_base::{Clash, NoMemory, Policy, ReadOf};
 use bucket_codec::BucketView;
-use column_check::{Held, ROOM};
+use column_check::ROOM;
 use std::alloc::Global;
 use std::marker::Model;
 
 /// The held reads of an attempt, in order.
 #[derive(Drop)]
 pub struct Attempt {
-    held: Held,
+    held: PolicyHeld,
     shown: ReadList,
     entries: Vec<u32>,
 }
@@ -39,12 +40,12 @@ impl Model for Attempt {
 }
 
 impl Attempt {
-    /// Nothing held, over so many items.
-    pub fn new(alloc: Global, items: u16) -> Result<Attempt, NoMemory>
-        ensures { IfOk result (λ a. a ≡ record { items = items; reads = [] }) }
+    /// Nothing held, by this policy and over so many items.
+    pub fn new(alloc: Global, policy: Policy, items: u16) -> Result<Attempt, NoMemory>
+        ensures { IfOk result (λ a. a ≡ record { policy = policy; items = items; reads = [] }) }
     {
         Ok(Attempt {
-            held: Held::new(alloc, items)?,
+            held: PolicyHeld::new(alloc, policy, items)?,
             shown: ReadList::new(),
             entries: vec![in alloc; 0; items as usize]?,
         })
@@ -64,12 +65,20 @@ impl Attempt {
         self.shown.as_slice()
     }
 
+    /// Whether the bucket's read comes too late after the held ones.
+    pub fn is_late(&self, bucket: &BucketView<'_>) -> bool
+        ensures { result ≡ is_late self.now.policy (map place_of self.now.reads) (place_of (read_of bucket.now)) }
+    {
+        self.held.is_late(bucket.cycle())
+    }
+
     /// Holds the bucket's read where it clashes with no held one, and else names the clash.
     pub fn try_hold(&mut self, bucket: &BucketView<'_>) -> Option<Clash>
         requires room { length self.old.reads < ROOM }
         requires busy { kind_of bucket.now.body ≢ 0 }
         requires new { IsNew (columns_of self.old) (heard_of (read_of bucket.now)) }
-        ensures clash { result ≡ (by_entries (scheme_of FMatrix)).clash self.old.reads (read_of bucket.now) }
+        requires in_time { is_late self.old.policy (map place_of self.old.reads) (place_of (read_of bucket.now)) ≡ false }
+        ensures clash { result ≡ (by_entries (scheme_of self.old.policy)).clash self.old.reads (read_of bucket.now) }
         ensures held { MatchOption result (self.new ≡ record self.old { reads = self.old.reads ++ read_of bucket.now ∷ [] }) (λ _. self.new ≡ self.old) }
     {
         let entries = self.entries.as_mut_slice();

@@ -2,7 +2,6 @@
 
 ghost use Rattle.std.specs.Prelude.{◌≡◌, ◌↔◌, ◌<◌, ◌≤◌, ◌+◌, ◌^◌, [], length, slice_get, Err, IfOk, IfSome, IsNone, IsTrue};
 ghost use Rattle.std.specs.Result.{result_ok};
-ghost use Rattle.air_base.specs.declared.verdicts.Policy.TheVariants.{FMatrix};
 ghost use Rattle.air_model.specs.Buckets.{IsInRange, bucket_in, reading};
 ghost use Rattle.air_model.specs.Decks.{disks_in};
 ghost use Rattle.air_model.specs.Judges.{by_entries};
@@ -79,7 +78,7 @@ impl Model for Receiver {
 }
 
 impl Receiver {
-    /// The deck's receiver of a number, at its start. It keeps no copies and judges by F-Matrix.
+    /// The deck's receiver of a number, at its start. It judges by the deck's policy, and keeps no copies.
     pub fn new(
         alloc: Global,
         deck: &Deck,
@@ -89,12 +88,11 @@ impl Receiver {
         requires number { number < length deck.now.readers }
         requires program { program.now ≡ disks_in deck.now }
         requires room { IfSome (slice_get deck.now.readers number) (λ plan. plan.room ≡ 0) }
-        requires policy { deck.now.settings.policy ≡ FMatrix }
         ensures { IfOk result (λ r. r ≡ receiver_of deck.now number) }
     {
         let air = Air::new(alloc, deck, program)?;
         let reader = Reader::new(alloc, deck, number)?;
-        let held = Attempt::new(alloc, air.items())?;
+        let held = Attempt::new(alloc, air.policy(), air.items())?;
         let counts = Counts {
             opened: 0,
             dozed: 0,

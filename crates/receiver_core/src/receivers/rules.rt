@@ -3,12 +3,10 @@
 //! Each function does to the state what the word of that name in `air_model` says, where no copy is kept and there is
 //! room for none.
 
-ghost use Rattle.std.specs.Prelude.{◌≡◌, ◌≢◌, ◌<◌, ◌+◌, ◌^◌, [], length, Ok, Some};
-ghost use Rattle.air_history.specs.Columns.{scheme_of};
-ghost use Rattle.air_base.specs.declared.verdicts.Policy.TheVariants.{FMatrix};
+ghost use Rattle.std.specs.Prelude.{◌≡◌, ◌≢◌, ◌<◌, ◌+◌, ◌^◌, [], false, length, Ok, Some};
 ghost use Rattle.air_model.specs.Buckets.{IsInRange, count_of, item_of, kind_of};
 ghost use Rattle.air_model.specs.Judges.{by_entries};
-ghost use Rattle.air_model.specs.Sessions.{abort, accept_if_whole, hear, next_attempt, next_query, open_bucket, read_in, wanted, with_line};
+ghost use Rattle.air_model.specs.Sessions.{abort, accept_if_whole, comes_late, hear, next_attempt, next_query, open_bucket, read_in, wanted, with_line};
 ghost use Rattle.receiver_core.specs.Attempts.{is_read_wanted, read_of};
 ghost use Rattle.receiver_core.specs.FeedAnswers.{fed_of};
 ghost use Rattle.receiver_core.specs.LastReads.{in_state};
@@ -36,6 +34,10 @@ impl Receiver {
             self.counts.dozed += 1;
             return Fed::Dozed;
         }
+        if self.held.is_late(bucket) {
+            self.counts.late += 1;
+            return Fed::Late;
+        }
         self.open(bucket);
         Fed::Opened
     }
@@ -61,7 +63,8 @@ impl Receiver {
         requires busy { kind_of bucket.now.body ≢ 0 }
         requires counted { count_of bucket.now.body ≡ self.old.air.items }
         requires wanted { wanted self.old.reader self.old.state ≡ Some (item_of bucket.now.body) }
-        ensures { self.new ≡ in_state self.old (open_bucket (by_entries (scheme_of FMatrix)) self.old.air self.old.reader (read_of bucket.now) self.old.state) }
+        requires in_time { comes_late self.old.air self.old.state (read_of bucket.now) ≡ false }
+        ensures { self.new ≡ in_state self.old (open_bucket (by_entries self.old.air.scheme) self.old.air self.old.reader (read_of bucket.now) self.old.state) }
     {
         self.counts.opened += 1;
         match self.held.try_hold(bucket) {
@@ -74,7 +77,7 @@ impl Receiver {
     pub(super) fn accept_if_whole(&mut self)
         requires given { self.old.state.lines ≡ [] }
         requires left { self.old.state.query < length self.old.reader.queries }
-        ensures { self.new ≡ in_state self.old (accept_if_whole (by_entries (scheme_of FMatrix)) self.old.air self.old.reader self.old.state) }
+        ensures { self.new ≡ in_state self.old (accept_if_whole (by_entries self.old.air.scheme) self.old.air self.old.reader self.old.state) }
     {
         if self.wanted().is_none() {
             self.give(VerdictKind::Accept);
@@ -87,7 +90,7 @@ impl Receiver {
         requires given { self.old.state.lines ≡ [] }
         requires copies { self.old.state.copies ≡ [] }
         requires left { self.old.state.query < length self.old.reader.queries }
-        ensures { self.new ≡ in_state self.old (abort (by_entries (scheme_of FMatrix)) self.old.air self.old.reader (read_of bucket.now) clash self.old.state) }
+        ensures { self.new ≡ in_state self.old (abort (by_entries self.old.air.scheme) self.old.air self.old.reader (read_of bucket.now) clash self.old.state) }
     {
         self.give(VerdictKind::Abort {
             item: bucket.item(),
@@ -100,7 +103,7 @@ impl Receiver {
     /// The attempt at hand has this verdict, which waits from now on.
     pub(super) fn give(&mut self, kind: VerdictKind)
         requires given { self.old.state.lines ≡ [] }
-        ensures { self.new ≡ in_state self.old (with_line (by_entries (scheme_of FMatrix)) kind self.old.state) }
+        ensures { self.new ≡ in_state self.old (with_line (by_entries self.old.air.scheme) kind self.old.state) }
     {
         self.last.set(self.held.shown());
         self.waiting = Some(Verdict {

@@ -1,6 +1,4 @@
 use Rattle.std.proofs.Common.{◌≡◌, ◌∙◌, ap}
-use Rattle.air_history.specs.Columns.{scheme_of}
-use Rattle.air_base.specs.declared.verdicts.Policy.TheVariants.{FMatrix}
 use Rattle.air_base.specs.declared.verdicts.VerdictKind.TheVariants.{Abort}
 use Rattle.air_model.specs.Judges.{by_entries}
 use Rattle.air_model.specs.Sessions.{next_attempt, with_line}
@@ -18,7 +16,7 @@ returns c =
     let old = c.args.self.now in
     let x = read_of c.args.bucket.now in
     let kind = Abort x.item x.cycle c.args.clash in
-    let s = with_line (by_entries (scheme_of FMatrix)) kind old.state in
+    let s = with_line (by_entries old.air.scheme) kind old.state in
     let named : Abort c.item.result c.cycle.result c.args.clash ≡ kind = ap (λ i. Abort i c.cycle.result c.args.clash) c.item.ensures ∙ ap (λ n. Abort x.item n c.args.clash) c.cycle.ensures in
-    goes_on old c.give.new.self c.next_attempt.new.self next_attempt s _ (c.give.ensures ∙ ap (λ k. in_state old (with_line (by_entries (scheme_of FMatrix)) k old.state)) named) c.next_attempt.ensures (next_attempt_lines old.reader s)
+    goes_on old c.give.new.self c.next_attempt.new.self next_attempt s _ (c.give.ensures ∙ ap (λ k. in_state old (with_line (by_entries old.air.scheme) k old.state)) named) c.next_attempt.ensures (next_attempt_lines old.reader s)
     (abort_is old.air old.reader x c.args.clash old.state c.requires.copies)

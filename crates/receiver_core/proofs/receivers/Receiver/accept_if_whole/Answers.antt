@@ -1,7 +1,5 @@
 use Rattle.std.proofs.Common.{◌∙◌, ap, not, sym}
 use Rattle.std.specs.Option.{is_some}
-use Rattle.air_history.specs.Columns.{scheme_of}
-use Rattle.air_base.specs.declared.verdicts.Policy.TheVariants.{FMatrix}
 use Rattle.air_base.specs.declared.verdicts.VerdictKind.TheVariants.{Accept}
 use Rattle.air_model.specs.Judges.{by_entries}
 use Rattle.air_model.specs.Sessions.{next_query, with_line}
@@ -15,7 +13,7 @@ next_query-requires c = still_left c.args.self.now c.give.new.self Accept c.give
 pub returns-then-is_none : goal.returns-then-is_none
 returns-then-is_none c =
     let old = c.args.self.now in
-    let s = with_line (by_entries (scheme_of FMatrix)) Accept old.state in
+    let s = with_line (by_entries old.air.scheme) Accept old.state in
     goes_on old c.give.new.self c.next_query.new.self (λ reader t. next_query t) s _ c.give.ensures c.next_query.ensures (next_query_lines s)
     (whole_is old.air old.reader old.state (ap is_some (sym c.wanted.ensures.told) ∙ c.is_none.ensures ∙ ap not c.if-is_none.true))
 

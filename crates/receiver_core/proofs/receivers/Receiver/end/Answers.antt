@@ -28,7 +28,7 @@ returns-clause-state c =
     let v = receiver_in c.self-2.inside in
     ap (λ o. let t : State = record v.state { lines = lines_of o v.last } in t) c.take.ensures.value
     ∙ ended_left old v (c.self-2.view_is ∙ ended old c.give.new.self c.next_query.new.self c.give.ensures c.next_query.ensures)
-    (sym (ap (λ (t : Receiver). t.air.scheme.policy) c.self.view_is) ∙ c.self.invariant.policy) (sym (ap (λ (t : Receiver). t.state.copies) c.self.view_is))
+    (sym (ap (λ (t : Receiver). t.state.copies) c.self.view_is))
     (subst (λ (t : Receiver). t.state.query < length t.reader.queries) c.self.view_is (c.has.ensures.0 c.if-not-has.false))
 
 pub returns-clause-none : goal.returns-clause-none
