@@ -11,8 +11,9 @@ use Rattle.air_model.specs.Reports.{tune_text}
 use Rattle.air_model.specs.Outputs.{ether_of, sessions_over, tune_output}
 
 -- The sessions of all readers of the deck, over what each hears, are true of the history: by the entries they are what the
--- history decides, in each line the reads are consistent and have the values that their ancestors alone leave, and under
--- F-Matrix each verdict is exact.
+-- history decides. In each line, under every policy, the reads are consistent and have the values that their ancestors alone
+-- leave; under Datacycle all are of the newest cycle read, and under R-Matrix of the current one. Under F-Matrix each verdict
+-- is exact.
 abbrev pub AreTrue : Deck → List Event → (ℕ → List (List ℕ)) → Type 0
 AreTrue d H heard = (r : ℕ) → r < length d.readers → IsTrueSession d H r (map bucket_in (heard r))
 

@@ -1,7 +1,6 @@
 -- Which decks can be run yet, and why a named deck can't be.
 use Rattle.std.specs.Prelude.{◌≡◌, ◌⊎◌, ℕ, ◌≤◌, List, All, length, ⊤}
 use Rattle.std.specs.Io.KnownBytes.{IsAtEnd}
-use Rattle.air_base.specs.declared.verdicts.Policy.TheVariants.{FMatrix}
 use Rattle.air_devices.specs.Shelves.{Shelved}
 use Rattle.air_model.specs.Decks.{Deck, disks_in}
 use Rattle.air_model.specs.Programs.{program}
@@ -10,10 +9,9 @@ use Rattle.air_status.specs.declared.status.Status.{Status}
 use Rattle.air_status.specs.declared.status.Status.TheVariants as status
 use Rattle.deck_files.specs.NamedDecks.{DeckCause, IsFaulty, OfDeck}
 
--- The deck is of a form that is supported: no reader keeps copies, F-Matrix judges, and all that is aired is heard once.
+-- The deck is of a form that is supported: no reader keeps copies, and all that is aired is heard once.
 pub record IsSupported (deck : Deck) : Type 0 where
   pub rooms : All (λ r. r.room ≡ 0) deck.readers
-  pub policy : deck.settings.policy ≡ FMatrix
   pub loss : deck.settings.loss ≡ 0
   pub again : deck.settings.again ≡ 0
   pub late : deck.settings.late ≡ 0

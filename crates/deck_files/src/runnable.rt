@@ -8,7 +8,6 @@ ghost use Rattle.deck_files.specs.RunnableDecks.{IsRunnable, IsSupported, Unrunn
 
 use crate::decks::read_deck_file;
 use crate::plans::plan_deck;
-use air_base::Policy;
 use air_devices::Shelf;
 use air_status::Status;
 use chunk_program::Program;
@@ -41,11 +40,7 @@ fn is_supported(deck: &Deck) -> bool
     ensures { IsTrue result ↔ IsSupported deck.now }
 {
     let settings = deck.settings();
-    settings.policy == Policy::FMatrix
-        && settings.loss == 0
-        && settings.again == 0
-        && settings.late == 0
-        && keeps_no_copies(deck)
+    settings.loss == 0 && settings.again == 0 && settings.late == 0 && keeps_no_copies(deck)
 }
 
 /// Whether no reader of the deck has room for copies.

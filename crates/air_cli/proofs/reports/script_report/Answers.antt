@@ -11,7 +11,7 @@ use Rattle.air_cli.proofs.RunLemmas.{report_same, script_heard, script_starts_fe
 use Rattle.air_cli.proofs.reports.script_report.Goals as goal
 
 pub tape_sessions-requires-clause-form : goal.tape_sessions-requires-clause-form
-tape_sessions-requires-clause-form c = record { rooms = c.requires.form.rooms; policy = c.requires.form.policy }
+tape_sessions-requires-clause-form c = c.requires.form.rooms
 
 pub tape_sessions-requires-clause-whole : goal.tape_sessions-requires-clause-whole
 tape_sessions-requires-clause-whole c =
