@@ -10,3 +10,4 @@ pub mod PlanFacts
 pub mod ScriptFacts
 pub mod TuneFacts
 pub mod CommandFacts
+pub mod InputFacts

@@ -1,14 +1,16 @@
--- What `air_quiet` answers: for every status when it comes, what was printed and written, and what is left.
+-- What `air_quiet` answers: for every status when it comes, what was printed and written, and what is left; and
+-- when a command must be done.
 --
 -- All of it is said by what the command means: its refusals, and what it gives, are functions of the deck that the named
 -- file spells and of the bytes of the named tape.
 use Rattle.std.specs.Prelude.{◌≡◌, ◌⊎◌, ℕ, List, Some}
 use Rattle.std.specs.Io.KnownBytes.{IsAtEnd}
-use Rattle.air_devices.specs.Counts.{KeepsCounts, NoCountFalls, Rose}
+use Rattle.air_devices.specs.Counts.{Faults, KeepsCounts, NoCountFalls, Rose}
 use Rattle.air_devices.specs.Shelves.{Shelved}
 use Rattle.air_status.specs.declared.status.Status.{Status}
 use Rattle.air_status.specs.declared.status.Status.TheVariants as status
 use Rattle.air_cli.specs.Meanings.{Meaning}
+use Rattle.air_cli.specs.ToldInputs.{TellsInputs}
 use Rattle.delivery.specs.Given.{Given}
 use Rattle.delivery.specs.Deliveries.{IsGiven, IsGivenInPart}
 use Rattle.air_cli.specs.Untouched.{IsRefusal, IsUntouched}
@@ -53,6 +55,17 @@ QuietAnswers command before now status.WriteFault = OutputFailed command before 
 QuietAnswers command before now status.NoMemory = IsWanting command before now
 QuietAnswers command before now status.ReadFault = command.Refuses before now status.ReadFault × IsRefusal status.ReadFault before now
 QuietAnswers command before now s = command.Refuses before now s × IsRefusal s before now × IsSteady before now
+
+-- No count of faults rose.
+pub record NoCountRose (before now : Faults) : Type 0 where
+  pub reading : (name : List ℕ) → Rose (before.reading name) (now.reading name) → ⊥
+  pub writing : (name : List ℕ) → Rose (before.writing name) (now.writing name) → ⊥
+  pub printing : Rose before.printing now.printing → ⊥
+
+-- Where each named input is told, they suit the command, and no count of faults rose, it was done or memory ran out.
+abbrev pub Completes : Meaning → Shelved → Shelved → Status → Type 0
+Completes command before now s =
+    TellsInputs command before → command.Suits before → NoCountRose before.faults now.faults → (s ≡ status.Ok) ⊎ (s ≡ status.NoMemory)
 
 -- Whatever the status: all files are as they were, all that is left of those that are no named input, and all outputs but
 -- the named one; no count of faults falls.

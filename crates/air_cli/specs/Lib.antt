@@ -1,5 +1,6 @@
 pub mod Words
 pub mod Commands
+pub mod ToldInputs
 pub mod Answers
 pub mod Meanings
 pub mod Plan

@@ -1,18 +1,21 @@
--- What a command means: what it reads, why it is refused, and what it gives. Each command has one such definition, in a
+-- What a command means: what it reads, when it must be done, why it is refused, and what it gives. Each command has one such definition, in a
 -- file of its own; `Answers` says by it what each status tells.
-use Rattle.std.specs.Prelude.{ℕ, List, Option, None, ⊤}
+use Rattle.std.specs.Prelude.{ℕ, Bool, true, List, Option, None, ⊤}
 use Rattle.air_devices.specs.Shelves.{Shelved}
 use Rattle.air_status.specs.declared.status.Status.{Status}
 use Rattle.air_status.specs.declared.status.Status.TheVariants as status
 use Rattle.delivery.specs.Given.{Given}
 
--- The input files that a command names, the output that it names if any, why it is refused with a status (told of the shelf as
--- it was and as it is), and what it prints and writes where nothing refuses it.
+-- The input files that a command names, the output that it names if any, what its inputs must be, where they are told, for
+-- nothing to refuse it, why it is refused with a status (told of the shelf as it was and as it is), what it prints and
+-- writes where nothing refuses it, and whether its inputs alone decide that.
 pub record Meaning : Type 1 where
   pub IsInput : List ℕ → Type 0
   pub output : Option (List ℕ)
+  pub Suits : Shelved → Type 0
   pub Refuses : Shelved → Shelved → Status → Type 0
   pub Gives : Shelved → Given → Type 0
+  pub decided : Bool
 
 -- Words of no form are refused as such.
 unfoldable pub WordsCause : Status → Type 0
@@ -21,4 +24,11 @@ WordsCause other = ⊥
 
 -- Words of no form name no file, and give nothing.
 abbrev pub no_form : Meaning
-no_form = record { IsInput = λ name. ⊥; output = None; Refuses = λ before now s. WordsCause s; Gives = λ before given. ⊥ }
+no_form = record {
+  IsInput = λ name. ⊥;
+  output = None;
+  Suits = λ before. ⊥;
+  Refuses = λ before now s. WordsCause s;
+  Gives = λ before given. ⊥;
+  decided = true;
+}

@@ -1,5 +1,5 @@
 -- The command `plan DECK`.
-use Rattle.std.specs.Prelude.{◌≡◌, ℕ, List, [], None}
+use Rattle.std.specs.Prelude.{◌≡◌, ℕ, true, List, [], None}
 use Rattle.chunk_program.specs.Plans.{IsTooLong}
 use Rattle.air_devices.specs.Shelves.{Shelved}
 use Rattle.air_model.specs.Decks.{Deck, disks_in}
@@ -24,6 +24,13 @@ plan_given d = record { text = plan_output d; tape = [] }
 unfoldable pub PlanGives : List ℕ → Shelved → Given → Type 0
 PlanGives deck before given = OfDeck deck before (λ d. IsShort d × (given ≡ plan_given d))
 
--- It reads its deck and writes no output.
+-- It reads its deck, whose program must be short enough, and writes no output; the deck decides the plan.
 abbrev pub plan_meaning : List ℕ → Meaning
-plan_meaning deck = record { IsInput = λ name. name ≡ deck; output = None; Refuses = PlanCause deck; Gives = PlanGives deck }
+plan_meaning deck = record {
+  IsInput = λ name. name ≡ deck;
+  output = None;
+  Suits = λ before. OfDeck deck before IsShort;
+  Refuses = PlanCause deck;
+  Gives = PlanGives deck;
+  decided = true;
+}

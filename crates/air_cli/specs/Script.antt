@@ -1,5 +1,5 @@
 -- The commands `script DECK` and `script DECK TAPE`.
-use Rattle.std.specs.Prelude.{◌≡◌, ◌≤◌, ◌<◌, ℕ, List, length, Option}
+use Rattle.std.specs.Prelude.{◌≡◌, ◌≤◌, ◌<◌, ℕ, true, List, length, Option}
 use Rattle.air_devices.specs.Shelves.{Shelved}
 use Rattle.air_model.specs.Decks.{Deck}
 use Rattle.air_model.specs.Outputs.{script_output, script_tape}
@@ -32,6 +32,14 @@ unfoldable pub ScriptGives : List ℕ → Shelved → Given → Type 0
 ScriptGives deck before given =
     OfDeck deck before (λ d. IsRunnable d × (length (script_tape d) ≤ tape_limit) × IsTrueScript d × (given ≡ script_given d))
 
--- It reads its deck, and writes the tape where one is named.
+-- It reads its deck, which must be one that can be run and have a tape that is short enough, and writes the tape where one is
+-- named; the deck decides report and tape.
 abbrev pub script_meaning : List ℕ → Option (List ℕ) → Meaning
-script_meaning deck tape = record { IsInput = λ name. name ≡ deck; output = tape; Refuses = ScriptCause deck; Gives = ScriptGives deck }
+script_meaning deck tape = record {
+  IsInput = λ name. name ≡ deck;
+  output = tape;
+  Suits = λ before. OfDeck deck before (λ d. IsRunnable d × (length (script_tape d) ≤ tape_limit));
+  Refuses = ScriptCause deck;
+  Gives = ScriptGives deck;
+  decided = true;
+}

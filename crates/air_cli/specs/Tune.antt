@@ -1,5 +1,5 @@
 -- The command `tune DECK TAPE`.
-use Rattle.std.specs.Prelude.{◌≡◌, ◌⊎◌, ◌≤◌, ℕ, List, [], length, Some, None}
+use Rattle.std.specs.Prelude.{◌≡◌, ◌⊎◌, ◌≤◌, ℕ, true, List, [], length, Some, None, ⊤}
 use Rattle.air_devices.specs.Told.{WhereTold}
 use Rattle.air_devices.specs.Shelves.{Shelved}
 use Rattle.air_model.specs.Decks.{Deck}
@@ -37,7 +37,14 @@ unfoldable pub TuneGives : List ℕ → List ℕ → Shelved → Given → Type 
 TuneGives deck tape before given =
     OfDeck deck before (λ d. IsRunnable d × OfTape tape before (λ records. IsTrueTape d records × (given ≡ tune_given d records)))
 
--- It reads its deck and the tape, and writes no output.
+-- It reads its deck, which must be one that can be run, and the tape, which must be whole, and writes no output; the two decide
+-- the report.
 abbrev pub tune_meaning : List ℕ → List ℕ → Meaning
-tune_meaning deck tape =
-    record { IsInput = λ name. (name ≡ deck) ⊎ (name ≡ tape); output = None; Refuses = TuneCause deck tape; Gives = TuneGives deck tape }
+tune_meaning deck tape = record {
+  IsInput = λ name. (name ≡ deck) ⊎ (name ≡ tape);
+  output = None;
+  Suits = λ before. OfDeck deck before IsRunnable × OfTape tape before (λ records. ⊤);
+  Refuses = TuneCause deck tape;
+  Gives = TuneGives deck tape;
+  decided = true;
+}

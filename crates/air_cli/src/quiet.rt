@@ -7,7 +7,7 @@ ghost use Rattle.std.specs.Prelude.{map, string_bytes, IfErr, IfOk};
 ghost use Rattle.air_cli.specs.Words.{asked_of};
 ghost use Rattle.air_cli.specs.Commands.{asked_by, meaning_of, words_meaning};
 ghost use Rattle.air_cli.specs.Making.{IsMade, IsUnmade, Reads};
-ghost use Rattle.air_cli.specs.Answers.{Leaves, QuietAnswers};
+ghost use Rattle.air_cli.specs.Answers.{Completes, Leaves, QuietAnswers};
 
 use crate::plan::plan;
 use crate::script::script;
@@ -27,6 +27,7 @@ pub fn air_quiet<T: Threads + Sync, S: Shelf>(
     shelf: &mut S,
 ) -> Status
     ensures answers { QuietAnswers (words_meaning (asked_of (map (λ w. string_bytes w) words.now))) (S.state shelf.old) (S.state shelf.new) result }
+    ensures complete { Completes (words_meaning (asked_of (map (λ w. string_bytes w) words.now))) (S.state shelf.old) (S.state shelf.new) result }
     ensures leaves { Leaves (words_meaning (asked_of (map (λ w. string_bytes w) words.now))) (S.state shelf.old) (S.state shelf.new) }
 {
     match command_of(words) {
