@@ -3,6 +3,7 @@
 //! `air_quiet` is the top call.
 #![tactic(auto)]
 
+pub mod laws;
 mod plan;
 mod plan_rows;
 mod quiet;

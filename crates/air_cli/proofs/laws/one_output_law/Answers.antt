@@ -1,0 +1,6 @@
+use Rattle.air_cli.specs.Words.{asked_of}
+use Rattle.air_cli.proofs.InputFacts.{one_given}
+use Rattle.air_cli.proofs.laws.one_output_law.Goals as goal
+
+pub returns : goal.returns
+returns c = λ words before now other_before other_now decided same first second. one_given (asked_of words) before now other_before other_now decided same first second

@@ -1,0 +1,23 @@
+//! The law of the top call that speaks of two calls; its body is empty.
+
+ghost use Rattle.std.specs.Prelude.{◌≡◌, ℕ, true, List};
+ghost use Rattle.air_devices.specs.Shelves.{Shelved};
+ghost use Rattle.air_status.specs.declared.status.Status.TheVariants as status;
+ghost use Rattle.delivery.specs.Deliveries.{IsGiven};
+ghost use Rattle.delivery.specs.Given.{Given};
+ghost use Rattle.air_cli.specs.Words.{asked_of};
+ghost use Rattle.air_cli.specs.Commands.{words_meaning};
+ghost use Rattle.air_cli.specs.ToldInputs.{TellSameInputs};
+ghost use Rattle.air_cli.specs.Answers.{QuietAnswers};
+
+/// Two calls of a command that its inputs decide, on the same words and over shelves that tell the same inputs, print one
+/// text and write one tape where both end with status 0.
+pub fn one_output_law()
+    ensures { (words : List (List ℕ)) (before now other_before other_now : Shelved) →
+        (words_meaning (asked_of words)).decided ≡ true →
+        TellSameInputs (words_meaning (asked_of words)) before other_before →
+        QuietAnswers (words_meaning (asked_of words)) before now status.Ok →
+        QuietAnswers (words_meaning (asked_of words)) other_before other_now status.Ok →
+        (given : Given) × IsGiven (words_meaning (asked_of words)).output given before now
+        × IsGiven (words_meaning (asked_of words)).output given other_before other_now }
+{}
