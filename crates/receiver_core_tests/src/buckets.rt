@@ -5,6 +5,14 @@
 pub const DECK: &[u8] =
     b"item,0,10,2\nitem,1,20,1\ndisk,1,2\ndisk,1,1\nreader,0,0,2\nquery,0,0 1\nquery,0,1\n";
 
+/// The same under Datacycle.
+pub const D_DECK: &[u8] =
+    b"item,0,10,2\nitem,1,20,1\ndisk,1,2\ndisk,1,1\nreader,0,0,2\nquery,0,0 1\nquery,0,1\nset,policy,D\n";
+
+/// The same under R-Matrix.
+pub const R_DECK: &[u8] =
+    b"item,0,10,2\nitem,1,20,1\ndisk,1,2\ndisk,1,1\nreader,0,0,2\nquery,0,0 1\nquery,0,1\nset,policy,R\n";
+
 /// Item 0 in cycle 1, in slot 0: value 10, column 0 0.
 pub const FIRST: [u8; 32] = [
     0x41, 0x44, 1, 1, 0, 0, 0, 2, 0, 0, 0, 1, 0, 0, 0, 0, 0, 0, 0, 0, 0, 0, 0, 0x0a, 0, 0, 0, 0, 0,

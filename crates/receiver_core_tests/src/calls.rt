@@ -1,6 +1,6 @@
 //! The calls of a receiver with their answers, and the checker of such tables.
 
-use air_base::{Counts, Policy, ReadOf, Verdict, VerdictKind};
+use air_base::{Counts, ReadOf, Verdict, VerdictKind};
 use chunk_program::{Program, cut};
 use item_catalog::read_deck;
 use receiver_core::{Fed, Receiver, Step};
@@ -75,9 +75,6 @@ fn receiver(alloc: Global, text: &[u8], number: u32) -> Result<Receiver, Fail> {
     let deck = read_deck(alloc, text)?;
     let cut = cut(alloc, &deck)?;
     let program = Program::plan(alloc, &deck, &cut)?;
-    let Policy::FMatrix = deck.settings().policy else {
-        return Err("another policy".into());
-    };
     if number >= deck.readers() {
         return Err("no such reader".into());
     }

@@ -13,4 +13,6 @@ mod calls;
 #[cfg(test)]
 mod decks;
 #[cfg(test)]
+mod policies;
+#[cfg(test)]
 mod sessions;
