@@ -12,31 +12,40 @@ const TAPE: &[u8] = &FIRST_TAPE;
 /// A record of two bytes, then one of none.
 const SHORT: &[u8] = &[0, 0, 0, 2, 7, 8, 0, 0, 0, 0];
 
+/// The tape is cut at its first byte.
 const AT_0: Status = Status::TapeCut { at: 0 };
 
+/// It is cut behind its first record of two bytes.
 const AT_6: Status = Status::TapeCut { at: 6 };
 
+/// It is cut behind the first bucket.
 const AT_36: Status = Status::TapeCut { at: 36 };
 
+/// What is printed then.
 const CUT_AT_0: Parts<'static> = &[Part::Text("fault,6,0\n")];
 
+/// The same at byte 6.
 const CUT_AT_6: Parts<'static> = &[Part::Text("fault,6,6\n")];
 
+/// The same at byte 36.
 const CUT_AT_36: Parts<'static> = &[Part::Text("fault,6,36\n")];
 
-/// What is left after nothing was heard, and after one or two records that are no buckets.
+/// What is left after nothing was heard.
 const NOTHING: Parts<'static> = &[Part::Text("unfinished,0,0,1,\ncounts,0,0,0,0,0,0,0\n")];
 
+/// The same after one record that is no bucket.
 const ONE_REFUSED: Parts<'static> = &[Part::Text("unfinished,0,0,1,\ncounts,0,0,0,0,1,0,0\n")];
 
+/// The same after two.
 const TWO_REFUSED: Parts<'static> = &[Part::Text("unfinished,0,0,1,\ncounts,0,0,0,0,2,0,0\n")];
 
 /// What is left after the first record alone was heard.
 const ONE_READ: Parts<'static> = &[Part::Text("unfinished,0,0,1,0@1=10\ncounts,0,1,0,0,0,0,0\n")];
 
-/// What is left after the first record was refused or foreign, and the second not wanted.
+/// What is left after the first record was refused, and the second not wanted.
 const FIRST_REFUSED: Parts<'static> = &[Part::Text("unfinished,0,0,1,\ncounts,0,0,1,0,1,0,0\n")];
 
+/// The same where the first record was foreign.
 const FIRST_FOREIGN: Parts<'static> = &[Part::Text("unfinished,0,0,1,\ncounts,0,0,1,0,0,1,0\n")];
 
 /// The first deck's reader over this tape.
@@ -135,9 +144,10 @@ fn a_changed_byte_of_length_or_head_cuts_refuses_or_makes_foreign(rt: HostRuntim
     assert_eq!(rt; first_other_change(&rt, rt.alloc(), &changes), None);
 }
 
-/// What stands before and behind the first read of the first tape's report.
+/// What stands before the first read of the first tape's report.
 const FRONT: &str = "accept,0,0,1,";
 
+/// What stands behind it.
 const BACK: &str = " 1@1=20\ncounts,0,2,0,0,0,0,0\n";
 
 /// The first place at which a change of the highest bit in the first tape has its first read told by another text,
