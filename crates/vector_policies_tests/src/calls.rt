@@ -1,0 +1,119 @@
+//! Calls of an attempt as data, and the checker that makes them.
+
+use crate::attempts::{Attempt, Read, Unheld};
+use air_base::{Clash, NoMemory};
+use std::alloc::Global;
+
+/// A call, and what it has to answer. Only a read that clashes with none may be held.
+#[derive(Clone, Copy)]
+pub enum Call<'a> {
+    Hold(Read<'a>),
+    Clashes(Read<'a>, Option<Clash>),
+    /// A read that is older than the last one may be neither tried nor held.
+    Late(Read<'a>),
+    Len(usize),
+    Last(Option<u32>),
+    Cycles(&'a [u32]),
+    Clear,
+}
+
+/// What calls show, the number of items, and the calls.
+#[derive(Clone, Copy)]
+pub struct Case<'a> {
+    pub shows: &'a str,
+    pub n: u16,
+    pub calls: &'a [Call<'a>],
+}
+
+/// In what a call is answered otherwise than told: what came in its place.
+#[derive(Clone, Copy, Debug, PartialEq, Eq)]
+pub enum Other {
+    /// The read isn't held, or it is held though it is late.
+    Hold(Result<(), Unheld>),
+    /// The answer to a try.
+    Clashes(Result<Option<Clash>, Unheld>),
+    Len(usize),
+    Last(Option<u32>),
+    /// The first item with another cycle, and that cycle; the number of items where only that is another.
+    Cycle(usize, Option<u32>),
+}
+
+/// The first item that has another cycle than told.
+fn cycle_other(cycles: &[u32], told: &[u32]) -> Option<Other> {
+    for (item, cycle) in told.iter().enumerate() {
+        let held = cycles.get(item).copied();
+        if held != Some(*cycle) {
+            return Some(Other::Cycle(item, held));
+        }
+    }
+    (cycles.len() != told.len()).then_some(Other::Cycle(cycles.len(), None))
+}
+
+/// In what trying the read is answered otherwise than told.
+fn try_other<A: Attempt>(
+    attempt: &A,
+    read: &Read<'_>,
+    told: Result<Option<Clash>, Unheld>,
+) -> Option<Other> {
+    let answer = attempt.clashes(read);
+    (answer != told).then_some(Other::Clashes(answer))
+}
+
+/// In what holding the read is answered otherwise than told.
+fn hold_other<A: Attempt>(
+    attempt: &mut A,
+    read: &Read<'_>,
+    told: Result<(), Unheld>,
+) -> Option<Other> {
+    let answer = attempt.hold(read);
+    (answer != told).then_some(Other::Hold(answer))
+}
+
+/// In what the call is answered otherwise than told.
+fn difference<A: Attempt>(attempt: &mut A, call: &Call<'_>) -> Option<Other> {
+    match call {
+        Call::Hold(read) => hold_other(attempt, read, Ok(())),
+        Call::Clashes(read, told) => try_other(attempt, read, Ok(*told)),
+        Call::Late(read) => match try_other(attempt, read, Err(Unheld::Late)) {
+            None => hold_other(attempt, read, Err(Unheld::Late)),
+            other => other,
+        },
+        Call::Len(told) => {
+            let len = attempt.len();
+            (len != *told).then_some(Other::Len(len))
+        }
+        Call::Last(told) => {
+            let last = attempt.last();
+            (last != *told).then_some(Other::Last(last))
+        }
+        Call::Cycles(told) => cycle_other(attempt.cycles(), told),
+        Call::Clear => {
+            attempt.clear();
+            None
+        }
+    }
+}
+
+/// The place of the first call of the case that isn't answered as told, and in what.
+fn other_in<A: Attempt + Drop>(mut attempt: A, calls: &[Call<'_>]) -> Option<(usize, Other)> {
+    for (place, call) in calls.iter().enumerate() {
+        if let Some(other) = difference(&mut attempt, call) {
+            return Some((place, other));
+        }
+    }
+    None
+}
+
+/// The first case in which a call isn't answered as told, the place of that call, and in what.
+pub fn first_other<'a, A: Attempt + Drop>(
+    alloc: Global,
+    cases: &[Case<'a>],
+) -> Result<Option<(&'a str, usize, Other)>, NoMemory> {
+    for case in cases {
+        let attempt = A::new(alloc, case.n)?;
+        if let Some((place, other)) = other_in(attempt, case.calls) {
+            return Ok(Some((case.shows, place, other)));
+        }
+    }
+    Ok(None)
+}
