@@ -15,6 +15,8 @@ mod outside;
 #[cfg(test)]
 mod plans;
 #[cfg(test)]
+mod policies;
+#[cfg(test)]
 mod reports;
 #[cfg(test)]
 mod scripts;

@@ -120,8 +120,6 @@ fn first_done<'a, R: Threads + Sync>(
 fn decks_of_another_form_are_planned_and_not_done(rt: HostRuntime) {
     let decks = [
         ("a reader keeps copies", "reader,1,0,1\n"),
-        ("Datacycle", "set,policy,D\n"),
-        ("R-Matrix", "set,policy,R\n"),
         ("buckets are lost", "set,loss,1\n"),
         ("buckets are heard again", "set,again,1\n"),
         ("buckets are heard late", "set,late,1\n"),
@@ -147,6 +145,8 @@ fn first_undone<'a, R: Threads + Sync>(
 #[test]
 fn settings_that_no_reader_sees_are_done(rt: HostRuntime) {
     let settings = [
+        "set,policy,D\n",
+        "set,policy,R\n",
         "set,cycles,5\n",
         "set,seed,3\n",
         "set,monitors,1\n",
