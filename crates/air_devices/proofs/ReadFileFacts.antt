@@ -2,7 +2,7 @@
 use Rattle.std.proofs.Common.{◌≡◌, ◌++◌, ◌∙◌, List, [], ◌∷◌, true, refl, ap, rules}
 use Rattle.std.specs.Prelude.{◌==◌, ◌&&◌}
 use Rattle.std.proofs.lemmas.List.Folds.{list_any-append}
-use Rattle.air_devices.specs.Steps.ReadFiles.{is_among}
+use Rattle.air_devices.specs.ReadFiles.{is_among}
 use Rattle.air_devices.specs.declared.read_files.FileId.{FileId}
 
 -- The file that was added is one of them.

@@ -11,4 +11,4 @@ pub mod Masts
 pub mod Recordings
 pub mod MemoryMasts
 pub mod FileFailures
-pub mod Steps
+pub mod ReadFiles

@@ -6,11 +6,12 @@
 //! before it is touched. It has room for sixteen such files, and for names of 4,096 bytes: a pick past either fails.
 //! No call takes memory.
 
-ghost use Rattle.std.specs.Prelude.{◌≡◌, ◌≢◌, ◌≤◌, ◌<◌, [], None, Some, length, IsErr, IsSome, OnErr, OnOk};
+ghost use Rattle.std.specs.Prelude.{◌≡◌, ◌≢◌, ◌≤◌, ◌<◌, [], None, Ok, Some, true, length, IsErr, IsSome, OnErr, OnOk};
 ghost use Rattle.std.specs.Io.{ReadsAtMost};
 ghost use Rattle.std.specs.Option.{option_map};
 ghost use Rattle.air_devices.specs.Counts.{HasCauseIn, Rose, one_count, printing_of, reading_of, writing_of};
 ghost use Rattle.air_devices.specs.FileFailures.{IsLastFailure, KeepsLast};
+ghost use Rattle.air_devices.specs.ReadFiles.{is_among};
 ghost use Rattle.air_devices.specs.Shelves.{untold_with};
 
 use crate::file_failures::{FileCall, FileFailure, NAME_ROOM};
@@ -69,22 +70,29 @@ impl<R: Files + Print + Drop> FileShelf<R> {
         Failed
     }
 
-    /// From now on this file is the one that is picked, by this name.
-    fn set_picked(&mut self, file: R::File, name: &str)
+    /// Where there is room for one more file that was read, this file is one, and from now on the one that is picked,
+    /// by this name.
+    fn set_picked(&mut self, file: R::File, id: FileId, name: &str) -> io::Result<()>
         requires { length name.now ≤ NAME_ROOM }
-        ensures picked { self.new.picked ≡ Some file }
-        ensures named { self.new.name.bytes ≡ name.now }
-        ensures rest { self.new ≡ record self.old { picked = self.new.picked; name = self.new.name } }
+        ensures picked { OnOk result (self.new.picked ≡ Some file) }
+        ensures named { OnOk result (self.new.name.bytes ≡ name.now) }
+        ensures added { OnOk result (is_among id self.new.read.ids.items ≡ true) }
+        ensures stays { (other : FileId) → is_among other self.old.read.ids.items ≡ true → is_among other self.new.read.ids.items ≡ true }
+        ensures kept { OnErr result ((self.new.picked ≡ self.old.picked) × (self.new.name ≡ self.old.name)) }
+        ensures rest { self.new ≡ record self.old { picked = self.new.picked; name = self.new.name; read = self.new.read } }
     {
+        self.read.add(id)?;
         self.picked = Some(file);
         self.name.clear();
         self.name.push_str(name);
+        Ok(())
     }
 
     /// Opens a file and picks it, and remembers which file it is.
     fn open_to_read(&mut self, name: &str) -> io::Result<()>
         ensures picked { OnOk result (IsSome self.new.picked) }
         ensures named { OnOk result (self.new.name.bytes ≡ name.now) }
+        ensures stays { (id : FileId) → is_among id self.old.read.ids.items ≡ true → is_among id self.new.read.ids.items ≡ true }
         ensures kept { OnErr result ((self.new.picked ≡ self.old.picked) × (self.new.name ≡ self.old.name)) }
         ensures rest { self.new ≡ record self.old { picked = self.new.picked; name = self.new.name; read = self.new.read } }
     {
@@ -92,15 +100,15 @@ impl<R: Files + Print + Drop> FileShelf<R> {
         if name.len() > NAME_ROOM {
             return Err(io::Error::from(io::ErrorKind::InvalidFilename));
         }
-        self.read.add(FileId::of(&file)?)?;
-        self.set_picked(file, name);
-        Ok(())
+        let id = FileId::of(&file)?;
+        self.set_picked(file, id, name)
     }
 
     /// Reads on in the file that was picked last, where it has this name; nothing before any was picked.
     fn read_picked(&mut self, name: &str, buf: &mut [u8]) -> io::Result<usize>
         requires { 0 < length buf.old }
         ensures bound { ReadsAtMost result buf.new }
+        ensures unpicked { self.old.picked ≡ None → (result ≡ Ok 0) × (self.new.picked ≡ None) }
         ensures other { IsSome self.old.picked → self.old.name.bytes ≢ name.now → IsErr result }
         ensures picked { IsSome self.old.picked → IsSome self.new.picked }
         ensures rest { self.new ≡ record self.old { picked = self.new.picked } }
@@ -145,6 +153,7 @@ impl<R: Files + Print + Drop> Shelf for FileShelf<R> {
     fn pick(&mut self, name: &str) -> Result<(), Failed>
         ensures picked { OnOk result (IsSome self.new.picked) }
         ensures named { OnOk result (self.new.name.bytes ≡ name.now) }
+        ensures stays { (id : FileId) → is_among id self.old.read.ids.items ≡ true → is_among id self.new.read.ids.items ≡ true }
         ensures kept { OnErr result ((self.new.picked ≡ self.old.picked) × (self.new.name ≡ self.old.name)) }
         ensures cause { HasCauseIn (reading_of name.now) (one_count self.old.faults) (one_count self.new.faults) result }
         ensures last { KeepsLast FileCall.Pick name.now self.old.last self.new.last result }
@@ -158,6 +167,7 @@ impl<R: Files + Print + Drop> Shelf for FileShelf<R> {
     fn read(&mut self, name: &str, buf: &mut [u8]) -> Result<usize, Failed>
         requires { 0 < length buf.old }
         ensures bound { ReadsAtMost result buf.new }
+        ensures unpicked { self.old.picked ≡ None → (result ≡ Ok 0) × (self.new.picked ≡ None) }
         ensures other { IsSome self.old.picked → self.old.name.bytes ≢ name.now → IsErr result }
         ensures cause { HasCauseIn (reading_of name.now) (one_count self.old.faults) (one_count self.new.faults) result }
         ensures last { KeepsLast FileCall.Read name.now self.old.last self.new.last result }

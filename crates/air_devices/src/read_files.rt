@@ -3,7 +3,7 @@
 //! There is room for sixteen, and no call takes memory.
 
 ghost use Rattle.std.specs.Prelude.{◌≡◌, [], true, OnOk};
-ghost use Rattle.air_devices.specs.Steps.ReadFiles.{is_among};
+ghost use Rattle.air_devices.specs.ReadFiles.{is_among};
 
 use arrayvec::ArrayVec;
 use std::fs::OpenFile;

@@ -20,7 +20,7 @@ use std::fmt;
 pub enum ReadFileError {
     /// The shelf failed.
     Failed,
-    /// The file has more bytes than the limit; just one more than the limit were taken from its front.
+    /// The file has more bytes than the limit; what is left is what lies behind the limit and one byte, where told.
     TooLarge,
     /// There was no memory for the bytes.
     NoMemory,

@@ -1,4 +1,4 @@
--- For private steps alone. Which files were read: each is known by its device and its number there.
+-- Which files were read: each is known by its device and its number there.
 use Rattle.std.specs.Prelude.{◌==◌, ◌&&◌, List, Bool}
 use Rattle.std.specs.List.{list_any}
 use Rattle.air_devices.specs.declared.read_files.FileId.{FileId}
