@@ -1,0 +1,5 @@
+pub mod PrefixLemmas
+pub mod AddLemmas
+pub mod BatchLemmas
+pub mod FrameLemmas
+pub mod SightLemmas

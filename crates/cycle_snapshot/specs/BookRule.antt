@@ -1,0 +1,16 @@
+-- The rule of the book of batches, and what its one step tells.
+use Rattle.std.specs.Prelude.{ℕ, ◌≡◌, ◌==◌, true, List, [], ◌∷◌, ◌++◌, length, MatchBool}
+use Rattle.logbook.specs.Pages.{Cell, Step, View, Book, Named}
+use Rattle.cycle_snapshot.specs.declared.batches.Batch.{Batch}
+
+-- The first word is the number of batches.
+abbrev pub IsCounted : List Cell → List Batch → Type 0
+IsCounted cells log = cells ≡ (length log, true) ∷ (0, true) ∷ []
+
+-- The word that counts the batches of a book.
+abbrev pub head_of : Book → Named
+head_of book = record { tracked = true; key = 0; book = book }
+
+-- Where the word was found as it was seen, the batch was added to all that had been seen; else the list is longer.
+abbrev pub Adds : Step Batch → View Batch ℕ → ℕ → View Batch ℕ → Type 0
+Adds step before found after = MatchBool (found == step.old) (after.0 ≡ before.0 ++ step.ask ∷ []) (Unit {0})

@@ -1,0 +1,55 @@
+//! Batches of events: what is published at one step.
+ghost use Rattle.std.specs.Prelude.{◌≡◌, ◌+◌, ◌<◌, ◌^◌, length, All};
+ghost use Rattle.air_history.specs.Histories.{starts, ItemsFit};
+ghost use Rattle.air_history.specs.Tables.{BasesRead};
+ghost use Rattle.cycle_snapshot.specs.BoardRuns.{step_all};
+
+use air_history::Event;
+use control_matrix::Board;
+use std::marker::Model;
+
+/// The events of one cycle. Contracts see the list.
+#[derive(Drop)]
+pub struct Batch {
+    events: Vec<Event>,
+}
+
+impl Model for Batch {
+    ghost use Rattle.std.specs.Prelude.{List};
+    ghost use Rattle.air_history.specs.declared.histories.Event.{Event};
+
+    ghost Value = { List Event };
+
+    ghost view = { λ b. b.events.items };
+}
+
+/// Hands a rule of all updates to a caller's proof, that each base is read; it does nothing.
+fn keep_rules(events: &[Event])
+    ensures { All BasesRead events.now }
+{
+    for event in events {
+        event.keeps_rules();
+    }
+}
+
+impl Batch {
+    /// The batch of these events.
+    pub fn of(events: Vec<Event>) -> Batch
+        ensures list { result ≡ events.items }
+        ensures bases { All BasesRead result }
+    {
+        keep_rules(&events);
+        Batch { events }
+    }
+
+    /// Changes the board by the events, in order.
+    pub fn apply_to(&self, board: &mut Board)
+        requires fits { All (ItemsFit (length board.old.values)) self.now }
+        requires room { board.old.cycle + starts self.now + 1 < 2 ^ 32 }
+        ensures { board.new ≡ step_all board.old self.now }
+    {
+        for event in &self.events {
+            board.apply(event);
+        }
+    }
+}

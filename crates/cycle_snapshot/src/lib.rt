@@ -1,0 +1,26 @@
+//! Frames of a history, published beside the threads that make it.
+//!
+//! A publisher adds batches to a list, each the events of one cycle (`publishers`). Monitors look at it and keep the frame of a
+//! beginning of it (`monitors`): always of whole batches, and never of fewer than they saw or were told. A look waits for
+//! nobody and takes no memory. Both are made together (`opening`).
+//!
+//! Below them: `told` is a beginning of the list, `batches` a cycle's events, `frames` what a monitor keeps, `copies` what each
+//! of the two copies of `left_right` holds, `rule` the rule that they keep between any two atomic steps, and `sides` makes
+//! the writer and its readers.
+#![tactic(auto)]
+
+mod batches;
+mod copies;
+mod frames;
+mod monitors;
+mod opening;
+mod publishers;
+mod rule;
+mod sides;
+mod told;
+
+pub use air_base::NoMemory;
+pub use monitors::Monitor;
+pub use opening::publisher;
+pub use publishers::Publisher;
+pub use told::Told;

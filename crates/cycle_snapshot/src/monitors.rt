@@ -1,0 +1,130 @@
+//! A monitor: it looks at what is published, and keeps the frame of its last look.
+ghost use Rattle.std.specs.Prelude.{◌≡◌, ℕ, ◌<◌, ◌≤◌, [], length, get_or, Some, MatchResult, MatchOption};
+ghost use mathlib.Core.List.{IsPrefix};
+ghost use Rattle.left_right.specs.Sides.{view};
+ghost use Rattle.cycle_snapshot.specs.declared.copies.Published.{Published};
+ghost use Rattle.cycle_snapshot.specs.CopyRule.{Follows, Copied};
+ghost use Rattle.cycle_snapshot.specs.SnapshotStates.{Looked};
+
+use crate::copies::Published;
+use crate::frames::KeptFrame;
+use crate::rule::{CopyReader, Sight};
+use crate::told::Told;
+use air_base::NoMemory;
+use std::marker::Model;
+
+/// Copies the shown frame into the kept one, and gives its list, if that goes on from what was told.
+fn take_frame(reader: CopyReader, kept: &mut KeptFrame, told: &Told) -> (CopyReader, Option<Told>)
+    requires seen { (x : Published) × (view reader.place ≡ Some x) × (told.now.publisher ≡ x.list.publisher) × (length kept.old.values ≡ length x.values) }
+    ensures looked { (x : Published) → view reader.place ≡ Some x →
+        (y : Published) × (view result.0.place ≡ Some y) × Follows x y × MatchOption result.1 (kept.new ≡ kept.old) (Copied y told.now kept.new) }
+{
+    let reading = match reader.enter_as::<Sight>() {
+        Ok(reading) => reading,
+        Err(reader) => {
+            return (reader, None);
+        }
+    };
+    let shown: &Published = reading.get();
+    if shown.list.len() < told.len() {
+        return (reading.leave(), None);
+    }
+    told.begins(&shown.list);
+    kept.copy(&shown.board);
+    let list = shown.list.again();
+    (reading.leave(), Some(list))
+}
+
+/// It looks at one publisher's list.
+#[derive(Drop)]
+pub struct Monitor {
+    pub(crate) reader: Option<CopyReader>,
+    pub(crate) seen: Told,
+    pub(crate) told: Told,
+    pub(crate) kept: KeptFrame,
+    pub(crate) looks: u64,
+}
+
+impl Model for Monitor {
+    ghost use Rattle.cycle_snapshot.specs.SnapshotStates.{MonitorState};
+    ghost use Rattle.cycle_snapshot.specs.MonitorFields.{monitor_in, IsMonitor};
+
+    ghost Value = { MonitorState };
+
+    ghost view = { monitor_in };
+
+    ghost invariant = { IsMonitor };
+}
+
+impl Monitor {
+    /// Copies the frame of a beginning of the published list into the one that it keeps. It waits for nobody and takes no memory: `NoMemory`
+    /// is where `left_right` refuses the look, and then the monitor is as before.
+    pub fn look(&mut self) -> Result<(), NoMemory>
+        ensures { MatchResult result (λ _. Looked self.old self.new) (λ _. self.new ≡ self.old) }
+    {
+        let Some(reader) = self.reader.take() else {
+            unreachable!()
+        };
+        let (reader, list) = take_frame(reader, &mut self.kept, &self.told);
+        self.reader = Some(reader);
+        match list {
+            Some(list) => {
+                self.seen = list;
+                self.looks = self.looks.saturating_add(1);
+                Ok(())
+            }
+            None => Err(NoMemory),
+        }
+    }
+
+    /// The monitor knows the list that was told: its next look goes on from it.
+    pub fn learn(&mut self, told: Told)
+        requires own { told.publisher ≡ self.old.publisher }
+        ensures told { IsPrefix self.old.told self.new.told × IsPrefix told.batches self.new.told }
+        ensures same { self.new ≡ record self.old { told = self.new.told } }
+    {
+        if self.told.len() <= told.len() {
+            self.told.begins(&told);
+            self.told = told;
+        } else {
+            told.begins(&self.told);
+        }
+    }
+
+    /// The cycle of the kept frame.
+    pub fn cycle(&self) -> u32
+        ensures { result ≡ self.now.kept.cycle }
+    {
+        self.kept.cycle()
+    }
+
+    /// The value of an item in the kept frame.
+    pub fn value(&self, item: u16) -> u64
+        requires { item < length self.now.values }
+        ensures { result ≡ get_or self.now.kept.values item 0 }
+    {
+        self.kept.value(item)
+    }
+
+    /// The control column of an item in the kept frame.
+    pub fn column(&self, item: u16) -> &[u32]
+        requires { item < length self.now.values }
+        ensures { result.now ≡ get_or self.now.kept.columns item [] }
+    {
+        self.kept.column(item)
+    }
+
+    /// The sum of the kept frame's values modulo 2^64.
+    pub fn total(&self) -> u64
+        ensures { result ≡ self.now.kept.total }
+    {
+        self.kept.total()
+    }
+
+    /// The number of looks.
+    pub fn looks(&self) -> u64
+        ensures { result ≡ self.now.looks }
+    {
+        self.looks
+    }
+}
