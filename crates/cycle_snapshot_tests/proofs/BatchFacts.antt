@@ -1,0 +1,40 @@
+-- Batches that are made event by event, and vectors that are emptied from their end.
+use Rattle.std.proofs.Common.{◌≡◌, ℕ, false, cond, List, [], ◌∷◌, ◌++◌, refl, subst, length, All, ap, arith}
+use Rattle.std.proofs.lemmas.Bool.{cond-false}
+use Rattle.std.proofs.lemmas.List.{get_or_push, get_or_append_left, length_push}
+use Rattle.std.proofs.lemmas.List.Sums.{sum_by-cons}
+use Rattle.std.proofs.lemmas.List.Elements.{All-push}
+use Rattle.air_history.specs.declared.histories.Event.{Event}
+use Rattle.air_history.specs.declared.histories.Event.TheVariants.{Start}
+use Rattle.air_history.specs.Histories.{is_start, starts, ItemsFit}
+use Rattle.cycle_snapshot.specs.Batches.{IsBatch}
+use Rattle.cycle_snapshot.proofs.BatchLemmas.{starts_append}
+
+starts_one : (e : Event) → is_start e ≡ false → starts (e ∷ []) ≡ 0
+unfolding starts
+starts_one e commit = let none = cond-false {A = ℕ} (is_start e) 1 0 commit in omega (arith, sum_by-cons (λ e. cond (is_start e) 1 0) e [], none)
+
+-- A commit more is no start.
+pub no_start : (G : List Event) (e : Event) → starts G ≡ 0 → is_start e ≡ false → starts (G ++ e ∷ []) ≡ 0
+no_start G e none commit = let a = starts_append G (e ∷ []) in let one = starts_one e commit in omega arith
+
+-- What holds of all holds of all but the last, and of the last.
+pub all_but_last : {A : Type 0} (P : A → Type 0) (xs : List A) (y : A) → All P (xs ++ y ∷ []) → All P xs × P y
+all_but_last P xs y h = let long = length_push xs y in (λ k d less. subst P (get_or_append_left xs (y ∷ []) d k less) (h k d (omega arith)), subst P (get_or_push xs y y (length xs) refl) (h (length xs) y (omega arith)))
+
+-- All of none.
+pub all_none : {A : Type 0} (P : A → Type 0) (xs : List A) → xs ≡ [] → All P xs
+all_none P xs e = let n = ap length e in λ k d l. absurd (omega arith)
+
+-- No events have no start.
+pub none_yet : (G : List Event) → G ≡ [] → starts G ≡ 0
+unfolding starts
+none_yet G e = ap starts e
+
+start_fits : (n : ℕ) → ItemsFit n Start
+unfolding ItemsFit
+start_fits n = tt
+
+-- Fitting commits, and a start, are a batch.
+pub batch_ends : (n : ℕ) (G : List Event) → All (ItemsFit n) G → starts G ≡ 0 → IsBatch n (G ++ Start ∷ [])
+batch_ends n G fits none = record { fits = All-push (ItemsFit n) G Start fits (start_fits n); ends = (G, refl, none) }

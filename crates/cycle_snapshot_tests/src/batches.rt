@@ -1,0 +1,50 @@
+//! Batches as rows of a table.
+ghost use Rattle.std.specs.Prelude.{◌≡◌, IfOk};
+ghost use Rattle.cycle_snapshot.specs.Batches.{IsBatch};
+
+use air_history::{Event, Update, Write};
+use cycle_snapshot::NoMemory;
+use std::alloc::Global;
+
+/// A write: the item, the read item whose value is taken, if any, and the amount that is put or added.
+pub type Put = (u16, Option<u16>, u64);
+
+/// A commit: its updater, the updater's number for it, the items that it reads, and what it writes.
+pub type Row<'a> = (u32, u32, &'a [u16], &'a [Put]);
+
+/// The update of a row. A fault of the row counts as want of memory.
+fn update_of(alloc: Global, reads: &[u16], puts: &[Put]) -> Result<Update, NoMemory> {
+    let mut writes = Vec::new(alloc);
+    for (item, base, amount) in puts {
+        writes.push(Write {
+            item: *item,
+            base: *base,
+            minus: false,
+            amount: *amount,
+        })?;
+    }
+    match Update::new(alloc, reads, &writes) {
+        Ok(update) => Ok(update),
+        Err(_) => Err(NoMemory),
+    }
+}
+
+/// The commits of the rows, and a start. A row that does not fit so many items counts as want of memory.
+pub fn batch_of(alloc: Global, items: u16, rows: &[Row<'_>]) -> Result<Vec<Event>, NoMemory>
+    ensures { IfOk result (λ batch. IsBatch items batch.items) }
+{
+    let mut batch = Vec::new(alloc);
+    for (by, seq, reads, puts) in rows {
+        let commit = Event::Commit {
+            by: *by,
+            seq: *seq,
+            update: update_of(alloc, reads, puts)?,
+        };
+        if commit.is_start() || !commit.fits(items) {
+            return Err(NoMemory);
+        }
+        batch.push(commit)?;
+    }
+    batch.push(Event::Start)?;
+    Ok(batch)
+}
