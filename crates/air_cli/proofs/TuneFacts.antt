@@ -5,7 +5,7 @@ use Rattle.air_devices.specs.Unchanged.{KeepsButLeft, KeepsButPrinted}
 use Rattle.air_devices.specs.Shelves.{Shelved}
 use Rattle.air_status.specs.declared.status.Status.{Status}
 use Rattle.air_status.specs.declared.status.Status.TheVariants as status
-use Rattle.air_cli.specs.Making.{Reads}
+use Rattle.air_cli.specs.Steps.Making.{Reads}
 use Rattle.air_devices.specs.Told.{ToldIs, WhereTold}
 use Rattle.air_model.specs.Tapes.{tape_read}
 use Rattle.deck_files.specs.NamedDecks.{DeckCause, OfDeck}

@@ -7,5 +7,5 @@ pub mod Plan
 pub mod Script
 pub mod Tune
 pub mod Untouched
-pub mod Making
 pub mod Truths
+pub mod Steps

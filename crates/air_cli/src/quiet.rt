@@ -6,7 +6,7 @@
 ghost use Rattle.std.specs.Prelude.{map, string_bytes, IfErr, IfOk};
 ghost use Rattle.air_cli.specs.Words.{asked_of};
 ghost use Rattle.air_cli.specs.Commands.{asked_by, meaning_of, words_meaning};
-ghost use Rattle.air_cli.specs.Making.{IsMade, IsUnmade, Reads};
+ghost use Rattle.air_cli.specs.Steps.Making.{IsMade, IsUnmade, Reads};
 ghost use Rattle.air_cli.specs.Answers.{Completes, Leaves, QuietAnswers};
 
 use crate::plan::plan;

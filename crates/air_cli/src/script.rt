@@ -3,7 +3,7 @@
 ghost use Rattle.std.specs.Prelude.{◌≡◌, None, length, IfErr, IfOk};
 ghost use Rattle.air_model.specs.Decks.{disks_in};
 ghost use Rattle.air_model.specs.Outputs.{script_tape};
-ghost use Rattle.air_cli.specs.Making.{IsMade, IsUnmade, Reads};
+ghost use Rattle.air_cli.specs.Steps.Making.{IsMade, IsUnmade, Reads};
 ghost use Rattle.air_cli.specs.Script.{script_meaning};
 
 use crate::reports::script_report;

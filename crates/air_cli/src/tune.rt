@@ -2,7 +2,7 @@
 
 ghost use Rattle.std.specs.Prelude.{◌≡◌, IfErr, IfOk};
 ghost use Rattle.air_model.specs.Tapes.{tape_read};
-ghost use Rattle.air_cli.specs.Making.{IsMade, IsUnmade, Reads};
+ghost use Rattle.air_cli.specs.Steps.Making.{IsMade, IsUnmade, Reads};
 ghost use Rattle.air_cli.specs.Tune.{tune_meaning};
 
 use crate::reports::tune_report;

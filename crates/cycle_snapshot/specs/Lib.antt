@@ -2,9 +2,9 @@ pub mod Batches
 pub mod Beginnings
 pub mod BookRule
 pub mod BoardRuns
-pub mod NewsStates
 pub mod CopyRule
 pub mod SnapshotStates
 pub mod FrameFields
 pub mod PublisherFields
 pub mod MonitorFields
+pub mod Steps

@@ -29,7 +29,7 @@ pub struct News {
 
 impl Model for News {
     ghost use Rattle.cycle_snapshot.specs.Batches.{IsBatch};
-    ghost use Rattle.cycle_snapshot.specs.NewsStates.{NewsState};
+    ghost use Rattle.cycle_snapshot.specs.Steps.NewsStates.{NewsState};
 
     ghost Value = { NewsState };
 

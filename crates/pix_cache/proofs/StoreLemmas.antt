@@ -8,7 +8,7 @@ use Rattle.std.proofs.lemmas.Slice.{take-put_mid_below, between-put_mid, drop-pu
 use borrow.Rule.Slice.PartMut.{put_mid}
 use Rattle.pix_cache.specs.declared.store.Slot.{Slot}
 use Rattle.pix_cache.specs.Stores.{Stored, stored}
-use Rattle.pix_cache.specs.StoreFields.{column_of, no_slot, stored_in, stored_of}
+use Rattle.pix_cache.specs.Steps.StoreFields.{column_of, no_slot, stored_in, stored_of}
 
 -- The column of a room ends before that of a later one begins.
 pub column_before : (j m n : ℕ) → j < m → j * n + n ≤ m * n

@@ -7,7 +7,7 @@ ghost use Rattle.air_base.specs.declared.limits.TheConstants.{MOST_ROOM};
 ghost use Rattle.air_model.specs.Reads.{Read};
 ghost use Rattle.air_model.specs.Copies.{keep, pix_of, with_copy, without};
 ghost use Rattle.pix_cache.specs.Caches.{FindsRoom, GivesWay, HasCopy, IsLeast, copy, copy_of};
-ghost use Rattle.pix_cache.specs.Answers.{IsAnswer};
+ghost use Rattle.pix_cache.specs.Steps.Answers.{IsAnswer};
 ghost use Rattle.pix_cache.specs.declared.store.TheConstants.{ITEM_NUMBERS};
 ghost use Rattle.pix_cache.specs.declared.cache.KeepAnswer.TheVariants.{Declined, Evicted, Placed, Replaced};
 

@@ -8,7 +8,7 @@ use Rattle.air_model.specs.Judges.{Judge, by_entries}
 use Rattle.air_model.specs.Reads.{Read}
 use Rattle.air_model.specs.Sessions.{Reader, State, comes_late, count_dozed, count_foreign, count_late, hear, hear_read, is_wanted, open_bucket, query_of, read_in, wanted}
 use Rattle.air_model.proofs.MomentLemmas.{wanted_from}
-use Rattle.receiver_core.specs.Attempts.{is_read_wanted, read_of}
+use Rattle.receiver_core.specs.Steps.Attempts.{is_read_wanted, read_of}
 use Rattle.receiver_core.specs.FeedAnswers.{fed_of, fed_read}
 use Rattle.receiver_core.specs.LastReads.{in_state, last_reads}
 use Rattle.receiver_core.specs.Receivers.{Receiver}

@@ -14,7 +14,7 @@ use Rattle.air_model.specs.Reads.{Read}
 use Rattle.air_model.specs.Sessions.{abort, accept_if_whole, comes_late, count_opened, open_bucket, query_of, wanted}
 use Rattle.air_model.proofs.MomentLemmas.{or_false}
 use Rattle.air_history.specs.HeldReads.{IsNew}
-use Rattle.receiver_core.specs.Attempts.{HeldValues, columns_of, read_of}
+use Rattle.receiver_core.specs.Steps.Attempts.{HeldValues, columns_of, read_of}
 use Rattle.receiver_core.specs.LastReads.{in_state}
 use Rattle.receiver_core.specs.ReceiverView.{IsReceiver, receiver_in}
 use Rattle.receiver_core.specs.declared.receivers.Receiver.TheInside.{Inside}

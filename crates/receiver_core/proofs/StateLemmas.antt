@@ -12,7 +12,7 @@ use Rattle.air_model.specs.Aired.{Air}
 use Rattle.air_model.specs.Judges.{Judge, by_entries}
 use Rattle.air_model.specs.Sessions.{Reader, State, accept_if_whole, line_of, next_attempt, next_query, query_of, wanted, with_line}
 use Rattle.air_model.proofs.MomentLemmas.{cond_keeps}
-use Rattle.receiver_core.specs.Attempts.{shown_of}
+use Rattle.receiver_core.specs.Steps.Attempts.{shown_of}
 use Rattle.receiver_core.specs.LastReads.{in_state, last_reads}
 use Rattle.receiver_core.specs.LinesGiven.{lines_of}
 use Rattle.receiver_core.specs.Receivers.{IsSettled, Receiver}

@@ -1,8 +1,3 @@
-pub mod PolicyReads
-pub mod Attempts
-pub mod AttemptView
-pub mod AirView
-pub mod SlotKinds
 pub mod ReaderView
 pub mod ReceiverSteps
 pub mod Receivers
@@ -11,3 +6,4 @@ pub mod LastReads
 pub mod FeedAnswers
 pub mod HeldTruths
 pub mod ReceiverView
+pub mod Steps

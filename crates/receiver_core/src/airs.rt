@@ -7,7 +7,7 @@ ghost use Rattle.air_model.specs.Aired.{air_of, airs_columns, fits};
 ghost use Rattle.air_model.specs.Airings.{carries, pix_number};
 ghost use Rattle.air_model.specs.Decks.{disks_in, rates_in};
 ghost use Rattle.air_model.specs.Programs.{program};
-ghost use Rattle.receiver_core.specs.SlotKinds.{kind_fits};
+ghost use Rattle.receiver_core.specs.Steps.SlotKinds.{kind_fits};
 
 use air_base::{NoMemory, Policy};
 use bucket_codec::{BucketView, ViewKind};
@@ -30,7 +30,7 @@ impl Model for Air {
 
     ghost Value = { Air };
 
-    ghost use Rattle.receiver_core.specs.AirView.{air_in};
+    ghost use Rattle.receiver_core.specs.Steps.AirView.{air_in};
 
     ghost view = { air_in };
 }
@@ -96,7 +96,7 @@ fn airs_columns(policy: Policy) -> bool
 }
 
 /// Whether the bucket's kind and item are those that the policy airs in a slot with this item.
-#[tactic(auto, unfolding(crate::specs::SlotKinds::kind_fits))]
+#[tactic(auto, unfolding(crate::specs::Steps::SlotKinds::kind_fits))]
 fn stands_right(policy: Policy, slot: Option<u16>, bucket: &BucketView<'_>) -> bool
     ensures { result ≡ kind_fits policy slot (kind_of bucket.now.body) (item_of bucket.now.body) }
 {

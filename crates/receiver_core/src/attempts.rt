@@ -9,7 +9,7 @@ ghost use Rattle.air_history.specs.Clashes.{is_late};
 ghost use Rattle.air_model.specs.Buckets.{kind_of};
 ghost use Rattle.air_model.specs.Judges.{by_entries, heard_of, place_of};
 ghost use Rattle.air_history.specs.HeldReads.{IsNew};
-ghost use Rattle.receiver_core.specs.Attempts.{columns_of, read_of, shown_of};
+ghost use Rattle.receiver_core.specs.Steps.Attempts.{columns_of, read_of, shown_of};
 
 use crate::policy_held::PolicyHeld;
 use crate::reads::ReadList;
@@ -28,11 +28,11 @@ pub struct Attempt {
 }
 
 impl Model for Attempt {
-    ghost use Rattle.receiver_core.specs.Attempts.{HeldValues};
+    ghost use Rattle.receiver_core.specs.Steps.Attempts.{HeldValues};
 
     ghost Value = { HeldValues };
 
-    ghost use Rattle.receiver_core.specs.AttemptView.{KeepsBoth, held_values};
+    ghost use Rattle.receiver_core.specs.Steps.AttemptView.{KeepsBoth, held_values};
 
     ghost view = { held_values };
 

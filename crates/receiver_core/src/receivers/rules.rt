@@ -7,7 +7,7 @@ ghost use Rattle.std.specs.Prelude.{◌≡◌, ◌≢◌, ◌<◌, ◌+◌, ◌^
 ghost use Rattle.air_model.specs.Buckets.{IsInRange, count_of, item_of, kind_of};
 ghost use Rattle.air_model.specs.Judges.{by_entries};
 ghost use Rattle.air_model.specs.Sessions.{abort, accept_if_whole, comes_late, hear, next_attempt, next_query, open_bucket, read_in, wanted, with_line};
-ghost use Rattle.receiver_core.specs.Attempts.{is_read_wanted, read_of};
+ghost use Rattle.receiver_core.specs.Steps.Attempts.{is_read_wanted, read_of};
 ghost use Rattle.receiver_core.specs.FeedAnswers.{fed_of};
 ghost use Rattle.receiver_core.specs.LastReads.{in_state};
 ghost use Rattle.receiver_core.specs.Receivers.{heard_count};

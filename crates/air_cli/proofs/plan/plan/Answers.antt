@@ -2,7 +2,7 @@ use Rattle.std.proofs.Common.{◌≡◌, ap, subst, sym, rules}
 use Rattle.air_status.specs.declared.status.Status.TheVariants as status
 use Rattle.std.specs.Io.KnownBytes.{IsAtEnd}
 use Rattle.delivery.specs.Given.{Given}
-use Rattle.air_cli.specs.Making.{IsMade, IsUnmade}
+use Rattle.air_cli.specs.Steps.Making.{IsMade, IsUnmade}
 use Rattle.deck_files.specs.RunnableDecks.{IsShort}
 use Rattle.air_cli.specs.Plan.{PlanGives, plan_given, plan_meaning}
 use Rattle.deck_files.proofs.CauseFacts.{of_deck}

@@ -4,7 +4,7 @@ use Rattle.air_devices.specs.Counts.{KeepsCounts}
 use Rattle.air_model.specs.Tapes.{tape_read}
 use Rattle.air_status.specs.declared.status.Status.TheVariants as status
 use Rattle.deck_files.specs.RunnableDecks.{IsRunnable}
-use Rattle.air_cli.specs.Making.{IsMade, IsUnmade}
+use Rattle.air_cli.specs.Steps.Making.{IsMade, IsUnmade}
 use Rattle.delivery.specs.Given.{Given}
 use Rattle.air_cli.specs.Truths.{IsTrueTape}
 use Rattle.air_cli.specs.Tune.{OfTape, TuneCause, TuneGives, tune_given, tune_meaning}

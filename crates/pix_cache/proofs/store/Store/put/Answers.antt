@@ -5,7 +5,7 @@ use Rattle.pix_cache.specs.declared.store.Slot.{Slot}
 use Rattle.std.proofs.Math.ListN.{set}
 use borrow.Rule.Slice.PartMut.{put_mid}
 use Rattle.pix_cache.specs.Stores.{Store, Stored, stored}
-use Rattle.pix_cache.specs.StoreFields.{stored_of}
+use Rattle.pix_cache.specs.Steps.StoreFields.{stored_of}
 use Rattle.pix_cache.proofs.StoreLemmas.{column_before, length_put, store_put, stores_len}
 use Rattle.pix_cache.proofs.store.Store.put.Goals as goal
 

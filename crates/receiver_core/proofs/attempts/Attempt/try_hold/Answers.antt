@@ -2,7 +2,7 @@ use Rattle.std.proofs.Common.{◌∙◌, ap, sym, refl, length}
 use Rattle.air_base.specs.declared.verdicts.ReadOf.{ReadOf}
 use Rattle.air_history.specs.Clashes.{Heard}
 use Rattle.std.specs.Vec.{with_items}
-use Rattle.receiver_core.specs.Attempts.{HeldValues}
+use Rattle.receiver_core.specs.Steps.Attempts.{HeldValues}
 use Rattle.receiver_core.proofs.AttemptLemmas.{clash_at, entries_counted, in_time_after, more_is, more_keeps, new_at}
 use Rattle.receiver_core.proofs.attempts.Attempt.try_hold.Goals as goal
 

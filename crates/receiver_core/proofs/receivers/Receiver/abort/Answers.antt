@@ -2,7 +2,7 @@ use Rattle.std.proofs.Common.{◌≡◌, ◌∙◌, ap}
 use Rattle.air_base.specs.declared.verdicts.VerdictKind.TheVariants.{Abort}
 use Rattle.air_model.specs.Judges.{by_entries}
 use Rattle.air_model.specs.Sessions.{next_attempt, with_line}
-use Rattle.receiver_core.specs.Attempts.{read_of}
+use Rattle.receiver_core.specs.Steps.Attempts.{read_of}
 use Rattle.receiver_core.specs.LastReads.{in_state}
 use Rattle.receiver_core.proofs.StateLemmas.{goes_on, next_attempt_lines, still_left}
 use Rattle.receiver_core.proofs.WordLemmas.{abort_is}

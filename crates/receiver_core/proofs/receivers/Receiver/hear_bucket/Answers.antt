@@ -1,7 +1,7 @@
 use Rattle.std.proofs.Common.{false, true, Ok, Some, max, ◌∙◌, ap, sym}
 use Rattle.air_model.specs.Judges.{by_entries}
 use Rattle.air_model.specs.Sessions.{count_dozed, count_foreign, count_late, hear, query_of, wanted}
-use Rattle.receiver_core.specs.Attempts.{read_of}
+use Rattle.receiver_core.specs.Steps.Attempts.{read_of}
 use Rattle.receiver_core.specs.FeedAnswers.{fed_of}
 use Rattle.receiver_core.specs.LastReads.{in_state}
 use Rattle.receiver_core.specs.Receivers.{Receiver}

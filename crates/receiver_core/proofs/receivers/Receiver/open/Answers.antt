@@ -3,7 +3,7 @@ use Rattle.air_history.specs.Columns.{scheme_of}
 use Rattle.air_model.specs.Buckets.{item_of}
 use Rattle.air_model.specs.Judges.{by_entries}
 use Rattle.air_model.specs.Sessions.{comes_late, open_bucket, wanted}
-use Rattle.receiver_core.specs.Attempts.{HeldValues, read_of}
+use Rattle.receiver_core.specs.Steps.Attempts.{HeldValues, read_of}
 use Rattle.receiver_core.specs.LastReads.{in_state}
 use Rattle.receiver_core.specs.Receivers.{Receiver}
 use Rattle.receiver_core.specs.ReceiverView.{receiver_in}

@@ -1,4 +1,4 @@
--- The answer to a newcomer as one word: the four of `Caches`, by case.
+-- For private steps alone. The answer to a newcomer as one word: the four of `Caches`, by case.
 use Rattle.std.specs.Prelude.{ℕ, List}
 use Rattle.air_model.specs.Reads.{Read}
 use Rattle.pix_cache.specs.declared.cache.KeepAnswer.{KeepAnswer}

@@ -1,4 +1,4 @@
--- The tree over the rooms, by the weight of what each holds.
+-- For private steps alone. The tree over the rooms, by the weight of what each holds.
 use Rattle.std.specs.Prelude.{◌≡◌, ℕ, ◌+◌, ◌*◌, ◌≤◌, ◌<◌, List, length, get_or}
 use Rattle.pix_cache.specs.declared.leaf.Leaf.{Leaf}
 use Rattle.pix_cache.specs.Leaves.{lighter, nowhere}

@@ -1,4 +1,4 @@
--- What the functions say that make a command's text and tape. No public contract cites this: it is the step before delivery.
+-- For private steps alone. What the functions say that make a command's text and tape. It is the step before delivery.
 use Rattle.std.specs.Prelude.{◌≡◌, ◌≢◌, ℕ, List}
 use Rattle.std.specs.Io.KnownBytes.{IsAtEnd}
 use Rattle.air_devices.specs.Counts.{KeepsCounts, NoCountFalls}

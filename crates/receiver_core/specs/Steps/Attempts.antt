@@ -1,5 +1,5 @@
--- What contracts see of an attempt: the policy that checks it, the number of items, and the held reads in order. And what a
--- bucket gives to it.
+-- For private steps alone. What contracts see of an attempt: the policy that checks it, the number of items, and the
+-- held reads in order. And what a bucket gives to it.
 use Rattle.std.specs.Prelude.{ℕ, Bool, false, List, map, Option, Some, None}
 use Rattle.air_base.specs.declared.verdicts.Policy.{Policy}
 use Rattle.air_base.specs.declared.verdicts.ReadOf.{ReadOf}

@@ -1,10 +1,10 @@
--- The fields of an attempt: reads with their entries, and the same reads with their values.
+-- For private steps alone. The fields of an attempt: reads with their entries, and the same reads with their values.
 use Rattle.std.specs.Prelude.{◌≡◌, List, [], ◌∷◌, length, map}
 use Rattle.air_base.specs.declared.verdicts.ReadOf.{ReadOf}
 use Rattle.air_history.specs.Clashes.{Heard}
 use Rattle.air_model.specs.Reads.{Read}
-use Rattle.receiver_core.specs.Attempts.{HeldValues, shown_of}
-use Rattle.receiver_core.specs.PolicyReads.{held_of, policy_of}
+use Rattle.receiver_core.specs.Steps.Attempts.{HeldValues, shown_of}
+use Rattle.receiver_core.specs.Steps.PolicyReads.{held_of, policy_of}
 use Rattle.receiver_core.specs.declared.attempts.Attempt.TheInside.{Inside}
 
 -- The reads with their entries from the one list and their values from the other.

@@ -1,4 +1,4 @@
--- When a bucket of a kind and an item stands rightly in a slot, by the policy.
+-- For private steps alone. When a bucket of a kind and an item stands rightly in a slot, by the policy.
 use Rattle.std.specs.Prelude.{ℕ, zero, suc, Bool, not, ◌&&◌, is_none, Option}
 use Rattle.air_base.specs.declared.verdicts.Policy.{Policy}
 use Rattle.air_model.specs.Aired.{airs_columns}

@@ -1,4 +1,4 @@
--- The fields of the rooms: the columns of all stand one after another.
+-- For private steps alone. The fields of the rooms: the columns of all stand one after another.
 use Rattle.std.specs.Prelude.{◌≡◌, ◌≤◌, ◌*◌, ℕ, List, length, map, get_or, take, drop}
 use Rattle.std.specs.List.{range_with_len}
 use Rattle.air_base.specs.declared.limits.TheConstants.{MOST_ROOM}

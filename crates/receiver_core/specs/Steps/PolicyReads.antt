@@ -1,4 +1,4 @@
--- What contracts see of held reads that are checked by a policy: the policy, and the reads.
+-- For private steps alone. What contracts see of held reads that are checked by a policy: the policy, and the reads.
 use Rattle.air_base.specs.declared.verdicts.Policy.{Policy}
 use Rattle.air_base.specs.declared.verdicts.Policy.TheVariants.{FMatrix, Datacycle, RMatrix}
 use Rattle.air_history.specs.HeldReads.{HeldReads}

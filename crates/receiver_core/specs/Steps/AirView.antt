@@ -1,4 +1,4 @@
--- The fields of what all receivers know.
+-- For private steps alone. The fields of what all receivers know.
 use Rattle.air_model.specs.Aired.{Air}
 use Rattle.receiver_core.specs.declared.airs.Air.TheInside.{Inside}
 use Rattle.air_history.specs.Columns.{scheme_of}

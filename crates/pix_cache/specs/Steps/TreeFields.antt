@@ -1,10 +1,10 @@
--- The fields of a tree: its nodes, and behind them its leaves.
+-- For private steps alone. The fields of a tree: its nodes, and behind them its leaves.
 use Rattle.std.specs.Prelude.{◌≡◌, ℕ, ◌≤◌, ◌<◌, List, length, get_or, drop}
 use Rattle.air_base.specs.declared.limits.TheConstants.{MOST_ROOM}
 use Rattle.pix_cache.specs.declared.leaf.Leaf.{Leaf}
 use Rattle.pix_cache.specs.declared.tree.Tree.TheInside.{Inside}
 use Rattle.pix_cache.specs.Leaves.{nowhere}
-use Rattle.pix_cache.specs.Trees.{IsTree}
+use Rattle.pix_cache.specs.Steps.Trees.{IsTree}
 
 -- The leaves, one for each room.
 abbrev pub leaves_of : Inside → List Leaf

@@ -1,0 +1,6 @@
+-- Definitions that private steps alone speak of: no public contract cites them, nor what a public type shows.
+pub mod AirView
+pub mod AttemptView
+pub mod Attempts
+pub mod PolicyReads
+pub mod SlotKinds
