@@ -5,7 +5,6 @@
 
 pub mod laws;
 mod plan;
-mod plan_rows;
 mod quiet;
 mod reports;
 mod script;

@@ -4,7 +4,9 @@ ghost use Rattle.std.specs.Prelude.{IfErr, IfOk};
 ghost use Rattle.air_cli.specs.Steps.Making.{IsMade, IsUnmade, Reads};
 ghost use Rattle.air_cli.specs.Plan.{plan_meaning};
 
-use crate::plan_rows::plan_text;
+mod rows;
+
+use self::rows::plan_text;
 use air_devices::Shelf;
 use air_status::Status;
 use deck_files::{plan_deck, read_deck_file};

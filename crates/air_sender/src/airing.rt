@@ -36,7 +36,9 @@ pub enum AirFault {
     Mast { slot: u32 },
 }
 
-/// Sends the bucket of each slot in order for the board's cycle.
+/// Sends the bucket of each slot in order for the board's cycle. `Board::new` and `Board::apply` tell whose board it is: where the last
+/// event was a start its cycle has started, and by `below_law` its entries are below it. `Program::plan` tells that the program has
+/// the deck's items, as many as `Board::new` got values, and `Board::n` how many entries the buffer is for.
 pub fn air_cycle<M: Mast>(
     program: &Program,
     board: &Board,

@@ -5,7 +5,7 @@ use Rattle.air_model.specs.PlanTexts.{plan_rows, program_row}
 use Rattle.air_model.specs.Rows.{row_writer, rows_text}
 use Rattle.air_rows.specs.RowWriters.{written}
 use Rattle.air_cli.proofs.PlanLemmas.{plan_is, plan_text_is}
-use Rattle.air_cli.proofs.plan_rows.plan_text.Goals as goal
+use Rattle.air_cli.proofs.plan.rows.plan_text.Goals as goal
 
 pub returns : goal.returns
 returns c =

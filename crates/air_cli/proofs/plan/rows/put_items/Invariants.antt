@@ -4,7 +4,7 @@ use Rattle.air_model.specs.Decks.{rates_in}
 use Rattle.air_model.specs.PlanTexts.{item_row}
 use Rattle.air_model.specs.Rows.{rows_text}
 use Rattle.air_rows.specs.RowWriters.{IsReady, written}
-use Rattle.air_cli.proofs.plan_rows.put_items.Given as goal
+use Rattle.air_cli.proofs.plan.rows.put_items.Given as goal
 
 abbrev pub invariant-loop-i : goal.invariant-loop-i
 invariant-loop-i l =

@@ -5,8 +5,8 @@ use Rattle.air_model.specs.Programs.{minor_cycle, num_minors}
 use Rattle.air_model.specs.PlanTexts.{slot_text}
 use Rattle.air_model.proofs.SlotPlaces.{length_minor}
 use Rattle.air_rows.proofs.RowLemmas.{parts_first, parts_more}
-use Rattle.air_cli.proofs.plan_rows.slots_text.Goals as goal
-use Rattle.air_cli.proofs.plan_rows.slots_text.Goals.{then-j-gt0+in_ok-extend_from_slice, else-j-gt0}
+use Rattle.air_cli.proofs.plan.rows.slots_text.Goals as goal
+use Rattle.air_cli.proofs.plan.rows.slots_text.Goals.{then-j-gt0+in_ok-extend_from_slice, else-j-gt0}
 
 pub loop-j-preserved : goal.loop-j-preserved
 loop-j-preserved c =

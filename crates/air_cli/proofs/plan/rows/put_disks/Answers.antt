@@ -6,7 +6,7 @@ use Rattle.air_model.specs.PlanTexts.{disk_row}
 use Rattle.air_rows.specs.RowWriters.{written}
 use Rattle.air_rows.proofs.RowLemmas.{rows_none}
 use Rattle.air_cli.proofs.PlanLemmas.{all_rows, disks_more, length-disks_in}
-use Rattle.air_cli.proofs.plan_rows.put_disks.Goals as goal
+use Rattle.air_cli.proofs.plan.rows.put_disks.Goals as goal
 
 pub loop-d-init : goal.loop-d-init
 loop-d-init c = (c.requires.ready, rows_none (written c.args.wtr.now))

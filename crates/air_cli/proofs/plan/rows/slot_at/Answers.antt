@@ -2,7 +2,7 @@ use Rattle.std.proofs.Common.{◌+◌, ◌*◌, ap, ◌∙◌}
 use Rattle.air_model.specs.Programs.{program}
 use Rattle.air_model.specs.Airings.{slot_item}
 use Rattle.air_cli.proofs.PlanLemmas.{minor_slot}
-use Rattle.air_cli.proofs.plan_rows.slot_at.Goals as goal
+use Rattle.air_cli.proofs.plan.rows.slot_at.Goals as goal
 
 pub returns : goal.returns
 returns c =

@@ -6,7 +6,7 @@ use Rattle.air_model.specs.PlanTexts.{minor_row}
 use Rattle.air_rows.specs.RowWriters.{written}
 use Rattle.air_rows.proofs.RowLemmas.{rows_none}
 use Rattle.air_cli.proofs.PlanLemmas.{all_rows, minors_more}
-use Rattle.air_cli.proofs.plan_rows.put_minors.Goals as goal
+use Rattle.air_cli.proofs.plan.rows.put_minors.Goals as goal
 
 pub loop-k-init : goal.loop-k-init
 loop-k-init c = (c.requires, rows_none (written c.args.wtr.now))

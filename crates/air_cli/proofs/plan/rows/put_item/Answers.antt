@@ -1,5 +1,5 @@
 use Rattle.air_cli.proofs.PlanLemmas.{held_item}
-use Rattle.air_cli.proofs.plan_rows.put_item.Goals as goal
+use Rattle.air_cli.proofs.plan.rows.put_item.Goals as goal
 
 pub disk_of-requires : goal.disk_of-requires
 disk_of-requires c = held_item c.args.deck.now c.args.cut.now c.args.i c.well_made.ensures.made c.requires.cut c.requires.item

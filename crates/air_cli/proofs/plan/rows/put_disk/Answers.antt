@@ -4,7 +4,7 @@ use Rattle.std.specs.Prelude.{IfSome}
 use Rattle.air_model.specs.Programs.{num_minors}
 use Rattle.air_rows.specs.RowWriters.{written}
 use Rattle.air_cli.proofs.PlanLemmas.{disk_freq, disk_text, length-disks_in}
-use Rattle.air_cli.proofs.plan_rows.put_disk.Goals as goal
+use Rattle.air_cli.proofs.plan.rows.put_disk.Goals as goal
 
 pub chunks-requires : goal.chunks-requires
 chunks-requires c = omega (arith, ap length c.requires.planned, length-disks_in c.args.deck.now)

@@ -7,7 +7,7 @@ use Rattle.air_model.specs.PlanTexts.{item_row}
 use Rattle.air_rows.specs.RowWriters.{written}
 use Rattle.air_rows.proofs.RowLemmas.{rows_none}
 use Rattle.air_cli.proofs.PlanLemmas.{all_rows, items_more}
-use Rattle.air_cli.proofs.plan_rows.put_items.Goals as goal
+use Rattle.air_cli.proofs.plan.rows.put_items.Goals as goal
 
 pub loop-i-init : goal.loop-i-init
 loop-i-init c = (c.requires.ready, rows_none (written c.args.wtr.now))

@@ -4,7 +4,7 @@ use Rattle.air_model.specs.Programs.{num_minors}
 use Rattle.air_model.specs.PlanTexts.{minor_row}
 use Rattle.air_model.specs.Rows.{rows_text}
 use Rattle.air_rows.specs.RowWriters.{IsReady, written}
-use Rattle.air_cli.proofs.plan_rows.put_minors.Given as goal
+use Rattle.air_cli.proofs.plan.rows.put_minors.Given as goal
 
 abbrev pub invariant-loop-k : goal.invariant-loop-k
 invariant-loop-k l =
