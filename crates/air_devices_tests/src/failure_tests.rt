@@ -1,6 +1,7 @@
 //! What the shelf over files keeps of its last call that failed, over real files and where every call fails.
 //!
-//! A case is a call, and what is kept after it; a call that is done leaves what was kept.
+//! A case is a call, and what is kept after it; a call that is done leaves what was kept. The system opens a folder, and
+//! refuses to read it.
 
 use crate::broken::Broken;
 use crate::shelves::{Answer, Call, first_other};
@@ -106,6 +107,20 @@ fn a_shelf_keeps_what_the_system_said_of_its_last_failure(rt: HostRuntime) -> Re
             name: "failed.tape",
             kind: ErrorKind::Other,
             text: "reading failed.tape: another file was opened last",
+        },
+        Said {
+            call: Call::Pick(".", Ok(())),
+            done: FileCall::Read,
+            name: "failed.tape",
+            kind: ErrorKind::Other,
+            text: "reading failed.tape: another file was opened last",
+        },
+        Said {
+            call: Call::Read(".", Err(Failed)),
+            done: FileCall::Read,
+            name: ".",
+            kind: ErrorKind::IsADirectory,
+            text: "reading .: Is a directory (os error 21)",
         },
         Said {
             call: Call::Create("failed.deck", Err(Failed)),
