@@ -23,7 +23,7 @@ use vector_policies::{DataHeld, RHeld};
 pub enum PolicyHeld {
     /// By control columns.
     FMatrix(Held),
-    /// By write vectors, all at one cycle.
+    /// By write vectors, current at the newest cycle.
     Datacycle(DataHeld),
     /// By write vectors, in the order of cycles.
     RMatrix(RHeld),

@@ -1,7 +1,7 @@
 //! The held reads of Datacycle and R-Matrix: whether a new read goes together with those that an attempt holds.
 //!
-//! Each read comes with the vector of last write cycles that was heard with it. `DataHeld` keeps its reads current at the
-//! newest cycle that it holds; `RHeld` takes reads in the order of cycles. Both name the clash of least item.
+//! Each read comes with the vector of last write cycles that was heard with it. `DataHeld` asks whether its reads are current at
+//! the newest cycle with the new one; `RHeld` takes reads in the order of cycles. Both name the clash of least item.
 #![tactic(auto)]
 
 mod cycles;
