@@ -58,7 +58,7 @@ impl Model for Monitor {
 
 impl Monitor {
     /// Copies the frame of a beginning of the published list into the one that it keeps. It waits for nobody and takes no memory: `NoMemory`
-    /// is where `left_right` refuses the look, and then the monitor is as before.
+    /// is where `left_right` refuses the look, or shows less than was told, and then the monitor is as before.
     pub fn look(&mut self) -> Result<(), NoMemory>
         ensures { MatchResult result (λ _. Looked self.old self.new) (λ _. self.new ≡ self.old) }
     {

@@ -89,7 +89,7 @@ impl Publisher {
 }
 
 /// A publisher of the empty list, which will have at most `most` batches, and its monitors. Every frame starts from these values. The publisher
-/// ends by `close`; it waits only where it isn't made.
+/// ends by `close`. The first publishing, of the values, meets no reader.
 pub fn publisher<R: Wait>(
     wait: &R,
     alloc: Global,

@@ -50,8 +50,9 @@ impl Model for Publisher {
 }
 
 impl Publisher {
-    /// Adds the batch to the published list, at one step. It waits for monitors that are within a look. After `NoMemory` the batch is
-    /// dropped, the published list is as before, and each later call may answer `NoMemory` too.
+    /// Adds the batch to the published list, at one step; `Event::is_start` and `Event::fits` tell whether it is one. It waits for monitors that
+    /// are within a look. After `NoMemory` the batch is dropped, the published list is as before, and each later call may answer
+    /// `NoMemory` too: once `left_right` has refused one, each does.
     pub fn publish<R: Wait>(&mut self, wait: &R, batch: Vec<Event>) -> Result<(), NoMemory>
         requires batch { IsBatch (length self.old.values) batch.items }
         requires room { length self.old.batches < self.old.most }

@@ -11,12 +11,11 @@ use std::sync::Wait;
 use std::thread;
 use std::thread::{Threads, join_mut};
 
-/// A monitor of three items, and what its looks showed: how many there were, whether the frame went back, and whether a frame
-/// was none of those that are published.
+/// A monitor of three items, and what its looks showed: whether the frame went back, whether a frame was none of those that are
+/// published, and whether a look failed.
 #[derive(Drop)]
 pub struct Watcher {
     pub monitor: Monitor,
-    pub looks: u64,
     pub back: bool,
     pub torn: bool,
     pub failed: bool,
@@ -47,7 +46,6 @@ impl Watcher {
             self.failed = true;
             return;
         }
-        self.looks = self.looks.saturating_add(1);
         if self.monitor.cycle() < before {
             self.back = true;
         }
@@ -81,7 +79,6 @@ pub fn hire(alloc: Global, monitors: Vec<Monitor>) -> Result<Vec<Watcher>, NoMem
     while let Some(monitor) = monitors.pop() {
         watchers.push(Watcher {
             monitor,
-            looks: 0,
             back: false,
             torn: false,
             failed: false,

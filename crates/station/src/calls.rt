@@ -101,7 +101,8 @@ impl Station {
     }
 
     /// Makes one commit of the pass's updater, at one place of the history, and answers what it did there. After `NoMemory`
-    /// the pass has seen, beyond what it had, events of others alone.
+    /// the pass has seen, beyond what it had, events of others alone. `Update::fits` tells whether the update fits, `made` how
+    /// many commits the pass made.
     pub fn commit<R: Wait>(
         &self,
         wait: &R,
@@ -126,7 +127,8 @@ impl Station {
     }
 
     /// Starts one cycle, at one place of the history, answers its number, and puts the events since the start before into the
-    /// empty list, with the new start. After `NoMemory` the list is empty, and the pass has seen events of others alone.
+    /// empty list, with the new start. After `NoMemory` the list is empty, and the pass has seen events of others alone. `started`
+    /// tells how many starts the pass made.
     pub fn start_cycle<R: Wait>(
         &self,
         wait: &R,
