@@ -3,6 +3,9 @@
 # `build NAME USED..` proves and builds the program of `bench/NAME.txt`, which uses these crates, in a scratch folder beside a
 # copy of them and of the crates that they stand on: so the repository keeps no crate that only measures. `scratch` is that
 # folder, which goes when the bench ends, and `program` the program. A proof of its function F is `bench/NAME_proof_F.txt`.
+#
+# `beside SIZE OURS OTHER` makes a table, under these heads, of lines with a size and how many a second went each way: the
+# median of each over the lines of a size, and the time of ours by that of the other.
 
 # The crates of this repository among these and below them, lowest first, as crates.txt has them
 crates_below() {
@@ -44,4 +47,22 @@ build() {
         cat "$scratch/log"
         exit 1
     fi
+}
+
+beside() {
+    printf '%8s %12s %12s %6s\n' "$@" times
+    awk '
+        function median(list, n, i, j, t) {
+            for (i = 1; i <= n; i++) for (j = i + 1; j <= n; j++) if (list[j] < list[i]) { t = list[i]; list[i] = list[j]; list[j] = t }
+            return list[int((n + 1) / 2)]
+        }
+        { ours[$1, ++count[$1]] = $2; others[$1, count[$1]] = $3; if (count[$1] == 1) order[++sizes] = $1 }
+        END {
+            for (s = 1; s <= sizes; s++) {
+                n = order[s]
+                for (r = 1; r <= count[n]; r++) { a[r] = ours[n, r]; b[r] = others[n, r] }
+                o = median(a, count[n]); p = median(b, count[n])
+                printf "%8d %12d %12d %6.2f\n", n, o, p, p / o
+            }
+        }'
 }
