@@ -1,7 +1,8 @@
-//! Updates and events as rows of a table.
+//! Updates, events and receipts as rows of a table.
 
 use air_history::{Event, Update, UpdateFault, Write};
 use std::alloc::Global;
+use update_commit::Receipt;
 
 /// A write: the item, the read item whose value is taken, if any, and the amount that is put or added.
 pub type Put = (u16, Option<u16>, u64);
@@ -48,4 +49,13 @@ pub fn have_marks(events: &[Event], marks: &[Mark]) -> bool {
             .iter()
             .zip(marks)
             .all(|(event, mark)| mark_of(event) == *mark)
+}
+
+/// Whether the receipt says this.
+pub fn says(receipt: &Receipt, told: Told<'_>) -> bool {
+    let (number, cycle, read, written) = told;
+    receipt.number == number
+        && receipt.cycle == cycle
+        && receipt.read.as_slice() == read
+        && receipt.written.as_slice() == written
 }

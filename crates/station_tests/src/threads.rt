@@ -41,6 +41,17 @@ struct Found {
     fresh: Result<usize, usize>,
 }
 
+/// What is found where all is well, beside the events, the starts, the values and how many starts gave events.
+const WELL: Found = Found {
+    done: true,
+    events: 0,
+    starts: 0,
+    values: [10, 20],
+    apart: None,
+    false_receipt: None,
+    fresh: Ok(0),
+};
+
 /// The first values of the deck's items.
 const FIRST: [u64; 3] = [10, 20, 30];
 
@@ -143,13 +154,11 @@ fn two_updaters_with_a_thousand_commits_and_fifty_starts(rt: HostRuntime) -> Res
         cycles: 50,
     };
     let told = Found {
-        done: true,
         events: 2050,
         starts: 50,
         values: [3010, 3020],
-        apart: None,
-        false_receipt: None,
         fresh: Ok(50),
+        ..WELL
     };
     assert_eq!(rt; played(&rt, rt.alloc(), case)?, Some(told));
     Ok(())
@@ -163,13 +172,9 @@ fn two_updaters_by_one_thread_and_no_start(rt: HostRuntime) -> Result<(), Fail> 
         cycles: 0,
     };
     let told = Found {
-        done: true,
         events: 6,
-        starts: 0,
         values: [19, 29],
-        apart: None,
-        false_receipt: None,
-        fresh: Ok(0),
+        ..WELL
     };
     assert_eq!(rt; played(&rt, rt.alloc(), case)?, Some(told));
     Ok(())
