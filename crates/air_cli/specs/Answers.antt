@@ -1,5 +1,5 @@
 -- What `air_quiet` answers: for every status when it comes, what was printed and written, and what is left; and
--- when a command must be done.
+-- when a command must succeed.
 --
 -- All of it is said by what the command means: its refusals, and what it gives, are functions of the deck that the named
 -- file spells and of the bytes of the named tape.
@@ -17,7 +17,7 @@ use Rattle.air_cli.specs.Untouched.{IsRefusal, IsUntouched}
 use Rattle.delivery.specs.Refusals.{IsSteady}
 use Rattle.delivery.specs.Outputs.{OutputHoldsPart}
 
--- All was done: what the command gives was written and printed, its inputs were read to their ends, and no call failed.
+-- The command succeeded: what it gives was written and printed, its inputs were read to their ends, and no call failed.
 pub record IsDone (command : Meaning) (before now : Shelved) : Type 0 where
   pub gives : (given : Given) × command.Gives before given × IsGiven command.output given before now
   pub read : (name : List ℕ) → command.IsInput name → IsAtEnd (now.told.left name)
@@ -62,7 +62,7 @@ pub record NoCountRose (before now : Faults) : Type 0 where
   pub writing : (name : List ℕ) → Rose (before.writing name) (now.writing name) → ⊥
   pub printing : Rose before.printing now.printing → ⊥
 
--- Where each named input is told, they suit the command, and no count of faults rose, it was done or memory ran out.
+-- Where each named input is told, they suit the command, and no count of faults rose, it succeeded or memory ran out.
 abbrev pub Completes : Meaning → Shelved → Shelved → Status → Type 0
 Completes command before now s =
     TellsInputs command before → command.Suits before → NoCountRose before.faults now.faults → (s ≡ status.Ok) ⊎ (s ≡ status.NoMemory)

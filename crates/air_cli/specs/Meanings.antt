@@ -1,4 +1,4 @@
--- What a command means: what it reads, when it must be done, why it is refused, and what it gives. Each command has one such definition, in a
+-- What a command means: what it reads, when it must succeed, why it is refused, and what it gives. Each command has one such definition, in a
 -- file of its own; `Answers` says by it what each status tells.
 use Rattle.std.specs.Prelude.{ℕ, Bool, true, List, Option, None, ⊤}
 use Rattle.air_devices.specs.Shelves.{Shelved}

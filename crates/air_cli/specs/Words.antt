@@ -3,7 +3,7 @@
 use Rattle.std.specs.Prelude.{ℕ, ◌||◌, ◌==◌, if◌then◌else◌, List, [], ◌∷◌, length, Option, Some, None, codes, nat_eq}
 use Rattle.std.specs.Cmp.Lexicographic.{pointwise}
 
--- What is asked for: to plan a deck; to do a deck's script, and to write its tape where one is named; to let a deck's
+-- What is asked for: to plan a deck; to run a deck's script, and to write its tape where one is named; to let a deck's
 -- readers hear a tape.
 pub data Asked : Type 0 where
   AsksPlan : List ℕ → Asked

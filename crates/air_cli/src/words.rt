@@ -11,7 +11,7 @@ pub enum Command<'a> {
     Plan {
         deck: &'a str,
     },
-    /// To do a deck's script, and to write its tape where one is named.
+    /// To run a deck's script, and to write its tape where one is named.
     Script {
         deck: &'a str,
         tape: Option<&'a str>,
