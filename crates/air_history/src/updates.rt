@@ -103,7 +103,8 @@ impl Update {
         })
     }
 
-    /// An update of lists that keep the rules: these are asked of the caller, and not looked through again.
+    /// An update of lists that keep the rules: these are asked of the caller, and not looked through again. `keeps_rules` tells it of
+    /// the lists of any update; of other lists it is known where a caller has found no fault in them, and else `new` finds out.
     #[inline(always)]
     pub fn of_lists(alloc: Global, reads: &[u16], writes: &[Write]) -> Result<Update, NoMemory>
         requires { update_fault reads.now writes.now ≡ None }
