@@ -104,13 +104,11 @@ fn a_tape_is_heard_exactly_where_its_last_record_is_whole(rt: HostRuntime) {
 fn first_other_place<R: Threads + Sync>(
     rt: &R,
     alloc: Global,
-    places: &[usize],
-    status: Status,
-    printed: Parts<'_>,
+    changes: &[(usize, Status, Parts<'_>)],
 ) -> Option<(usize, Other)> {
-    for place in places {
+    for (place, status, printed) in changes {
         let tape = [Part::Flipped(*place, TAPE)];
-        let case = tuned(&tape, status, printed);
+        let case = tuned(&tape, *status, printed);
         if let Some(other) = difference(rt, alloc, &case) {
             return Some((*place, other));
         }
@@ -118,30 +116,39 @@ fn first_other_place<R: Threads + Sync>(
     None
 }
 
-/// The same over these lists of places, each with what its changes leave.
-fn first_other_change<R: Threads + Sync>(
-    rt: &R,
-    alloc: Global,
-    changes: &[(&[usize], Status, Parts<'_>)],
-) -> Option<(usize, Other)> {
-    for (places, status, printed) in changes {
-        if let Some(other) = first_other_place(rt, alloc, places, *status, printed) {
-            return Some(other);
-        }
-    }
-    None
-}
-
 #[test]
 fn a_changed_byte_of_length_or_head_cuts_refuses_or_makes_foreign(rt: HostRuntime) {
-    let changes: [(&[usize], Status, Parts<'_>); 5] = [
-        (&[0, 1, 2, 3], AT_0, CUT_AT_0),
-        (&[36, 37, 38, 39], AT_36, CUT_AT_36),
-        (&[4, 5, 6, 7, 10, 11, 18, 19], Status::Ok, FIRST_REFUSED),
-        (&[28, 29, 30, 31, 32, 33, 34, 35], Status::Ok, FIRST_REFUSED),
-        (&[8, 9, 16, 17], Status::Ok, FIRST_FOREIGN),
+    let changes = [
+        (0, AT_0, CUT_AT_0),
+        (1, AT_0, CUT_AT_0),
+        (2, AT_0, CUT_AT_0),
+        (3, AT_0, CUT_AT_0),
+        (36, AT_36, CUT_AT_36),
+        (37, AT_36, CUT_AT_36),
+        (38, AT_36, CUT_AT_36),
+        (39, AT_36, CUT_AT_36),
+        (4, Status::Ok, FIRST_REFUSED),
+        (5, Status::Ok, FIRST_REFUSED),
+        (6, Status::Ok, FIRST_REFUSED),
+        (7, Status::Ok, FIRST_REFUSED),
+        (10, Status::Ok, FIRST_REFUSED),
+        (11, Status::Ok, FIRST_REFUSED),
+        (18, Status::Ok, FIRST_REFUSED),
+        (19, Status::Ok, FIRST_REFUSED),
+        (28, Status::Ok, FIRST_REFUSED),
+        (29, Status::Ok, FIRST_REFUSED),
+        (30, Status::Ok, FIRST_REFUSED),
+        (31, Status::Ok, FIRST_REFUSED),
+        (32, Status::Ok, FIRST_REFUSED),
+        (33, Status::Ok, FIRST_REFUSED),
+        (34, Status::Ok, FIRST_REFUSED),
+        (35, Status::Ok, FIRST_REFUSED),
+        (8, Status::Ok, FIRST_FOREIGN),
+        (9, Status::Ok, FIRST_FOREIGN),
+        (16, Status::Ok, FIRST_FOREIGN),
+        (17, Status::Ok, FIRST_FOREIGN),
     ];
-    assert_eq!(rt; first_other_change(&rt, rt.alloc(), &changes), None);
+    assert_eq!(rt; first_other_place(&rt, rt.alloc(), &changes), None);
 }
 
 /// What stands before the first read of the first tape's report.
