@@ -4,7 +4,6 @@ pub mod BookRule
 pub mod BoardRuns
 pub mod CopyRule
 pub mod SnapshotStates
-pub mod FrameFields
 pub mod PublisherFields
 pub mod MonitorFields
 pub mod Steps

@@ -1,6 +1,6 @@
 //! How a publisher and its monitors are made.
 ghost use Rattle.std.specs.Prelude.{◌≡◌, ◌<◌, ◌≤◌, ◌^◌, ◌-◌, [], length, vec_capacity, All, IfOk};
-ghost use Rattle.air_base.specs.declared.limits.TheConstants.{MOST_MONITORS};
+ghost use Rattle.air_base.specs.declared.limits.TheConstants.{MOST_MONITORS, MOST_VALUES};
 ghost use Rattle.air_history.specs.Boards.{board_of};
 ghost use Rattle.cycle_snapshot.specs.SnapshotStates.{MonitorState, new_publisher, new_monitor};
 
@@ -17,7 +17,7 @@ use std::sync::Wait;
 
 /// A copy of the empty list.
 fn first_copy(alloc: Global, values: &[u64], most: u32, list: &Told) -> Result<Published, NoMemory>
-    requires values { (1 ≤ length values.now) × (length values.now ≤ 1024) }
+    requires values { (1 ≤ length values.now) × (length values.now ≤ MOST_VALUES) }
     ensures { IfOk result (λ x. x ≡ record { board = board_of values.now []; values = values.now; most = most; list = list.now }) }
 {
     let board = Board::new(alloc, values)?;
@@ -39,7 +39,7 @@ impl Publisher {
         monitors: u32,
         most: u32,
     ) -> Result<Publisher, NoMemory>
-        requires values { (1 ≤ length values.now) × (length values.now ≤ 1024) }
+        requires values { (1 ≤ length values.now) × (length values.now ≤ MOST_VALUES) }
         requires monitors { monitors ≤ MOST_MONITORS }
         requires most { most < 2 ^ 32 - 1 }
         ensures { IfOk result (λ p. p ≡ new_publisher p.id values.now most) }
@@ -97,7 +97,7 @@ pub fn publisher<R: Wait>(
     monitors: u32,
     most: u32,
 ) -> Result<(Publisher, Vec<Monitor>), NoMemory>
-    requires values { (1 ≤ length values.now) × (length values.now ≤ 1024) }
+    requires values { (1 ≤ length values.now) × (length values.now ≤ MOST_VALUES) }
     requires monitors { monitors ≤ MOST_MONITORS }
     requires most { most < 2 ^ 32 - 1 }
     ensures publisher { IfOk result (λ made. made.0 ≡ new_publisher made.0.id values.now most) }
