@@ -77,10 +77,7 @@ pub fn rooms(alloc: Global, most: usize) -> Result<Vec<Waiting>, NoMemory>
 {
     let mut rooms = Vec::new(alloc);
     for _ in 0..KEPT {
-        let room = Waiting::blank(alloc, most)?;
-        let Ok(()) = rooms.push(room) else {
-            return Err(NoMemory);
-        };
+        rooms.push(Waiting::blank(alloc, most)?)?;
     }
     Ok(rooms)
 }
