@@ -82,5 +82,8 @@ pub const MOST_SLOTS: u64 = 16_384;
 /// The most bytes of a deck's text.
 pub const MOST_DECK_BYTES: usize = 67_108_864;
 
+/// The most bytes of a datagram, and so of a bucket that goes over the air.
+pub const MOST_DATAGRAM_BYTES: usize = 65_507;
+
 /// The most bytes of a tape.
 pub const MOST_TAPE_BYTES: usize = 1_073_741_824;

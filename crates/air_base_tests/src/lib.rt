@@ -5,10 +5,10 @@
 #![tactic(auto)]
 
 #[cfg(test)]
+mod fault_texts;
+#[cfg(test)]
 mod lists;
 #[cfg(test)]
 mod memory;
 #[cfg(test)]
 mod numbers;
-#[cfg(test)]
-mod shown;

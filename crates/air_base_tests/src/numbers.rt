@@ -18,7 +18,7 @@ fn first_misread<'a>(cases: &[(&'a str, Option<u64>)]) -> Option<(&'a str, Optio
 }
 
 /// The texts of the numbers, one behind the other.
-fn written(alloc: Global, numbers: &[u64]) -> Result<Vec<u8>, NoMemory> {
+fn texts_of(alloc: Global, numbers: &[u64]) -> Result<Vec<u8>, NoMemory> {
     let mut out = Vec::new(alloc);
     for number in numbers {
         write_u64(*number, &mut out)?;
@@ -51,7 +51,7 @@ fn texts_spell_their_numbers(rt: HostRuntime) {
 fn numbers_are_appended(rt: HostRuntime) -> Result<(), Fail> {
     let numbers = [0, 1200, 18446744073709551615];
     assert_eq!(rt;
-        written(rt.alloc(), &numbers)?.as_slice(),
+        texts_of(rt.alloc(), &numbers)?.as_slice(),
         b"0120018446744073709551615".as_slice()
     );
     Ok(())

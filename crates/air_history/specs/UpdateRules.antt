@@ -16,7 +16,7 @@ has_repeat (x ∷ xs) = list_any (λ y. y == x) xs || has_repeat xs
 abbrev pub item_of : Write → ℕ
 item_of w = w.item
 
--- At most 16 reads, and 1 to 16 writes.
+-- Reads and writes are within their limits, and there is a write.
 abbrev pub within_limits : List ℕ → List Write → Bool
 within_limits reads writes = nat_le (length reads) MOST_READS && (nat_le 1 (length writes) && nat_le (length writes) MOST_WRITES)
 

@@ -37,7 +37,7 @@ fn put(row: &mut [u32], writes: &[Write], cycle: u32) {
 }
 
 /// The value that a write puts, from the values before the commit.
-fn written(before: &[u64], write: &Write) -> u64 {
+fn value_put(before: &[u64], write: &Write) -> u64 {
     let Some(base) = write.base else {
         return write.amount;
     };
@@ -53,7 +53,7 @@ fn written(before: &[u64], write: &Write) -> u64 {
 fn put_values(values: &mut [u64], before: &[u64], writes: &[Write]) {
     for write in writes {
         if let Some(value) = values.get_mut(write.item as usize) {
-            *value = written(before, write);
+            *value = value_put(before, write);
         }
     }
 }
@@ -73,7 +73,7 @@ impl Plain {
     }
 
     /// The greatest entry of the columns that are read, place by place.
-    fn merged(&self, alloc: Global, reads: &[u16]) -> Result<Vec<u32>, Fail> {
+    fn greatest_of_columns(&self, alloc: Global, reads: &[u16]) -> Result<Vec<u32>, Fail> {
         let mut row = vec![in alloc; 0; self.vector.len()]?;
         for item in reads {
             if let Some(column) = self.columns.get(*item as usize) {
@@ -90,7 +90,7 @@ impl Plain {
         }
         let before = self.values.to_vec(alloc)?;
         put_values(&mut self.values, &before, event.writes());
-        let mut row = self.merged(alloc, event.reads())?;
+        let mut row = self.greatest_of_columns(alloc, event.reads())?;
         put(&mut row, event.writes(), self.cycle);
         put(&mut self.vector, event.writes(), self.cycle);
         for write in event.writes() {
@@ -150,7 +150,7 @@ fn event(alloc: Global, n: u16, number: u16) -> Result<Event, Fail> {
 }
 
 /// Applies the event, if it may be; whether it was.
-fn applied(board: &mut Board, event: &Event) -> bool {
+fn try_apply(board: &mut Board, event: &Event) -> bool {
     if !event.fits(board.n()) || board.cycle() == u32::MAX {
         return false;
     }
@@ -231,7 +231,7 @@ fn first_event_apart(alloc: Global, n: u16) -> Result<Option<(u16, Part)>, Fail>
     for number in 1..41 {
         let event = event(alloc, n, number)?;
         plain.apply(alloc, &event)?;
-        if !applied(&mut board, &event) {
+        if !try_apply(&mut board, &event) {
             return Ok(Some((number, Part::Event)));
         }
         if let Some(part) = difference(&board, &plain) {

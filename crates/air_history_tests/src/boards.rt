@@ -2,7 +2,7 @@
 //!
 //! The slow programs scan the history, and each is proved to be its definition.
 
-use crate::generated::generated;
+use crate::generated::random_history;
 use crate::rows::{CHAIN, Row, event_of};
 use air_history::{Event, History, column_scan, table_of, writer_at};
 use control_matrix::Board;
@@ -12,7 +12,7 @@ use std::test::Fail;
 
 /// All that a board says.
 #[derive(Clone, Copy)]
-struct Said<'a> {
+struct BoardParts<'a> {
     cycle: u32,
     values: &'a [u64],
     columns: &'a [&'a [u32]],
@@ -23,7 +23,7 @@ struct Said<'a> {
 #[derive(Clone, Copy)]
 struct Case<'a> {
     values: &'a [u64],
-    steps: &'a [(&'a [Row<'a>], Said<'a>)],
+    steps: &'a [(&'a [Row<'a>], BoardParts<'a>)],
 }
 
 /// The board of no events. There are 1 to 1,024 values.
@@ -39,7 +39,7 @@ fn apply(rt: &impl Abort, board: &mut Board, event: &Event) {
 }
 
 /// In what an item of the board differs from what is told: its value or its column.
-fn item_difference(board: &Board, said: &Said<'_>) -> Option<&'static str> {
+fn item_difference(board: &Board, said: &BoardParts<'_>) -> Option<&'static str> {
     for item in 0..board.n() {
         if said.values.get(item as usize) != Some(&board.value(item)) {
             return Some("a value");
@@ -52,7 +52,7 @@ fn item_difference(board: &Board, said: &Said<'_>) -> Option<&'static str> {
 }
 
 /// In what the board differs from what is told.
-fn difference(board: &Board, said: &Said<'_>) -> Option<&'static str> {
+fn difference(board: &Board, said: &BoardParts<'_>) -> Option<&'static str> {
     if board.n() as usize != said.values.len() {
         Some("the number of items")
     } else if board.cycle() != said.cycle {
@@ -94,7 +94,7 @@ fn first_other(
 }
 
 /// What the board says after the worked history.
-const CHAINED: Said<'static> = Said {
+const CHAINED: BoardParts<'static> = BoardParts {
     cycle: 2,
     values: &[11, 13, 12],
     columns: &[&[1, 0, 0], &[1, 1, 1], &[1, 0, 1]],
@@ -103,7 +103,7 @@ const CHAINED: Said<'static> = Said {
 
 #[test]
 fn a_new_board_has_its_values_and_zeros(rt: HostRuntime) -> Result<(), Fail> {
-    let zeros = Said {
+    let zeros = BoardParts {
         cycle: 0,
         values: &[10, 20],
         columns: &[&[0, 0], &[0, 0]],
@@ -119,7 +119,7 @@ fn a_new_board_has_its_values_and_zeros(rt: HostRuntime) -> Result<(), Fail> {
 
 #[test]
 fn a_write_that_reads_nothing_clears_its_column(rt: HostRuntime) -> Result<(), Fail> {
-    let cleared = Said {
+    let cleared = BoardParts {
         cycle: 2,
         values: &[11, 7, 12],
         columns: &[&[1, 0, 0], &[0, 2, 0], &[1, 0, 1]],
@@ -138,13 +138,13 @@ fn a_write_that_reads_nothing_clears_its_column(rt: HostRuntime) -> Result<(), F
 
 #[test]
 fn an_update_reads_the_columns_before_it_writes(rt: HostRuntime) -> Result<(), Fail> {
-    let both = Said {
+    let both = BoardParts {
         cycle: 2,
         values: &[12, 13, 17],
         columns: &[&[2, 0, 2], &[1, 1, 1], &[2, 0, 2]],
         vector: &[2, 1, 2],
     };
-    let own = Said {
+    let own = BoardParts {
         cycle: 2,
         values: &[12, 14, 17],
         columns: &[&[2, 0, 2], &[1, 2, 1], &[2, 0, 2]],
@@ -233,7 +233,7 @@ fn first_scanned_otherwise(
 ) -> Result<Option<(u64, u64, &'static str)>, Fail> {
     for number in 0..u64::from(seeds) * 24 {
         let (seed, length) = (number / 24, number % 24);
-        let history = generated(rt, alloc, seed * 1000 + length, length)?;
+        let history = random_history(rt, alloc, seed * 1000 + length, length)?;
         if let Some(what) = scanned_difference(rt, alloc, &history)? {
             return Ok(Some((seed, length, what)));
         }

@@ -64,7 +64,12 @@ fn commit(alloc: Global, dice: &mut Dice) -> Result<Event, Fail> {
 }
 
 /// A history of that many events and a start at its end.
-pub fn generated(rt: &impl Abort, alloc: Global, seed: u64, length: u64) -> Result<History, Fail> {
+pub fn random_history(
+    rt: &impl Abort,
+    alloc: Global,
+    seed: u64,
+    length: u64,
+) -> Result<History, Fail> {
     let mut dice = Dice { state: seed };
     let mut events = Vec::new(alloc);
     for _ in 0..length {

@@ -35,7 +35,7 @@ fn row(alloc: Global, n: u16, limit: u32, seed: u32) -> Result<Vec<u32>, Fail> {
 
 /// The read of a number in the attempt of a seed, over `n` items, in a cycle from 3 to 9. The first `seed` modulo 17 reads have
 /// entries below 3, so that they go together; those of the others are below their cycle.
-fn made(alloc: Global, n: u16, seed: u32, number: u16) -> Result<Read, Fail> {
+fn read_of_seed(alloc: Global, n: u16, seed: u32, number: u16) -> Result<Read, Fail> {
     let number = u32::from(number);
     let dice = seed
         .wrapping_mul(2654435761)
@@ -173,7 +173,7 @@ impl Pair {
     /// Plays the attempt of a seed.
     fn play(&mut self, alloc: Global, seed: u32, tally: &mut Tally) -> Result<Option<Other>, Fail> {
         for number in 0..TRIES {
-            let read = made(alloc, self.n, seed, number)?;
+            let read = read_of_seed(alloc, self.n, seed, number)?;
             if let Some(other) = self.try_read(read, tally)? {
                 return Ok(Some(other));
             }

@@ -96,7 +96,7 @@ fn the_first_place_that_is_not_below_is_named(rt: HostRuntime) -> Result<(), Fai
 /// named there: all places are tried of the shorter rows, and those up to the 300th of the longer ones, and each row's last.
 fn first_missed(alloc: Global) -> Result<Option<(usize, usize, Option<usize>)>, Fail> {
     for length in LENGTHS {
-        if let Some((place, answer)) = missed(alloc, length)? {
+        if let Some((place, answer)) = first_missed_place(alloc, length)? {
             return Ok(Some((length, place, answer)));
         }
     }
@@ -105,7 +105,10 @@ fn first_missed(alloc: Global) -> Result<Option<(usize, usize, Option<usize>)>, 
 
 /// The first of those places that isn't named in a row of that length, and what is named there; the length where a place is
 /// named in a column that is below all.
-fn missed(alloc: Global, length: usize) -> Result<Option<(usize, Option<usize>)>, Fail> {
+fn first_missed_place(
+    alloc: Global,
+    length: usize,
+) -> Result<Option<(usize, Option<usize>)>, Fail> {
     let held = rising(alloc, length, 1, 1000)?;
     let mut column = rising(alloc, length, 0, 1000)?;
     let answer = kernel(&column, &held);
@@ -116,7 +119,7 @@ fn missed(alloc: Global, length: usize) -> Result<Option<(usize, Option<usize>)>
         if place >= 300 && place + 1 != length {
             continue;
         }
-        let answer = named(&mut column, &held, place);
+        let answer = place_found(&mut column, &held, place);
         if answer != Some(place) {
             return Ok(Some((place, answer)));
         }
@@ -125,7 +128,7 @@ fn missed(alloc: Global, length: usize) -> Result<Option<(usize, Option<usize>)>
 }
 
 /// What is named where the column is as great as what is held at that place too; the column is left as it was.
-fn named(column: &mut [u32], held: &[u32], place: usize) -> Option<usize> {
+fn place_found(column: &mut [u32], held: &[u32], place: usize) -> Option<usize> {
     let entry = column.get_mut(place)?;
     *entry = entry.wrapping_add(1);
     let answer = kernel(column, held);

@@ -1,7 +1,4 @@
-pub mod SearchLemmas
 pub mod HeldLemmas
 pub mod NewLemmas
 pub mod LeastFacts
-pub mod ArrayLemmas
 pub mod BothLemmas
-pub mod CycleExamples

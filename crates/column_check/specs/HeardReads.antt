@@ -1,12 +1,2 @@
 -- What contracts see of one held read: its item, its cycle, and its column as the entries that were heard with it.
-use Rattle.std.specs.Prelude.{ℕ, List}
-use Rattle.air_history.specs.Clashes.{Heard}
-use Rattle.column_check.specs.declared.reads.HeldRead.{HeldRead}
-
--- The read with its entries.
-abbrev pub heard_of : HeldRead → Heard
-heard_of r = record { item = r.item; cycle = r.cycle; entries = r.column.items }
-
--- The read of an item in a cycle, with the entries that were heard with it.
-abbrev pub heard : ℕ → ℕ → List ℕ → Heard
-heard item cycle entries = record { item = item; cycle = cycle; entries = entries }
+pub use Rattle.held_entries.specs.HeardReads.{heard}

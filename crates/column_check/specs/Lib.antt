@@ -1,4 +1,3 @@
 pub mod HeardReads
 pub mod Searches
-pub mod HeldView
-pub mod HeldCycles
+pub mod Steps

@@ -1,8 +1,7 @@
 //! The reads that an attempt holds under F-Matrix, each with its control column.
 //!
 //! Contracts see the number of items and the held reads in order. `clashes` is the clash by the entries, and by
-//! every history that aired these columns; a receiver's attempts stand on it. All memory is taken by `new`. Beside the
-//! reads stands an array of their cycles, by which one search tests a new column against all of them.
+//! every history that aired these columns; a receiver's attempts stand on it. All memory is taken by `new`.
 
 ghost use Rattle.std.specs.Prelude.{◌≡◌, ◌↔◌, ◌<◌, ◌≤◌, [], ◌∷◌, ◌++◌, List, length, map, All, IsNone, IfSome, IfOk, None};
 ghost use Rattle.air_base.specs.declared.verdicts.Policy.TheVariants.{FMatrix};
@@ -14,25 +13,18 @@ ghost use Rattle.air_history.specs.ClashLaws.{IsHeard};
 ghost use Rattle.air_history.specs.Columns.{scheme_of};
 ghost use Rattle.column_check.specs.HeardReads.{heard};
 ghost use Rattle.air_history.specs.HeldReads.{IsNew};
-ghost use Rattle.column_check.specs.HeldCycles.{cycles_of};
+ghost use Rattle.held_entries.specs.HeldCycles.{cycles_of};
+ghost use Rattle.column_check.specs.Steps.LesserOfTwo.{lesser_of_both};
 
-use crate::cycles::{first_clash, lesser_of_two};
-use crate::reads::{HeldRead, least_clash};
-use air_base::limits::MOST_ASKED;
 use air_base::{Clash, NoMemory};
+use held_entries::{HeldEntries, ROOM, lesser_clash};
 use std::alloc::Global;
 use std::marker::Model;
-
-/// How many reads there is room for: as many as a query has items.
-pub const ROOM: usize = MOST_ASKED;
 
 /// The held reads of an attempt, in order.
 #[derive(Debug, Drop)]
 pub struct Held {
-    n: u16,
-    len: usize,
-    cycles: Vec<u32>,
-    places: Vec<HeldRead>,
+    held: HeldEntries,
 }
 
 impl Model for Held {
@@ -40,12 +32,7 @@ impl Model for Held {
 
     ghost Value = { HeldReads };
 
-    ghost use Rattle.column_check.specs.HeldView.{held_reads};
-    ghost use Rattle.column_check.specs.HeldCycles.{KeepsCycles};
-
-    ghost view = { held_reads };
-
-    ghost invariant = { KeepsCycles };
+    ghost view = { λ h. h.held };
 }
 
 impl Held {
@@ -53,16 +40,8 @@ impl Held {
     pub fn new(alloc: Global, n: u16) -> Result<Held, NoMemory>
         ensures { IfOk result (λ h. h ≡ record { n = n; reads = [] }) }
     {
-        let cycles = vec![in alloc; u32::MAX; n as usize]?;
-        let mut places = Vec::new(alloc);
-        for _ in 0..ROOM {
-            places.push(HeldRead::blank(alloc, n)?)?;
-        }
         Ok(Held {
-            n,
-            len: 0,
-            cycles,
-            places,
+            held: HeldEntries::new(alloc, n)?,
         })
     }
 
@@ -71,7 +50,7 @@ impl Held {
         ensures number { result ≡ length self.now.reads }
         ensures within { result ≤ ROOM }
     {
-        self.len
+        self.held.len()
     }
 
     /// The cycle of the last held read.
@@ -79,17 +58,14 @@ impl Held {
         ensures none { IsNone result ↔ (self.now.reads ≡ []) }
         ensures cycle { IfSome result (λ c. c ≡ last_cycle (map read_at self.now.reads)) }
     {
-        if self.len == 0 {
-            return None;
-        }
-        Some(self.places[self.len - 1].cycle)
+        self.held.last()
     }
 
     /// The cycle in which each of the `n` items is held, and the greatest `u32` where it isn't.
     pub fn cycles(&self) -> &[u32]
         ensures { result.now ≡ cycles_of self.now }
     {
-        &self.cycles
+        self.held.cycles()
     }
 
     /// The held read of least item number that clashes with the new one.
@@ -108,8 +84,18 @@ impl Held {
             IsConsistent H (map read_at self.now.reads) →
             (result ≡ None) ↔ IsConsistent H (map read_at self.now.reads ++ read_at x ∷ []) }
     {
-        let clash = first_clash(column, &self.cycles, self.n);
-        lesser_of_two(clash, least_clash(&self.places[..self.len], item, cycle))
+        self.clash_by_columns(item, cycle, column)
+    }
+
+    /// The held read of least item number that clashes by its column or by the new one.
+    #[tactic(auto, using(crate::proofs::BothLemmas::both_is))]
+    fn clash_by_columns(&self, item: u16, cycle: u32, column: &[u32]) -> Option<Clash>
+        requires { IsNew self.now (heard item cycle column.now) }
+        ensures { result ≡ clash_by_entries FMatrix self.now.reads (heard item cycle column.now) }
+    {
+        self.held.held_once();
+        let clash = self.held.least_reached(column);
+        lesser_of_two(clash, self.held.least_having(item, cycle))
     }
 
     /// Holds the new read too, after those before it.
@@ -119,19 +105,23 @@ impl Held {
         requires clear { clash_by_entries FMatrix self.old.reads (heard item cycle column.now) ≡ None }
         ensures { self.new ≡ record self.old { reads = self.old.reads ++ heard item cycle column.now ∷ [] } }
     {
-        let place = &mut self.places[self.len];
-        place.item = item;
-        place.cycle = cycle;
-        place.column.copy_from_slice(column);
-        self.cycles[item as usize] = cycle;
-        self.len += 1;
+        self.held.hold(item, cycle, column);
     }
 
     /// Holds nothing any more; the room stays.
     pub fn clear(&mut self)
         ensures { self.new ≡ record self.old { reads = [] } }
     {
-        self.cycles.fill(u32::MAX);
-        self.len = 0;
+        self.held.clear();
+    }
+}
+
+/// Of two clashes, where there are any, that of lesser item number.
+fn lesser_of_two(clash: Option<Clash>, other: Option<Clash>) -> Option<Clash>
+    ensures { result ≡ lesser_of_both clash other }
+{
+    match other {
+        Some(other) => Some(lesser_clash(clash, other)),
+        None => clash,
     }
 }

@@ -4,9 +4,8 @@
 //! the other's item at its cycle or later. `Held` keeps the reads in order and names the clash of least item.
 #![tactic(auto)]
 
-mod cycles;
 pub mod held;
 pub mod laws;
-mod reads;
 
-pub use held::{Held, ROOM};
+pub use held::Held;
+pub use held_entries::ROOM;

@@ -12,7 +12,7 @@ pub type Put = (u16, Option<u16>, u64);
 /// A commit: its updater, the updater's number for it, the items that it reads, and what it writes.
 pub type Row<'a> = (u32, u32, &'a [u16], &'a [Put]);
 
-/// The update of a row. A fault of the row counts as want of memory.
+/// The update of a row. A fault of the row counts as out of memory.
 fn update_of(alloc: Global, reads: &[u16], puts: &[Put]) -> Result<Update, NoMemory> {
     let mut writes = Vec::new(alloc);
     for (item, base, amount) in puts {
@@ -29,7 +29,7 @@ fn update_of(alloc: Global, reads: &[u16], puts: &[Put]) -> Result<Update, NoMem
     }
 }
 
-/// The commits of the rows, and a start. A row that does not fit so many items counts as want of memory.
+/// The commits of the rows, and a start. A row that does not fit so many items counts as out of memory.
 pub fn batch_of(alloc: Global, items: u16, rows: &[Row<'_>]) -> Result<Vec<Event>, NoMemory>
     ensures { IfOk result (λ batch. IsBatch items batch.items) }
 {

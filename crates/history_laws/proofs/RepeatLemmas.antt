@@ -6,6 +6,7 @@ use Rattle.std.proofs.lemmas.Bool.{or_parts, or_from, le-leb, eq-eqb, ne_eqb, bo
 use Rattle.std.proofs.lemmas.List.Elements.{All-head, All-tail, All-cons}
 use Rattle.std.proofs.lemmas.List.Kept.{AllPairs-cons}
 use Rattle.std.proofs.lemmas.List.Folds.{list_any_at}
+use Rattle.air_base.specs.declared.limits.TheConstants.{MOST_READS, MOST_WRITES}
 use Rattle.air_history.specs.declared.updates.Write.{Write}
 use Rattle.air_history.specs.UpdateLists.{UpdateLists}
 use Rattle.air_history.specs.UpdateRules.{has_repeat, item_of, within_limits, base_is_read, base_holds, update_fault, KeepsRules}
@@ -52,7 +53,7 @@ all_hold f [] h = refl
 all_hold f (w ∷ ws) h = ap (λ b. b && list_all f ws) (All-head (λ w. f w ≡ true) w ws h) ∙ all_hold f ws (All-tail (λ w. f w ≡ true) w ws h)
 
 pub rules : (u : UpdateLists) → KeepsRules u ↔
-    ((length u.reads ≤ 16) × (1 ≤ length u.writes) × (length u.writes ≤ 16)
+    ((length u.reads ≤ MOST_READS) × (1 ≤ length u.writes) × (length u.writes ≤ MOST_WRITES)
     × AllPairs (λ a b. a ≢ b) u.reads × AllPairs (λ a b. a ≢ b) (map item_of u.writes)
     × All (λ w. IfSome w.base (Contains u.reads)) u.writes × All (λ w. w.base ≡ None → w.minus ≡ false) u.writes)
 unfolding update_fault
@@ -68,7 +69,7 @@ rules u = (
         λ i d l. minus_holds u.reads (get_or u.writes i d).minus (get_or u.writes i d).base (each_passes (base_is_read u.reads) u.writes k.based i d l),
       ),
   λ (few_reads, some_write, few_writes, reads_apart, writes_apart, bases_read, minus_based). no_fault
-      (ap (λ a. a && (nat_le 1 (length u.writes) && nat_le (length u.writes) 16)) (le-leb _ _ few_reads) ∙ ap (λ a. a && nat_le (length u.writes) 16) (le-leb _ _ some_write) ∙ le-leb _ _ few_writes)
+      (ap (λ a. a && (nat_le 1 (length u.writes) && nat_le (length u.writes) MOST_WRITES)) (le-leb _ _ few_reads) ∙ ap (λ a. a && nat_le (length u.writes) MOST_WRITES) (le-leb _ _ some_write) ∙ le-leb _ _ few_writes)
       (or_from _ _ (from_apart u.reads reads_apart) (from_apart (map item_of u.writes) writes_apart))
       (all_hold (base_is_read u.reads) u.writes (λ i d l. holds_from u.reads (get_or u.writes i d).minus (get_or u.writes i d).base (bases_read i d l) (minus_based i d l))),
 )

@@ -5,6 +5,7 @@
 #![tactic(auto)]
 
 ghost use Rattle.std.specs.Prelude.{◌≡◌, ◌≢◌, ◌↔◌, ◌⊎◌, ℕ, ◌<◌, ◌≤◌, Bool, false, cond, List, [], ◌∷◌, ◌++◌, length, map, All, AllPairs, Contains, IfSome, IsTrue, None};
+ghost use Rattle.air_base.specs.declared.limits.TheConstants.{MOST_READS, MOST_WRITES};
 ghost use Rattle.air_base.specs.declared.verdicts.Policy.{Policy};
 ghost use Rattle.air_base.specs.declared.verdicts.Policy.TheVariants.{FMatrix, Datacycle, RMatrix};
 ghost use Rattle.air_history.specs.declared.histories.Event.{Event};
@@ -22,11 +23,11 @@ ghost use Rattle.air_history.specs.ConsistencyLaws.{SharesCycle};
 ghost use Rattle.air_history.specs.Clashes.{Heard, read_at, is_late, clash_by_history, clash_by_entries, IsCurrent, Takes};
 ghost use Rattle.air_history.specs.ClashLaws.{IsHeard, IsAllowed, Accepts, IsSound};
 
-/// Two lists break no rule exactly if each rule holds: at most 16 reads and 1 to 16 writes, no item twice
+/// Two lists break no rule exactly if each rule holds: reads and writes within their limits, one write at least, no item twice
 /// among either, each base read, a minus only with a base.
 pub fn rules_law()
     ensures { (u : UpdateLists) → KeepsRules u ↔
-        ((length u.reads ≤ 16) × (1 ≤ length u.writes) × (length u.writes ≤ 16)
+        ((length u.reads ≤ MOST_READS) × (1 ≤ length u.writes) × (length u.writes ≤ MOST_WRITES)
         × AllPairs (λ a b. a ≢ b) u.reads × AllPairs (λ a b. a ≢ b) (map item_of u.writes)
         × All (λ w. IfSome w.base (Contains u.reads)) u.writes
         × All (λ w. w.base ≡ None → w.minus ≡ false) u.writes) }

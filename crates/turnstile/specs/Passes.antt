@@ -10,32 +10,32 @@ GateId = TableId
 
 -- An entry is an E beside the number of its pass, and the base is a B.
 pub record Known (E B : Type 0) : Type 0 where
-  -- the turnstile that it is of
+  -- The turnstile that it is of.
   pub gate : GateId
-  -- how many passes that turnstile was made with
+  -- How many passes that turnstile was made with.
   pub passes : ℕ
-  -- the base of the turnstile's value; each pass that a call gives has one
+  -- The base of the turnstile's value; each pass that a call gives has one.
   pub base : Option B
-  -- the numbers that it stands for
+  -- The numbers that it stands for.
   pub numbers : List ℕ
-  -- the list that it has seen
+  -- The list that it has seen.
   pub seen : List (ℕ × E)
-  -- inside the list of the value as it was handed out, and none outside
+  -- Inside the list of the value as it was handed out, and none outside.
   pub turn : Option (List (ℕ × E))
 
 module _ {E B : Type 0} where
-  -- a new pass of the number k
+  -- A new pass of the number k.
   abbrev pub newcomer : GateId → ℕ → B → List (ℕ × E) → ℕ → Known E B
   newcomer g n b es k = record { gate = g; passes = n; base = Some b; numbers = k ∷ []; seen = es; turn = None }
 
-  -- the pass that was handed a value with this list
+  -- The pass that was handed a value with this list.
   abbrev pub entered : Known E B → List (ℕ × E) → Known E B
   entered p es = record p { turn = Some es }
 
-  -- the pass that put back a value with this list
+  -- The pass that put back a value with this list.
   abbrev pub returned : Known E B → List (ℕ × E) → Known E B
   returned p es = record p { seen = es; turn = None }
 
-  -- the pass that stands for the numbers of both, and has seen the longer list
+  -- The pass that stands for the numbers of both, and has seen the longer list.
   abbrev pub joined : Known E B → Known E B → Known E B
   joined p q = record p { numbers = p.numbers ++ q.numbers; seen = longer p.seen q.seen }

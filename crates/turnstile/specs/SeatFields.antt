@@ -5,18 +5,18 @@ use Rattle.turnstile.specs.declared.views.View.{View}
 use Rattle.turnstile.specs.Passes.{GateId, Known}
 
 module _ {K E B : Type 0} where
-  -- the pass with this seat
+  -- The pass with this seat.
   abbrev pub known : GateId → Me (Option K) (View E B) → Known E B
   known g me = record { gate = g; passes = me.0.passes; base = me.0.base; numbers = me.0.sight.numbers; seen = me.0.sight.entries; turn = me.0.noted }
 
 module _ {K E : Type 0} where
-  -- outside it has no ticket and holds no slot; inside it holds the slot, whose value was moved out
+  -- Outside it has no ticket and holds no slot; inside it holds the slot, whose value was moved out.
   abbrev pub IsPlaced : Option (List (ℕ × E)) → Option ℕ → List (ℕ × Option K) → Type 0
   IsPlaced None ticket held = (ticket ≡ None) × (held ≡ [])
   IsPlaced (Some noted) ticket held = held ≡ (0, None) ∷ []
 
 module _ {K E B : Type 0} where
-  -- it has a number, no list of a join, and is placed
+  -- It has a number, no list of a join, and is placed.
   pub record IsSound (me : Me (Option K) (View E B)) : Type 0 where
     pub live : 0 < length me.0.sight.numbers
     pub calm : me.0.old ≡ []

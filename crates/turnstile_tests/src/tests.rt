@@ -44,7 +44,7 @@ fn read(pairs: &[(u64, u64)], case: &Case) -> (usize, Option<u64>) {
 }
 
 /// Plays the case: the mark at the end, and what `read` finds.
-fn played<R: Threads + Wait + Sync>(
+fn play_case<R: Threads + Wait + Sync>(
     rt: &R,
     alloc: Global,
     case: &Case,
@@ -63,7 +63,7 @@ fn two_threads_with_a_thousand_turns_each(rt: HostRuntime) -> Result<(), Fail> {
         threads: 2,
         turns: 1000,
     };
-    assert_eq!(rt; played(&rt, rt.alloc(), &case)?, (77, 2000, None));
+    assert_eq!(rt; play_case(&rt, rt.alloc(), &case)?, (77, 2000, None));
     Ok(())
 }
 
@@ -81,7 +81,7 @@ fn sixteen_passes_are_joined_from_the_last_to_the_first(rt: HostRuntime) -> Resu
         threads: 4,
         turns: 25,
     };
-    assert_eq!(rt; played(&rt, rt.alloc(), &case)?, (77, 400, None));
+    assert_eq!(rt; play_case(&rt, rt.alloc(), &case)?, (77, 400, None));
     Ok(())
 }
 

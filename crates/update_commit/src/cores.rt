@@ -104,11 +104,11 @@ impl Core {
         requires empty { out.old.items ≡ [] }
         ensures { MatchResult result (λ _. out.new.items ≡ since_start self.now.events) (λ _. out.new.items ≡ []) }
     {
-        let copied = copy_all(alloc, &self.events[self.fresh_from..], out);
-        if copied.is_err() {
+        let done = copy_all(alloc, &self.events[self.fresh_from..], out);
+        if done.is_err() {
             out.clear();
         }
-        copied
+        done
     }
 
     /// The present value of an item.
@@ -142,7 +142,7 @@ impl Core {
 }
 
 /// An equal event.
-fn copied(alloc: Global, event: &Event) -> Result<Event, NoMemory>
+fn copy_event(alloc: Global, event: &Event) -> Result<Event, NoMemory>
     ensures { IfOk result (λ copy. copy ≡ event.now) }
 {
     match event {
@@ -160,7 +160,7 @@ fn copy_all(alloc: Global, events: &[Event], out: &mut Vec<Event>) -> Result<(),
     ensures { IfOk result (λ _. out.new.items ≡ out.old.items ++ events.now) }
 {
     for event in events {
-        out.push(copied(alloc, event)?)?;
+        out.push(copy_event(alloc, event)?)?;
     }
     Ok(())
 }

@@ -1,8 +1,2 @@
-pub mod SearchLemmas
-pub mod LeastLemmas
-pub mod ArrayLemmas
-pub mod ReachedLemmas
-pub mod HeldLemmas
 pub mod PolicyLemmas
 pub mod NewLemmas
-pub mod CycleExamples

@@ -12,7 +12,7 @@ use Rattle.air_history.specs.Clashes.{Heard, read_at, entry_of, entry_in, heard_
 use Rattle.air_history.specs.ClashLaws.{IsHeard, IsAllowed}
 use Rattle.history_laws.proofs.ClashLemmas.{clash}
 use Rattle.history_laws.proofs.PolicyLemmas.{stays_current, takes}
-use Rattle.vector_policies.specs.HeardReads.{is_reached}
+use Rattle.held_entries.specs.Searches.{is_reached}
 
 -- ---- by the entries
 

@@ -1,3 +1,1 @@
 pub mod HeardReads
-pub mod HeldView
-pub mod HeldCycles

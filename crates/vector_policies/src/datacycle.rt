@@ -13,17 +13,17 @@ ghost use Rattle.air_history.specs.ClashLaws.{IsHeard};
 ghost use Rattle.air_history.specs.Columns.{scheme_of};
 ghost use Rattle.air_history.specs.HeldReads.{IsNew};
 ghost use Rattle.vector_policies.specs.HeardReads.{heard};
-ghost use Rattle.vector_policies.specs.HeldCycles.{cycles_of};
+ghost use Rattle.held_entries.specs.HeldCycles.{cycles_of};
 
-use crate::vectors::{HeldVectors, ROOM};
 use air_base::{Clash, NoMemory};
+use held_entries::{HeldEntries, ROOM};
 use std::alloc::Global;
 use std::marker::Model;
 
 /// The held reads of an attempt, in order.
 #[derive(Debug, Drop)]
 pub struct DataHeld {
-    held: HeldVectors,
+    held: HeldEntries,
 }
 
 impl Model for DataHeld {
@@ -40,7 +40,7 @@ impl DataHeld {
         ensures { IfOk result (λ h. h ≡ record { n = n; reads = [] }) }
     {
         Ok(DataHeld {
-            held: HeldVectors::new(alloc, n)?,
+            held: HeldEntries::new(alloc, n)?,
         })
     }
 
@@ -83,23 +83,23 @@ impl DataHeld {
             IsCurrent H (map read_at self.now.reads) →
             (result ≡ None) ↔ IsCurrent H (map read_at self.now.reads ++ read_at x ∷ []) }
     {
-        self.named(item, cycle, vector)
+        self.clash_by_vectors(item, cycle, vector)
     }
 
     /// The held read of least item number that the entries name.
     #[tactic(auto, using(crate::proofs::PolicyLemmas::named_at_newest, crate::proofs::PolicyLemmas::none_at_newest, crate::proofs::PolicyLemmas::named_of_newest))]
-    fn named(&self, item: u16, cycle: u32, vector: &[u32]) -> Option<Clash>
+    fn clash_by_vectors(&self, item: u16, cycle: u32, vector: &[u32]) -> Option<Clash>
         requires { IsNew self.now (heard item cycle vector.now) }
         ensures { result ≡ clash_by_entries Datacycle self.now.reads (heard item cycle vector.now) }
     {
         let newest = self.held.newest();
         if cycle >= newest {
-            return self.held.first_reached(vector);
+            return self.held.least_reached(vector);
         }
         if self.held.first_entry(newest, item) < cycle {
             return None;
         }
-        self.held.least_in(newest)
+        self.held.least_of_cycle(newest)
     }
 
     /// Holds the new read too, after those before it.

@@ -4,13 +4,10 @@
 //! the newest cycle with the new one; `RHeld` takes reads in the order of cycles. Both name the clash of least item.
 #![tactic(auto)]
 
-mod cycles;
 pub mod datacycle;
 pub mod laws;
 pub mod r_matrix;
-mod reads;
-mod vectors;
 
 pub use datacycle::DataHeld;
+pub use held_entries::ROOM;
 pub use r_matrix::RHeld;
-pub use vectors::ROOM;

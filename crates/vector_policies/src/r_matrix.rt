@@ -13,17 +13,17 @@ ghost use Rattle.air_history.specs.ClashLaws.{IsHeard};
 ghost use Rattle.air_history.specs.Columns.{scheme_of};
 ghost use Rattle.air_history.specs.HeldReads.{IsNew, ComesInOrder};
 ghost use Rattle.vector_policies.specs.HeardReads.{heard};
-ghost use Rattle.vector_policies.specs.HeldCycles.{cycles_of};
+ghost use Rattle.held_entries.specs.HeldCycles.{cycles_of};
 
-use crate::vectors::{HeldVectors, ROOM};
 use air_base::{Clash, NoMemory};
+use held_entries::{HeldEntries, ROOM};
 use std::alloc::Global;
 use std::marker::Model;
 
 /// The held reads of an attempt, in order; their cycles never fall.
 #[derive(Debug, Drop)]
 pub struct RHeld {
-    held: HeldVectors,
+    held: HeldEntries,
 }
 
 impl Model for RHeld {
@@ -46,7 +46,7 @@ impl RHeld {
         ensures { IfOk result (λ h. h ≡ record { n = n; reads = [] }) }
     {
         Ok(RHeld {
-            held: HeldVectors::new(alloc, n)?,
+            held: HeldEntries::new(alloc, n)?,
         })
     }
 
@@ -90,19 +90,19 @@ impl RHeld {
             (result ≡ None) ↔ Takes H (map read_at self.now.reads) (read_at x) }
     {
         let _held = &self.held;
-        self.named(item, cycle, vector)
+        self.clash_by_vectors(item, cycle, vector)
     }
 
     /// The held read of least item number that the entries name.
     #[tactic(auto, using(crate::proofs::PolicyLemmas::none_below_first, crate::proofs::PolicyLemmas::named_from_first))]
-    fn named(&self, item: u16, cycle: u32, vector: &[u32]) -> Option<Clash>
+    fn clash_by_vectors(&self, item: u16, cycle: u32, vector: &[u32]) -> Option<Clash>
         requires { IsNew self.now (heard item cycle vector.now) }
         ensures { result ≡ clash_by_entries RMatrix self.now.reads (heard item cycle vector.now) }
     {
         if vector[item as usize] < self.held.first() {
             return None;
         }
-        self.held.first_reached(vector)
+        self.held.least_reached(vector)
     }
 
     /// Holds the new read too, after those before it.

@@ -4,7 +4,7 @@
 //! held by both, and the next one is tried.
 
 use crate::attempts::{Attempt, DataAttempt, RAttempt, Unheld};
-use crate::plain::{Read, answer, array, made};
+use crate::plain::{Read, answer, array, read_of_seed};
 use air_base::{Clash, Policy};
 use std::alloc::Global;
 use std::test::Fail;
@@ -94,7 +94,7 @@ impl<A: Attempt> Pair<A> {
     /// Plays the attempt of a seed.
     fn play(&mut self, alloc: Global, seed: u32, tally: &mut Tally) -> Result<Option<Other>, Fail> {
         for number in 0..TRIES {
-            let read = made(alloc, self.policy, self.n, seed, number)?;
+            let read = read_of_seed(alloc, self.policy, self.n, seed, number)?;
             if let Some(other) = self.try_read(read, tally)? {
                 return Ok(Some(other));
             }

@@ -28,7 +28,7 @@ fn lesser(one: Option<Clash>, other: Option<Clash>) -> Option<Clash> {
 }
 
 /// The read without its vector, if it is named.
-fn named(read: &Read, is_named: bool) -> Option<Clash> {
+fn clash_if(read: &Read, is_named: bool) -> Option<Clash> {
     is_named.then_some(Clash {
         item: read.item,
         cycle: read.cycle,
@@ -39,7 +39,7 @@ fn named(read: &Read, is_named: bool) -> Option<Clash> {
 fn stale(reads: &[Read], new: &Read) -> Option<Clash> {
     let mut least = None;
     for read in reads {
-        least = lesser(least, named(read, entry(new, read.item) >= read.cycle));
+        least = lesser(least, clash_if(read, entry(new, read.item) >= read.cycle));
     }
     least
 }
@@ -48,7 +48,7 @@ fn stale(reads: &[Read], new: &Read) -> Option<Clash> {
 fn of_cycle(reads: &[Read], cycle: u32) -> Option<Clash> {
     let mut least = None;
     for read in reads {
-        least = lesser(least, named(read, read.cycle == cycle));
+        least = lesser(least, clash_if(read, read.cycle == cycle));
     }
     least
 }
@@ -146,7 +146,13 @@ fn cycle_of(policy: Policy, number: u32, is_quiet: bool, dice: u32) -> u32 {
 
 /// The read of a number in the attempt of a seed, over `n` items. The first `seed` modulo 17 reads are quiet: their entries are
 /// below 3, so that they go together. Those of the others are below their cycle.
-pub fn made(alloc: Global, policy: Policy, n: u16, seed: u32, number: u16) -> Result<Read, Fail> {
+pub fn read_of_seed(
+    alloc: Global,
+    policy: Policy,
+    n: u16,
+    seed: u32,
+    number: u16,
+) -> Result<Read, Fail> {
     let number = u32::from(number);
     let dice = seed
         .wrapping_mul(2654435761)

@@ -24,41 +24,41 @@ abbrev pub sight : {E : Type 0} → List (ℕ × E) → List ℕ → Sight E
 sight es ns = record { entries = es; numbers = ns }
 
 module _ {E B : Type 0} where
-  -- 1 where the pass has a ticket, else 0
+  -- 1 where the pass has a ticket, else 0.
   abbrev pub waits : View E B → ℕ
   waits v = counted v.ticket
 
-  -- how many numbers it stands for
+  -- How many numbers it stands for.
   abbrev pub share : View E B → ℕ
   share v = length v.sight.numbers
 
-  -- a pass outside
+  -- A pass outside.
   abbrev pub idle : ℕ → Option B → Sight E → View E B
   idle n b s = record { ticket = None; passes = n; base = b; sight = s; noted = None; old = [] }
 
-  -- the first pass, which stands for every number
+  -- The first pass, which stands for every number.
   abbrev pub first : List (ℕ × E) → B → ℕ → View E B
   first es b n = idle n (Some b) (sight es (numbers_from 0 n))
 
-  -- the value was given back, and its list was seen
+  -- The value was given back, and its list was seen.
   abbrev pub gone : View E B → List (ℕ × E) → View E B
   gone v es = record v { ticket = None; noted = None; sight = sight es v.sight.numbers }
 
-  -- the view with these numbers in place of its own
+  -- The view with these numbers in place of its own.
   abbrev pub numbered : View E B → List ℕ → View E B
   numbered v ns = record v { sight = sight v.sight.entries ns }
 
-  -- without its first number, and with that alone
+  -- Without its first number, and with that alone.
   abbrev pub without : View E B → View E B
   without v = numbered v (drop 1 v.sight.numbers)
 
   abbrev pub with_one : View E B → View E B
   with_one v = numbered v (take 1 v.sight.numbers)
 
-  -- with the numbers and the longer list of both; it keeps both lists, each with its numbers, until the next load
+  -- With the numbers and the longer list of both; it keeps both lists, each with its numbers, until the next load.
   abbrev pub united : View E B → View E B → View E B
   united v w = record v { sight = sight (longer v.sight.entries w.sight.entries) (v.sight.numbers ++ w.sight.numbers); old = v.sight ∷ w.sight ∷ [] }
 
-  -- what is left of a pass that another took in
+  -- What is left of a pass that another took in.
   abbrev pub spent : View E B
   spent = idle 0 None (sight [] [])

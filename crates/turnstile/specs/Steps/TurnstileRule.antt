@@ -32,22 +32,22 @@ pub data Phase : Type 0 where
   out : ℕ → Phase
 
 module _ {K E B : Type 0} (entries : K → List (ℕ × E)) (base : K → B) where
-  -- what holds of the view v of seat j: now and b are the list and the base of the value, front is the ticket that is
-  -- served, and queue is how many tickets are out
+  -- What holds of the view v of seat j: now and b are the list and the base of the value, front is the ticket that is
+  -- served, and queue is how many tickets are out.
   pub record Knows (now : List (ℕ × E)) (b : B) (passes front queue : ℕ) (phase : Phase) (j : ℕ) (v : View E B) : Type 0 where
-    -- it has seen a beginning of the list, with all entries that are its own
+    -- It has seen a beginning of the list, with all entries that are its own.
     pub sees : Continues v.sight.numbers v.sight.entries now
-    -- a view that has a number has the base and the number of passes
+    -- A view that has a number has the base and the number of passes.
     pub live : 0 < length v.sight.numbers → (v.base ≡ Some b) × (v.passes ≡ passes)
-    -- only such a view has a ticket, and the ticket is not far from the one that is served
+    -- Only such a view has a ticket, and the ticket is not far from the one that is served.
     pub queues : (t : ℕ) → v.ticket ≡ Some t → (0 < length v.sight.numbers) × ((d : ℕ) × (d < queue) × (t ≡ (front + d) % 18446744073709551616))
-    -- only the view whose ticket is served has noted a list, and the list stays as it is until that view gives back
+    -- Only the view whose ticket is served has noted a list, and the list stays as it is until that view gives back.
     pub turns : (l : List (ℕ × E)) → v.noted ≡ Some l → (phase ≡ out j) × (l ≡ now) × (v.ticket ≡ Some front)
-    -- the two lists of a join are beginnings too, each with all entries that have its numbers
+    -- The two lists of a join are beginnings too, each with all entries that have its numbers.
     pub olds : (k : ℕ) (o : Sight E) → get_elem? v.old k ≡ some o → Continues o.numbers o.entries now × ((n : ℕ) → Contains o.numbers n → Contains v.sight.numbers n)
     pub old_rests : 0 < length v.old → v.ticket ≡ None
 
-  -- where the value is
+  -- Where the value is.
   abbrev pub InPhase : List (maybe.Option (Option K)) → List (View E B) → List (ℕ × E) → B → Phase → Type 0
   InPhase homes views now b home = (x : K) × (homes ≡ some (Some x) ∷ []) × (entries x ≡ now) × (base x ≡ b)
   InPhase homes views now b (out j) = (homes ≡ none ∷ []) × ((v : View E B) × (get_elem? views j ≡ some v) × (v.noted ≡ Some now))

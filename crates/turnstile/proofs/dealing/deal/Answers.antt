@@ -2,7 +2,7 @@ use Rattle.std.proofs.Common.{◌≡◌, ◌<◌, ◌-◌, ◌+◌, length, [], 
 use Rattle.std.proofs.lemmas.Option.{none-some}
 use Rattle.turnstile.specs.Passes.{newcomer}
 use Rattle.turnstile.specs.Steps.SeatViews.{numbers_from, idle, sight}
-use Rattle.turnstile.proofs.Splitting.{splits}
+use Rattle.turnstile.proofs.SplitFacts.{splits}
 use Rattle.turnstile.proofs.Stacks.{each_snoc, stack_step, stack_two, sound_one, known_one}
 use Rattle.turnstile.proofs.dealing.deal.Goals as goal
 

@@ -1,0 +1,5 @@
+pub mod HeardReads
+pub mod Searches
+pub mod HeldView
+pub mod HeldCycles
+pub mod Steps
