@@ -18,6 +18,7 @@ pub mod CopyExamples
 pub mod EtherFacts
 pub mod DueLemmas
 pub mod EtherExamples
+pub mod DrillExamples
 pub mod AiredLemmas
 pub mod BareLemmas
 pub mod DeckLemmas

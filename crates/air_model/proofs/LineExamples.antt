@@ -96,7 +96,7 @@ no_lines = record {
   unfinished_whole = λ h. (h.unfinished.0 refl).1 refl;
   not_consistent = λ h. let e : false ≡ true = h.reads.consistent in false≢true e;
   not_shared = λ h. let e : true ≡ false = h.reads.shared 0 (record { item = 0; cycle = 1 }) (omega arith) in cc;
-  wrong_value = λ h. let e : 21 ≡ 20 = h.replayed (All-from_recursion BasesRead (script_history pair) (tt, tt)) 1 (read 1 1 21) (omega arith) in omega arith;
+  wrong_value = λ h. let e : 21 ≡ 20 = h.by_ancestors (All-from_recursion BasesRead (script_history pair) (tt, tt)) 1 (read 1 1 21) (omega arith) in omega arith;
 }
 
 -- A line that stands before those of a state.

@@ -77,7 +77,7 @@ sound_line V p H q a kind R k =
     let same : map place_of R ≡ reads_at (line_of (by_history p V H) q a kind R) = sym (line_reads (by_history p V H) q a kind R) in
     record {
       reads = subst (IsSound p.policy H) same sound;
-      replayed = λ bases. All-map (λ r. r.value ≡ table (values_of V) (alone H (reads_at (line_of (by_history p V H) q a kind R))) r.item)
+      by_ancestors = λ bases. All-map (λ r. r.value ≡ table (values_of V) (alone H (reads_at (line_of (by_history p V H) q a kind R))) r.item)
           (λ r. record { item = r.item; cycle = r.cycle; value = read_value (values_of V) H (place_of r) }) R
           (λ i d l. sym (subst (λ S. table (values_of V) (alone H S) (get_or R i d).item ≡ read_value (values_of V) H (place_of (get_or R i d))) same
           (all_unmap (λ r. table (values_of V) (alone H (map place_of R)) r.item ≡ read_value (values_of V) H r) R (values (values_of V) H (map place_of R) bases sound.consistent) i d l)));

@@ -14,6 +14,7 @@ pub mod AiredLaws
 pub mod Reads
 pub mod Copies
 pub mod Draws
+pub mod Drills
 pub mod Ethers
 pub mod Judges
 pub mod Sessions

@@ -44,7 +44,7 @@ reads_at l = map (λ r. record { item = r.item; cycle = r.cycle }) l.reads
 -- one that the updates from which the reads descend leave when they run alone.
 pub record IsSoundLine (values : List ℕ) (policy : Policy) (H : List Event) (l : Line) : Type 0 where
   pub reads : IsSound policy H (reads_at l)
-  pub replayed : All BasesRead H → All (λ r. r.value ≡ table (values_of values) (alone H (reads_at l)) r.item) l.reads
+  pub by_ancestors : All BasesRead H → All (λ r. r.value ≡ table (values_of values) (alone H (reads_at l)) r.item) l.reads
 
 -- Each member that fits has a cycle from 1 on, as every bucket's bytes have.
 abbrev pub CyclesFromOne : Air → List (Option Bucket) → Type 0

@@ -5,13 +5,13 @@
 #![tactic(auto)]
 
 #[cfg(test)]
+mod fault_texts;
+#[cfg(test)]
 mod faults;
 #[cfg(test)]
 mod ranges;
 #[cfg(test)]
 mod reading;
-#[cfg(test)]
-mod shown;
 #[cfg(test)]
 mod spelling;
 #[cfg(test)]

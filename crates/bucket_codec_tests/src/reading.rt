@@ -7,7 +7,7 @@ use std::test::Fail;
 
 /// What the bytes say.
 #[derive(Clone, Copy)]
-struct Said<'a> {
+struct BucketFields<'a> {
     edition: u16,
     cycle: u32,
     slot: u16,
@@ -48,7 +48,7 @@ fn same_entries(view: &BucketView<'_>, told: &[u32]) -> bool {
 }
 
 /// In what the view differs from what is told of its head.
-fn head_difference(view: &BucketView<'_>, said: &Said<'_>) -> Option<&'static str> {
+fn head_difference(view: &BucketView<'_>, said: &BucketFields<'_>) -> Option<&'static str> {
     if view.edition() != said.edition || view.cycle() != said.cycle || view.slot() != said.slot {
         Some("edition, cycle or slot")
     } else if view.kind() != said.kind || view.count() != said.count {
@@ -61,7 +61,11 @@ fn head_difference(view: &BucketView<'_>, said: &Said<'_>) -> Option<&'static st
 }
 
 /// In what the bytes are read otherwise than told.
-fn difference(alloc: Global, bytes: &[u8], said: &Said<'_>) -> Result<Option<&'static str>, Fail> {
+fn difference(
+    alloc: Global,
+    bytes: &[u8],
+    said: &BucketFields<'_>,
+) -> Result<Option<&'static str>, Fail> {
     let Ok(view) = decode(bytes) else {
         return Ok(Some("no bucket"));
     };
@@ -82,7 +86,7 @@ fn difference(alloc: Global, bytes: &[u8], said: &Said<'_>) -> Result<Option<&'s
 /// Returns the place of the first bytes that are read otherwise than told, and in what.
 fn first_other(
     alloc: Global,
-    cases: &[(&[u8], Said<'_>)],
+    cases: &[(&[u8], BucketFields<'_>)],
 ) -> Result<Option<(usize, &'static str)>, Fail> {
     for (place, (bytes, said)) in cases.iter().enumerate() {
         if let Some(what) = difference(alloc, bytes, said)? {
@@ -93,7 +97,7 @@ fn first_other(
 }
 
 /// What the first bucket says.
-const FIRST_SAID: Said<'static> = Said {
+const FIRST_SAID: BucketFields<'static> = BucketFields {
     edition: 0,
     cycle: 1,
     slot: 0,
@@ -106,13 +110,13 @@ const FIRST_SAID: Said<'static> = Said {
 
 #[test]
 fn worked_buckets_are_read(rt: HostRuntime) -> Result<(), Fail> {
-    let second = Said {
+    let second = BucketFields {
         slot: 1,
         item: 1,
         value: 20,
         ..FIRST_SAID
     };
-    let idle = Said {
+    let idle = BucketFields {
         slot: 2,
         kind: ViewKind::Idle,
         item: 65535,
@@ -120,7 +124,7 @@ fn worked_buckets_are_read(rt: HostRuntime) -> Result<(), Fail> {
         entries: &[],
         ..FIRST_SAID
     };
-    let vector = Said {
+    let vector = BucketFields {
         edition: 0x0102,
         cycle: 0x03040506,
         slot: 0x0708,

@@ -87,7 +87,7 @@ enum Other {
 }
 
 /// In what the tape gives other records than these, or another end behind them, again and again.
-fn misread(tape: &[u8], records: &[&[u8]], cut: Option<TapeFault>) -> Option<Other> {
+fn first_misreading(tape: &[u8], records: &[&[u8]], cut: Option<TapeFault>) -> Option<Other> {
     let end = match cut {
         None => Ok(None),
         Some(fault) => Err(fault),
@@ -112,7 +112,7 @@ fn first_length_misread(tape: &[u8], records: &[&[u8]], front: Front) -> Option<
     let (least, greatest, whole, cut) = front;
     for len in least..=greatest {
         let other = match (tape.get(..len), records.get(..whole)) {
-            (Some(bytes), Some(records)) => misread(bytes, records, cut),
+            (Some(bytes), Some(records)) => first_misreading(bytes, records, cut),
             _ => Some(Other::NoFront),
         };
         if let Some(other) = other {
@@ -149,7 +149,7 @@ fn a_tape_is_cut_at_each_of_its_bytes(rt: HostRuntime) {
 fn records_have_any_length(rt: HostRuntime) {
     let mut long = [7; 1057];
     long[..8].copy_from_slice(&[0, 0, 0, 0, 0, 0, 4, 0x19]);
-    let whole = misread(&long, &[&[], &long[8..]], None);
-    let cut = misread(&[0xff; 9], &[], Some(TapeFault::Cut { at: 0 }));
+    let whole = first_misreading(&long, &[&[], &long[8..]], None);
+    let cut = first_misreading(&[0xff; 9], &[], Some(TapeFault::Cut { at: 0 }));
     assert_eq!(rt; (whole, cut), (None, None));
 }

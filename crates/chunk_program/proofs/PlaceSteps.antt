@@ -14,7 +14,7 @@ use Rattle.air_model.specs.ProgramLaws.{IsAirable}
 use Rattle.air_model.proofs.AiringFacts.{disk_is}
 use Rattle.air_model.proofs.Elements.{Distinct, all_at, at_all, Distinct-left, Distinct-right, has_contains, pairs_at}
 use Rattle.air_model.proofs.SlotPlaces.{item_of_disk}
-use Rattle.chunk_program.specs.declared.places.Place.{Place}
+use Rattle.chunk_program.specs.declared.cuts.Place.{Place}
 use Rattle.chunk_program.specs.CutConditions.{AreDeckDisks}
 use Rattle.chunk_program.specs.PlaceTables.{HasPlaces, IsPlace}
 use Rattle.chunk_program.specs.Places.{place_number}

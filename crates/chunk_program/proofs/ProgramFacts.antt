@@ -12,6 +12,8 @@ use Rattle.air_model.specs.Airings.{ComesEvery, IsNextWake, airings, disk_number
 use Rattle.air_model.proofs.AiringFacts.{item_airings, item_comes_every, item_next_wake, item_times_gap, length_program}
 use Rattle.air_model.proofs.Elements.{all_at, at_all, has_contains}
 use Rattle.chunk_program.specs.declared.homes.Home.{Home}
+use Rattle.chunk_program.specs.declared.programs.Program.TheInside.{Inside}
+use Rattle.chunk_program.specs.ProgramView.{IsLaidOut}
 use Rattle.chunk_program.specs.Homes.{IsHome}
 use Rattle.chunk_program.specs.CutConditions.{AreDeckDisks}
 use Rattle.chunk_program.specs.Places.{place_number}
@@ -132,6 +134,13 @@ read_disk disks m n d limits short minors below is =
       chunks = (let fewer = chunks_few disks limits n d at in omega arith);
       len = chunk_len_few disks limits n d at;
     })
+
+-- The disk that is read of a program's fields.
+pub laid_disk : (p : Inside) (view : List Disk) (m n : ℕ) (d : Disk) → IsLaidOut p → p.disks.items ≡ view → m ≡ p.minors → n < length view → d ≡ get_or p.disks.items n d
+    → IsDiskOf p.disks.items m n d
+laid_disk p view m n d laid same minors within is =
+    let short : length (program p.disks.items) ≤ MOST_SLOTS = (let slots = ap length laid.slots in let few = laid.short in omega arith) in
+    read_disk p.disks.items m n d laid.limits short (minors ∙ laid.minors) (subst (λ (l : List Disk). n < length l) (sym same) within) is
 
 pub of_read : (P : Disk → Type 0) (o : Option Disk) (d : Disk) → o ≡ Some d → P d → IfSome o P
 of_read P o d is here = subst (λ (o : Option Disk). IfSome o P) (sym is) here

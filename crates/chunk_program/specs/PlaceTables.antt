@@ -2,7 +2,7 @@
 use Rattle.std.specs.Prelude.{◌≡◌, ℕ, List, Contains, Some, slice_get}
 use Rattle.air_model.specs.Disks.{Disk}
 use Rattle.air_model.specs.Airings.{disk_number}
-use Rattle.chunk_program.specs.declared.places.Place.{Place}
+use Rattle.chunk_program.specs.declared.cuts.Place.{Place}
 use Rattle.chunk_program.specs.Places.{place_number}
 
 -- A place is the item's where it has the number of its disk and its number within the disk.

@@ -10,6 +10,7 @@ ghost use Rattle.air_model.specs.Programs.{chunk_len, least_common_multiple, min
 ghost use Rattle.chunk_program.specs.CutConditions.{AreDeckDisks};
 
 use crate::disks::Disk;
+use air_base::limits::{MOST_DISKS, MOST_SIZE};
 use std::alloc::{AllocError, Global};
 
 /// The least common multiple of a number and a frequency: the first multiple of the one that the other divides.
@@ -42,13 +43,16 @@ pub fn num_minors(disks: &[Disk]) -> u64
     minors
 }
 
+/// The most slots of a minor cycle: a chunk of each disk, none longer than a disk.
+pub const MOST_MINOR_LEN: u64 = MOST_DISKS as u64 * MOST_SIZE;
+
 /// The number of slots of a minor cycle before those of disk `n`.
 pub fn front_len(disks: &[Disk], minors: u64, n: usize) -> u64
     requires limits { AreDeckDisks disks.now }
     requires minors { minors ≡ num_minors disks.now }
     requires within { n ≤ length disks.now }
     ensures counted { result ≡ minor_len minors (take n disks.now) }
-    ensures few { result ≤ 2048 }
+    ensures few { result ≤ MOST_MINOR_LEN }
 {
     let mut len = 0u64;
     for disk in &disks[..n] {

@@ -9,8 +9,6 @@ pub mod cutting;
 mod disks;
 mod homes;
 mod layout;
-mod ordering;
-mod places;
 pub mod programs;
 
 pub use cuts::Cut;

@@ -23,7 +23,7 @@ pub fn deck_of(rt: &impl Abort, alloc: Global, rates: &[u32], lines: &str) -> Re
 }
 
 /// The cut of a deck and its program.
-pub fn planned(alloc: Global, deck: &Deck) -> Result<(Cut, Program), Fail>
+pub fn cut_and_program(alloc: Global, deck: &Deck) -> Result<(Cut, Program), Fail>
     ensures cut { IfOk result (λ p. p.0 ≡ disks_in deck.now) }
     ensures program { IfOk result (λ p. p.1 ≡ disks_in deck.now) }
 {

@@ -6,7 +6,7 @@
 ghost use Rattle.std.specs.Prelude.{◌≡◌, ◌≤◌};
 ghost use Rattle.air_model.specs.Decks.{disks_in};
 
-use crate::decks::planned;
+use crate::decks::cut_and_program;
 use chunk_program::{Cut, Program};
 use item_catalog::Deck;
 use std::alloc::{AllocError, Global};
@@ -85,7 +85,7 @@ fn push_items(
 
 /// The text of the plan of a deck.
 pub fn plan_text(alloc: Global, deck: &Deck) -> Result<String, Fail> {
-    let (cut, program) = planned(alloc, deck)?;
+    let (cut, program) = cut_and_program(alloc, deck)?;
     let mut text = String::new(alloc);
     push_disks(alloc, &mut text, deck, &program)?;
     push_minors(alloc, &mut text, &program)?;

@@ -4,7 +4,7 @@
 
 ghost use Rattle.std.specs.Prelude.{◌≡◌};
 
-use crate::decks::{deck_of, planned, slots_of};
+use crate::decks::{cut_and_program, deck_of, slots_of};
 use chunk_program::{Cut, PlanFault, Program};
 use std::alloc::Global;
 use std::process::Abort;
@@ -88,7 +88,7 @@ fn first_other_wait(
 fn a_wait_goes_around_the_cycle(rt: HostRuntime) -> Result<(), Fail> {
     let rows = [(1, 0, 3), (4, 0, 0), (13, 1, 4), (15, 10, 0), (0, 10, 15)];
     let deck = deck_of(&rt, rt.alloc(), &[1; 11], "disk,1,4\ndisk,2,2\ndisk,8,1\n")?;
-    let (cut, program) = planned(rt.alloc(), &deck)?;
+    let (cut, program) = cut_and_program(rt.alloc(), &deck)?;
     assert_eq!(rt; first_other_wait(&cut, &program, &rows), None);
     Ok(())
 }
@@ -112,7 +112,7 @@ fn first_other_place(cut: &Cut, rows: &[(u16, u32, u32)]) -> Option<(usize, Opti
 fn the_cut_says_where_each_item_stands(rt: HostRuntime) -> Result<(), Fail> {
     let rows = [(0, 1, 2), (1, 1, 0), (2, 1, 3), (3, 1, 1), (4, 0, 0)];
     let deck = deck_of(&rt, rt.alloc(), &[1, 5, 1, 5, 9], "disk,1,2\ndisk,4,1\n")?;
-    let (cut, _program) = planned(rt.alloc(), &deck)?;
+    let (cut, _program) = cut_and_program(rt.alloc(), &deck)?;
     let held = (cut.order(), first_other_place(&cut, &rows));
     assert_eq!(rt; held, ([4, 1, 3, 0, 2].as_slice(), None));
     Ok(())

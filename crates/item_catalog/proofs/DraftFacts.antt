@@ -16,12 +16,12 @@ use Rattle.item_catalog.specs.Decks.{for_each}
 use Rattle.item_catalog.specs.Drafts.{DraftValue, draft_of, draft_tests, push_at, with_entry}
 use Rattle.item_catalog.specs.DeckEntries.{Entry}
 use Rattle.item_catalog.specs.DeckEntries as e
-use Rattle.item_catalog.specs.declared.kinds.FaultKind.TheVariants as fault
+use Rattle.item_catalog.specs.declared.faults.FaultKind.TheVariants as fault
 use Rattle.item_catalog.specs.Faults.{script_passes, tests_of}
 use Rattle.item_catalog.specs.Parts.{greatest, is_query, is_update, its_disk, its_events, its_item, its_query, its_reader, its_setting, its_update, its_updaters, queries_in, script_in, updaters_in, updates_in}
 use Rattle.item_catalog.specs.declared.parts.ItemPart.{ItemPart}
 use Rattle.item_catalog.specs.declared.parts.DiskPart.{DiskPart}
-use Rattle.item_catalog.specs.declared.settings.Setting.{Setting}
+use Rattle.item_catalog.specs.declared.deck.draft.settings.Setting.{Setting}
 use Rattle.item_catalog.proofs.ScriptFacts.{some_same}
 
 -- A part that an entry doesn't have, and one that it has.

@@ -14,8 +14,8 @@ use Rattle.item_catalog.specs.DeckEntries as e
 use Rattle.update_texts.specs.Writes.{changed, constant, value_of, write_by, write_from, write_of}
 use Rattle.air_base.specs.Pieces.{cut_at, two_of}
 use Rattle.item_catalog.specs.Fields.{event_of}
-use Rattle.item_catalog.specs.declared.kinds.FaultKind.{FaultKind}
-use Rattle.item_catalog.specs.declared.kinds.FaultKind.TheVariants as fault
+use Rattle.item_catalog.specs.declared.faults.FaultKind.{FaultKind}
+use Rattle.item_catalog.specs.declared.faults.FaultKind.TheVariants as fault
 use Rattle.item_catalog.specs.Faults.{first_of, script_passes, update_tests}
 use Rattle.update_texts.specs.ListTests.{is_unread, option_any, reaches, write_reaches}
 use Rattle.item_catalog.specs.Steps.ScriptView.{EventsRead}

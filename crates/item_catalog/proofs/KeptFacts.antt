@@ -22,8 +22,8 @@ use Rattle.item_catalog.specs.Ranges.{outside}
 use Rattle.item_catalog.specs.Settings.{range_of}
 use Rattle.item_catalog.specs.declared.parts.ItemPart.{ItemPart}
 use Rattle.item_catalog.specs.declared.parts.DiskPart.{DiskPart}
-use Rattle.item_catalog.specs.declared.settings.Setting.{Setting}
-use Rattle.item_catalog.specs.declared.settings.Setting.TheVariants as setting
+use Rattle.item_catalog.specs.declared.deck.draft.settings.Setting.{Setting}
+use Rattle.item_catalog.specs.declared.deck.draft.settings.Setting.TheVariants as setting
 use Rattle.item_catalog.proofs.EntryFacts.{is_signed, or_none}
 
 -- ---- lists

@@ -14,7 +14,7 @@ use Rattle.item_catalog.specs.DeckEntries.{Entry, entry_of}
 use Rattle.item_catalog.specs.Faults.{end_tests, entries_in, first_of, kinds_after, kinds_at, tests_of}
 use Rattle.item_catalog.specs.Grammar.{Faultless, RowsSpell}
 use Rattle.item_catalog.specs.Parts.{disks_in, items_in}
-use Rattle.item_catalog.specs.declared.kinds.FaultKind.{FaultKind}
+use Rattle.item_catalog.specs.declared.faults.FaultKind.{FaultKind}
 use Rattle.item_catalog.proofs.DraftFacts.{draft_more, tests_same}
 use Rattle.item_catalog.proofs.KeptFacts.{Kept}
 use Rattle.item_catalog.proofs.KeptSteps.{kept_more}

@@ -19,9 +19,9 @@ use Rattle.item_catalog.specs.DeckEntries as e
 use Rattle.item_catalog.specs.Faults.{count_starts, first_of, script_passes, some_below}
 use Rattle.update_texts.specs.ListTests.{option_any, reaches, write_reaches}
 use Rattle.item_catalog.specs.Ranges.{outside}
-use Rattle.item_catalog.specs.declared.kinds.FaultKind.TheVariants as fault
+use Rattle.item_catalog.specs.declared.faults.FaultKind.TheVariants as fault
 use Rattle.item_catalog.specs.declared.parts.ItemPart.{ItemPart}
-use Rattle.item_catalog.specs.declared.settings.Setting.{Setting}
+use Rattle.item_catalog.specs.declared.deck.draft.settings.Setting.{Setting}
 use Rattle.item_catalog.proofs.EntryFacts.{is_signed, none_of_one, none_of_three, none_of_two, or_none, rules_kept, update_tested}
 use Rattle.item_catalog.proofs.ScriptFacts.{is_part_of, none_below, starts_all}
 use Rattle.item_catalog.proofs.KeptFacts.{DiskKept, InRange, Kept, QueryKept, ReaderKept, Spelt, all_push, none_all, sum_push}

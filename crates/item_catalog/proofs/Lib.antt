@@ -15,3 +15,8 @@ pub mod WellMadeFacts
 pub mod KeptRows
 pub mod ReadingFacts
 pub mod GrammarExamples
+pub mod DrawFacts
+pub mod AroundFacts
+pub mod DrawnFacts
+pub mod DealFacts
+pub mod DrillFacts

@@ -13,7 +13,7 @@ use Rattle.item_catalog.specs.DeckEntries.{Entry, entry_of}
 use Rattle.item_catalog.specs.DeckEntries as e
 use Rattle.item_catalog.specs.Faults.{end_tests, entries_in, entry_if, first_of, kinds_after, kinds_at, kinds_of, tests_of}
 use Rattle.item_catalog.specs.Kinds.{code_of}
-use Rattle.item_catalog.specs.declared.kinds.FaultKind.{FaultKind}
+use Rattle.item_catalog.specs.declared.faults.FaultKind.{FaultKind}
 use Rattle.item_catalog.specs.Grammar.{Faultless, IsFirstFault, IsLeast}
 use Rattle.item_catalog.specs.Parts.{disks_in, items_in}
 use Rattle.item_catalog.proofs.DraftFacts.{draft_more, tests_same}

@@ -14,7 +14,7 @@ use Rattle.item_catalog.specs.Grammar.{Faultless, HasFault, IsAnswer, IsFirstFau
 use Rattle.item_catalog.specs.Parts.{disks_in, items_in}
 use Rattle.item_catalog.specs.Records.{records_of}
 use Rattle.item_catalog.specs.Kinds.{code_of}
-use Rattle.item_catalog.specs.declared.kinds.FaultKind.{FaultKind}
+use Rattle.item_catalog.specs.declared.faults.FaultKind.{FaultKind}
 use Rattle.item_catalog.specs.declared.faults.DeckError.{DeckError}
 use Rattle.item_catalog.specs.declared.faults.DeckError.TheVariants as error
 use Rattle.item_catalog.proofs.KeptRows.{kept_all}

@@ -1,7 +1,7 @@
 -- The fields of a record, by their number and one by one.
 use Rattle.std.proofs.Common.{◌≡◌, ◌≢◌, ◌<◌, ◌∷◌, [], ℕ, zero, suc, List, Option, Some, None, Err, length, drop, refl, arith}
 use Rattle.csv.specs.Records.{field_at}
-use Rattle.item_catalog.specs.declared.kinds.FaultKind.TheVariants as fault
+use Rattle.item_catalog.specs.declared.faults.FaultKind.TheVariants as fault
 use Rattle.item_catalog.specs.DeckEntries.{entry_by, entry_of, tag_of}
 use Rattle.air_base.specs.Pieces.{one_of, three_of, two_of}
 

@@ -6,7 +6,7 @@ use Rattle.air_base.specs.Numbers.{number_of}
 use Rattle.air_base.specs.NumberLists.{list_of, parts_of}
 use Rattle.air_base.specs.declared.verdicts.Policy.{Policy}
 use Rattle.air_history.specs.declared.updates.Write.{Write}
-use Rattle.item_catalog.specs.declared.kinds.FaultKind.TheVariants as fault
+use Rattle.item_catalog.specs.declared.faults.FaultKind.TheVariants as fault
 use Rattle.item_catalog.specs.DeckEntries.{◌>>=◌, Entry, disk_by, entry_by, entry_of, item_by, or_fault, query_by, reader_by, script_by, set_by, tag_of, update_by}
 use Rattle.item_catalog.specs.DeckEntries as e
 use Rattle.item_catalog.specs.Fields.{event_of, freq_of, ◌is◌}
@@ -14,11 +14,11 @@ use Rattle.air_base.specs.Pieces.{one_of, three_of, two_of}
 use Rattle.update_texts.specs.Writes.{write_of}
 use Rattle.item_catalog.specs.Ranges.{outside}
 use Rattle.item_catalog.specs.Settings.{name_of, number_set, policy_of, range_of, setting_of}
-use Rattle.item_catalog.specs.declared.fields.Tag.{Tag}
-use Rattle.item_catalog.specs.declared.fields.Tag.TheVariants as t
-use Rattle.item_catalog.specs.declared.settings.Name.{Name}
-use Rattle.item_catalog.specs.declared.settings.Setting.{Setting}
-use Rattle.item_catalog.specs.declared.settings.Setting.TheVariants as setting
+use Rattle.item_catalog.specs.declared.reading.Tag.{Tag}
+use Rattle.item_catalog.specs.declared.reading.Tag.TheVariants as t
+use Rattle.item_catalog.specs.declared.deck.draft.settings.Name.{Name}
+use Rattle.item_catalog.specs.declared.deck.draft.settings.Setting.{Setting}
+use Rattle.item_catalog.specs.declared.deck.draft.settings.Setting.TheVariants as setting
 use Rattle.item_catalog.proofs.EntryFacts.{all_spelled, or_none, write_fits, writes_signed}
 use Rattle.item_catalog.proofs.KeptFacts.{InRange, Spelt, every}
 use Rattle.air_base.proofs.NumberFronts.{spelled_fits}

@@ -23,12 +23,12 @@ use Rattle.item_catalog.specs.Faults.{end_tests, first_of}
 use Rattle.update_texts.specs.ListTests.{option_any}
 use Rattle.item_catalog.specs.Ranges.{outside}
 use Rattle.item_catalog.specs.Settings.{default_of, number_in, number_said, range_of, same_name, settings_in}
-use Rattle.item_catalog.specs.declared.kinds.FaultKind.TheVariants as fault
+use Rattle.item_catalog.specs.declared.faults.FaultKind.TheVariants as fault
 use Rattle.item_catalog.specs.declared.parts.DiskPart.{DiskPart}
-use Rattle.item_catalog.specs.declared.settings.Name.{Name}
-use Rattle.item_catalog.specs.declared.settings.Name.TheVariants as n
-use Rattle.item_catalog.specs.declared.settings.Setting.{Setting}
-use Rattle.item_catalog.specs.declared.settings.Setting.TheVariants as setting
+use Rattle.item_catalog.specs.declared.deck.draft.settings.Name.{Name}
+use Rattle.item_catalog.specs.declared.deck.draft.settings.Name.TheVariants as n
+use Rattle.item_catalog.specs.declared.deck.draft.settings.Setting.{Setting}
+use Rattle.item_catalog.specs.declared.deck.draft.settings.Setting.TheVariants as setting
 use Rattle.item_catalog.proofs.DiskFacts.{freqs_len}
 use Rattle.item_catalog.proofs.EntryFacts.{none_of_two, or_none}
 use Rattle.item_catalog.proofs.KeptFacts.{DiskKept, InRange, Kept}

@@ -10,11 +10,11 @@ use Rattle.air_history.specs.declared.updates.Write.{Write}
 use Rattle.update_texts.specs.Writes.{write_of}
 use Rattle.item_catalog.specs.Fields.{◌is◌, event_of, freq_of}
 use Rattle.item_catalog.specs.Settings.{setting_of}
-use Rattle.item_catalog.specs.declared.fields.Tag.{Tag}
-use Rattle.item_catalog.specs.declared.fields.Tag.TheVariants as t
-use Rattle.item_catalog.specs.declared.kinds.FaultKind.{FaultKind}
-use Rattle.item_catalog.specs.declared.kinds.FaultKind.TheVariants as fault
-use Rattle.item_catalog.specs.declared.settings.Setting.{Setting}
+use Rattle.item_catalog.specs.declared.reading.Tag.{Tag}
+use Rattle.item_catalog.specs.declared.reading.Tag.TheVariants as t
+use Rattle.item_catalog.specs.declared.faults.FaultKind.{FaultKind}
+use Rattle.item_catalog.specs.declared.faults.FaultKind.TheVariants as fault
+use Rattle.item_catalog.specs.declared.deck.draft.settings.Setting.{Setting}
 
 -- An entry: what the fields of a record say, by its tag.
 pub data Entry : Type 0 where
@@ -37,7 +37,7 @@ abbrev pub or_fault : {A : Type 0} → FaultKind → Option A → Result A Fault
 or_fault kind None = Err kind
 or_fault kind (Some x) = Ok x
 
--- `item,<id>,<value>,<rate>`
+-- What the fields of an item's record spell, `item,<id>,<value>,<rate>`.
 abbrev pub item_by : Option (List ℕ × List ℕ × List ℕ) → Result Entry FaultKind
 item_by None = Err fault.Fields
 item_by (Some f) = or_fault fault.Form (do
@@ -46,7 +46,7 @@ item_by (Some f) = or_fault fault.Form (do
   rate ← number_of f.2
   Some (Item id value rate))
 
--- `disk,<size>,<freq>`
+-- What the fields of a disk's record spell, `disk,<size>,<freq>`.
 abbrev pub disk_by : Option (List ℕ × List ℕ) → Result Entry FaultKind
 disk_by None = Err fault.Fields
 disk_by (Some f) = or_fault fault.Form (do
@@ -54,7 +54,7 @@ disk_by (Some f) = or_fault fault.Form (do
   freq ← freq_of f.1
   Some (Disk size freq))
 
--- `update,<by>,<reads>,<writes>`
+-- What the fields of an update's record spell, `update,<by>,<reads>,<writes>`.
 abbrev pub update_by : Option (List ℕ × List ℕ × List ℕ) → Result Entry FaultKind
 update_by None = Err fault.Fields
 update_by (Some f) = or_fault fault.Form (do
@@ -63,7 +63,7 @@ update_by (Some f) = or_fault fault.Form (do
   writes ← list_of write_of f.2
   Some (Update by reads writes))
 
--- `reader,<room>,<age>,<tries>`
+-- What the fields of a reader's record spell, `reader,<room>,<age>,<tries>`.
 abbrev pub reader_by : Option (List ℕ × List ℕ × List ℕ) → Result Entry FaultKind
 reader_by None = Err fault.Fields
 reader_by (Some f) = or_fault fault.Form (do
@@ -72,7 +72,7 @@ reader_by (Some f) = or_fault fault.Form (do
   tries ← number_of f.2
   Some (Reader room age tries))
 
--- `query,<reader>,<items>`
+-- What the fields of a query's record spell, `query,<reader>,<items>`.
 abbrev pub query_by : Option (List ℕ × List ℕ) → Result Entry FaultKind
 query_by None = Err fault.Fields
 query_by (Some f) = or_fault fault.Form (do
@@ -80,14 +80,14 @@ query_by (Some f) = or_fault fault.Form (do
   items ← list_of number_of f.1
   Some (Query reader items))
 
--- `script,<events>`
+-- What the field of a script's record spells, `script,<events>`.
 abbrev pub script_by : Option (List ℕ) → Result Entry FaultKind
 script_by None = Err fault.Fields
 script_by (Some f) = or_fault fault.Form (do
   events ← list_of event_of f
   Some (Script events))
 
--- `set,<name>,<value>`
+-- What the fields of a setting's record spell, `set,<name>,<value>`.
 abbrev pub set_by : Option (List ℕ × List ℕ) → Result Entry FaultKind
 set_by None = Err fault.Fields
 set_by (Some f) = or_fault fault.Setting (do

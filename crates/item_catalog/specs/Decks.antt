@@ -8,7 +8,7 @@ use Rattle.item_catalog.specs.Parts.{items_in, disks_in, updates_in, updaters_in
 use Rattle.item_catalog.specs.Settings.{settings_in, number_in}
 use Rattle.item_catalog.specs.declared.parts.ItemPart.{ItemPart}
 use Rattle.item_catalog.specs.declared.parts.DiskPart.{DiskPart}
-use Rattle.item_catalog.specs.declared.settings.Name.TheVariants.{Delta}
+use Rattle.item_catalog.specs.declared.deck.draft.settings.Name.TheVariants.{Delta}
 
 -- What a function gives of each number below n, in order.
 abbrev pub for_each : {A : Type 0} → ℕ → (ℕ → A) → List A

@@ -9,14 +9,14 @@ use Rattle.item_catalog.specs.Parts.{items_in, disks_in, updates_in, updaters_in
 use Rattle.air_model.specs.Decks.{Deck}
 use Rattle.item_catalog.specs.Decks.{for_each, plain_item, with_freqs}
 use Rattle.item_catalog.specs.Settings.{number_in, settings_in}
-use Rattle.item_catalog.specs.declared.settings.Name.TheVariants.{Delta}
+use Rattle.item_catalog.specs.declared.deck.draft.settings.Name.TheVariants.{Delta}
 use Rattle.item_catalog.specs.Faults.{first_of, item_tests, disk_tests, update_tests, reader_tests, query_tests, script_tests, set_tests}
-use Rattle.item_catalog.specs.declared.kinds.FaultKind.{FaultKind}
+use Rattle.item_catalog.specs.declared.faults.FaultKind.{FaultKind}
 use Rattle.item_catalog.specs.declared.parts.ItemPart.{ItemPart}
 use Rattle.item_catalog.specs.declared.parts.DiskPart.{DiskPart}
-use Rattle.item_catalog.specs.declared.settings.Setting.{Setting}
-use Rattle.item_catalog.specs.declared.refusals.Refusal.{Refusal}
-use Rattle.item_catalog.specs.declared.refusals.Refusal.TheVariants.{NoMemory, Kind}
+use Rattle.item_catalog.specs.declared.deck.draft.settings.Setting.{Setting}
+use Rattle.item_catalog.specs.declared.faults.Refusal.{Refusal}
+use Rattle.item_catalog.specs.declared.faults.Refusal.TheVariants.{NoMemory, Kind}
 
 -- The parts so far, with a list for each updater and each reader that there can be.
 pub record DraftValue : Type 0 where

@@ -17,10 +17,10 @@ use Rattle.item_catalog.specs.DeckEntries as e
 use Rattle.item_catalog.specs.Parts.{items_in, disks_in, updates_in, count_updates, readers_in, count_queries, script_in, set_in}
 use Rattle.item_catalog.specs.Settings.{same_setting}
 use Rattle.item_catalog.specs.Kinds.{code_of}
-use Rattle.item_catalog.specs.declared.kinds.FaultKind.{FaultKind}
-use Rattle.item_catalog.specs.declared.kinds.FaultKind.TheVariants as fault
+use Rattle.item_catalog.specs.declared.faults.FaultKind.{FaultKind}
+use Rattle.item_catalog.specs.declared.faults.FaultKind.TheVariants as fault
 use Rattle.item_catalog.specs.declared.parts.DiskPart.{DiskPart}
-use Rattle.item_catalog.specs.declared.settings.Setting.{Setting}
+use Rattle.item_catalog.specs.declared.deck.draft.settings.Setting.{Setting}
 
 -- Some number below n passes the test.
 unfoldable pub some_below : ℕ → (ℕ → Bool) → Bool

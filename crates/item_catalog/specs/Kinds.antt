@@ -1,7 +1,7 @@
 -- The numbers of the kinds of a deck's fault: of those that apply to a record, the one of the least number is told.
 use Rattle.std.specs.Prelude.{ℕ}
-use Rattle.item_catalog.specs.declared.kinds.FaultKind.{FaultKind}
-use Rattle.item_catalog.specs.declared.kinds.FaultKind.TheVariants as fault
+use Rattle.item_catalog.specs.declared.faults.FaultKind.{FaultKind}
+use Rattle.item_catalog.specs.declared.faults.FaultKind.TheVariants as fault
 
 -- The number of a kind.
 abbrev pub code_of : FaultKind → ℕ

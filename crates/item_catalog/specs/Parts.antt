@@ -7,7 +7,7 @@ use Rattle.item_catalog.specs.DeckEntries.{Entry}
 use Rattle.item_catalog.specs.DeckEntries as e
 use Rattle.item_catalog.specs.declared.parts.ItemPart.{ItemPart}
 use Rattle.item_catalog.specs.declared.parts.DiskPart.{DiskPart}
-use Rattle.item_catalog.specs.declared.settings.Setting.{Setting}
+use Rattle.item_catalog.specs.declared.deck.draft.settings.Setting.{Setting}
 
 -- The item that an entry declares, with its value and rate; its id is its place.
 abbrev pub its_item : Entry → Option ItemPart

@@ -7,10 +7,10 @@ use Rattle.air_base.specs.declared.verdicts.Policy.TheVariants.{FMatrix, Datacyc
 use Rattle.air_model.specs.declared.deck.Settings.{Settings}
 use Rattle.item_catalog.specs.Ranges.{outside}
 use Rattle.item_catalog.specs.Fields.{◌is◌}
-use Rattle.item_catalog.specs.declared.settings.Name.{Name}
-use Rattle.item_catalog.specs.declared.settings.Name.TheVariants.{Delta, Cycles, Seed, Loss, Again, Late, Monitors, Hears}
-use Rattle.item_catalog.specs.declared.settings.Setting.{Setting}
-use Rattle.item_catalog.specs.declared.settings.Setting.TheVariants as setting
+use Rattle.item_catalog.specs.declared.deck.draft.settings.Name.{Name}
+use Rattle.item_catalog.specs.declared.deck.draft.settings.Name.TheVariants.{Delta, Cycles, Seed, Loss, Again, Late, Monitors, Hears}
+use Rattle.item_catalog.specs.declared.deck.draft.settings.Setting.{Setting}
+use Rattle.item_catalog.specs.declared.deck.draft.settings.Setting.TheVariants as setting
 
 -- The least and the greatest value of a setting that is a number.
 abbrev pub range_of : Name → ℕ × ℕ

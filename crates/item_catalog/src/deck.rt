@@ -6,6 +6,7 @@ ghost use Rattle.air_model.specs.Decks.{IsDeck, updates_by};
 ghost use Rattle.item_catalog.specs.DeckLimits.{WithinLimits, script_starts};
 
 pub(crate) mod draft;
+pub mod drill;
 
 use crate::parts::{DiskPart, ItemPart, Queries, Updates};
 use air_history::Update;

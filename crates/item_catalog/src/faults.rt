@@ -1,12 +1,116 @@
-//! Why a text is no deck.
+//! Why a text is no deck: the kinds of fault, each with its number, why a record adds nothing, and the fault that is told.
 
 ghost use Rattle.std.specs.Prelude.{◌≡◌};
 ghost use Rattle.item_catalog.specs.Kinds.{code_of};
 
-use crate::kinds::FaultKind;
-use std::alloc::AllocError;
+use air_base::NoMemory;
+use std::alloc::{AllocError, AllocFailed};
 use std::error::Error;
 use std::fmt;
+
+/// A kind of fault. Each has a number: of those that apply to a record, the one of the least number is told.
+#[derive(Clone, Copy, Debug, PartialEq, Eq)]
+pub enum FaultKind {
+    /// The tag has another number of fields.
+    Fields,
+    /// A field, or a part of a list, isn't of its form.
+    Form,
+    /// An item's id isn't the number of items before it.
+    Id,
+    /// An item or a reader isn't declared before it.
+    Undeclared,
+    /// An item stands twice in a list.
+    Twice,
+    /// The sizes of the disks don't add up to the number of items.
+    Sizes,
+    /// A limit is passed, or there is no item or no disk.
+    Limit,
+    /// A base isn't among the reads.
+    Unread,
+    /// The tag is unknown.
+    Tag,
+    /// The setting is unknown, was set before, or has no such value.
+    Setting,
+    /// An updater commits more updates than it has.
+    Overdrawn,
+}
+
+impl FaultKind {
+    /// Its number.
+    pub fn code(self) -> u8
+        ensures { result ≡ code_of self }
+    {
+        match self {
+            FaultKind::Fields => 1,
+            FaultKind::Form => 2,
+            FaultKind::Id => 3,
+            FaultKind::Undeclared => 4,
+            FaultKind::Twice => 5,
+            FaultKind::Sizes => 6,
+            FaultKind::Limit => 7,
+            FaultKind::Unread => 8,
+            FaultKind::Tag => 9,
+            FaultKind::Setting => 10,
+            FaultKind::Overdrawn => 11,
+        }
+    }
+}
+
+/// Why a record adds nothing to a deck that is read: a fault of this kind applies, or there was no memory.
+#[derive(Clone, Copy, Debug, PartialEq, Eq)]
+pub enum Refusal {
+    Kind(FaultKind),
+    NoMemory,
+}
+
+impl From<AllocError> for Refusal {
+    ghost use Rattle.std.specs.Prelude.{◌≡◌};
+    ghost use Rattle.item_catalog.specs.declared.faults.Refusal.TheVariants.{NoMemory};
+
+    ghost from_gives = { λ _ e. e ≡ NoMemory };
+
+    fn from(_error: AllocError) -> Self {
+        Refusal::NoMemory
+    }
+}
+
+impl<T: Drop> From<AllocFailed<T>> for Refusal {
+    ghost use Rattle.std.specs.Prelude.{◌≡◌};
+    ghost use Rattle.item_catalog.specs.declared.faults.Refusal.TheVariants.{NoMemory};
+
+    ghost from_gives = { λ _ e. e ≡ NoMemory };
+
+    fn from(_error: AllocFailed<T>) -> Self {
+        Refusal::NoMemory
+    }
+}
+
+impl From<NoMemory> for Refusal {
+    ghost use Rattle.std.specs.Prelude.{◌≡◌};
+    ghost use Rattle.item_catalog.specs.declared.faults.Refusal.TheVariants.{NoMemory};
+
+    ghost from_gives = { λ _ e. e ≡ NoMemory };
+
+    fn from(_error: NoMemory) -> Self {
+        Refusal::NoMemory
+    }
+}
+
+/// What is said of the kind of each number; no kind has the number 0.
+const SENTENCES: [&str; 12] = [
+    "there is a fault",
+    "its tag has another number of fields",
+    "a field isn't of its form",
+    "an item's id isn't the number of items before it",
+    "an item or a reader isn't declared before it",
+    "an item stands twice in a list",
+    "the sizes of the disks don't add up to the number of items",
+    "a limit is passed, or there is no item or no disk",
+    "a base isn't among the reads",
+    "its tag is unknown",
+    "its setting is unknown, was set before, or has no such value",
+    "an updater commits more updates than it has",
+];
 
 /// The first faulty record of a text, counted from 1, and the least kind of fault that applies there. The end is the record
 /// after the last.
@@ -18,19 +122,9 @@ pub struct DeckFault {
 
 impl fmt::Display for DeckFault {
     fn fmt<W: fmt::Write>(&self, f: &mut fmt::Formatter<W>) -> fmt::Result {
-        let what = match self.kind {
-            1 => "its tag has another number of fields",
-            2 => "a field isn't of its form",
-            3 => "an item's id isn't the number of items before it",
-            4 => "an item or a reader isn't declared before it",
-            5 => "an item stands twice in a list",
-            6 => "the sizes of the disks don't add up to the number of items",
-            7 => "a limit is passed, or there is no item or no disk",
-            8 => "a base isn't among the reads",
-            9 => "its tag is unknown",
-            10 => "its setting is unknown, was set before, or has no such value",
-            11 => "an updater commits more updates than it has",
-            _ => "there is a fault",
+        let what = match SENTENCES.get(usize::from(self.kind)) {
+            Some(sentence) => sentence,
+            None => SENTENCES[0],
         };
         write!(f, "record {}: {what}", self.row)
     }

@@ -1,10 +1,12 @@
 //! The laws of the grammar: every text spells one deck or has one fault, and never both; and what is spelled keeps
 //! everything that a deck has to keep. Each is carried by a function that does nothing.
 
-ghost use Rattle.std.specs.Prelude.{◌≡◌, ◌⊎◌, ℕ, List};
+ghost use Rattle.std.specs.Prelude.{◌≡◌, ◌⊎◌, ◌<◌, ◌≤◌, ◌^◌, ℕ, List};
 ghost use Rattle.air_model.specs.Decks.{Deck, IsDeck};
+ghost use Rattle.air_model.specs.Drills.{drill_deck};
 ghost use Rattle.item_catalog.specs.DeckLimits.{WithinLimits};
 ghost use Rattle.item_catalog.specs.Grammar.{Spells, HasFault};
+ghost use Rattle.item_catalog.specs.declared.deck.drill.TheConstants.{MOST_DRILL_SIZE};
 
 /// Every text spells a deck or has a fault.
 pub fn deck_or_fault_law()
@@ -30,4 +32,9 @@ pub fn one_fault_law()
 /// What a text spells is well made, and within the limits.
 pub fn well_made_law()
     ensures { (text : List ℕ) (deck : Deck) → Spells text deck → IsDeck deck × WithinLimits deck }
+{}
+
+/// The deck of a drill is well made too, and within the limits.
+pub fn drill_law()
+    ensures { (seed size : ℕ) → seed < 2 ^ 64 → 1 ≤ size → size ≤ MOST_DRILL_SIZE → IsDeck (drill_deck seed size) × WithinLimits (drill_deck seed size) }
 {}

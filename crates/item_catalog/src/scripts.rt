@@ -3,16 +3,17 @@
 //! Events are taken one by one, as long as no limit is passed. How many cycles start and how often each updater commits is
 //! counted along, so that no record of the script is looked at again.
 
-ghost use Rattle.std.specs.Prelude.{◌≡◌, ◌<◌, ◌≤◌, ◌++◌, ◌∷◌, ◌||◌, [], IfOk, OnOk, Some, None, get_or, length, nat_lt, false};
+ghost use Rattle.std.specs.Prelude.{◌≡◌, ◌<◌, ◌≤◌, ◌++◌, ◌∷◌, ◌||◌, [], IfOk, OnOk, Some, None, get_or, length, nat_lt, option_map, false};
+ghost use Rattle.air_base.specs.Fronts.{FrontIs};
 ghost use Rattle.air_base.specs.NumberLists.{list_of};
 ghost use Rattle.air_model.specs.Decks.{count_parts};
 ghost use Rattle.item_catalog.specs.Fields.{event_of};
 ghost use Rattle.item_catalog.specs.Faults.{count_starts, script_passes, some_below};
-ghost use Rattle.item_catalog.specs.Steps.ScriptView.{EventsRead};
+ghost use Rattle.item_catalog.specs.Steps.ScriptView.{EventsRead, begins_start};
 
-use crate::events::event_front;
 use crate::parts::Updates;
 use air_base::limits::{MOST_EVENTS, MOST_STARTS, MOST_UPDATERS};
+use air_base::{ends_part, number_front};
 use std::alloc::{AllocFailed, Global};
 use std::marker::Model;
 
@@ -67,7 +68,7 @@ impl Script {
     }
 
     /// Adds a start.
-    fn start(&mut self) -> Result<(), AllocFailed<Option<u32>>>
+    pub fn start(&mut self) -> Result<(), AllocFailed<Option<u32>>>
         requires { script_passes self.old (None ∷ []) ≡ false }
         ensures { OnOk result (self.new ≡ self.old ++ None ∷ []) }
     {
@@ -77,7 +78,7 @@ impl Script {
     }
 
     /// Adds a commit of an updater.
-    fn commit(&mut self, by: u64) -> Result<(), AllocFailed<Option<u32>>>
+    pub fn commit(&mut self, by: u64) -> Result<(), AllocFailed<Option<u32>>>
         requires { script_passes self.old (Some by ∷ []) ≡ false }
         ensures { OnOk result (self.new ≡ self.old ++ Some by ∷ []) }
     {
@@ -142,5 +143,29 @@ impl Script {
         ensures starts { result.1 ≡ count_starts self }
     {
         (self.events, self.starts)
+    }
+}
+
+/// Whether the first part is the `s` of a start.
+fn begins_start(text: &[u8]) -> bool
+    ensures { result ≡ begins_start text.now }
+{
+    match text.split_first() {
+        None => false,
+        Some((byte, rest)) => *byte == b's' && ends_part(rest),
+    }
+}
+
+/// The event that the first part spells: none is a start.
+#[tactic(auto, using(crate::proofs::EventFronts::event_start, crate::proofs::EventFronts::event_number, crate::proofs::EventFronts::start_after))]
+fn event_front(text: &[u8]) -> Option<(Option<u64>, &[u8])>
+    ensures { FrontIs event_of text.now (option_map (λ f. (f.0, f.1.now)) result) }
+{
+    if begins_start(text) {
+        return Some((None, &text[1..]));
+    }
+    match number_front(text) {
+        Some((by, rest)) => Some((Some(by), rest)),
+        None => None,
     }
 }

@@ -1,9 +1,10 @@
-//! A deck is asked for its parts: the table of questions with their answers, and its checker.
+//! A deck is asked for its parts: the table of questions with their answers, and its checkers, for the deck of a text and for that of a
+//! drill.
 
 use air_base::Policy;
 use air_history::Write;
 use air_model::deck::{ReaderPlan, Settings};
-use item_catalog::{Deck, read_deck};
+use item_catalog::{Deck, drill_deck, read_deck};
 use std::alloc::Global;
 use std::test::Fail;
 
@@ -197,6 +198,17 @@ fn difference(deck: &Deck, part: &Part<'_>) -> Option<Other> {
     }
 }
 
+/// The place of the first question that a deck answers otherwise, and in what.
+fn first_other(deck: &Deck, parts: &[Part<'_>]) -> Option<(usize, Other)> {
+    deck.well_made();
+    for (place, part) in parts.iter().enumerate() {
+        if let Some(other) = difference(deck, part) {
+            return Some((place, other));
+        }
+    }
+    None
+}
+
 /// The place of the first question that the text's deck answers otherwise, and in what.
 pub fn first_other_part(
     alloc: Global,
@@ -207,11 +219,19 @@ pub fn first_other_part(
         return Err("too long a text".into());
     }
     let deck = read_deck(alloc, text)?;
-    deck.well_made();
-    for (place, part) in parts.iter().enumerate() {
-        if let Some(other) = difference(&deck, part) {
-            return Ok(Some((place, other)));
-        }
+    Ok(first_other(&deck, parts))
+}
+
+/// The place of the first question that the deck of a drill answers otherwise, and in what.
+pub fn first_other_drilled(
+    alloc: Global,
+    seed: u64,
+    size: u32,
+    parts: &[Part<'_>],
+) -> Result<Option<(usize, Other)>, Fail> {
+    if size < 1 || 100 < size {
+        return Err("no size of a drill".into());
     }
-    Ok(None)
+    let deck = drill_deck(alloc, seed, size)?;
+    Ok(first_other(&deck, parts))
 }

@@ -11,18 +11,22 @@ use std::test::Fail;
 /// The parts of a text, each so many times.
 type Parts<'a> = &'a [(&'a [u8], u32)];
 
+/// A disk of one item.
 const DISK: (&[u8], u32) = (b"disk,1,1\n", 1);
 
+/// Two readers.
 const TWO_READERS: (&[u8], u32) = (b"reader,0,0,1\n", 2);
 
+/// As many updates as a deck may have.
 const UPDATES: (&[u8], u32) = (b"update,0,,0=1\n", 100_000);
 
 /// Script records that commit each of these updates.
 const COMMITS: (&[u8], u32) = (b"script,0\n", 100_000);
 
-/// What begins a long script record, and its last commit.
+/// What begins a long script record.
 const SCRIPT: (&[u8], u32) = (b"script,", 1);
 
+/// The last commit of a long script record.
 const LAST_COMMIT: (&[u8], u32) = (b"0\n", 1);
 
 /// Adds so many items.

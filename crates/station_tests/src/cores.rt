@@ -2,7 +2,7 @@
 ghost use Rattle.std.specs.Prelude.{◌≡◌, ◌<◌, ◌≤◌, ◌+◌, length};
 
 use crate::rows::Mark::{Commit, Start};
-use crate::rows::{Mark, Put, Told, have_marks, says, update_of};
+use crate::rows::{Mark, Put, ReceiptRow, have_marks, says, update_of};
 use std::alloc::Global;
 use std::test::Fail;
 use update_commit::{Core, Receipt};
@@ -11,7 +11,7 @@ use update_commit::{Core, Receipt};
 #[derive(Clone, Copy)]
 enum Step<'a> {
     /// An updater commits an update with these reads and writes.
-    Commits(u32, &'a [u16], &'a [Put], Told<'a>),
+    Commits(u32, &'a [u16], &'a [Put], ReceiptRow<'a>),
     /// A cycle starts, and has this number.
     Starts(u32),
     /// The events since the last start.
@@ -28,7 +28,7 @@ fn commits(
     by: u32,
     reads: &[u16],
     puts: &[Put],
-    told: Told<'_>,
+    told: ReceiptRow<'_>,
 ) -> Result<bool, Fail>
     requires core { (core.old.updaters ≡ 2) × (length core.old.values ≡ 3) × (length core.old.events < 1000) }
     ensures core { (core.new.updaters ≡ 2) × (length core.new.values ≡ 3) × (length core.new.events ≤ length core.old.events + 1) }

@@ -15,7 +15,7 @@ pub enum Mark {
 }
 
 /// What a receipt says: place, cycle, and the values that were read and written.
-pub type Told<'a> = (u64, u32, &'a [u64], &'a [u64]);
+pub type ReceiptRow<'a> = (u64, u32, &'a [u64], &'a [u64]);
 
 /// The update of a row.
 pub fn update_of(alloc: Global, reads: &[u16], puts: &[Put]) -> Result<Update, UpdateFault> {
@@ -52,7 +52,7 @@ pub fn have_marks(events: &[Event], marks: &[Mark]) -> bool {
 }
 
 /// Whether the receipt says this.
-pub fn says(receipt: &Receipt, told: Told<'_>) -> bool {
+pub fn says(receipt: &Receipt, told: ReceiptRow<'_>) -> bool {
     let (number, cycle, read, written) = told;
     receipt.number == number
         && receipt.cycle == cycle

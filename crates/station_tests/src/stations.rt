@@ -4,7 +4,7 @@ ghost use Rattle.station.specs.PassStates.{PassState, with_seen};
 
 use crate::crews::is_complete;
 use crate::rows::Mark::{Commit, Start};
-use crate::rows::{Mark, Told, have_marks, says};
+use crate::rows::{Mark, ReceiptRow, have_marks, says};
 use air_history::History;
 use item_catalog::{Deck, read_deck};
 use station::{ConductorPass, Station, UpdaterPass};
@@ -20,7 +20,7 @@ const DECK: &[u8] =
 #[derive(Clone, Copy)]
 enum Call<'a> {
     /// The updater commits its update of this number.
-    Commits(usize, Told<'a>),
+    Commits(usize, ReceiptRow<'a>),
     /// A cycle starts, and has this number; the events since the one before, with the start.
     Starts(u32, &'a [Mark]),
     /// How many commits and how many starts were made.
@@ -35,7 +35,7 @@ fn commits<R: Wait>(
     pass: &mut UpdaterPass,
     deck: &Deck,
     number: usize,
-    told: Told<'_>,
+    told: ReceiptRow<'_>,
 ) -> Result<bool, Fail>
     requires own { pass.old.station ≡ station.now }
     requires values { length pass.old.values ≡ length deck.now.items }
@@ -123,7 +123,7 @@ fn first_other<R: Wait>(
 }
 
 /// The history that the station is closed with, where all passes came back.
-pub fn closed(
+pub fn close_station(
     station: Station,
     passes: Vec<UpdaterPass>,
     conductor: ConductorPass,
@@ -147,7 +147,7 @@ enum Other {
 }
 
 /// Plays the calls on a station of the deck; what went otherwise than told, last of all the history's events.
-fn played<R: Wait>(
+fn play_calls<R: Wait>(
     wait: &R,
     alloc: Global,
     calls: &[Call<'_>],
@@ -172,7 +172,7 @@ fn played<R: Wait>(
     }
     let mut back = Vec::new(alloc);
     back.push(pass)?;
-    let Some(history) = closed(station, back, conductor, deck.updaters()) else {
+    let Some(history) = close_station(station, back, conductor, deck.updaters()) else {
         return Ok(Some(Other::NoPass));
     };
     Ok((!have_marks(history.events(), marks)).then_some(Other::History))
@@ -199,13 +199,13 @@ fn calls_answer_one_after_another(rt: HostRuntime) -> Result<(), Fail> {
         Start,
         Commit(0, 2),
     ];
-    assert_eq!(rt; played(&rt, rt.alloc(), &calls, &marks)?, None);
+    assert_eq!(rt; play_calls(&rt, rt.alloc(), &calls, &marks)?, None);
     Ok(())
 }
 
 #[test]
 fn a_station_may_close_with_no_event(rt: HostRuntime) -> Result<(), Fail> {
-    assert_eq!(rt; played(&rt, rt.alloc(), &[], &[])?, None);
+    assert_eq!(rt; play_calls(&rt, rt.alloc(), &[], &[])?, None);
     Ok(())
 }
 
@@ -214,8 +214,8 @@ fn what_is_answered_otherwise_is_found(rt: HostRuntime) -> Result<(), Fail> {
     let early = [Call::Starts(1, &[Start]), Call::Starts(2, &[])];
     let whole = [Call::Starts(1, &[Start])];
     let found = [
-        played(&rt, rt.alloc(), &early, &[])?,
-        played(&rt, rt.alloc(), &whole, &[])?,
+        play_calls(&rt, rt.alloc(), &early, &[])?,
+        play_calls(&rt, rt.alloc(), &whole, &[])?,
     ];
     assert_eq!(rt; found, [Some(Other::Call(1)), Some(Other::History)]);
     Ok(())

@@ -4,7 +4,7 @@ ghost use Rattle.std.specs.Prelude.{◌<◌};
 
 use crate::crews::{gather, hire, run_all};
 use crate::histories::{count_cycles, counts, first_false, values_at};
-use crate::stations::closed;
+use crate::stations::close_station;
 use crate::workers::{Conductor, Task};
 use air_history::{Event, History};
 use item_catalog::read_deck;
@@ -110,7 +110,7 @@ fn look_at(
 }
 
 /// Lets all work on a station of the deck, and closes it; nothing where a pass is missing.
-fn played<R: Threads + Wait + Sync>(
+fn let_work<R: Threads + Wait + Sync>(
     rt: &R,
     alloc: Global,
     case: Case,
@@ -137,7 +137,7 @@ fn played<R: Threads + Wait + Sync>(
     );
     let (passes, tasks) = gather(alloc, &station, workers)?;
     let Conductor { pass, fresh, done } = conductor;
-    let Some(history) = closed(station, passes, pass, deck.updaters()) else {
+    let Some(history) = close_station(station, passes, pass, deck.updaters()) else {
         return Ok(None);
     };
     if !done {
@@ -160,7 +160,7 @@ fn two_updaters_with_a_thousand_commits_and_fifty_starts(rt: HostRuntime) -> Res
         fresh: Ok(50),
         ..WELL
     };
-    assert_eq!(rt; played(&rt, rt.alloc(), case)?, Some(told));
+    assert_eq!(rt; let_work(&rt, rt.alloc(), case)?, Some(told));
     Ok(())
 }
 
@@ -176,6 +176,6 @@ fn two_updaters_by_one_thread_and_no_start(rt: HostRuntime) -> Result<(), Fail> 
         values: [19, 29],
         ..WELL
     };
-    assert_eq!(rt; played(&rt, rt.alloc(), case)?, Some(told));
+    assert_eq!(rt; let_work(&rt, rt.alloc(), case)?, Some(told));
     Ok(())
 }

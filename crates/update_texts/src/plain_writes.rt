@@ -12,6 +12,9 @@ ghost use Rattle.update_texts.specs.Steps.WriteParts.{sign_of, write_said};
 use crate::write_fronts::WritePart;
 use air_base::{plain_number, short_number};
 
+/// The bytes from the beginning of a part in which the reader by place looks for a plain write.
+pub const PLAIN_BYTES: usize = 12;
+
 /// Whether the sign is a minus.
 #[inline(always)]
 fn is_minus(sign: u8) -> Option<bool>
@@ -44,7 +47,7 @@ fn plain_value(item: u64, text: &[u8], place: usize) -> Option<(WritePart, usize
 /// The write of a plain part, and the place at which the part ends.
 #[inline(always)]
 pub fn plain_write(text: &[u8], place: usize) -> Option<(WritePart, usize)>
-    requires { place + 12 ≤ length text.now }
+    requires { place + PLAIN_BYTES ≤ length text.now }
     ensures { IfSome result (λ f. PlainAt write_of text.now place (write_said f.0, f.1)) }
 {
     let (item, equals) = short_number(text, place)?;
@@ -57,10 +60,10 @@ pub fn plain_write(text: &[u8], place: usize) -> Option<(WritePart, usize)>
 /// The write of the plain part that a short text begins with, and the place at which the part ends.
 #[inline(never)]
 pub fn last_write(text: &[u8]) -> Option<(WritePart, usize)>
-    requires { length text.now < 12 }
+    requires { length text.now < PLAIN_BYTES }
     ensures { IfSome result (λ f. PlainAt write_of text.now 0 (write_said f.0, f.1)) }
 {
-    let mut spaced = [b' '; 12];
+    let mut spaced = [b' '; PLAIN_BYTES];
     spaced[..text.len()].copy_from_slice(text);
     plain_write(&spaced, 0)
 }

@@ -8,7 +8,7 @@ ghost use Rattle.air_base.specs.Fronts.{FrontIs, begins};
 ghost use Rattle.update_texts.specs.Writes.{changed, value_of, write_of};
 ghost use Rattle.update_texts.specs.Steps.WriteParts.{sign_of, write_said};
 
-use crate::plain_writes::last_write;
+use crate::plain_writes::{PLAIN_BYTES, last_write};
 use air_base::{after_byte, ends_part, leading_number, number_front};
 
 /// A write as its text says it.
@@ -79,7 +79,7 @@ fn value_front(item: u64, text: &[u8]) -> Option<(WritePart, &[u8])>
 pub fn write_front(text: &[u8]) -> Option<(WritePart, &[u8])>
     ensures { FrontIs write_of text.now (option_map (λ f. (write_said f.0, f.1.now)) result) }
 {
-    if text.len() < 12
+    if text.len() < PLAIN_BYTES
         && let Some((write, end)) = last_write(text)
     {
         return Some((write, &text[end..]));

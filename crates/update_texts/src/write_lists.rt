@@ -11,7 +11,7 @@ ghost use Rattle.update_texts.specs.KeptLists.{ReadIs, no_writes, see_write, wri
 ghost use Rattle.update_texts.specs.Steps.WriteParts.{write_said};
 
 use crate::item_lists::ItemList;
-use crate::plain_writes::plain_write;
+use crate::plain_writes::{PLAIN_BYTES, plain_write};
 use crate::write_fronts::{WritePart, write_front};
 use air_base::limits::MOST_ITEMS;
 use air_history::Write;
@@ -125,7 +125,7 @@ impl WriteList {
     }
 
     /// Whether a base isn't read.
-    pub fn unread(&self) -> bool
+    pub fn has_unread(&self) -> bool
         ensures { result ≡ self.now.unread }
     {
         self.unread
@@ -172,10 +172,10 @@ impl WriteList {
         requires none { self.old ≡ no_writes }
         ensures { ReadsTo write_of text.now (λ writes. self.new ≡ writes_seen declared reads.now.items writes) result }
     {
-        if text.len() < 12 {
+        if text.len() < PLAIN_BYTES {
             return 0;
         }
-        let last = text.len() - 12;
+        let last = text.len() - PLAIN_BYTES;
         let mut place = 0;
         while place <= last {
             let Some((write, end)) = plain_write(text, place) else {

@@ -4,8 +4,8 @@ use Rattle.air_base.specs.declared.limits.TheConstants.{MOST_ASKED, MOST_QUERIES
 use Rattle.update_texts.specs.KeptLists.{ItemsSeen, WritesSeen}
 use Rattle.item_catalog.specs.Ranges.{outside}
 use Rattle.item_catalog.specs.Faults.{first_of}
-use Rattle.item_catalog.specs.declared.kinds.FaultKind.{FaultKind}
-use Rattle.item_catalog.specs.declared.kinds.FaultKind.TheVariants as fault
+use Rattle.item_catalog.specs.declared.faults.FaultKind.{FaultKind}
+use Rattle.item_catalog.specs.declared.faults.FaultKind.TheVariants as fault
 
 -- The first kind that an update has, after so many updates.
 abbrev pub seen_update_kind : ItemsSeen → WritesSeen → ℕ → ℕ → Option FaultKind

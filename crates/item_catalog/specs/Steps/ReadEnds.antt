@@ -10,8 +10,8 @@ use Rattle.item_catalog.specs.Kinds.{code_of}
 use Rattle.item_catalog.specs.Settings.{number_in}
 use Rattle.item_catalog.specs.declared.faults.DeckError.{DeckError}
 use Rattle.item_catalog.specs.declared.faults.DeckError.TheVariants as error
-use Rattle.item_catalog.specs.declared.kinds.FaultKind.{FaultKind}
-use Rattle.item_catalog.specs.declared.settings.Name.TheVariants.{Delta}
+use Rattle.item_catalog.specs.declared.faults.FaultKind.{FaultKind}
+use Rattle.item_catalog.specs.declared.deck.draft.settings.Name.TheVariants.{Delta}
 
 -- The parts make a deck, where no kind applies at the end.
 abbrev pub CanEnd : DraftValue → Type 0

@@ -9,21 +9,21 @@ ghost use Rattle.air_model.specs.Decks.{IsDeck};
 ghost use Rattle.item_catalog.specs.DeckLimits.{WithinLimits};
 ghost use Rattle.item_catalog.specs.Drafts.{Adds, deck_from, draft_of};
 ghost use Rattle.item_catalog.specs.Settings.{number_in};
-ghost use Rattle.item_catalog.specs.DeckEntries.{disk_by, entry_of, item_by, reader_by, set_by};
+ghost use Rattle.item_catalog.specs.DeckEntries.{disk_by, entry_of, item_by, reader_by};
 ghost use Rattle.item_catalog.specs.Faults.{end_tests, first_of};
 ghost use Rattle.air_base.specs.Pieces.{three_of, two_of};
 
-mod disks;
 mod lists;
+mod settings;
 
 use crate::deck::Deck;
-use crate::deck::draft::disks::{is_no_freq, narrow_freq, read_freq, sizes_of};
-use crate::fields::{Tag, read_tag, three, two};
-use crate::kinds::FaultKind;
-use crate::parts::{DiskPart, ItemPart, Queries, Updates};
-use crate::refusals::Refusal;
+use crate::deck::draft::settings::{Name, Setting, delta_in, settings_in};
+use crate::faults::{FaultKind, Refusal};
+use crate::parts::{
+    DiskPart, ItemPart, Queries, Updates, is_no_freq, narrow_freq, read_freq, sizes_of,
+};
+use crate::reading::{Tag, read_tag, three, two};
 use crate::scripts::Script;
-use crate::settings::{Name, Setting, delta_in, is_set, read_setting, settings_in};
 use air_base::limits::{
     MOST_AGE, MOST_DELTA, MOST_DISKS, MOST_ITEMS, MOST_RATE, MOST_READERS, MOST_ROOM, MOST_SIZE,
     MOST_TRIES, MOST_UPDATERS,
@@ -185,23 +185,6 @@ impl Draft {
             age: age as u32,
             tries: tries as u32,
         })?;
-        Ok(())
-    }
-
-    /// Adds the setting of a record.
-    pub fn add_setting(&mut self, row: &ByteRecord) -> Result<(), Refusal>
-        ensures { Adds result (set_by (two_of (drop 1 (fields_of row.now)))) self.old self.new }
-    {
-        let Some((name, value)) = two(row) else {
-            return Err(Refusal::Kind(FaultKind::Fields));
-        };
-        let Some(setting) = read_setting(name, value) else {
-            return Err(Refusal::Kind(FaultKind::Setting));
-        };
-        if is_set(setting, &self.set) {
-            return Err(Refusal::Kind(FaultKind::Setting));
-        }
-        self.set.push(setting)?;
         Ok(())
     }
 

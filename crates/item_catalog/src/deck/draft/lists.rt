@@ -8,10 +8,9 @@ ghost use Rattle.air_base.specs.Pieces.{one_of, three_of, two_of};
 ghost use Rattle.item_catalog.specs.Steps.ListKinds.{seen_query_kind, seen_update_kind};
 
 use crate::deck::draft::Draft;
-use crate::fields::{one, three, two};
-use crate::kinds::FaultKind;
+use crate::faults::{FaultKind, Refusal};
 use crate::parts::Query;
-use crate::refusals::Refusal;
+use crate::reading::{one, three, two};
 use air_base::limits::{
     MOST_ASKED, MOST_QUERIES, MOST_READS, MOST_UPDATERS, MOST_UPDATES, MOST_WRITES,
 };
@@ -41,7 +40,7 @@ fn update_kind(reads: &ItemList, writes: &WriteList, by: u64, given: u32) -> Opt
     {
         return Some(FaultKind::Limit);
     }
-    if writes.unread() {
+    if writes.has_unread() {
         return Some(FaultKind::Unread);
     }
     None

@@ -6,9 +6,9 @@ use Rattle.air_base.proofs.PlainLists.{plain_further, reads_more, reads_none}
 use Rattle.update_texts.proofs.SeenFacts.{writes_more}
 use Rattle.update_texts.proofs.write_lists.WriteList.read_plain.Goals as goal
 
-pub returns-then-text-lt12 : goal.returns-then-text-lt12
+pub returns-then-text-lt-PLAIN_BYTES : goal.returns-then-text-lt-PLAIN_BYTES
 unfolding writes_seen
-returns-then-text-lt12 c = reads_none write_of c.args.text.now (λ writes. c.args.self.now ≡ writes_seen c.args.declared c.args.reads.now.items writes) c.requires.some c.requires.none
+returns-then-text-lt-PLAIN_BYTES c = reads_none write_of c.args.text.now (λ writes. c.args.self.now ≡ writes_seen c.args.declared c.args.reads.now.items writes) c.requires.some c.requires.none
 
 pub loop-place-init : goal.loop-place-init
 unfolding writes_seen

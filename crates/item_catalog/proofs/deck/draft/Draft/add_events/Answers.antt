@@ -9,7 +9,7 @@ use Rattle.item_catalog.specs.DeckEntries as e
 use Rattle.item_catalog.specs.DeckEntries.{script_by}
 use Rattle.item_catalog.specs.Faults.{script_passes, some_below}
 use Rattle.item_catalog.specs.Fields.{event_of}
-use Rattle.item_catalog.specs.declared.kinds.FaultKind.TheVariants as fault
+use Rattle.item_catalog.specs.declared.faults.FaultKind.TheVariants as fault
 use Rattle.air_base.specs.Pieces.{one_of}
 use Rattle.item_catalog.proofs.EntryFacts.{events_are, script_spelled}
 use Rattle.item_catalog.proofs.deck.draft.Draft.add_events.Goals as goal

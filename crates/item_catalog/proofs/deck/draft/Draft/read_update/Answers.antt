@@ -5,7 +5,7 @@ use Rattle.air_base.specs.NumberLists.{list_of}
 use Rattle.air_history.specs.declared.updates.Write.{Write}
 use Rattle.air_history.specs.UpdateLists.{UpdateLists}
 use Rattle.air_history.specs.UpdateRules.{update_fault}
-use Rattle.item_catalog.specs.declared.kinds.FaultKind.{FaultKind}
+use Rattle.item_catalog.specs.declared.faults.FaultKind.{FaultKind}
 use Rattle.item_catalog.specs.Drafts.{DraftValue, judged}
 use Rattle.item_catalog.specs.DeckEntries as e
 use Rattle.item_catalog.specs.DeckEntries.{Entry, update_by}

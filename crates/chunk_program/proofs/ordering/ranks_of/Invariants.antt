@@ -1,7 +1,0 @@
-use Rattle.std.proofs.Common.{◌≡◌, map}
-use Rattle.std.specs.List.{range_with_len}
-use Rattle.chunk_program.specs.Steps.Ranks.{rank_of}
-use Rattle.chunk_program.proofs.ordering.ranks_of.Given as goal
-
-abbrev pub invariant-loop-item : goal.invariant-loop-item
-invariant-loop-item l = l.ranked.items ≡ map (rank_of l.rates) (range_with_len 0 l.item)

@@ -1,0 +1,205 @@
+//! The deck of a drill: made from a seed and a size, with nothing read.
+//!
+//! Its parts are drawn one after another, in the order of the definition `drill_deck`.
+
+ghost use Rattle.std.specs.Prelude.{◌≡◌, ◌≤◌, ◌<◌, ◌++◌, [], length, IfOk, OnOk, map};
+ghost use Rattle.std.specs.List.{range_with_len};
+ghost use Rattle.air_model.specs.Draws.{draw_each};
+ghost use Rattle.air_model.specs.Drills.{dealt_to, draw_item, draw_query, draw_update, drill_deck, drill_disks, drill_readers, drill_script, drill_settings, turn_of};
+ghost use Rattle.item_catalog.specs.Decks.{plain_item, with_freqs};
+ghost use Rattle.item_catalog.specs.declared.deck.drill.TheConstants.{MOST_DRILL_SIZE};
+
+mod draws;
+
+use crate::deck::Deck;
+use crate::deck::drill::draws::{draw_item, draw_query, draw_update};
+use crate::laws::drill_law;
+use crate::parts::{DiskPart, ItemPart, Queries, Updates};
+use crate::scripts::Script;
+use air_base::limits::{DEFAULT_CYCLES, DEFAULT_HEARS};
+use air_base::{NoMemory, Policy};
+use air_model::deck::{ReaderPlan, Settings};
+use rand_pcg::Lcg64Xsh32;
+use std::alloc::Global;
+
+/// The greatest size of a drill.
+pub const MOST_DRILL_SIZE: u32 = 100;
+
+/// The items.
+fn draw_items(alloc: Global, generator: &mut Lcg64Xsh32, n: u16) -> Result<Vec<ItemPart>, NoMemory>
+    ensures { IfOk result (λ items. draw_each n (λ i. draw_item) generator.old ≡ (map plain_item items.items, generator.new)) }
+{
+    let mut items = Vec::new(alloc);
+    for _i in 0..n {
+        items.push(draw_item(generator))?;
+    }
+    Ok(items)
+}
+
+/// A list for each of the four updaters.
+fn no_updates(alloc: Global) -> Result<Vec<Updates>, NoMemory>
+    ensures { IfOk result (λ lists. lists.items ≡ map (dealt_to []) (range_with_len 0 4)) }
+{
+    let mut lists = Vec::new(alloc);
+    for _by in 0..4_u32 {
+        lists.push(Updates::new(alloc))?;
+    }
+    Ok(lists)
+}
+
+/// The updates of each updater.
+fn draw_updates(
+    alloc: Global,
+    generator: &mut Lcg64Xsh32,
+    n: u16,
+    count: u32,
+) -> Result<Vec<Updates>, NoMemory>
+    requires { 4 < n }
+    ensures dealt { IfOk result (λ lists. lists.items ≡ map (dealt_to (draw_each count (λ u. draw_update n) generator.old).0) (range_with_len 0 4)) }
+    ensures left { OnOk result (generator.new ≡ (draw_each count (λ u. draw_update n) generator.old).1) }
+{
+    let mut lists = no_updates(alloc)?;
+    for u in 0..count {
+        let update = draw_update(alloc, generator, n)?;
+        lists[(u % 4) as usize].push(update)?;
+    }
+    Ok(lists)
+}
+
+/// The queries of a reader.
+fn draw_queries(
+    alloc: Global,
+    generator: &mut Lcg64Xsh32,
+    n: u16,
+    count: u32,
+) -> Result<Queries, NoMemory>
+    requires { 4 < n }
+    ensures { IfOk result (λ queries. draw_each count (λ q. draw_query n) generator.old ≡ (queries, generator.new)) }
+{
+    let mut queries = Queries::new(alloc);
+    for _q in 0..count {
+        queries.push(draw_query(alloc, generator, n)?)?;
+    }
+    Ok(queries)
+}
+
+/// The queries of each of the eight readers.
+fn draw_all_queries(
+    alloc: Global,
+    generator: &mut Lcg64Xsh32,
+    n: u16,
+    count: u32,
+) -> Result<Vec<Queries>, NoMemory>
+    requires { 4 < n }
+    ensures { IfOk result (λ lists. draw_each 8 (λ r. draw_each count (λ q. draw_query n)) generator.old ≡ (lists.items, generator.new)) }
+{
+    let mut lists = Vec::new(alloc);
+    for _r in 0..8_u32 {
+        lists.push(draw_queries(alloc, generator, n, count)?)?;
+    }
+    Ok(lists)
+}
+
+/// Adds the commit of an update, and a start before each fifth.
+fn add_turn(script: &mut Script, u: u32) -> Result<(), NoMemory>
+    requires { length script.old ≤ 2000 }
+    ensures { OnOk result (script.new ≡ script.old ++ turn_of u) }
+{
+    if u % 5 == 0 {
+        script.start()?;
+    }
+    script.commit(u64::from(u % 4))?;
+    Ok(())
+}
+
+/// The script of so many updates.
+fn drill_script(alloc: Global, updates: u32) -> Result<Script, NoMemory>
+    requires { updates ≤ 1000 }
+    ensures { IfOk result (λ script. script ≡ drill_script updates) }
+{
+    let mut script = Script::new(alloc);
+    for u in 0..updates {
+        add_turn(&mut script, u)?;
+    }
+    script.start()?;
+    script.start()?;
+    Ok(script)
+}
+
+/// The three disks of so many items.
+fn drill_disks(alloc: Global, n: u16) -> Result<Vec<DiskPart>, NoMemory>
+    ensures { IfOk result (λ disks. with_freqs 0 disks.items ≡ drill_disks n) }
+{
+    let hot = n / 8;
+    let warm = n / 4;
+    let mut disks = Vec::new(alloc);
+    disks.push(DiskPart {
+        size: hot,
+        freq: Some(4),
+    })?;
+    disks.push(DiskPart {
+        size: warm,
+        freq: Some(2),
+    })?;
+    disks.push(DiskPart {
+        size: n - hot - warm,
+        freq: Some(1),
+    })?;
+    Ok(disks)
+}
+
+/// The eight readers.
+fn drill_readers(alloc: Global) -> Result<Vec<ReaderPlan>, NoMemory>
+    ensures { IfOk result (λ readers. readers.items ≡ drill_readers) }
+{
+    let plan = ReaderPlan {
+        room: 4,
+        age: 8,
+        tries: 3,
+    };
+    Ok(vec![in alloc; plan; 8]?)
+}
+
+/// The settings of a drill.
+fn drill_settings(seed: u64) -> Settings
+    ensures { result ≡ drill_settings seed }
+{
+    Settings {
+        policy: Policy::FMatrix,
+        cycles: DEFAULT_CYCLES as u32,
+        seed,
+        loss: 5,
+        again: 3,
+        late: 10,
+        monitors: 0,
+        hears: DEFAULT_HEARS as u32,
+    }
+}
+
+/// The deck of a drill.
+pub fn drill_deck(alloc: Global, seed: u64, size: u32) -> Result<Deck, NoMemory>
+    requires some { 1 ≤ size }
+    requires few { size ≤ MOST_DRILL_SIZE }
+    ensures { IfOk result (λ deck. deck ≡ drill_deck seed size) }
+{
+    let n = 16 + 2 * size as u16;
+    let mut generator = Lcg64Xsh32::new(seed, 1);
+    let items = draw_items(alloc, &mut generator, n)?;
+    let updates = draw_updates(alloc, &mut generator, n, 10 * size)?;
+    let queries = draw_all_queries(alloc, &mut generator, n, size)?;
+    let disks = drill_disks(alloc, n)?;
+    let readers = drill_readers(alloc)?;
+    let (script, starts) = drill_script(alloc, 10 * size)?.into_events();
+    drill_law();
+    Ok(Deck {
+        items,
+        disks,
+        delta: 0,
+        updates,
+        readers,
+        queries,
+        script,
+        starts,
+        settings: drill_settings(seed),
+    })
+}
