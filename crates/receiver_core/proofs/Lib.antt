@@ -6,7 +6,9 @@ pub mod WordLemmas
 pub mod SettlingLemmas
 pub mod StateLemmas
 pub mod OpenLemmas
+pub mod KeepsLemmas
 pub mod HearLemmas
+pub mod TurnLemmas
 pub mod StepLemmas
 pub mod FeedLemmas
 pub mod HeldLemmas

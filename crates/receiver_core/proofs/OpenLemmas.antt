@@ -1,26 +1,30 @@
--- An opened bucket: its read is new to the held ones, and what it does is what the rule says.
+-- A read that is tried: it is new to the held ones, and what an opened bucket does is what the rule says.
 use Rattle.std.proofs.Common.{◌≡◌, ◌≢◌, ℕ, zero, suc, ◌+◌, ◌<◌, ◌≤◌, Bool, false, ◌==◌, List, [], ◌∷◌, ◌++◌, length, map, take, get_or, All, Option, Some, None, refl, sym, ◌∙◌, ap, subst, inl, inr, arith}
 use Rattle.std.specs.List.{list_any, slice_get}
 use Rattle.std.proofs.lemmas.Bool.{eqb-false}
-use Rattle.std.proofs.lemmas.List.{length_push, map-append, take_more}
 use Rattle.std.proofs.lemmas.List.Elements.{All-cons, All-head, All-nil, All-tail}
-use Rattle.std.proofs.lemmas.Option.{get_or_from_slice_get, slice_get_within}
+use Rattle.std.proofs.lemmas.Option.{slice_get_within}
 use Rattle.air_base.specs.declared.verdicts.Clash.{Clash}
+use Rattle.air_base.specs.declared.verdicts.VerdictKind.TheVariants.{Abort}
+use Rattle.held_entries.specs.declared.held.TheConstants.{ROOM}
 use Rattle.air_history.specs.UpdateRules.{has_repeat}
 use Rattle.air_history.specs.Clashes.{is_late}
-use Rattle.air_model.specs.Buckets.{Bucket, IsInRange, count_of, item_of, kind_of}
+use Rattle.air_model.specs.Buckets.{Body, Bucket, Column, Idle, IsInRange, Vector, count_of, entries_of, item_of, kind_of, value_of}
+use Rattle.air_model.specs.Copies.{keep, with_copy, without}
 use Rattle.air_model.specs.Judges.{by_entries, heard_of, place_of}
 use Rattle.air_model.specs.Reads.{Read}
-use Rattle.air_model.specs.Sessions.{abort, accept_if_whole, comes_late, count_opened, open_bucket, query_of, wanted}
+use Rattle.air_model.specs.Sessions.{accept_if_whole, comes_late, next_attempt, open_bucket, query_of, wanted, with_line}
 use Rattle.air_model.proofs.MomentLemmas.{or_false}
 use Rattle.air_history.specs.HeldReads.{IsNew}
-use Rattle.receiver_core.specs.Steps.Attempts.{HeldValues, columns_of, read_of}
+use Rattle.pix_cache.specs.Caches.{Cache}
+use Rattle.receiver_core.specs.Steps.Attempts.{HeldValues, columns_of, read, read_of}
+use Rattle.receiver_core.specs.Steps.Offers.{without_clash}
 use Rattle.receiver_core.specs.LastReads.{in_state}
-use Rattle.receiver_core.specs.ReceiverView.{IsReceiver, receiver_in}
+use Rattle.receiver_core.specs.Receivers.{Receiver}
+use Rattle.receiver_core.specs.ReceiverView.{IsReceiver, IsWholeRead, receiver_in}
 use Rattle.receiver_core.specs.declared.receivers.Receiver.TheInside.{Inside}
-use Rattle.receiver_core.proofs.AttemptLemmas.{entries_counted}
 use Rattle.receiver_core.proofs.StateLemmas.{left}
-use Rattle.receiver_core.proofs.WordLemmas.{open_clash, open_clear}
+use Rattle.receiver_core.proofs.WordLemmas.{open_clash, open_clear, with_opened}
 
 -- ---- the wanted item isn't held
 
@@ -49,69 +53,102 @@ heard_differ (r ∷ R) i h = All-cons (λ g. g.item ≢ i) (heard_of r) (map hea
 -- ---- at the fields
 
 -- The query at hand.
-abbrev at_hand : Inside → List ℕ
+abbrev pub at_hand : Inside → List ℕ
 at_hand r = get_or r.reader.queries r.query []
 
-wanted_at : (r : Inside) (i : ℕ) → wanted (receiver_in r).reader (receiver_in r).state ≡ Some i → slice_get (at_hand r) (length r.held.reads) ≡ Some i
+pub wanted_at : (r : Inside) (i : ℕ) → wanted (receiver_in r).reader (receiver_in r).state ≡ Some i → slice_get (at_hand r) (length r.held.reads) ≡ Some i
 unfolding wanted query_of
 wanted_at r i w = w
 
-pub room_left : (r : Inside) (i : ℕ) → IsReceiver r → wanted (receiver_in r).reader (receiver_in r).state ≡ Some i → length r.held.reads < 16
+pub room_left : (r : Inside) (i : ℕ) → IsReceiver r → wanted (receiver_in r).reader (receiver_in r).state ≡ Some i → length r.held.reads < ROOM
 room_left r i k w =
     let within : length r.held.reads < length (at_hand r) = slice_get_within (at_hand r) (length r.held.reads) i (wanted_at r i w) in
-    let short : length (at_hand r) ≤ 16 = k.short.items r.query [] (left (receiver_in r).reader (receiver_in r).state i w) in
+    let short : length (at_hand r) ≤ ROOM = k.deck.short.items r.query [] (left (receiver_in r).reader (receiver_in r).state i w) in
     omega arith
 
-pub new_read : (r : Inside) (b : Bucket) → IsReceiver r → IsInRange b → kind_of b.body ≢ 0 → count_of b.body ≡ r.air.items →
-    wanted (receiver_in r).reader (receiver_in r).state ≡ Some (item_of b.body) → IsNew (columns_of r.held) (heard_of (read_of b))
-new_read r b k range busy counted w =
-    let i = item_of b.body in
-    let here : r.query < length r.reader.queries = left (receiver_in r).reader (receiver_in r).state i w in
-    let apart : All (λ j. j ≢ i) (take (length r.held.reads) (at_hand r)) = before_differ (at_hand r) (length r.held.reads) i (k.distinct r.query [] here) (wanted_at r i w) in
-    let all = k.items in
+-- A bucket with an item has as many entries as it counts.
+entries_counted : (body : Body) → kind_of body ≢ 0 → length (entries_of body) ≡ count_of body
+unfolding kind_of entries_of count_of
+entries_counted (Idle count) k = absurd (k refl)
+entries_counted (Column item value entries) k = refl
+entries_counted (Vector item value entries) k = refl
+
+-- What was taken of a bucket, part by part, is the read that it gives.
+pub read_parts : (b : Bucket) (item cycle value : ℕ) (entries : List ℕ) → item ≡ item_of b.body → cycle ≡ b.cycle → value ≡ value_of b.body → entries ≡ entries_of b.body →
+    read_of b ≡ read item cycle value entries
+read_parts b item cycle value entries i c v e =
+    ap (λ n. read n b.cycle (value_of b.body) (entries_of b.body)) (sym i) ∙ ap (λ n. read item n (value_of b.body) (entries_of b.body)) (sym c)
+    ∙ ap (λ n. read item cycle n (entries_of b.body)) (sym v) ∙ ap (read item cycle value) (sym e)
+
+-- The read of a bucket with an item and an entry for each of the items is whole.
+pub bucket_read : (b : Bucket) (n : ℕ) → IsInRange b → kind_of b.body ≢ 0 → count_of b.body ≡ n → IsWholeRead n (read_of b)
+bucket_read b n range busy counted = record {
+  within = elim range.placed [ inl idle ↦ absurd (busy idle) | inr below ↦ omega arith ];
+  sized = entries_counted b.body busy ∙ counted;
+  below = range.entries;
+}
+
+-- A whole read of the wanted item is new to the held ones.
+pub new_read : (r : Inside) (x : Read) → IsReceiver r → IsWholeRead r.air.items x → wanted (receiver_in r).reader (receiver_in r).state ≡ Some x.item → IsNew (columns_of r.held) (heard_of x)
+new_read r x k whole w =
+    let here : r.query < length r.reader.queries = left (receiver_in r).reader (receiver_in r).state x.item w in
+    let apart : All (λ j. j ≢ x.item) (take (length r.held.reads) (at_hand r)) = before_differ (at_hand r) (length r.held.reads) x.item (k.deck.distinct r.query [] here) (wanted_at r x.item w) in
+    let all = k.held.items in
+    let within = whole.within in
     record {
-      within = elim range.placed [ inl idle ↦ absurd (busy idle) | inr below ↦ omega arith ];
-      free = heard_differ r.held.reads i (subst (All (λ j. j ≢ i)) (sym k.first) apart);
-      sized = entries_counted b.body busy ∙ counted ∙ sym k.items;
-      below = range.entries;
+      within = omega arith;
+      free = heard_differ r.held.reads x.item (subst (All (λ j. j ≢ x.item)) (sym k.held.first) apart);
+      sized = whole.sized ∙ sym k.held.items;
+      below = whole.below;
     }
 
 -- Whether a read comes too late is told by the policy of the held reads as by the deck's.
 pub late_at : (r : Inside) (x : Read) (b : Bool) → IsReceiver r → b ≡ is_late r.held.policy (map place_of r.held.reads) (place_of x) → b ≡ comes_late (receiver_in r).air (receiver_in r).state x
-late_at r x b k e = e ∙ ap (λ p. is_late p (map place_of r.held.reads) (place_of x)) k.policy
+late_at r x b k e = e ∙ ap (λ p. is_late p (map place_of r.held.reads) (place_of x)) k.held.policy
+
+-- The same for a bucket's read, by its cycle.
+pub late_told : (r : Inside) (b : Bucket) (late : Bool) (cycle : ℕ) → IsReceiver r →
+    ((item : ℕ) → late ≡ is_late r.held.policy (map place_of r.held.reads) (record { item = item; cycle = cycle })) → cycle ≡ b.cycle →
+    comes_late (receiver_in r).air (receiver_in r).state (read_of b) ≡ late
+late_told r b late cycle k told e =
+    sym (late_at r (read_of b) late k (told (item_of b.body) ∙ ap (λ n. is_late r.held.policy (map place_of r.held.reads) (record { item = item_of b.body; cycle = n })) e))
 
 pub in_time_at : (r : Inside) (x : Read) (b : Bool) → IsReceiver r → comes_late (receiver_in r).air (receiver_in r).state x ≡ b → is_late r.held.policy (map place_of r.held.reads) (place_of x) ≡ b
-in_time_at r x b k e = ap (λ p. is_late p (map place_of r.held.reads) (place_of x)) k.policy ∙ e
+in_time_at r x b k e = ap (λ p. is_late p (map place_of r.held.reads) (place_of x)) k.held.policy ∙ e
 
--- The held items stay the query's first ones.
-pub more_first : (r : Inside) (held : HeldValues) (x : Read) → IsReceiver r → held ≡ record r.held { reads = r.held.reads ++ x ∷ [] } →
-    wanted (receiver_in r).reader (receiver_in r).state ≡ Some x.item → map (λ y. y.item) held.reads ≡ take (length held.reads) (at_hand r)
-more_first r held x k e w =
-    let reads : held.reads ≡ r.held.reads ++ x ∷ [] = ap (λ (h : HeldValues). h.reads) e in
-    let n = length r.held.reads in
-    let at : slice_get (at_hand r) n ≡ Some x.item = wanted_at r x.item w in
-    ap (map (λ y. y.item)) reads ∙ map-append (λ y. y.item) r.held.reads (x ∷ []) ∙ ap (λ is. is ++ x.item ∷ []) k.first
-    ∙ ap (λ i. take n (at_hand r) ++ i ∷ []) (sym (get_or_from_slice_get (at_hand r) n x.item x.item at))
-    ∙ sym (take_more (at_hand r) n x.item (slice_get_within (at_hand r) n x.item at))
-    ∙ ap (λ m. take m (at_hand r)) (sym (ap length reads ∙ length_push r.held.reads x))
+-- ---- an opened bucket
 
 -- The fields with one more opened bucket.
-abbrev pub opened_with : Inside → HeldValues → Inside
-opened_with r held = record r { counts = record r.counts { opened = r.counts.opened + 1 }; held = held }
+abbrev pub opened_with : Inside → HeldValues → Cache → Inside
+opened_with r held cache = record r { counts = record r.counts { opened = r.counts.opened + 1 }; held = held; copies = cache }
 
-pub opened_clear : (r : Inside) (held : HeldValues) (x : Read) → IsReceiver r → held ≡ record r.held { reads = r.held.reads ++ x ∷ [] } →
-    (by_entries r.air.scheme).clash r.held.reads x ≡ None →
-    in_state (receiver_in (opened_with r held)) (accept_if_whole (by_entries r.air.scheme) r.air r.reader (receiver_in (opened_with r held)).state)
-    ≡ in_state (receiver_in r) (open_bucket (by_entries r.air.scheme) r.air r.reader x (receiver_in r).state)
-unfolding count_opened
-opened_clear r held x k e none =
-    ap (λ h. in_state (receiver_in (opened_with r h)) (accept_if_whole (by_entries r.air.scheme) r.air r.reader (receiver_in (opened_with r h)).state)) e
-    ∙ ap (in_state (receiver_in r)) (open_clear r.air r.reader x (receiver_in r).state k.room refl none)
+-- The copies that stay of some and the new one, by the reader's room and the numbers of the air.
+kept_at : (r : Inside) (R : List Read) (x : Read) → IsReceiver r → keep r.copies.room r.copies.pix (with_copy x R) ≡ keep r.reader.plan.room r.air.pix (with_copy x R)
+kept_at r R x k = ap (λ n. keep n r.copies.pix (with_copy x R)) k.cache.room ∙ ap (λ p. keep r.reader.plan.room p (with_copy x R)) k.cache.pix
 
-pub opened_clash : (r : Inside) (held : HeldValues) (x : Read) (c : Clash) → IsReceiver r → held ≡ r.held → (by_entries r.air.scheme).clash r.held.reads x ≡ Some c →
-    in_state (receiver_in (opened_with r held)) (abort (by_entries r.air.scheme) r.air r.reader x c.item (receiver_in (opened_with r held)).state)
+-- The cache once the read is offered, without the copy of the item that clashes.
+abbrev pub offered_to : Inside → Read → Option Clash → Cache
+offered_to r x clash = record r.copies { copies = keep r.copies.room r.copies.pix (with_copy x (without_clash clash r.copies.copies)) }
+
+pub opened_clear : (r : Inside) (held : HeldValues) (cache : Cache) (x : Read) → IsReceiver r → held ≡ record r.held { reads = r.held.reads ++ x ∷ [] } →
+    cache ≡ offered_to r x None → (by_entries r.air.scheme).clash r.held.reads x ≡ None →
+    in_state (receiver_in (opened_with r held cache)) (accept_if_whole (by_entries r.air.scheme) r.air r.reader (receiver_in (opened_with r held cache)).state)
     ≡ in_state (receiver_in r) (open_bucket (by_entries r.air.scheme) r.air r.reader x (receiver_in r).state)
-unfolding count_opened
-opened_clash r held x c k e some =
-    ap (λ h. in_state (receiver_in (opened_with r h)) (abort (by_entries r.air.scheme) r.air r.reader x c.item (receiver_in (opened_with r h)).state)) e
-    ∙ ap (in_state (receiver_in r)) (open_clash r.air r.reader x c (receiver_in r).state k.room refl some)
+opened_clear r held cache x k e f none =
+    ap (λ h. in_state (receiver_in (opened_with r h cache)) (accept_if_whole (by_entries r.air.scheme) r.air r.reader (receiver_in (opened_with r h cache)).state)) e
+    ∙ ap (λ (c : Cache). in_state (receiver_in r) (accept_if_whole (by_entries r.air.scheme) r.air r.reader (record (with_opened (receiver_in r).state) { held = r.held.reads ++ x ∷ []; copies = c.copies }))) f
+    ∙ ap (λ cs. in_state (receiver_in r) (accept_if_whole (by_entries r.air.scheme) r.air r.reader (record (with_opened (receiver_in r).state) { held = r.held.reads ++ x ∷ []; copies = cs }))) (kept_at r r.copies.copies x k)
+    ∙ ap (in_state (receiver_in r)) (open_clear r.air r.reader x (receiver_in r).state none)
+
+-- The receiver after the abort, with these copies.
+abbrev ended : Inside → Read → Clash → List Read → Receiver
+ended r x c cs = in_state (receiver_in r) (next_attempt r.reader (with_line (by_entries r.air.scheme) (Abort x.item x.cycle c.item) (record (with_opened (receiver_in r).state) { copies = cs })))
+
+pub opened_clash : (r : Inside) (held : HeldValues) (cache : Cache) (x : Read) (c : Clash) → IsReceiver r → held ≡ r.held →
+    cache ≡ offered_to r x (Some c) → (by_entries r.air.scheme).clash r.held.reads x ≡ Some c →
+    in_state (receiver_in (opened_with r held cache)) (next_attempt r.reader (with_line (by_entries r.air.scheme) (Abort x.item x.cycle c.item) (receiver_in (opened_with r held cache)).state))
+    ≡ in_state (receiver_in r) (open_bucket (by_entries r.air.scheme) r.air r.reader x (receiver_in r).state)
+opened_clash r held cache x c k e f some =
+    ap (λ h. in_state (receiver_in (opened_with r h cache)) (next_attempt r.reader (with_line (by_entries r.air.scheme) (Abort x.item x.cycle c.item) (receiver_in (opened_with r h cache)).state))) e
+    ∙ ap (λ (t : Cache). ended r x c t.copies) f ∙ ap (ended r x c) (kept_at r (without c.item r.copies.copies) x k)
+    ∙ ap (in_state (receiver_in r)) (open_clash r.air r.reader x c (receiver_in r).state some)

@@ -1,5 +1,5 @@
 -- A receiver from state to state.
-use Rattle.std.proofs.Common.{◌≡◌, ℕ, ◌<◌, Bool, true, false, not, nat_lt, IsTrue, List, [], ◌∷◌, ◌++◌, length, map, Option, Some, None, refl, sym, ◌∙◌, ap, subst, inl, inr}
+use Rattle.std.proofs.Common.{◌≡◌, ℕ, ◌<◌, Bool, true, false, not, ◌&&◌, nat_lt, IsTrue, List, [], ◌∷◌, ◌++◌, length, map, Option, Some, None, refl, sym, ◌∙◌, ap, subst, inl, inr}
 use Rattle.std.specs.List.{slice_get}
 use Rattle.std.specs.Option.{is_some}
 use Rattle.std.proofs.lemmas.Bool.{cases_lt, cond-false, cond-true}
@@ -10,15 +10,14 @@ use Rattle.air_base.specs.declared.verdicts.VerdictKind.{VerdictKind}
 use Rattle.air_base.specs.declared.verdicts.VerdictKind.TheVariants.{Accept}
 use Rattle.air_model.specs.Aired.{Air}
 use Rattle.air_model.specs.Judges.{Judge, by_entries}
-use Rattle.air_model.specs.Sessions.{Reader, State, accept_if_whole, line_of, next_attempt, next_query, query_of, wanted, with_line}
-use Rattle.air_model.proofs.MomentLemmas.{cond_keeps}
-use Rattle.receiver_core.specs.Steps.Attempts.{shown_of}
+use Rattle.air_model.specs.Sessions.{Reader, State, accept_if_whole, copy_of, line_of, next_attempt, next_query, query_of, wanted, with_line}
+use Rattle.air_model.proofs.MomentLemmas.{cond_keeps, none_from}
+use Rattle.receiver_core.specs.Steps.Attempts.{line_read}
 use Rattle.receiver_core.specs.LastReads.{in_state, last_reads}
 use Rattle.receiver_core.specs.LinesGiven.{lines_of}
 use Rattle.receiver_core.specs.Receivers.{IsSettled, Receiver}
 use Rattle.receiver_core.specs.ReceiverView.{receiver_in}
 use Rattle.receiver_core.specs.declared.receivers.Receiver.TheInside.{Inside}
-use Rattle.receiver_core.proofs.WordLemmas.{copy_none}
 
 abbrev J : Air → Judge
 J air = by_entries air.scheme
@@ -63,7 +62,7 @@ left reader s i w = elim (cases_lt s.query (length reader.queries)) as (λ _. s.
 -- ---- at the fields
 
 -- The verdict with the held reads.
-pub give_is : (r : Inside) (last : List ReadOf) (kind : VerdictKind) → (receiver_in r).state.lines ≡ [] → last ≡ map shown_of r.held.reads →
+pub give_is : (r : Inside) (last : List ReadOf) (kind : VerdictKind) → (receiver_in r).state.lines ≡ [] → last ≡ map line_read r.held.reads →
     receiver_in (record r { waiting = Some (record { query = r.query; attempt = r.attempt; kind = kind }); last = last }) ≡ in_state (receiver_in r) (with_line (J r.air) kind (receiver_in r).state)
 unfolding with_line line_of by_entries last_reads
 give_is r last kind free e =
@@ -84,7 +83,8 @@ none_waits None last false e = absurd (let f : false ≡ true = e in cc)
 none_waits (Some v) last true e = absurd (let f : true ≡ false = e in cc)
 none_waits (Some v) last false e = (λ t. absurd (let f : false ≡ true = t in cc), λ f. absurd (let g : lines_of (Some v) last ≡ [] = f in cc))
 
-pub settled_is : (r : Inside) (b : Bool) → is_some r.waiting ≡ not b → (IsTrue b → IsSettled (receiver_in r)) × (IsSettled (receiver_in r) → IsTrue b)
-settled_is r b e =
-    let both = none_waits r.waiting r.last b e in
-    (λ t. record { given = both.0 t; free = copy_none (wanted r.reader (receiver_in r).state) (receiver_in r).state refl }, λ s. both.1 s.given)
+pub settled_is : (r : Inside) (b c : Bool) → is_some r.waiting ≡ not b → c ≡ is_some (copy_of (wanted (receiver_in r).reader (receiver_in r).state) (receiver_in r).state) →
+    (IsTrue (b && not c) → IsSettled (receiver_in r)) × (IsSettled (receiver_in r) → IsTrue (b && not c))
+settled_is r true true e f = (λ t. absurd (let g : false ≡ true = t in cc), λ s. absurd (let g : true ≡ false = f ∙ ap is_some s.free in cc))
+settled_is r true false e f = (λ t. record { given = (none_waits r.waiting r.last true e).0 refl; free = none_from _ (sym f) }, λ s. refl)
+settled_is r false c e f = (λ t. absurd (let g : false ≡ true = t in cc), λ s. absurd (let g : false ≡ true = (none_waits r.waiting r.last false e).1 s.given in cc))

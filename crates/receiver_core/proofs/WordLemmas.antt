@@ -1,93 +1,109 @@
--- The words of a session where no copy is kept and there is room for none.
-use Rattle.std.proofs.Common.{◌≡◌, ℕ, zero, suc, ◌<◌, ◌≤◌, Bool, false, nat_lt, ◌==◌, List, [], ◌∷◌, ◌++◌, length, Option, Some, None, refl, sym, ◌∙◌, ap, arith}
-use Rattle.std.specs.Prelude.{sum_by}
-use Rattle.std.specs.List.{filter, count_by, find}
-use Rattle.std.specs.Option.{is_some}
-use Rattle.std.proofs.lemmas.Bool.{cond-true, cond-false, le-ltb, lt-ltb}
+-- The words of a session, taken apart as a receiver takes them: what is opened, what a copy does, and the end.
+use Rattle.std.proofs.Common.{◌≡◌, ℕ, ◌+◌, ◌-◌, ◌==◌, ◌<◌, ◌≤◌, Bool, true, false, cond, not, ◌||◌, nat_lt, [], ◌∷◌, ◌++◌, length, Option, Some, None, refl, sym, ◌∙◌, ap}
+use Rattle.std.specs.List.{find}
+use Rattle.std.specs.Option.{is_some, option_map_or}
+use Rattle.std.proofs.lemmas.Bool.{cond-false, cond-true, le-ltb, lt-ltb}
 use Rattle.air_base.specs.declared.verdicts.Clash.{Clash}
-use Rattle.air_base.specs.declared.verdicts.VerdictKind.TheVariants.{Abort, Unfinished}
+use Rattle.air_base.specs.declared.verdicts.VerdictKind.TheVariants.{Abort, Accept, Unfinished}
 use Rattle.air_model.specs.Aired.{Air}
-use Rattle.air_model.specs.Copies.{goes_before, keep, with_copy, without}
+use Rattle.air_model.specs.Copies.{keep, with_copy, without}
 use Rattle.air_model.specs.Judges.{Judge, by_entries}
 use Rattle.air_model.specs.Reads.{Read}
-use Rattle.air_model.specs.Sessions.{Reader, State, abort, accept_if_whole, copy_of, count_opened, decide, drop_copy, end_query, hold, next_attempt, next_query, offer, open_bucket, turn, turn_with, wanted, with_line}
-use Rattle.receiver_core.specs.ReceiverSteps.{step, turn_to_line}
-use Rattle.air_model.proofs.MomentLemmas.{cond_keeps}
+use Rattle.air_model.specs.Sessions.{Reader, State, abort, accept_if_whole, comes_late, copy_of, count_copied, count_opened, decide, drop_copy, end_query, hold, is_unusable, next_attempt, next_query, offer, open_bucket, query_of, turn, turn_with, wanted, with_line}
+use Rattle.receiver_core.specs.Steps.Turns.{uses_copy}
 
 abbrev J : Air → Judge
 J air = by_entries air.scheme
 
--- No copy is kept.
-abbrev pub NoCopies : State → Type 0
-NoCopies s = s.copies ≡ []
+cond_after : (f : State → State) (b : Bool) (x y : State) → cond b (f x) (f y) ≡ f (cond b x y)
+cond_after f true x y = refl
+cond_after f false x y = refl
 
-filter_none : (f : Read → Bool) (R : List Read) → ((r : Read) → f r ≡ false) → filter f R ≡ []
-filter_none f [] h = refl
-filter_none f (r ∷ R) h = cond-false (f r) _ _ (h r) ∙ filter_none f R h
+-- ---- an opened bucket
 
-drop_none : (i : ℕ) (s : State) → NoCopies s → s ≡ drop_copy i s
-unfolding drop_copy without
-drop_none i s e = ap (λ cs. let t : State = record s { copies = cs } in t) (e ∙ sym (ap (λ cs. without i cs) e))
+-- The state with one more opened bucket.
+abbrev pub with_opened : State → State
+with_opened s = record s { counts = record s.counts { opened = s.counts.opened + 1 } }
 
-offer_none : (air : Air) (reader : Reader) (x : Read) (s : State) → reader.plan.room ≡ 0 → NoCopies s → s ≡ offer air reader x s
-unfolding offer keep
-offer_none air reader x s room e = ap (λ cs. let t : State = record s { copies = cs } in t)
-    (e ∙ sym (ap (λ n. filter (λ a. nat_lt (count_by (λ b. goes_before air.pix b a) (with_copy x s.copies)) n) (with_copy x s.copies)) room
-    ∙ filter_none _ (with_copy x s.copies) (λ a. le-ltb (count_by (λ b. goes_before air.pix b a) (with_copy x s.copies)) 0 (omega arith))))
+-- The read is held and offered, and then the query is accepted if it is whole.
+pub open_clear : (air : Air) (reader : Reader) (x : Read) (s : State) → (J air).clash s.held x ≡ None →
+    accept_if_whole (J air) air reader (record (with_opened s) { held = s.held ++ x ∷ []; copies = keep reader.plan.room air.pix (with_copy x s.copies) }) ≡ open_bucket (J air) air reader x s
+unfolding open_bucket decide hold accept_if_whole offer with_line next_query wanted query_of count_opened
+open_clear air reader x s e =
+    let t : State = record (with_opened s) { held = s.held ++ x ∷ [] } in
+    cond_after (offer air reader x) (is_some (wanted reader t)) t (next_query (with_line (J air) Accept t))
+    ∙ ap (λ o. offer air reader x (decide (J air) air reader x o (count_opened s))) (sym e)
 
-pub abort_is : (air : Air) (reader : Reader) (x : Read) (i : ℕ) (s : State) → NoCopies s → next_attempt reader (with_line (J air) (Abort x.item x.cycle i) s) ≡ abort (J air) air reader x i s
-unfolding abort with_line
-abort_is air reader x i s e = ap (next_attempt reader) (drop_none i (with_line (J air) (Abort x.item x.cycle i) s) e)
+-- The clash's copy is dropped and the read offered, and then the attempt ends.
+pub open_clash : (air : Air) (reader : Reader) (x : Read) (c : Clash) (s : State) → (J air).clash s.held x ≡ Some c →
+    next_attempt reader (with_line (J air) (Abort x.item x.cycle c.item) (record (with_opened s) { copies = keep reader.plan.room air.pix (with_copy x (without c.item s.copies)) })) ≡ open_bucket (J air) air reader x s
+unfolding open_bucket decide abort offer with_line drop_copy next_attempt next_query count_opened
+open_clash air reader x c s e =
+    let t = drop_copy c.item (with_line (J air) (Abort x.item x.cycle c.item) (count_opened s)) in
+    cond_after (offer air reader x) (nat_lt s.attempt reader.plan.tries) (record t { attempt = t.attempt + 1; held = [] }) (next_query t)
+    ∙ ap (λ o. offer air reader x (decide (J air) air reader x o (count_opened s))) (sym e)
 
-decide_none : (air : Air) (reader : Reader) (x : Read) (o : Option Clash) (s : State) → NoCopies s → NoCopies (decide (J air) air reader x o s)
-unfolding decide hold accept_if_whole abort next_attempt next_query with_line drop_copy without
-decide_none air reader x None s e = cond_keeps NoCopies (is_some (wanted reader (record s { held = s.held ++ x ∷ [] }))) _ _ (λ _. e) (λ _. e)
-decide_none air reader x (Some c) s e = cond_keeps NoCopies (nat_lt s.attempt reader.plan.tries) _ _ (λ _. ap (without c.item) e) (λ _. ap (without c.item) e)
+-- ---- a copy
 
--- An opened bucket does what is decided on its read.
-open_is : (air : Air) (reader : Reader) (x : Read) (o : Option Clash) (s : State) → reader.plan.room ≡ 0 → NoCopies s → (J air).clash s.held x ≡ o → decide (J air) air reader x o (count_opened s) ≡ open_bucket (J air) air reader x s
-unfolding open_bucket count_opened
-open_is air reader x o s room none e =
-    offer_none air reader x _ room (decide_none air reader x o (count_opened s) none) ∙ ap (λ p. offer air reader x (decide (J air) air reader x p (count_opened s))) (sym e)
-
-pub open_clear : (air : Air) (reader : Reader) (x : Read) (s : State) → reader.plan.room ≡ 0 → NoCopies s → (J air).clash s.held x ≡ None →
-    accept_if_whole (J air) air reader (record (count_opened s) { held = s.held ++ x ∷ [] }) ≡ open_bucket (J air) air reader x s
-unfolding hold decide count_opened
-open_clear air reader x s room none e = open_is air reader x None s room none e
-
-pub open_clash : (air : Air) (reader : Reader) (x : Read) (c : Clash) (s : State) → reader.plan.room ≡ 0 → NoCopies s → (J air).clash s.held x ≡ Some c →
-    abort (J air) air reader x c.item (count_opened s) ≡ open_bucket (J air) air reader x s
-unfolding decide
-open_clash air reader x c s room none e = open_is air reader x (Some c) s room none e
-
--- ---- settling and the end
-
-pub copy_none : (w : Option ℕ) (s : State) → NoCopies s → copy_of w s ≡ None
+-- Where no item is wanted, no copy is.
+pub no_copy : (s : State) → copy_of None s ≡ None
 unfolding copy_of
-copy_none None s e = refl
-copy_none (Some i) s e = ap (λ cs. find (λ r. r.item == i) cs) e
+no_copy s = refl
+
+pub copy_in : (s : State) (w : Option ℕ) (i : ℕ) (o : Option Read) → w ≡ Some i → find (λ r. r.item == i) s.copies ≡ o → copy_of w s ≡ o
+unfolding copy_of
+copy_in s w i o w_is e = ap (λ v. copy_of v s) w_is ∙ e
+
+pub unused : (air : Air) (reader : Reader) (s : State) → copy_of (wanted reader s) s ≡ None → false ≡ uses_copy air reader s
+unused air reader s e = sym (ap (λ o. option_map_or (λ x. not (is_unusable (J air) air reader x s)) o false) e)
+
+pub unturned : (air : Air) (reader : Reader) (s : State) → copy_of (wanted reader s) s ≡ None → turn (J air) air reader s ≡ s
+unfolding turn turn_with
+unturned air reader s e = ap (λ o. turn_with (J air) air reader o s) e
+
+module _ (air : Air) (reader : Reader) (x : Read) (s : State) (e : copy_of (wanted reader s) s ≡ Some x) where
+  used_is : uses_copy air reader s ≡ not (is_unusable (J air) air reader x s)
+  used_is = ap (λ o. option_map_or (λ x. not (is_unusable (J air) air reader x s)) o false) e
+
+  turn_is : turn (J air) air reader s ≡ cond (is_unusable (J air) air reader x s) (drop_copy x.item s) (hold (J air) air reader x (count_copied s))
+  unfolding turn turn_with
+  turn_is = ap (λ o. turn_with (J air) air reader o s) e
+
+  -- A copy that can't be used is dropped.
+  pub dropped : is_unusable (J air) air reader x s ≡ true → turn (J air) air reader s ≡ drop_copy x.item s
+  dropped u = turn_is ∙ cond-true (is_unusable (J air) air reader x s) _ _ u
+
+  pub dropped_unused : is_unusable (J air) air reader x s ≡ true → false ≡ uses_copy air reader s
+  dropped_unused u = sym (used_is ∙ ap not u)
+
+  -- One that can be used is held.
+  pub taken : is_unusable (J air) air reader x s ≡ false → turn (J air) air reader s ≡ hold (J air) air reader x (count_copied s)
+  taken u = turn_is ∙ cond-false (is_unusable (J air) air reader x s) _ _ u
+
+  pub taken_used : is_unusable (J air) air reader x s ≡ false → true ≡ uses_copy air reader s
+  taken_used u = sym (used_is ∙ ap not u)
+
+-- What makes a copy unusable, and what makes it usable.
+module _ (air : Air) (reader : Reader) (x : Read) (s : State) where
+  pub stale : (nat_lt reader.plan.age (s.now - x.cycle) || comes_late air s x) ≡ true → is_unusable (J air) air reader x s ≡ true
+  unfolding is_unusable
+  stale e = ap (λ b. b || is_some ((J air).clash s.held x)) e
+
+  pub clashing : (c : Clash) → (nat_lt reader.plan.age (s.now - x.cycle) || comes_late air s x) ≡ false → (J air).clash s.held x ≡ Some c → is_unusable (J air) air reader x s ≡ true
+  unfolding is_unusable
+  clashing c fresh e = ap (λ b. b || is_some ((J air).clash s.held x)) fresh ∙ ap is_some e
+
+  pub usable : (nat_lt reader.plan.age (s.now - x.cycle) || comes_late air s x) ≡ false → (J air).clash s.held x ≡ None → is_unusable (J air) air reader x s ≡ false
+  unfolding is_unusable
+  usable fresh clear = ap (λ b. b || is_some ((J air).clash s.held x)) fresh ∙ ap is_some clear
+
+-- ---- the end
 
 module _ (judge : Judge) (air : Air) (reader : Reader) where
-  turn_none : (s : State) → NoCopies s → turn judge air reader s ≡ s
-  unfolding turn turn_with
-  turn_none s e = ap (λ o. turn_with judge air reader o s) (copy_none (wanted reader s) s e)
-
-  turns_none : (n : ℕ) (s : State) → NoCopies s → turn_to_line judge air reader n s ≡ s
-  unfolding turn_to_line
-  turns_none zero s e = refl
-  turns_none (suc n) s e = cond_keeps (λ t. t ≡ s) (nat_lt 0 (length s.lines)) _ _ (λ _. refl) (λ _. ap (turn_to_line judge air reader n) (turn_none s e) ∙ turns_none n s e)
-
-  pub step_none : (s : State) → NoCopies s → s ≡ step judge air reader s
-  unfolding step
-  step_none s e = sym (turns_none (sum_by length reader.queries) s e)
-
-  pub end_left : (s : State) → NoCopies s → s.query < length reader.queries → next_query (with_line judge Unfinished s) ≡ end_query judge air reader s
+  pub end_left : (s : State) → s.query < length reader.queries → next_query (with_line judge Unfinished (record s { copies = [] })) ≡ end_query judge air reader s
   unfolding end_query with_line next_query
-  end_left s e l =
-      let t = next_query (with_line judge Unfinished s) in
-      ap (λ cs. let u : State = record t { copies = cs } in u) e ∙ ap (λ v. let u : State = record v { copies = [] } in u) (sym (cond-true (nat_lt s.query (length reader.queries)) _ _ (lt-ltb s.query (length reader.queries) l)))
+  end_left s l = ap (λ v. let u : State = record v { copies = [] } in u) (sym (cond-true (nat_lt s.query (length reader.queries)) _ _ (lt-ltb s.query (length reader.queries) l)))
 
-  pub end_past : (s : State) → NoCopies s → length reader.queries ≤ s.query → s ≡ end_query judge air reader s
+  pub end_past : (s : State) → length reader.queries ≤ s.query → (let u : State = record s { copies = [] } in u) ≡ end_query judge air reader s
   unfolding end_query
-  end_past s e l =
-      ap (λ cs. let u : State = record s { copies = cs } in u) e ∙ ap (λ v. let u : State = record v { copies = [] } in u) (sym (cond-false (nat_lt s.query (length reader.queries)) _ _ (le-ltb s.query (length reader.queries) l)))
+  end_past s l = ap (λ v. let u : State = record v { copies = [] } in u) (sym (cond-false (nat_lt s.query (length reader.queries)) _ _ (le-ltb s.query (length reader.queries) l)))

@@ -2,5 +2,7 @@
 pub mod AirView
 pub mod AttemptView
 pub mod Attempts
+pub mod Offers
 pub mod PolicyReads
 pub mod SlotKinds
+pub mod Turns

@@ -2,11 +2,12 @@
 
 ghost use Rattle.std.specs.Prelude.{◌≡◌, ◌<◌, ◌≤◌, List, length, map, IfOk};
 ghost use Rattle.std.specs.List.{enumerate_from};
+ghost use Rattle.air_base.specs.declared.limits.TheConstants.{MOST_ITEMS};
 ghost use Rattle.air_model.specs.Buckets.{item_of, kind_of};
 ghost use Rattle.air_model.specs.Aired.{air_of, airs_columns, fits};
 ghost use Rattle.air_model.specs.Airings.{carries, pix_number};
 ghost use Rattle.air_model.specs.Decks.{disks_in, rates_in};
-ghost use Rattle.air_model.specs.Programs.{program};
+ghost use Rattle.air_model.specs.Programs;
 ghost use Rattle.receiver_core.specs.Steps.SlotKinds.{kind_fits};
 
 use air_base::{NoMemory, Policy};
@@ -37,15 +38,18 @@ impl Model for Air {
 
 impl Air {
     /// What the receivers of a deck know.
-    pub fn new(alloc: Global, deck: &Deck, plan: &Program) -> Result<Air, NoMemory>
-        requires { plan.now ≡ disks_in deck.now }
-        ensures { IfOk result (λ a. a ≡ air_of deck.now) }
+    pub fn new(alloc: Global, deck: &Deck, program: &Program) -> Result<Air, NoMemory>
+        requires { program.now ≡ disks_in deck.now }
+        ensures told { IfOk result (λ a. a ≡ air_of deck.now) }
+        ensures numbers { IfOk result (λ a. length a.pix ≡ a.items) }
+        ensures few { IfOk result (λ a. a.items ≤ MOST_ITEMS) }
     {
+        deck.well_made();
         Ok(Air {
             policy: deck.settings().policy,
             items: deck.items(),
-            slots: slots(alloc, plan)?,
-            pix: pix_numbers(alloc, deck, plan)?,
+            slots: slots(alloc, program)?,
+            pix: pix_numbers(alloc, deck, program)?,
         })
     }
 
@@ -61,6 +65,13 @@ impl Air {
         ensures { result ≡ self.now.items }
     {
         self.items
+    }
+
+    /// The PIX number of each item.
+    pub fn pix(&self) -> &[u64]
+        ensures { result.now ≡ self.now.pix }
+    {
+        self.pix.as_slice()
     }
 
     /// Whether the bucket fits the deck.
@@ -108,29 +119,25 @@ fn stands_right(policy: Policy, slot: Option<u16>, bucket: &BucketView<'_>) -> b
 }
 
 /// The item of each slot of the program.
-fn slots(alloc: Global, plan: &Program) -> Result<Vec<Option<u16>>, NoMemory>
-    ensures { IfOk result (λ slots. slots.items ≡ program plan.now) }
+fn slots(alloc: Global, program: &Program) -> Result<Vec<Option<u16>>, NoMemory>
+    ensures { IfOk result (λ slots. slots.items ≡ Programs.program program.now) }
 {
     let mut slots = Vec::new(alloc);
-    for slot in 0..plan.slots() {
-        let Ok(()) = slots.push(plan.slot_item(slot)) else {
-            return Err(NoMemory);
-        };
+    for slot in 0..program.slots() {
+        slots.push(program.slot_item(slot))?;
     }
     Ok(slots)
 }
 
 /// The PIX number of each item.
-fn pix_numbers(alloc: Global, deck: &Deck, plan: &Program) -> Result<Vec<u64>, NoMemory>
-    requires { plan.now ≡ disks_in deck.now }
+fn pix_numbers(alloc: Global, deck: &Deck, program: &Program) -> Result<Vec<u64>, NoMemory>
+    requires { program.now ≡ disks_in deck.now }
     ensures { IfOk result (λ pix. pix.items ≡ map (λ p. pix_number (disks_in deck.now) p.0 p.1) (enumerate_from 0 (rates_in deck.now))) }
 {
     deck.well_made();
     let mut numbers = Vec::new(alloc);
     for item in 0..deck.items() {
-        let Ok(()) = numbers.push(plan.pix(item, deck.rate(item))) else {
-            return Err(NoMemory);
-        };
+        numbers.push(program.pix(item, deck.rate(item)))?;
     }
     Ok(numbers)
 }

@@ -1,20 +1,18 @@
 //! The reads that an attempt holds, and the one rule for a further read.
 //!
-//! The entries stand in `PolicyHeld`, which judges by them; beside it stand the reads as verdict lines show them. The
-//! entries of one bucket are filled into one place that is made once. Contracts see the held reads in order.
+//! The entries stand in `PolicyHeld`, which judges by them; beside it stand the reads as verdict lines have them. A further
+//! read is of a bucket or of a kept copy. Contracts see the held reads in order.
 
-ghost use Rattle.std.specs.Prelude.{◌≡◌, ◌≢◌, ◌<◌, [], ◌∷◌, ◌++◌, false, length, map, IfOk, MatchOption};
+ghost use Rattle.std.specs.Prelude.{◌≡◌, ℕ, ◌<◌, [], ◌∷◌, ◌++◌, false, length, map, IfOk, MatchOption};
 ghost use Rattle.air_history.specs.Columns.{scheme_of};
 ghost use Rattle.air_history.specs.Clashes.{is_late};
-ghost use Rattle.air_model.specs.Buckets.{kind_of};
 ghost use Rattle.air_model.specs.Judges.{by_entries, heard_of, place_of};
 ghost use Rattle.air_history.specs.HeldReads.{IsNew};
-ghost use Rattle.receiver_core.specs.Steps.Attempts.{columns_of, read_of, shown_of};
+ghost use Rattle.receiver_core.specs.Steps.Attempts.{columns_of, line_read, read};
 
 use crate::policy_held::PolicyHeld;
 use crate::reads::ReadList;
 use air_base::{Clash, NoMemory, Policy, ReadOf};
-use bucket_codec::BucketView;
 use column_check::ROOM;
 use std::alloc::Global;
 use std::marker::Model;
@@ -23,8 +21,7 @@ use std::marker::Model;
 #[derive(Drop)]
 pub struct Attempt {
     held: PolicyHeld,
-    shown: ReadList,
-    entries: Vec<u32>,
+    line_reads: ReadList,
 }
 
 impl Model for Attempt {
@@ -46,8 +43,7 @@ impl Attempt {
     {
         Ok(Attempt {
             held: PolicyHeld::new(alloc, policy, items)?,
-            shown: ReadList::new(),
-            entries: vec![in alloc; 0; items as usize]?,
+            line_reads: ReadList::new(),
         })
     }
 
@@ -58,41 +54,33 @@ impl Attempt {
         self.held.len()
     }
 
-    /// The held reads as a verdict line shows them.
-    pub fn shown(&self) -> &[ReadOf]
-        ensures { result.now ≡ map shown_of self.now.reads }
+    /// The held reads as a verdict line has them.
+    pub fn line_reads(&self) -> &[ReadOf]
+        ensures { result.now ≡ map line_read self.now.reads }
     {
-        self.shown.as_slice()
+        self.line_reads.as_slice()
     }
 
-    /// Whether the bucket's read comes too late after the held ones.
-    pub fn is_late(&self, bucket: &BucketView<'_>) -> bool
-        ensures { result ≡ is_late self.now.policy (map place_of self.now.reads) (place_of (read_of bucket.now)) }
+    /// Whether a read in this cycle, of whatever item, comes too late after the held ones.
+    pub fn is_late(&self, cycle: u32) -> bool
+        ensures { (item : ℕ) → result ≡ is_late self.now.policy (map place_of self.now.reads) (record { item = item; cycle = cycle }) }
     {
-        self.held.is_late(bucket.cycle())
+        self.held.is_late(cycle)
     }
 
-    /// Holds the bucket's read where it clashes with no held one, and else names the clash.
-    pub fn try_hold(&mut self, bucket: &BucketView<'_>) -> Option<Clash>
+    /// Holds the read where it clashes with no held one, and else names the clash.
+    pub fn try_hold(&mut self, item: u16, cycle: u32, value: u64, entries: &[u32]) -> Option<Clash>
         requires room { length self.old.reads < ROOM }
-        requires busy { kind_of bucket.now.body ≢ 0 }
-        requires new { IsNew (columns_of self.old) (heard_of (read_of bucket.now)) }
-        requires in_time { is_late self.old.policy (map place_of self.old.reads) (place_of (read_of bucket.now)) ≡ false }
-        ensures clash { result ≡ (by_entries (scheme_of self.old.policy)).clash self.old.reads (read_of bucket.now) }
-        ensures held { MatchOption result (self.new ≡ record self.old { reads = self.old.reads ++ read_of bucket.now ∷ [] }) (λ _. self.new ≡ self.old) }
+        requires new { IsNew (columns_of self.old) (heard_of (read item cycle value entries.now)) }
+        requires in_time { is_late self.old.policy (map place_of self.old.reads) (place_of (read item cycle value entries.now)) ≡ false }
+        ensures clash { result ≡ (by_entries (scheme_of self.old.policy)).clash self.old.reads (read item cycle value entries.now) }
+        ensures held { MatchOption result (self.new ≡ record self.old { reads = self.old.reads ++ read item cycle value entries.now ∷ [] }) (λ _. self.new ≡ self.old) }
     {
-        let entries = self.entries.as_mut_slice();
-        bucket.fill(entries);
-        let (item, cycle) = (bucket.item(), bucket.cycle());
         if let Some(clash) = self.held.clashes(item, cycle, entries) {
             return Some(clash);
         }
         self.held.hold(item, cycle, entries);
-        self.shown.push(ReadOf {
-            item,
-            cycle,
-            value: bucket.value(),
-        });
+        self.line_reads.push(ReadOf { item, cycle, value });
         None
     }
 
@@ -101,6 +89,6 @@ impl Attempt {
         ensures { self.new ≡ record self.old { reads = [] } }
     {
         self.held.clear();
-        self.shown.clear();
+        self.line_reads.clear();
     }
 }

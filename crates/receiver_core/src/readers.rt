@@ -1,8 +1,9 @@
 //! What the deck says of one receiver: its plan, and its queries in order.
 
-ghost use Rattle.std.specs.Prelude.{◌≡◌, ◌↔◌, ◌<◌, [], get_or, length, map, slice_get, IfOk, IsTrue};
+ghost use Rattle.std.specs.Prelude.{◌≡◌, ◌↔◌, ◌<◌, ◌≤◌, [], get_or, length, map, slice_get, IfOk, IsTrue};
 ghost use Rattle.air_model.specs.Sessions.{reader_of};
-ghost use Rattle.receiver_core.specs.ReaderView.{AreDistinct, IsShort};
+ghost use Rattle.air_base.specs.declared.limits.TheConstants.{MOST_ROOM, MOST_TRIES};
+ghost use Rattle.receiver_core.specs.ReaderView.{AreDistinct, AreWithin, IsShort};
 
 use air_base::NoMemory;
 use air_model::deck::ReaderPlan;
@@ -34,12 +35,29 @@ impl Reader {
         ensures told { IfOk result (λ r. r ≡ reader_of deck.now number) }
         ensures short { IfOk result IsShort }
         ensures distinct { IfOk result AreDistinct }
+        ensures within { IfOk result (AreWithin (length deck.now.items)) }
+        ensures room { IfOk result (λ r. r.plan.room ≤ MOST_ROOM) }
+        ensures tries { IfOk result (λ r. r.plan.tries ≤ MOST_TRIES) }
     {
         deck.well_made();
         Ok(Reader {
             plan: deck.reader(number),
             queries: queries(alloc, deck, number)?,
         })
+    }
+
+    /// For how many copies there is room.
+    pub fn room(&self) -> u32
+        ensures { result ≡ self.now.plan.room }
+    {
+        self.plan.room
+    }
+
+    /// After how many cycles a copy is too old.
+    pub fn age(&self) -> u32
+        ensures { result ≡ self.now.plan.age }
+    {
+        self.plan.age
     }
 
     /// How often a query is tried.
@@ -79,9 +97,7 @@ fn queries(alloc: Global, deck: &Deck, number: u32) -> Result<Vec<Vec<u16>>, NoM
     let mut queries = Vec::new(alloc);
     for query in 0..deck.queries(number) {
         let items = deck.query(number, query).to_vec(alloc)?;
-        let Ok(()) = queries.push(items) else {
-            return Err(NoMemory);
-        };
+        queries.push(items)?;
     }
     Ok(queries)
 }

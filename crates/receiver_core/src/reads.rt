@@ -18,12 +18,13 @@ pub struct ReadList {
 impl Model for ReadList {
     ghost use Rattle.std.specs.Prelude.{◌≤◌, List, take};
     ghost use Rattle.air_base.specs.declared.verdicts.ReadOf.{ReadOf};
+    ghost use Rattle.held_entries.specs.declared.held.TheConstants.{ROOM};
 
     ghost Value = { List ReadOf };
 
     ghost view = { λ r. take r.len r.places };
 
-    ghost invariant = { λ r. r.len ≤ 16 };
+    ghost invariant = { λ r. r.len ≤ ROOM };
 }
 
 impl ReadList {

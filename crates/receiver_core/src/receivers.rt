@@ -1,6 +1,8 @@
 //! A receiver: fed with the bytes that it hears, it judges its own queries.
+//!
+//! `rules` has what a heard bucket does, `settling` what the kept copies do.
 
-ghost use Rattle.std.specs.Prelude.{◌≡◌, ◌↔◌, ◌<◌, ◌≤◌, ◌+◌, ◌^◌, [], length, slice_get, Err, IfOk, IfSome, IsNone, IsTrue};
+ghost use Rattle.std.specs.Prelude.{◌≡◌, ◌↔◌, ◌<◌, ◌≤◌, ◌+◌, ◌^◌, [], length, Err, IfOk, IsNone, IsTrue};
 ghost use Rattle.std.specs.Result.{result_ok};
 ghost use Rattle.air_model.specs.Buckets.{IsInRange, bucket_in, reading};
 ghost use Rattle.air_model.specs.Decks.{disks_in};
@@ -13,15 +15,18 @@ ghost use Rattle.receiver_core.specs.LastReads.{last_reads};
 ghost use Rattle.receiver_core.specs.Receivers.{IsSettled, heard_count, receiver_of, stepped};
 
 mod rules;
+mod settling;
 
 use crate::airs::Air;
 use crate::attempts::Attempt;
 use crate::readers::Reader;
 use crate::reads::ReadList;
+use crate::receivers::settling::drop_all;
 use air_base::{Counts, NoMemory, ReadOf, Verdict, VerdictKind};
 use bucket_codec::{BucketFault, BucketView, decode};
 use chunk_program::Program;
 use item_catalog::Deck;
+use pix_cache::PixCache;
 use std::alloc::Global;
 use std::marker::Model;
 
@@ -59,6 +64,8 @@ pub struct Receiver {
     query: u32,
     attempt: u32,
     held: Attempt,
+    copies: PixCache,
+    column: Vec<u32>,
     latest: u32,
     counts: Counts,
     waiting: Option<Verdict>,
@@ -78,7 +85,7 @@ impl Model for Receiver {
 }
 
 impl Receiver {
-    /// The deck's receiver of a number, at its start. It judges by the deck's policy, and keeps no copies.
+    /// The deck's receiver of a number, at its start. It takes all memory.
     pub fn new(
         alloc: Global,
         deck: &Deck,
@@ -87,12 +94,13 @@ impl Receiver {
     ) -> Result<Receiver, NoMemory>
         requires number { number < length deck.now.readers }
         requires program { program.now ≡ disks_in deck.now }
-        requires room { IfSome (slice_get deck.now.readers number) (λ plan. plan.room ≡ 0) }
         ensures { IfOk result (λ r. r ≡ receiver_of deck.now number) }
     {
         let air = Air::new(alloc, deck, program)?;
         let reader = Reader::new(alloc, deck, number)?;
         let held = Attempt::new(alloc, air.policy(), air.items())?;
+        let copies = PixCache::new(alloc, reader.room(), air.pix())?;
+        let column = vec![in alloc; 0; air.items() as usize]?;
         let counts = Counts {
             opened: 0,
             dozed: 0,
@@ -107,6 +115,8 @@ impl Receiver {
             query: 0,
             attempt: 1,
             held,
+            copies,
+            column,
             latest: 0,
             counts,
             waiting: None,
@@ -118,7 +128,7 @@ impl Receiver {
     pub fn settled(&self) -> bool
         ensures { IsTrue result ↔ IsSettled self.now }
     {
-        self.waiting.is_none()
+        self.waiting.is_none() && !self.has_copy()
     }
 
     /// Hears one bucket's bytes.
@@ -175,6 +185,10 @@ impl Receiver {
         ensures last { self.new.last ≡ last_reads (lines_given result self.new.last) self.old.last }
         ensures heard { heard_count self.new.state.counts ≡ heard_count self.old.state.counts }
     {
+        if let Some(verdict) = self.waiting.take() {
+            return Step::Verdict(verdict);
+        }
+        self.settle_to_line();
         match self.waiting.take() {
             Some(verdict) => Step::Verdict(verdict),
             None if self.reader.has(self.query) => Step::Waiting,
@@ -193,6 +207,7 @@ impl Receiver {
         ensures reader { self.new.reader ≡ self.old.reader }
         ensures last { self.new.last ≡ last_reads (lines_of result self.new.last) self.old.last }
     {
+        drop_all(&mut self.copies, self.air.items());
         if !self.reader.has(self.query) {
             return None;
         }

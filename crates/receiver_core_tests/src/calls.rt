@@ -78,9 +78,6 @@ fn receiver(alloc: Global, text: &[u8], number: u32) -> Result<Receiver, Fail> {
     if number >= deck.readers() {
         return Err("no such reader".into());
     }
-    if deck.reader(number).room != 0 {
-        return Err("room for copies".into());
-    }
     Ok(Receiver::new(alloc, &deck, number, &program)?)
 }
 

@@ -11,6 +11,8 @@ mod bytes;
 #[cfg(test)]
 mod calls;
 #[cfg(test)]
+mod copies;
+#[cfg(test)]
 mod decks;
 #[cfg(test)]
 mod policies;

@@ -3,7 +3,7 @@ use Rattle.std.specs.Prelude.{◌≡◌, List, [], ◌∷◌, length, map}
 use Rattle.air_base.specs.declared.verdicts.ReadOf.{ReadOf}
 use Rattle.air_history.specs.Clashes.{Heard}
 use Rattle.air_model.specs.Reads.{Read}
-use Rattle.receiver_core.specs.Steps.Attempts.{HeldValues, shown_of}
+use Rattle.receiver_core.specs.Steps.Attempts.{HeldValues, line_read}
 use Rattle.receiver_core.specs.Steps.PolicyReads.{held_of, policy_of}
 use Rattle.receiver_core.specs.declared.attempts.Attempt.TheInside.{Inside}
 
@@ -15,10 +15,9 @@ with_values (h ∷ R) (v ∷ V) = record { item = h.item; cycle = h.cycle; value
 
 -- The held reads of the fields.
 abbrev pub held_values : Inside → HeldValues
-held_values a = record { policy = policy_of a.held; items = (held_of a.held).n; reads = with_values (held_of a.held).reads a.shown }
+held_values a = record { policy = policy_of a.held; items = (held_of a.held).n; reads = with_values (held_of a.held).reads a.line_reads }
 
--- Both lists are of the same reads, and there is room for one bucket's entries.
+-- Both lists are of the same reads.
 pub record KeepsBoth (a : Inside) : Type 0 where
-  pub even : length a.shown ≡ length (held_of a.held).reads
-  pub same : map shown_of (with_values (held_of a.held).reads a.shown) ≡ a.shown
-  pub room : length a.entries.items ≡ (held_of a.held).n
+  pub even : length a.line_reads ≡ length (held_of a.held).reads
+  pub same : map line_read (with_values (held_of a.held).reads a.line_reads) ≡ a.line_reads

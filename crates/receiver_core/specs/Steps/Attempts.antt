@@ -1,5 +1,5 @@
 -- For private steps alone. What contracts see of an attempt: the policy that checks it, the number of items, and the
--- held reads in order. And what a bucket gives to it.
+-- held reads in order. And the reads that are tried: of a bucket, or of a kept copy.
 use Rattle.std.specs.Prelude.{ℕ, Bool, false, List, map, Option, Some, None}
 use Rattle.air_base.specs.declared.verdicts.Policy.{Policy}
 use Rattle.air_base.specs.declared.verdicts.ReadOf.{ReadOf}
@@ -19,13 +19,17 @@ pub record HeldValues : Type 0 where
 abbrev pub columns_of : HeldValues → HeldReads
 columns_of a = record { n = a.items; reads = map heard_of a.reads }
 
+-- The read with these parts.
+abbrev pub read : ℕ → ℕ → ℕ → List ℕ → Read
+read item cycle value entries = record { item = item; cycle = cycle; value = value; entries = entries }
+
 -- The read that a bucket with an item gives.
 abbrev pub read_of : Bucket → Read
-read_of b = record { item = item_of b.body; cycle = b.cycle; value = value_of b.body; entries = entries_of b.body }
+read_of b = read (item_of b.body) b.cycle (value_of b.body) (entries_of b.body)
 
--- The read as a verdict line shows it.
-abbrev pub shown_of : Read → ReadOf
-shown_of r = record { item = r.item; cycle = r.cycle; value = r.value }
+-- The read as a verdict line has it.
+abbrev pub line_read : Read → ReadOf
+line_read r = record { item = r.item; cycle = r.cycle; value = r.value }
 
 -- The read that a bucket gives is of the wanted item.
 abbrev pub is_read_wanted : Option ℕ → Option Read → Bool

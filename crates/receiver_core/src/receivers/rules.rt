@@ -1,20 +1,23 @@
 //! The rules of a session, each as one step of a receiver.
 //!
-//! Each function does to the state what the word of that name in `air_model` says, where no copy is kept and there is
-//! room for none.
+//! Each function does to the state what words of `air_model` say.
 
-ghost use Rattle.std.specs.Prelude.{◌≡◌, ◌≢◌, ◌<◌, ◌+◌, ◌^◌, [], false, length, Ok, Some};
+ghost use Rattle.std.specs.Prelude.{◌≡◌, ◌≢◌, ◌<◌, ◌+◌, ◌^◌, [], false, length, IfSome, Ok, Some};
+ghost use Rattle.air_base.specs.declared.verdicts.VerdictKind.TheVariants.{Abort};
 ghost use Rattle.air_model.specs.Buckets.{IsInRange, count_of, item_of, kind_of};
+ghost use Rattle.air_model.specs.Copies.{keep, with_copy};
 ghost use Rattle.air_model.specs.Judges.{by_entries};
-ghost use Rattle.air_model.specs.Sessions.{abort, accept_if_whole, comes_late, hear, next_attempt, next_query, open_bucket, read_in, wanted, with_line};
-ghost use Rattle.receiver_core.specs.Steps.Attempts.{is_read_wanted, read_of};
+ghost use Rattle.air_model.specs.Sessions.{accept_if_whole, comes_late, hear, next_attempt, next_query, open_bucket, read_in, wanted, with_line};
+ghost use Rattle.receiver_core.specs.Steps.Attempts.{is_read_wanted, read, read_of};
+ghost use Rattle.receiver_core.specs.Steps.Offers.{without_clash};
 ghost use Rattle.receiver_core.specs.FeedAnswers.{fed_of};
 ghost use Rattle.receiver_core.specs.LastReads.{in_state};
 ghost use Rattle.receiver_core.specs.Receivers.{heard_count};
 
 use super::{Fed, Receiver};
-use air_base::{Verdict, VerdictKind};
+use air_base::{Clash, Verdict, VerdictKind};
 use bucket_codec::{BucketView, ViewKind};
+use pix_cache::PixCache;
 
 impl Receiver {
     /// What one heard bucket does.
@@ -29,12 +32,13 @@ impl Receiver {
             self.counts.foreign += 1;
             return Fed::Foreign;
         }
-        self.latest = self.latest.max(bucket.cycle());
+        let cycle = bucket.cycle();
+        self.latest = self.latest.max(cycle);
         if !self.wants(bucket) {
             self.counts.dozed += 1;
             return Fed::Dozed;
         }
-        if self.held.is_late(bucket) {
+        if self.held.is_late(cycle) {
             self.counts.late += 1;
             return Fed::Late;
         }
@@ -55,7 +59,7 @@ impl Receiver {
         }
     }
 
-    /// The bucket's read joins the held ones, or it ends the attempt.
+    /// The bucket's read joins the held ones, or it ends the attempt; and it is offered to the copies.
     pub(super) fn open(&mut self, bucket: &BucketView<'_>)
         requires given { self.old.state.lines ≡ [] }
         requires counts { self.old.state.counts.opened + 1 < 2 ^ 64 }
@@ -67,9 +71,14 @@ impl Receiver {
         ensures { self.new ≡ in_state self.old (open_bucket (by_entries self.old.air.scheme) self.old.air self.old.reader (read_of bucket.now) self.old.state) }
     {
         self.counts.opened += 1;
-        match self.held.try_hold(bucket) {
+        let column = self.column.as_mut_slice();
+        bucket.fill(column);
+        let (item, cycle, value) = (bucket.item(), bucket.cycle(), bucket.value());
+        let clash = self.held.try_hold(item, cycle, value, column);
+        offer(&mut self.copies, clash, item, cycle, value, column);
+        match clash {
             None => self.accept_if_whole(),
-            Some(clash) => self.abort(bucket, clash.item),
+            Some(clash) => self.abort(item, cycle, clash.item),
         }
     }
 
@@ -85,18 +94,13 @@ impl Receiver {
         }
     }
 
-    /// The attempt ends, since the bucket's read clashes with the held one of an item.
-    pub(super) fn abort(&mut self, bucket: &BucketView<'_>, clash: u16)
+    /// The attempt ends, since the read of an item in a cycle clashes with the held one of another.
+    pub(super) fn abort(&mut self, item: u16, cycle: u32, clash: u16)
         requires given { self.old.state.lines ≡ [] }
-        requires copies { self.old.state.copies ≡ [] }
         requires left { self.old.state.query < length self.old.reader.queries }
-        ensures { self.new ≡ in_state self.old (abort (by_entries self.old.air.scheme) self.old.air self.old.reader (read_of bucket.now) clash self.old.state) }
+        ensures { self.new ≡ in_state self.old (next_attempt self.old.reader (with_line (by_entries self.old.air.scheme) (Abort item cycle clash) self.old.state)) }
     {
-        self.give(VerdictKind::Abort {
-            item: bucket.item(),
-            cycle: bucket.cycle(),
-            clash,
-        });
+        self.give(VerdictKind::Abort { item, cycle, clash });
         self.next_attempt();
     }
 
@@ -105,7 +109,7 @@ impl Receiver {
         requires given { self.old.state.lines ≡ [] }
         ensures { self.new ≡ in_state self.old (with_line (by_entries self.old.air.scheme) kind self.old.state) }
     {
-        self.last.set(self.held.shown());
+        self.last.set(self.held.line_reads());
         self.waiting = Some(Verdict {
             query: self.query,
             attempt: self.attempt,
@@ -137,4 +141,25 @@ impl Receiver {
         self.attempt = 1;
         self.held.clear();
     }
+}
+
+/// The copy of the item with which the read clashes is dropped, and the read is offered to the copies.
+fn offer(
+    copies: &mut PixCache,
+    clash: Option<Clash>,
+    item: u16,
+    cycle: u32,
+    value: u64,
+    column: &[u32],
+)
+    requires clash { IfSome clash (λ c. c.item < length copies.old.pix) }
+    requires item { item < length copies.old.pix }
+    requires column { length column.now ≡ length copies.old.pix }
+    ensures { let x = read item cycle value column.now in
+        copies.new ≡ record copies.old { copies = keep copies.old.room copies.old.pix (with_copy x (without_clash clash copies.old.copies)) } }
+{
+    if let Some(clash) = clash {
+        copies.drop_copy(clash.item);
+    }
+    copies.keep(item, cycle, value, column);
 }

@@ -4,6 +4,6 @@ use Rattle.receiver_core.proofs.airs.slots.Given as goal
 
 abbrev pub invariant-loop-slot : goal.invariant-loop-slot
 invariant-loop-slot l = record {
-  made : l.slots.items ≡ take l.slot (program l.plan);
-  all : l.slot-end ≡ length (program l.plan);
+  made : l.slots.items ≡ take l.slot (program l.program);
+  all : l.slot-end ≡ length (program l.program);
 }

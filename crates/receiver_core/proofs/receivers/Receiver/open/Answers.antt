@@ -1,60 +1,103 @@
-use Rattle.std.proofs.Common.{false, ◌∙◌, ap, sym}
+use Rattle.std.proofs.Common.{Some, ◌∙◌, ap, subst, sym}
+use Rattle.std.specs.Vec.{with_items}
 use Rattle.air_history.specs.Columns.{scheme_of}
+use Rattle.air_history.specs.HeldReads.{IsNew}
 use Rattle.air_model.specs.Buckets.{item_of}
-use Rattle.air_model.specs.Judges.{by_entries}
-use Rattle.air_model.specs.Sessions.{comes_late, open_bucket, wanted}
-use Rattle.receiver_core.specs.Steps.Attempts.{HeldValues, read_of}
+use Rattle.air_model.specs.Judges.{by_entries, heard_of}
+use Rattle.air_model.specs.Sessions.{open_bucket, wanted}
+use Rattle.receiver_core.specs.Steps.Attempts.{columns_of, read, read_of}
 use Rattle.receiver_core.specs.LastReads.{in_state}
 use Rattle.receiver_core.specs.Receivers.{Receiver}
-use Rattle.receiver_core.specs.ReceiverView.{receiver_in}
-use Rattle.receiver_core.proofs.OpenLemmas.{in_time_at, more_first, new_read, opened_clash, opened_clear, room_left}
+use Rattle.receiver_core.specs.ReceiverView.{IsWholeRead, receiver_in}
+use Rattle.receiver_core.proofs.OpenLemmas.{bucket_read, new_read, offered_to, opened_clash, opened_clear, read_parts, room_left}
+use Rattle.receiver_core.proofs.KeepsLemmas.{clashes_within, few_opened, few_same, more_held, offered, same_held}
 use Rattle.receiver_core.proofs.StateLemmas.{left}
 use Rattle.receiver_core.proofs.receivers.Receiver.open.Goals as goal
 
-pub try_hold-requires-clause-room : goal.try_hold-requires-clause-room
-try_hold-requires-clause-room c =
-    room_left c.self.inside (item_of c.args.bucket.now.body) c.self.invariant (ap (λ (r : Receiver). wanted r.reader r.state) c.self.view_is ∙ c.requires.wanted)
+pub try_hold-clash-requires-clause-room : goal.try_hold-clash-requires-clause-room
+try_hold-clash-requires-clause-room c =
+    room_left c.self.inside (item_of c.args.bucket.now.body) c.self.invariant (ap (λ (v : Receiver). wanted v.reader v.state) c.self.view_is ∙ c.requires.wanted)
 
-pub try_hold-requires-clause-new : goal.try_hold-requires-clause-new
-try_hold-requires-clause-new c =
-    new_read c.self.inside c.args.bucket.now c.self.invariant c.requires.range c.requires.busy (c.requires.counted ∙ sym (ap (λ (r : Receiver). r.air.items) c.self.view_is))
-    (ap (λ (r : Receiver). wanted r.reader r.state) c.self.view_is ∙ c.requires.wanted)
+pub try_hold-clash-requires-clause-new : goal.try_hold-clash-requires-clause-new
+try_hold-clash-requires-clause-new c =
+    let r = c.self.inside in
+    let b = c.args.bucket.now in
+    let whole = bucket_read b r.air.items c.requires.range c.requires.busy (c.requires.counted ∙ sym (ap (λ (v : Receiver). v.air.items) c.self.view_is)) in
+    subst (λ x. IsNew (columns_of r.held) (heard_of x)) (read_parts c.args.bucket.now c.item-item.result c.cycle-cycle.result c.value-value.result c.fill.new.out c.item-item.ensures c.cycle-cycle.ensures c.value-value.ensures c.fill.ensures)
+    (new_read r (read_of b) c.self.invariant whole (ap (λ (v : Receiver). wanted v.reader v.state) c.self.view_is ∙ c.requires.wanted))
 
-pub try_hold-requires-clause-in_time : goal.try_hold-requires-clause-in_time
-try_hold-requires-clause-in_time c =
-    let x = read_of c.args.bucket.now in
-    in_time_at c.self.inside x false c.self.invariant (ap (λ (r : Receiver). comes_late r.air r.state x) c.self.view_is ∙ c.requires.in_time)
+pub offer-requires-clause-clash : goal.offer-requires-clause-clash
+offer-requires-clause-clash c =
+    let r = c.self.inside in
+    let x = (read c.item-item.result c.cycle-cycle.result c.value-value.result c.fill.new.out) in
+    clashes_within r x c.try_hold-clash.result c.self.invariant (left (receiver_in r).reader (receiver_in r).state (item_of c.args.bucket.now.body) (ap (λ (v : Receiver). wanted v.reader v.state) c.self.view_is ∙ c.requires.wanted))
+    (sym (ap (λ p. (by_entries (scheme_of p)).clash r.held.reads x) c.self.invariant.held.policy) ∙ sym c.try_hold-clash.ensures.clash)
 
 pub invariant_of-self : goal.invariant_of-self
 invariant_of-self c =
+    let r = c.self.inside in
+    let b = c.args.bucket.now in
     let k = c.self.invariant in
+    let x = (read c.item-item.result c.cycle-cycle.result c.value-value.result c.fill.new.out) in
+    let parts = (read_parts c.args.bucket.now c.item-item.result c.cycle-cycle.result c.value-value.result c.fill.new.out c.item-item.ensures c.cycle-cycle.ensures c.value-value.ensures c.fill.ensures) in
+    let whole = bucket_read b r.air.items c.requires.range c.requires.busy (c.requires.counted ∙ sym (ap (λ (v : Receiver). v.air.items) c.self.view_is)) in
     record {
-      room = k.room;
-      short = k.short;
-      distinct = k.distinct;
-      policy = ap (λ (h : HeldValues). h.policy) c.in-None.ensures.held ∙ k.policy;
-      items = ap (λ (h : HeldValues). h.items) c.in-None.ensures.held ∙ k.items;
-      first = more_first c.self.inside c.try_hold.new.self (read_of c.args.bucket.now) k c.in-None.ensures.held (ap (λ (r : Receiver). wanted r.reader r.state) c.self.view_is ∙ c.requires.wanted);
+      deck = k.deck;
+      cache = offered r.air r.reader r.copies c.offer.new.copies c.try_hold-clash.result x k.cache (subst (IsWholeRead r.air.items) parts whole) c.offer.ensures;
+      held = more_held r c.try_hold-clash.new.self x k c.in-None.ensures.held (ap (λ (v : Receiver). wanted v.reader v.state) c.self.view_is ∙ c.requires.wanted ∙ ap Some (sym c.item-item.ensures));
+      few = few_opened r c.try_hold-clash.new.self x k c.in-None.ensures.held;
+      column = sym (with_items r.column c.fill.new.out).ok.0 ∙ r.column.ok.0 ∙ k.column;
     }
 
 pub accept_if_whole-requires-clause-left : goal.accept_if_whole-requires-clause-left
 accept_if_whole-requires-clause-left c =
     let v = receiver_in c.self.inside in
-    left v.reader v.state (item_of c.args.bucket.now.body) (ap (λ (r : Receiver). wanted r.reader r.state) c.self.view_is ∙ c.requires.wanted)
+    left v.reader v.state (item_of c.args.bucket.now.body) (ap (λ (v : Receiver). wanted v.reader v.state) c.self.view_is ∙ c.requires.wanted)
+
+pub returns-in-None : goal.returns-in-None
+returns-in-None c =
+    let r = c.self.inside in
+    let b = c.args.bucket.now in
+    let old = c.args.self.now in
+    let k = c.self.invariant in
+    let x = (read c.item-item.result c.cycle-cycle.result c.value-value.result c.fill.new.out) in
+    let parts = (read_parts c.args.bucket.now c.item-item.result c.cycle-cycle.result c.value-value.result c.fill.new.out c.item-item.ensures c.cycle-cycle.ensures c.value-value.ensures c.fill.ensures) in
+    c.accept_if_whole.ensures
+    ∙ opened_clear r c.try_hold-clash.new.self c.offer.new.copies x k c.in-None.ensures.held (c.offer.ensures ∙ ap (offered_to r x) c.in-None.is) (sym (ap (λ p. (by_entries (scheme_of p)).clash r.held.reads x) k.held.policy) ∙ sym c.try_hold-clash.ensures.clash ∙ c.in-None.is)
+    ∙ ap (λ (v : Receiver). in_state v (open_bucket (by_entries v.air.scheme) v.air v.reader x v.state)) c.self.view_is
+    ∙ ap (λ y. in_state old (open_bucket (by_entries old.air.scheme) old.air old.reader y old.state)) (sym parts)
+
+pub invariant_of-self-in-Some : goal.invariant_of-self-in-Some
+invariant_of-self-in-Some c =
+    let r = c.self.inside in
+    let b = c.args.bucket.now in
+    let k = c.self.invariant in
+    let x = (read c.item-item.result c.cycle-cycle.result c.value-value.result c.fill.new.out) in
+    let parts = (read_parts c.args.bucket.now c.item-item.result c.cycle-cycle.result c.value-value.result c.fill.new.out c.item-item.ensures c.cycle-cycle.ensures c.value-value.ensures c.fill.ensures) in
+    let whole = bucket_read b r.air.items c.requires.range c.requires.busy (c.requires.counted ∙ sym (ap (λ (v : Receiver). v.air.items) c.self.view_is)) in
+    record {
+      deck = k.deck;
+      cache = offered r.air r.reader r.copies c.offer.new.copies c.try_hold-clash.result x k.cache (subst (IsWholeRead r.air.items) parts whole) c.offer.ensures;
+      held = same_held r c.try_hold-clash.new.self k c.in-Some.ensures.held;
+      few = few_same r c.try_hold-clash.new.self k c.in-Some.ensures.held;
+      column = sym (with_items r.column c.fill.new.out).ok.0 ∙ r.column.ok.0 ∙ k.column;
+    }
 
 pub abort-requires-clause-left : goal.abort-requires-clause-left
 abort-requires-clause-left c =
     let v = receiver_in c.self.inside in
-    left v.reader v.state (item_of c.args.bucket.now.body) (ap (λ (r : Receiver). wanted r.reader r.state) c.self.view_is ∙ c.requires.wanted)
-
-pub returns-in-None : goal.returns-in-None
-returns-in-None c =
-    let x = read_of c.args.bucket.now in
-    c.accept_if_whole.ensures ∙ opened_clear c.self.inside c.try_hold.new.self x c.self.invariant c.in-None.ensures.held (sym (ap (λ p. (by_entries (scheme_of p)).clash c.self.inside.held.reads x) c.self.invariant.policy) ∙ sym c.try_hold.ensures.clash ∙ c.in-None.is)
-    ∙ ap (λ (r : Receiver). in_state r (open_bucket (by_entries r.air.scheme) r.air r.reader x r.state)) c.self.view_is
+    left v.reader v.state (item_of c.args.bucket.now.body) (ap (λ (v : Receiver). wanted v.reader v.state) c.self.view_is ∙ c.requires.wanted)
 
 pub returns-in-Some : goal.returns-in-Some
 returns-in-Some c =
-    let x = read_of c.args.bucket.now in
-    c.abort.ensures ∙ opened_clash c.self.inside c.try_hold.new.self x c.in-Some.clash c.self.invariant c.in-Some.ensures.held (sym (ap (λ p. (by_entries (scheme_of p)).clash c.self.inside.held.reads x) c.self.invariant.policy) ∙ sym c.try_hold.ensures.clash ∙ c.in-Some.is)
-    ∙ ap (λ (r : Receiver). in_state r (open_bucket (by_entries r.air.scheme) r.air r.reader x r.state)) c.self.view_is
+    let r = c.self.inside in
+    let b = c.args.bucket.now in
+    let old = c.args.self.now in
+    let k = c.self.invariant in
+    let x = (read c.item-item.result c.cycle-cycle.result c.value-value.result c.fill.new.out) in
+    let parts = (read_parts c.args.bucket.now c.item-item.result c.cycle-cycle.result c.value-value.result c.fill.new.out c.item-item.ensures c.cycle-cycle.ensures c.value-value.ensures c.fill.ensures) in
+    c.abort.ensures
+    ∙ opened_clash r c.try_hold-clash.new.self c.offer.new.copies x c.in-Some.clash k c.in-Some.ensures.held (c.offer.ensures ∙ ap (offered_to r x) c.in-Some.is)
+    (sym (ap (λ p. (by_entries (scheme_of p)).clash r.held.reads x) k.held.policy) ∙ sym c.try_hold-clash.ensures.clash ∙ c.in-Some.is)
+    ∙ ap (λ (v : Receiver). in_state v (open_bucket (by_entries v.air.scheme) v.air v.reader x v.state)) c.self.view_is
+    ∙ ap (λ y. in_state old (open_bucket (by_entries old.air.scheme) old.air old.reader y old.state)) (sym parts)

@@ -1,30 +1,80 @@
-use Rattle.std.proofs.Common.{◌<◌, ◌∙◌, ap, sym, subst, length}
-use Rattle.receiver_core.specs.LinesGiven.{StepTells, lines_given, lines_of}
+use Rattle.std.proofs.Common.{◌<◌, ◌∙◌, ap, arith, sym, subst, length}
+use Rattle.air_model.specs.Sessions.{State}
+use Rattle.receiver_core.specs.declared.receivers.Step.TheVariants as given
 use Rattle.receiver_core.specs.LastReads.{last_reads}
-use Rattle.receiver_core.specs.Receivers.{Receiver, stepped, steps_left}
+use Rattle.receiver_core.specs.LinesGiven.{StepTells, lines_given, lines_of}
+use Rattle.receiver_core.specs.Receivers.{Receiver, steps_left}
 use Rattle.receiver_core.specs.ReceiverView.{receiver_in}
-use Rattle.receiver_core.proofs.StepLemmas.{fewer_left, idle_settled, last_given, past, stepped_is}
+use Rattle.receiver_core.proofs.StepLemmas.{came, fewer_left, last_given, last_stepped, no_more_left, none_waits_now, one_waits_now, past, same_heard, settled_now, stepped_given, stepped_waits}
 use Rattle.receiver_core.proofs.receivers.Receiver.step.Goals as goal
-use Rattle.receiver_core.proofs.receivers.Receiver.step.Goals.{in-Some, in-None, in-None-2}
+use Rattle.receiver_core.proofs.receivers.Receiver.step.Goals.{in-Some-take, in-None, in-None-2}
+
+pub returns-in-Some-clause-state : goal.returns-in-Some-clause-state
+returns-in-Some-clause-state c =
+    let r = c.self.inside in
+    let waits = sym c.take.ensures.value ∙ c.in-Some.is in
+    ap (λ o. let t : State = record (receiver_in r).state { lines = lines_of o r.last } in t) (sym waits) ∙ ap (λ (t : Receiver). t.state) c.self.view_is
+    ∙ sym (stepped_waits c.args.self.now (subst (λ (t : Receiver). 0 < length t.state.lines) c.self.view_is (one_waits_now r c.in-Some.verdict waits)))
+
+pub returns-in-Some-clause-tells : goal.returns-in-Some-clause-tells
+returns-in-Some-clause-tells c =
+    let r = c.self.inside in
+    subst (λ (old : Receiver). steps_left (receiver_in (record r { waiting = c.take.new.self })) < steps_left old) c.self.view_is
+    (fewer_left r c.take.new.self c.in-Some.verdict (steps_left (receiver_in r)) c.take.ensures.after (sym c.take.ensures.value ∙ c.in-Some.is) (omega arith))
+
+pub returns-in-Some-clause-last : goal.returns-in-Some-clause-last
+returns-in-Some-clause-last c =
+    let s = given.Verdict c.in-Some.verdict in
+    last_given s c.self.inside.last ∙ ap (λ (r : Receiver). last_reads (lines_given s c.self.inside.last) r.last) c.self.view_is
 
 pub returns-clause-state : goal.returns-clause-state
 returns-clause-state c =
-    stepped_is c.self.inside c.match-take.result (elim c.match-take.branch [
-      | in-Some w ↦ ap (λ s. lines_given s c.self.inside.last) w.result-is ∙ ap (λ o. lines_of o c.self.inside.last) (sym w.in-Some.is ∙ c.take.ensures.value)
-      | in-None w ↦ ap (λ s. lines_given s c.self.inside.last) w.result-is ∙ ap (λ o. lines_of o c.self.inside.last) (sym w.in-None.is ∙ c.take.ensures.value)
-      | in-None-2 w ↦ ap (λ s. lines_given s c.self.inside.last) w.result-is ∙ ap (λ o. lines_of o c.self.inside.last) (sym w.in-None-2.is ∙ c.take.ensures.value)
-    ]) ∙ ap stepped c.self.view_is
+    let old = c.args.self.now in
+    let r = c.self-2.inside in
+    let none = sym c.take.ensures.value ∙ c.in_default.is in
+    let free = sym (ap (λ (t : Receiver). t.state.lines) c.self.view_is) ∙ none_waits_now c.self.inside none in
+    let is = c.self-2.view_is ∙ came c.self.inside c.take.new.self old c.settle_to_line.new.self c.self.view_is c.take.ensures.after none c.settle_to_line.ensures in
+    stepped_given old r free is c.match-take-2.result (elim c.match-take-2.branch [
+      | in-Some-take w ↦ ap (λ s. lines_given s r.last) w.result-is ∙ ap (λ o. lines_of o r.last) (sym w.in-Some-take.is ∙ c.take-2.ensures.value)
+      | in-None w ↦ ap (λ s. lines_given s r.last) w.result-is ∙ ap (λ o. lines_of o r.last) (sym w.in-None.is ∙ c.take-2.ensures.value)
+      | in-None-2 w ↦ ap (λ s. lines_given s r.last) w.result-is ∙ ap (λ o. lines_of o r.last) (sym w.in-None.is ∙ c.take-2.ensures.value)
+    ])
 
 pub returns-clause-tells : goal.returns-clause-tells
 returns-clause-tells c =
-    let r = c.self.inside in
-    let now = receiver_in (record r { waiting = c.take.new.self }) in
-    elim c.match-take.branch [
-      | in-Some w ↦ subst (λ s. StepTells s c.args.self.now now) (sym w.result-is)
-          (subst (λ (old : Receiver). steps_left now < steps_left old) c.self.view_is (fewer_left r c.take.new.self w.in-Some.verdict c.take.ensures.after (sym c.take.ensures.value ∙ w.in-Some.is)))
-      | in-None w ↦ subst (λ s. StepTells s c.args.self.now now) (sym w.result-is) (idle_settled (record r { waiting = c.take.new.self }) c.take.ensures.after, w.has.ensures.0 w.if-has.true)
-      | in-None-2 w ↦ subst (λ s. StepTells s c.args.self.now now) (sym w.result-is) (idle_settled (record r { waiting = c.take.new.self }) c.take.ensures.after, past w.has.result r.query (length r.reader.queries) w.has.ensures.1 w.if-has.false)
+    let old = c.args.self.now in
+    let r = c.self-2.inside in
+    let none = sym c.take.ensures.value ∙ c.in_default.is in
+    let free = sym (ap (λ (t : Receiver). t.state.lines) c.self.view_is) ∙ none_waits_now c.self.inside none in
+    let is = c.self-2.view_is ∙ came c.self.inside c.take.new.self old c.settle_to_line.new.self c.self.view_is c.take.ensures.after none c.settle_to_line.ensures in
+    let now = receiver_in (record r { waiting = c.take-2.new.self }) in
+    elim c.match-take-2.branch [
+      | in-Some-take w ↦ subst (λ s. StepTells s old now) (sym w.result-is)
+          (fewer_left r c.take-2.new.self w.in-Some-take.verdict (steps_left old) c.take-2.ensures.after (sym c.take-2.ensures.value ∙ w.in-Some-take.is) (no_more_left old r free is))
+      | in-None w ↦ subst (λ s. StepTells s old now) (sym w.result-is)
+          (settled_now old r free is c.take-2.new.self c.take-2.ensures.after (sym c.take-2.ensures.value ∙ w.in-None.is), w.has.ensures.0 w.if-has.true)
+      | in-None-2 w ↦ subst (λ s. StepTells s old now) (sym w.result-is)
+          (settled_now old r free is c.take-2.new.self c.take-2.ensures.after (sym c.take-2.ensures.value ∙ w.in-None.is), past w.has.result r.query (length r.reader.queries) w.has.ensures.1 w.if-has.false)
     ]
 
 pub returns-clause-last : goal.returns-clause-last
-returns-clause-last c = last_given c.match-take.result c.self.inside.last ∙ ap (λ (r : Receiver). last_reads (lines_given c.match-take.result c.self.inside.last) r.last) c.self.view_is
+returns-clause-last c =
+    let old = c.args.self.now in
+    let r = c.self-2.inside in
+    let none = sym c.take.ensures.value ∙ c.in_default.is in
+    let free = sym (ap (λ (t : Receiver). t.state.lines) c.self.view_is) ∙ none_waits_now c.self.inside none in
+    let is = c.self-2.view_is ∙ came c.self.inside c.take.new.self old c.settle_to_line.new.self c.self.view_is c.take.ensures.after none c.settle_to_line.ensures in
+    last_stepped old r free is c.match-take-2.result (elim c.match-take-2.branch [
+      | in-Some-take w ↦ ap (λ s. lines_given s r.last) w.result-is ∙ ap (λ o. lines_of o r.last) (sym w.in-Some-take.is ∙ c.take-2.ensures.value)
+      | in-None w ↦ ap (λ s. lines_given s r.last) w.result-is ∙ ap (λ o. lines_of o r.last) (sym w.in-None.is ∙ c.take-2.ensures.value)
+      | in-None-2 w ↦ ap (λ s. lines_given s r.last) w.result-is ∙ ap (λ o. lines_of o r.last) (sym w.in-None.is ∙ c.take-2.ensures.value)
+    ])
+
+pub returns-clause-heard : goal.returns-clause-heard
+returns-clause-heard c =
+    let old = c.args.self.now in
+    let r = c.self-2.inside in
+    let none = sym c.take.ensures.value ∙ c.in_default.is in
+    let free = sym (ap (λ (t : Receiver). t.state.lines) c.self.view_is) ∙ none_waits_now c.self.inside none in
+    let is = c.self-2.view_is ∙ came c.self.inside c.take.new.self old c.settle_to_line.new.self c.self.view_is c.take.ensures.after none c.settle_to_line.ensures in
+    same_heard old r free is

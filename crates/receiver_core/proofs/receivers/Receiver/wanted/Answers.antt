@@ -16,5 +16,5 @@ unfolding wanted query_of
 returns-clause-first c =
     let r = c.self.inside in
     c.item.ensures ∙ ap (slice_get (get_or r.reader.queries r.query [])) c.len.ensures
-    ∙ wanted_first r.reader (receiver_in r).state (distinct_at r.reader r.query c.self.invariant.distinct) c.self.invariant.first
+    ∙ wanted_first r.reader (receiver_in r).state (distinct_at r.reader r.query c.self.invariant.deck.distinct) c.self.invariant.held.first
     ∙ ap (λ (v : Receiver). first_unheld v.reader v.state) c.self.view_is

@@ -1,0 +1,87 @@
+//! What the kept copies do to a receiver: a copy of the wanted item is used or dropped, turn by turn up to the next verdict.
+
+ghost use Rattle.std.specs.Prelude.{◌≡◌, ℕ, ◌-◌, ◌<◌, ◌||◌, [], length, map, nat_lt, All};
+ghost use Rattle.std.specs.Option.{is_some};
+ghost use Rattle.air_history.specs.Clashes.{is_late};
+ghost use Rattle.air_model.specs.Judges.{by_entries, place_of};
+ghost use Rattle.air_model.specs.Sessions.{copy_of, turn, wanted};
+ghost use Rattle.receiver_core.specs.LastReads.{in_state};
+ghost use Rattle.receiver_core.specs.ReceiverSteps.{step};
+ghost use Rattle.receiver_core.specs.Steps.Turns.{uses_copy};
+
+use super::Receiver;
+use crate::attempts::Attempt;
+use pix_cache::PixCache;
+
+impl Receiver {
+    /// Whether a copy of the wanted item is kept.
+    pub(super) fn has_copy(&self) -> bool
+        ensures { result ≡ is_some (copy_of (wanted self.now.reader self.now.state) self.now.state) }
+    {
+        let Some(item) = self.wanted() else {
+            return false;
+        };
+        self.copies.get(item).is_some()
+    }
+
+    /// Turns are taken up to the next line.
+    pub(super) fn settle_to_line(&mut self)
+        requires given { self.old.state.lines ≡ [] }
+        ensures { self.new ≡ in_state self.old (step (by_entries self.old.air.scheme) self.old.air self.old.reader self.old.state) }
+    {
+        while self.turn() {
+            if self.waiting.is_some() {
+                return;
+            }
+        }
+    }
+
+    /// The copy of the wanted item becomes a read, or it is dropped where it can't be used; without one nothing changes. It tells
+    /// whether one was used.
+    pub(super) fn turn(&mut self) -> bool
+        requires given { self.old.state.lines ≡ [] }
+        ensures state { self.new ≡ in_state self.old (turn (by_entries self.old.air.scheme) self.old.air self.old.reader self.old.state) }
+        ensures used { result ≡ uses_copy self.old.air self.old.reader self.old.state }
+    {
+        let Some(item) = self.wanted() else {
+            return false;
+        };
+        let Some(kept) = self.copies.get(item) else {
+            return false;
+        };
+        let cycle = kept.cycle;
+        if is_stale(&self.held, cycle, self.latest, self.reader.age()) {
+            self.copies.drop_copy(item);
+            return false;
+        }
+        match self.held.try_hold(item, cycle, kept.value, kept.column) {
+            None => {
+                self.counts.copied += 1;
+                self.accept_if_whole();
+                true
+            }
+            Some(_) => {
+                self.copies.drop_copy(item);
+                false
+            }
+        }
+    }
+}
+
+/// Whether a copy of this cycle, of whatever item, is too old now, or comes too late after the held reads.
+fn is_stale(held: &Attempt, cycle: u32, latest: u32, age: u32) -> bool
+    ensures { (item : ℕ) → result ≡ (nat_lt age (latest - cycle) || is_late held.now.policy (map place_of held.now.reads) (record { item = item; cycle = cycle })) }
+{
+    latest.saturating_sub(cycle) > age || held.is_late(cycle)
+}
+
+/// Drops the copies of all items.
+pub(super) fn drop_all(copies: &mut PixCache, items: u16)
+    requires numbers { length copies.old.pix ≡ items }
+    requires within { All (λ r. r.item < items) copies.old.copies }
+    ensures { copies.new ≡ record copies.old { copies = [] } }
+{
+    for item in 0..items {
+        copies.drop_copy(item);
+    }
+}
