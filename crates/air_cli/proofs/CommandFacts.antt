@@ -1,12 +1,12 @@
--- Each command's refusals are sound.
+-- The facts of each command.
 use Rattle.air_cli.specs.Commands.{meaning_of}
 use Rattle.air_cli.specs.Words.{Asked, AsksPlan, AsksScript, AsksTune}
-use Rattle.air_cli.proofs.PlanFacts.{plan_sound}
-use Rattle.air_cli.proofs.ScriptFacts.{script_sound}
-use Rattle.air_cli.proofs.TuneFacts.{tune_sound}
-use Rattle.air_cli.proofs.RefusalFacts.{IsSound}
+use Rattle.air_cli.proofs.InputFacts.{CommandFacts}
+use Rattle.air_cli.proofs.PlanFacts.{plan_facts}
+use Rattle.air_cli.proofs.ScriptFacts.{script_facts}
+use Rattle.air_cli.proofs.TuneFacts.{tune_facts}
 
-pub sound_of : (asked : Asked) → IsSound (meaning_of asked)
-sound_of (AsksPlan deck) = plan_sound deck
-sound_of (AsksScript deck tape) = script_sound deck tape
-sound_of (AsksTune deck tape) = tune_sound deck tape
+pub facts_of : (asked : Asked) → CommandFacts (meaning_of asked)
+facts_of (AsksPlan deck) = plan_facts deck
+facts_of (AsksScript deck tape) = script_facts deck tape
+facts_of (AsksTune deck tape) = tune_facts deck tape

@@ -6,8 +6,9 @@ pub mod PlanLemmas
 pub mod RunLemmas
 pub mod AnswerFacts
 pub mod RefusalFacts
+pub mod InputFacts
 pub mod PlanFacts
 pub mod ScriptFacts
 pub mod TuneFacts
 pub mod CommandFacts
-pub mod InputFacts
+pub mod TopFacts

@@ -1,5 +1,5 @@
 -- What the proofs of `plan` need of its definitions.
-use Rattle.std.proofs.Common.{ℕ, List, refl}
+use Rattle.std.proofs.Common.{◌≡◌, ℕ, List, refl, sym, ap, ◌∙◌}
 use Rattle.air_devices.specs.Counts.{NoCountFalls}
 use Rattle.air_devices.specs.Unchanged.{KeepsButLeft, KeepsButPrinted}
 use Rattle.air_devices.specs.Shelves.{Shelved}
@@ -14,6 +14,13 @@ use Rattle.air_cli.specs.Plan.{PlanCause, plan_meaning}
 use Rattle.deck_files.specs.RunnableDecks.{LengthCause}
 use Rattle.deck_files.proofs.CauseFacts.{of_deck}
 use Rattle.air_cli.proofs.RefusalFacts.{IsSound, deck_still}
+use Rattle.delivery.specs.Given.{Given}
+use Rattle.deck_files.specs.NamedDecks.{OfDeck}
+use Rattle.deck_files.specs.RunnableDecks.{IsShort}
+use Rattle.air_cli.specs.Plan.{PlanGives, plan_given}
+use Rattle.air_cli.specs.ToldInputs.{TellSameInputs, TellsInputs}
+use Rattle.air_cli.specs.Answers.{NoCountRose}
+use Rattle.air_cli.proofs.InputFacts.{CommandFacts, both, deck_fits, deck_told, one_deck, too_long}
 
 -- A deck that isn't had isn't planned.
 pub deck_plan : (name : List ℕ) (before now : Shelved) (s : Status) → DeckCause name before now s → PlanCause name before now s
@@ -40,7 +47,7 @@ unfolding PlanCause
 plan_still name before mid now (status.PlanTooLong slots) rest counts h = h
 plan_still name before mid now s rest counts h = deck_still name before mid now s rest counts h
 
-pub plan_sound : (deck : List ℕ) → IsSound (plan_meaning deck)
+plan_sound : (deck : List ℕ) → IsSound (plan_meaning deck)
 unfolding PlanCause DeckCause UnreadCause
 plan_sound deck = record {
   still = plan_still deck;
@@ -48,3 +55,25 @@ plan_sound deck = record {
   not_failed = λ before now h. h;
   input = λ before now h. record { name = deck; named = refl; rose = h };
 }
+
+-- ---- what its input decides
+
+plan_fits : (deck : List ℕ) (before now : Shelved) (s : Status) → TellsInputs (plan_meaning deck) before → OfDeck deck before IsShort
+    → NoCountRose before.faults now.faults → PlanCause deck before now s → s ≡ status.NoMemory
+unfolding PlanCause
+plan_fits deck before now (status.PlanTooLong slots) told suits calm h =
+    let known = told deck refl in
+    let two = both deck before known.0 IsShort (λ d. IsTooLong (disks_in d) slots) known.1 suits h in
+    absurd (too_long two.0 slots two.1 two.2)
+plan_fits deck before now s told suits calm h = let known = told deck refl in deck_fits deck before now s known.0 IsShort known.1 suits calm h
+
+plan_one : (deck : List ℕ) (before other : Shelved) (a b : Given) → TellSameInputs (plan_meaning deck) before other → PlanGives deck before a → PlanGives deck other b → a ≡ b
+unfolding PlanGives
+plan_one deck before other a b same first second =
+    let told = same deck refl in
+    let x = deck_told deck before told.0 (λ d. IsShort d × (a ≡ plan_given d)) told.1 first in
+    let y = deck_told deck other told.0 (λ d. IsShort d × (b ≡ plan_given d)) told.2 second in
+    x.1.2.1 ∙ ap plan_given (one_deck told.0 x.1.0 y.1.0 x.1.1 y.1.1) ∙ sym y.1.2.1
+
+pub plan_facts : (deck : List ℕ) → CommandFacts (plan_meaning deck)
+plan_facts deck = record { sound = plan_sound deck; inputs = record { fits = plan_fits deck; one = λ decided. plan_one deck } }

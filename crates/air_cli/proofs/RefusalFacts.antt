@@ -12,7 +12,7 @@ use Rattle.air_status.specs.declared.status.Status.TheVariants as status
 use Rattle.delivery.specs.Refusals.{PrintsUnlessFailed, IsSteady, Refuses}
 use Rattle.air_cli.specs.Untouched.{IsRefusal}
 use Rattle.deck_files.specs.NamedDecks.{DeckCause, IsFaulty}
-use Rattle.deck_files.specs.RunnableDecks.{UnrunnableCause, IsOfOtherForm}
+use Rattle.deck_files.specs.RunnableDecks.{UnrunnableCause}
 use Rattle.deck_files.specs.NamedFiles.{UnreadCause}
 use Rattle.deck_files.specs.FileLimits.{deck_limit}
 use Rattle.air_cli.specs.Meanings.{Meaning, WordsCause, no_form}
@@ -44,9 +44,6 @@ unread_still name most before mid now s rest counts h = h
 faulty_still : (name : List ℕ) (row kind : ℕ) (before mid now : Shelved) → KeepsButPrinted mid.told now.told → IsFaulty name row kind before mid → IsFaulty name row kind before now
 faulty_still name row kind before mid now rest h = record { read = subst IsAtEnd (sym (rest.left name)) h.read; fault = h.fault }
 
-form_still : (name : List ℕ) (row kind : ℕ) (before mid now : Shelved) → KeepsButPrinted mid.told now.told → IsOfOtherForm name row kind before mid → IsOfOtherForm name row kind before now
-form_still name row kind before mid now rest h = record { read = subst IsAtEnd (sym (rest.left name)) h.read; form = h.form; as_row = h.as_row; as_kind = h.as_kind }
-
 pub deck_still : (name : List ℕ) (before mid now : Shelved) (s : Status) → KeepsButPrinted mid.told now.told → NoCountFalls mid.faults now.faults → DeckCause name before mid s → DeckCause name before now s
 unfolding DeckCause
 deck_still name before mid now (status.Deck row kind) rest counts h = faulty_still name row kind before mid now rest h
@@ -54,8 +51,6 @@ deck_still name before mid now s rest counts h = unread_still name deck_limit be
 
 pub unrunnable_still : (name : List ℕ) (before mid now : Shelved) (s : Status) → KeepsButPrinted mid.told now.told → NoCountFalls mid.faults now.faults → UnrunnableCause name before mid s → UnrunnableCause name before now s
 unfolding UnrunnableCause
-unrunnable_still name before mid now (status.Deck row kind) rest counts (inl h) = inl (faulty_still name row kind before mid now rest h)
-unrunnable_still name before mid now (status.Deck row kind) rest counts (inr h) = inr (form_still name row kind before mid now rest h)
 unrunnable_still name before mid now (status.PlanTooLong slots) rest counts h = h
 unrunnable_still name before mid now s rest counts h = deck_still name before mid now s rest counts h
 

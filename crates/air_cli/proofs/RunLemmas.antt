@@ -1,32 +1,37 @@
--- The script's own tape: it is whole, its records are the history's buckets, and the sessions over them are those that the
--- history judges. `script_report` cites these.
-use Rattle.std.proofs.Common.{◌≡◌, ℕ, ◌*◌, ◌<◌, ◌≤◌, ◌^◌, None, List, [], ◌∷◌, length, map, All, sym, ◌∙◌, ap, arith}
+-- The script's own tape: it is whole, its records are the history's buckets, none of which is long, and the sessions over what
+-- each reader's ether gives of them are those that the history judges. `script_report` cites these.
+use Rattle.std.proofs.Common.{◌≡◌, ℕ, ◌+◌, ◌*◌, ◌<◌, ◌≤◌, ◌^◌, Option, None, Some, List, [], ◌∷◌, ◌++◌, length, map, get_or, All, refl, sym, ◌∙◌, ap, subst, arith}
 use Rattle.std.specs.List.{range_with_len}
-use Rattle.std.proofs.lemmas.List.Elements.{All-cons, All-nil}
+use Rattle.std.specs.List.{flat_map}
+use Rattle.std.proofs.lemmas.List.{map-append}
+use Rattle.std.proofs.lemmas.List.Elements.{All-append, All-cons, All-map, All-nil}
+use Rattle.std.proofs.lemmas.Simd.{map-map}
+use Rattle.air_base.specs.declared.verdicts.Policy.{Policy}
+use Rattle.air_base.specs.declared.verdicts.Policy.TheVariants.{FMatrix, Datacycle, RMatrix}
 use Rattle.air_history.specs.declared.histories.Event.{Event}
 use Rattle.air_history.specs.Histories.{starts}
 use Rattle.air_history.proofs.ScanLemmas.{starts_within}
-use Rattle.air_model.specs.Aired.{scheme_in, air_of}
+use Rattle.air_history.specs.Columns.{aired_entries}
+use Rattle.air_history.specs.Reads.{read_value}
+use Rattle.air_history.specs.Tables.{values_of}
+use Rattle.air_model.specs.Aired.{Air, aired_as, air_of, body_of, bucket_of, buckets_of, scheme_in}
 use Rattle.air_model.specs.AiredLaws.{CanAir}
-use Rattle.air_model.specs.Buckets.{bucket_in}
-use Rattle.air_model.specs.Decks.{Deck, IsDeck, script_history}
-use Rattle.air_model.specs.Draws.{words_of}
-use Rattle.air_model.specs.Ethers.{Odds, heard_by}
+use Rattle.air_model.specs.Buckets.{entries_of, spelling}
+use Rattle.air_model.specs.Decks.{Deck, IsDeck, script_history, values_in}
+use Rattle.air_model.specs.Ethers.{heard_by}
 use Rattle.air_model.specs.Judges.{by_entries}
-use Rattle.air_model.specs.Outputs.{ether_of, odds_in, sessions_over, true_sessions}
-use Rattle.air_model.specs.ReceiverLaws.{session_of}
+use Rattle.air_model.specs.Outputs.{odds_in, sessions_over, true_sessions}
 use Rattle.air_model.specs.Reports.{counts_lines, report_text, script_text, verdict_lines}
 use Rattle.air_model.specs.Sessions.{State}
 use Rattle.air_model.specs.Tapes.{tape_of, tape_read}
 use Rattle.air_model.specs.declared.reports.CountsLine.{CountsLine}
 use Rattle.air_model.specs.declared.reports.VerdictLine.{VerdictLine}
-use Rattle.air_model.proofs.EtherFacts.{clear_ether}
+use Rattle.air_model.proofs.AiredLemmas.{entries_long}
 use Rattle.air_model.proofs.ReceiverLemmas.{true_sessions_are}
 use Rattle.air_model.proofs.ScriptLemmas.{script}
 use Rattle.air_model.proofs.TapeFacts.{length_record, whole_read}
-use Rattle.deck_files.specs.RunnableDecks.{IsSupported}
 use Rattle.script_run.specs.AiredBytes.{aired_bytes}
-use Rattle.script_run.proofs.AiredLemmas.{map_same}
+use Rattle.air_sender.proofs.RangeFacts.{spelling_within}
 use Rattle.script_run.proofs.RunLoops.{script_length}
 
 -- ---- the tape
@@ -59,28 +64,53 @@ can_air deck made few slots = record {
 pub script_starts_few : (deck : Deck) → length deck.script ≤ 200000 → starts (script_history deck) < 2 ^ 32
 script_starts_few deck few = let most = starts_within (script_history deck) in let long = script_length deck in omega arith
 
--- Nothing is lost, heard again or late.
-no_odds : (deck : Deck) → IsSupported deck → odds_in deck ≡ record { loss = 0; again = 0; late = 0 }
-no_odds deck form =
-    ap (λ n. let o : Odds = record { loss = n; again = deck.settings.again; late = deck.settings.late } in o) form.loss
-    ∙ ap (λ n. let o : Odds = record { loss = 0; again = n; late = deck.settings.late } in o) form.again ∙ ap (λ n. let o : Odds = record { loss = 0; again = 0; late = n } in o) form.late
-
--- So each reader hears all buckets.
-hears_all : (deck : Deck) (H : List Event) (r : ℕ) → IsSupported deck → ether_of deck H r ≡ aired_bytes deck H
-unfolding heard_by
-hears_all deck H r form =
-    let pushed = aired_bytes deck H in
-    ap (λ odds. heard_by deck.settings.seed r odds pushed) (no_odds deck form) ∙ clear_ether (words_of deck.settings.seed r (3 * length pushed)) pushed
-
--- So what is heard of the tape makes the sessions that the history judges.
-pub script_heard : (deck : Deck) (records : List (List ℕ)) → IsSupported deck → IsDeck deck → length deck.script ≤ 200000 → length ((air_of deck).slots) ≤ 16384 → records ≡ aired_bytes deck (script_history deck)
-    → true_sessions deck (script_history deck) ≡ sessions_over (by_entries (scheme_in deck)) deck (λ r. records)
-script_heard deck records form made few slots is =
+-- What each reader's ether gives of the tape makes the sessions that the history judges.
+pub script_heard : (deck : Deck) (records : List (List ℕ)) → IsDeck deck → length deck.script ≤ 200000 → length ((air_of deck).slots) ≤ 16384 → records ≡ aired_bytes deck (script_history deck)
+    → true_sessions deck (script_history deck) ≡ sessions_over (by_entries (scheme_in deck)) deck (λ r. heard_by deck.settings.seed r (odds_in deck) records)
+script_heard deck records made few slots is =
     let H = script_history deck in
-    let judge = by_entries (scheme_in deck) in
     sym (true_sessions_are deck H (can_air deck made few slots))
-    ∙ map_same (λ r. session_of judge deck r (map bucket_in (ether_of deck H r))) (λ r. session_of judge deck r (map bucket_in records)) (range_with_len 0 (length deck.readers))
-    (λ r. ap (λ l. session_of judge deck r (map bucket_in l)) (hears_all deck H r form ∙ sym is))
+    ∙ ap (λ rs. sessions_over (by_entries (scheme_in deck)) deck (λ r. heard_by deck.settings.seed r (odds_in deck) rs)) (sym is)
+
+-- ---- the records
+
+-- A bucket of a history has a head, and an entry for each item at most.
+entries_aired : (p : Policy) (item value : ℕ) (es : List ℕ) → entries_of (aired_as p item value es) ≡ es
+unfolding entries_of
+entries_aired FMatrix item value es = refl
+entries_aired Datacycle item value es = refl
+entries_aired RMatrix item value es = refl
+
+entries_few : (values : List ℕ) (air : Air) (H : List Event) (c : ℕ) (o : Option ℕ) → length (entries_of (body_of values air H c o)) ≤ air.items
+unfolding body_of entries_of
+entries_few values air H c None = omega arith
+entries_few values air H c (Some item) =
+    let same = ap length (entries_aired air.scheme.policy item (read_value (values_of values) H (record { item = item; cycle = c })) (aired_entries air.scheme air.items H c item)) in
+    let long = entries_long air.scheme.policy air.items H c item in
+    omega arith
+
+bucket_short : (values : List ℕ) (air : Air) (H : List Event) (c s : ℕ) → length (spelling (bucket_of values air H c s)) ≤ 24 + 4 * air.items
+unfolding bucket_of
+bucket_short values air H c s =
+    let b = bucket_of values air H c s in
+    spelling_within b (entries_of b.body) air.items refl (entries_few values air H c (get_or air.slots s None))
+
+abbrev IsShort : ℕ → List ℕ → Type 0
+IsShort n r = length r ≤ 24 + 4 * n
+
+cycles_short : (values : List ℕ) (air : Air) (H : List Event) (cs : List ℕ) → All (IsShort air.items) (map spelling (flat_map (λ c. map (bucket_of values air H c) (range_with_len 0 (length air.slots))) cs))
+cycles_short values air H [] = All-nil (IsShort air.items)
+cycles_short values air H (c ∷ cs) =
+    let ks = range_with_len 0 (length air.slots) in
+    let here = map (bucket_of values air H c) ks in
+    let rest = flat_map (λ c. map (bucket_of values air H c) ks) cs in
+    subst (All (IsShort air.items)) (sym (map-append spelling here rest)) (All-append (IsShort air.items) (map spelling here) (map spelling rest)
+    (subst (All (IsShort air.items)) (sym (map-map spelling (bucket_of values air H c) ks)) (All-map (IsShort air.items) (λ s. spelling (bucket_of values air H c s)) ks (λ k d below. bucket_short values air H c (get_or ks k d))))
+    (cycles_short values air H cs))
+
+pub records_short : (deck : Deck) (H : List Event) → All (λ r. length r ≤ 24 + 4 * length deck.items) (aired_bytes deck H)
+unfolding buckets_of
+records_short deck H = cycles_short (values_in deck) (air_of deck) H (range_with_len 1 (starts H))
 
 -- ---- the report
 

@@ -1,5 +1,6 @@
 -- What the proofs of `script` need of its definitions.
-use Rattle.std.proofs.Common.{ℕ, List, Option, None, refl}
+use Rattle.std.proofs.Common.{◌≡◌, ℕ, ◌≤◌, List, length, Option, None, refl, sym, ap, ◌∙◌, arith}
+use Rattle.std.specs.Prelude.{◌<◌}
 use Rattle.air_devices.specs.Counts.{NoCountFalls}
 use Rattle.air_devices.specs.Unchanged.{KeepsButLeft, KeepsButPrinted}
 use Rattle.air_devices.specs.Shelves.{Shelved}
@@ -12,6 +13,17 @@ use Rattle.deck_files.specs.RunnableDecks.{UnrunnableCause}
 use Rattle.deck_files.specs.NamedFiles.{UnreadCause}
 use Rattle.air_cli.specs.Script.{ScriptCause, script_meaning}
 use Rattle.air_cli.proofs.RefusalFacts.{IsSound, unrunnable_still}
+use Rattle.deck_files.specs.NamedDecks.{OfDeck}
+use Rattle.deck_files.specs.RunnableDecks.{IsShort}
+use Rattle.deck_files.specs.FileLimits.{tape_limit}
+use Rattle.deck_files.proofs.CauseFacts.{where_so}
+use Rattle.air_model.specs.Decks.{Deck}
+use Rattle.air_model.specs.Outputs.{script_tape}
+use Rattle.air_cli.specs.Script.{HasLongTape, ScriptGives, script_given}
+use Rattle.air_cli.specs.Truths.{IsTrueScript}
+use Rattle.air_cli.specs.ToldInputs.{TellSameInputs, TellsInputs}
+use Rattle.air_cli.specs.Answers.{NoCountRose}
+use Rattle.air_cli.proofs.InputFacts.{CommandFacts, both, deck_told, one_deck, runs_fits}
 
 -- A deck that can't be done has no script done.
 pub unrunnable_script : (name : List ℕ) (before now : Shelved) (s : Status) → UnrunnableCause name before now s → ScriptCause name before now s
@@ -31,7 +43,7 @@ unfolding ScriptCause
 script_still name before mid now (status.TooLong bytes) rest counts h = h
 script_still name before mid now s rest counts h = unrunnable_still name before mid now s rest counts h
 
-pub script_sound : (deck : List ℕ) (tape : Option (List ℕ)) → IsSound (script_meaning deck tape)
+script_sound : (deck : List ℕ) (tape : Option (List ℕ)) → IsSound (script_meaning deck tape)
 unfolding ScriptCause UnrunnableCause DeckCause UnreadCause
 script_sound deck tape = record {
   still = script_still deck;
@@ -49,3 +61,35 @@ unmade_for deck tape before now s h = record { cause = h.cause; kept = h.kept }
 
 pub reads_for : (deck : List ℕ) (tape : Option (List ℕ)) (before now : Shelved) → Reads (script_meaning deck None) before now → Reads (script_meaning deck tape) before now
 reads_for deck tape before now h = record { files = h.files; left = h.left; outputs = h.outputs; printed = h.printed; counts = h.counts }
+
+-- ---- what its input decides
+
+-- A script's tape isn't both short enough and too long.
+long_tape : (d : Deck) (bytes : ℕ) → length (script_tape d) ≤ tape_limit → HasLongTape d bytes → ⊥
+long_tape d bytes few long = omega arith
+
+script_runs : (deck : List ℕ) (before : Shelved) → OfDeck deck before (λ d. IsShort d × (length (script_tape d) ≤ tape_limit)) → OfDeck deck before IsShort
+script_runs deck before suits = where_so (before.told.file deck) _ _ (λ bytes h. (h.0, (h.1.0, h.1.1, h.1.2.0))) suits
+
+script_fits : (deck : List ℕ) (tape : Option (List ℕ)) (before now : Shelved) (s : Status) → TellsInputs (script_meaning deck tape) before
+    → OfDeck deck before (λ d. IsShort d × (length (script_tape d) ≤ tape_limit)) → NoCountRose before.faults now.faults → ScriptCause deck before now s → s ≡ status.NoMemory
+unfolding ScriptCause
+script_fits deck tape before now (status.TooLong bytes) told suits calm h =
+    let known = told deck refl in
+    let two = both deck before known.0 (λ d. IsShort d × (length (script_tape d) ≤ tape_limit)) (λ d. HasLongTape d bytes) known.1 suits h in
+    absurd (long_tape two.0 bytes two.1.1 two.2)
+script_fits deck tape before now s told suits calm h =
+    let known = told deck refl in
+    runs_fits deck before now s known.0 known.1 (script_runs deck before suits) calm h
+
+script_one : (deck : List ℕ) (tape : Option (List ℕ)) (before other : Shelved) (a b : Given) → TellSameInputs (script_meaning deck tape) before other
+    → ScriptGives deck before a → ScriptGives deck other b → a ≡ b
+unfolding ScriptGives
+script_one deck tape before other a b same first second =
+    let told = same deck refl in
+    let x = deck_told deck before told.0 (λ d. IsShort d × (length (script_tape d) ≤ tape_limit) × IsTrueScript d × (a ≡ script_given d)) told.1 first in
+    let y = deck_told deck other told.0 (λ d. IsShort d × (length (script_tape d) ≤ tape_limit) × IsTrueScript d × (b ≡ script_given d)) told.2 second in
+    x.1.2.3 ∙ ap script_given (one_deck told.0 x.1.0 y.1.0 x.1.1 y.1.1) ∙ sym y.1.2.3
+
+pub script_facts : (deck : List ℕ) (tape : Option (List ℕ)) → CommandFacts (script_meaning deck tape)
+script_facts deck tape = record { sound = script_sound deck tape; inputs = record { fits = script_fits deck tape; one = λ decided. script_one deck tape } }

@@ -1,5 +1,5 @@
 -- What the proofs of `tune` need of its definitions.
-use Rattle.std.proofs.Common.{◌≡◌, ℕ, ◌≤◌, List, length, Some, None, refl, sym, ◌∙◌, subst, inl, inr}
+use Rattle.std.proofs.Common.{◌≡◌, ℕ, ◌≤◌, List, length, Some, None, refl, sym, ap, ◌∙◌, subst, inl, inr}
 use Rattle.air_devices.specs.Counts.{NoCountFalls, Rose}
 use Rattle.air_devices.specs.Unchanged.{KeepsButLeft, KeepsButPrinted}
 use Rattle.air_devices.specs.Shelves.{Shelved}
@@ -9,7 +9,7 @@ use Rattle.air_cli.specs.Steps.Making.{Reads}
 use Rattle.air_devices.specs.Told.{ToldIs, WhereTold}
 use Rattle.air_model.specs.Tapes.{tape_read}
 use Rattle.deck_files.specs.NamedDecks.{DeckCause, OfDeck}
-use Rattle.deck_files.specs.RunnableDecks.{IsRunnable, UnrunnableCause}
+use Rattle.deck_files.specs.RunnableDecks.{IsShort, UnrunnableCause}
 use Rattle.deck_files.specs.NamedFiles.{UnreadCause}
 use Rattle.deck_files.specs.FileLimits.{tape_limit}
 use Rattle.air_cli.specs.Tune.{IsCutAt, OfTape, TuneCause, tune_meaning}
@@ -17,6 +17,13 @@ use Rattle.air_cli.specs.Answers.{InputFailed}
 use Rattle.deck_files.proofs.CauseFacts.{where_read}
 use Rattle.air_cli.proofs.ReadFacts.{falls_twice}
 use Rattle.air_cli.proofs.RefusalFacts.{IsSound, unrunnable_still, unread_still}
+use Rattle.std.specs.Prelude.{⊤}
+use Rattle.delivery.specs.Given.{Given}
+use Rattle.air_cli.specs.Tune.{TuneGives, tune_given}
+use Rattle.air_cli.specs.Truths.{IsTrueTape}
+use Rattle.air_cli.specs.ToldInputs.{TellSameInputs, TellsInputs}
+use Rattle.air_cli.specs.Answers.{NoCountRose}
+use Rattle.air_cli.proofs.InputFacts.{CommandFacts, deck_told, of_told, one_deck, runs_fits, unread_fits}
 
 -- Nor is a tape heard.
 pub unrunnable_tune : (deck tape : List ℕ) (before now : Shelved) (s : Status) → UnrunnableCause deck before now s → TuneCause deck tape before now s
@@ -25,7 +32,7 @@ unrunnable_tune deck tape before now (status.TapeCut at) h = absurd h
 unrunnable_tune deck tape before now s h = inl h
 
 -- A tape that can't be read isn't heard.
-pub unread_tune : (deck tape : List ℕ) (before now : Shelved) (s : Status) → OfDeck deck before IsRunnable → UnreadCause tape tape_limit before now s → TuneCause deck tape before now s
+pub unread_tune : (deck tape : List ℕ) (before now : Shelved) (s : Status) → OfDeck deck before IsShort → UnreadCause tape tape_limit before now s → TuneCause deck tape before now s
 unfolding TuneCause UnreadCause
 unread_tune deck tape before now (status.TapeCut at) can h = absurd h
 unread_tune deck tape before now s can h = inr (can, h)
@@ -87,10 +94,47 @@ unfolding TuneCause UnrunnableCause DeckCause UnreadCause
 tune_not_failed deck tape before now (inl h) = h
 tune_not_failed deck tape before now (inr h) = h.1
 
-pub tune_sound : (deck tape : List ℕ) → IsSound (tune_meaning deck tape)
+tune_sound : (deck tape : List ℕ) → IsSound (tune_meaning deck tape)
 tune_sound deck tape = record {
   still = tune_still deck tape;
   not_done = tune_not_done deck tape;
   not_failed = tune_not_failed deck tape;
   input = tune_input deck tape;
+}
+
+-- ---- what its inputs decide
+
+-- A tape that is whole isn't cut.
+tape_fits : (deck tape : List ℕ) (before now : Shelved) (s : Status) → TellsInputs (tune_meaning deck tape) before → OfDeck deck before IsShort
+    → OfTape tape before (λ records. ⊤) → NoCountRose before.faults now.faults → TuneCause deck tape before now s → s ≡ status.NoMemory
+unfolding TuneCause
+tape_fits deck tape before now (status.TapeCut at) told runs whole calm h =
+    let known = told tape (inr refl) in
+    let good = of_told (before.told.file tape) known.0 (λ bytes. (length bytes ≤ tape_limit) × ((tape_read bytes).cut ≡ None) × ⊤) known.1 whole in
+    let bad = of_told (before.told.file tape) known.0 (IsCutAt at) known.1 h.1 in
+    absurd (cc (good.1, bad.1))
+tape_fits deck tape before now s told runs whole calm (inl h) = let known = told deck (inl refl) in runs_fits deck before now s known.0 known.1 runs calm h
+tape_fits deck tape before now s told runs whole calm (inr h) =
+    let known = told tape (inr refl) in
+    let good = of_told (before.told.file tape) known.0 (λ bytes. (length bytes ≤ tape_limit) × ((tape_read bytes).cut ≡ None) × ⊤) known.1 whole in
+    unread_fits tape tape_limit before now s known.0 known.1 good.0 calm h.1
+
+tune_one : (deck tape : List ℕ) (before other : Shelved) (a b : Given) → TellSameInputs (tune_meaning deck tape) before other
+    → TuneGives deck tape before a → TuneGives deck tape other b → a ≡ b
+unfolding TuneGives
+tune_one deck tape before other a b same first second =
+    let told = same deck (inl refl) in
+    let x = deck_told deck before told.0 (λ d. IsShort d × OfTape tape before (λ records. IsTrueTape d records × (a ≡ tune_given d records))) told.1 first in
+    let y = deck_told deck other told.0 (λ d. IsShort d × OfTape tape other (λ records. IsTrueTape d records × (b ≡ tune_given d records))) told.2 second in
+    let heard = same tape (inr refl) in
+    let v = of_told (before.told.file tape) heard.0
+    (λ bytes. (length bytes ≤ tape_limit) × ((tape_read bytes).cut ≡ None) × (IsTrueTape x.1.0 (tape_read bytes).records × (a ≡ tune_given x.1.0 (tape_read bytes).records))) heard.1 x.1.2.1 in
+    let w = of_told (other.told.file tape) heard.0
+    (λ bytes. (length bytes ≤ tape_limit) × ((tape_read bytes).cut ≡ None) × (IsTrueTape y.1.0 (tape_read bytes).records × (b ≡ tune_given y.1.0 (tape_read bytes).records))) heard.2 y.1.2.1 in
+    v.2.1 ∙ ap (λ d. tune_given d (tape_read heard.0).records) (one_deck told.0 x.1.0 y.1.0 x.1.1 y.1.1) ∙ sym w.2.1
+
+pub tune_facts : (deck tape : List ℕ) → CommandFacts (tune_meaning deck tape)
+tune_facts deck tape = record {
+  sound = tune_sound deck tape;
+  inputs = record { fits = λ before now s told suits. tape_fits deck tape before now s told suits.0 suits.1; one = λ decided. tune_one deck tape };
 }

@@ -5,7 +5,7 @@ use Rattle.air_model.specs.Decks.{Deck}
 use Rattle.air_model.specs.Outputs.{script_output, script_tape}
 use Rattle.air_status.specs.declared.status.Status.{Status}
 use Rattle.air_status.specs.declared.status.Status.TheVariants as status
-use Rattle.deck_files.specs.RunnableDecks.{IsRunnable, UnrunnableCause}
+use Rattle.deck_files.specs.RunnableDecks.{IsShort, UnrunnableCause}
 use Rattle.deck_files.specs.NamedDecks.{OfDeck}
 use Rattle.deck_files.specs.FileLimits.{tape_limit}
 use Rattle.air_cli.specs.Meanings.{Meaning}
@@ -14,7 +14,7 @@ use Rattle.air_cli.specs.Truths.{IsTrueScript}
 
 -- The deck can be run, but its tape would have so many bytes, more than a tape may have.
 pub record HasLongTape (d : Deck) (bytes : ℕ) : Type 0 where
-  pub runnable : IsRunnable d
+  pub runnable : IsShort d
   pub counted : bytes ≡ length (script_tape d)
   pub above : tape_limit < bytes
 
@@ -30,7 +30,7 @@ script_given d = record { text = script_output d; tape = script_tape d }
 -- What it gives: its deck can be run, the tape is short enough, the sessions in the report are true, and this is report and tape.
 unfoldable pub ScriptGives : List ℕ → Shelved → Given → Type 0
 ScriptGives deck before given =
-    OfDeck deck before (λ d. IsRunnable d × (length (script_tape d) ≤ tape_limit) × IsTrueScript d × (given ≡ script_given d))
+    OfDeck deck before (λ d. IsShort d × (length (script_tape d) ≤ tape_limit) × IsTrueScript d × (given ≡ script_given d))
 
 -- It reads its deck, which must be one that can be run and have a tape that is short enough, and writes the tape where one is
 -- named; the deck decides report and tape.
@@ -38,7 +38,7 @@ abbrev pub script_meaning : List ℕ → Option (List ℕ) → Meaning
 script_meaning deck tape = record {
   IsInput = λ name. name ≡ deck;
   output = tape;
-  Suits = λ before. OfDeck deck before (λ d. IsRunnable d × (length (script_tape d) ≤ tape_limit));
+  Suits = λ before. OfDeck deck before (λ d. IsShort d × (length (script_tape d) ≤ tape_limit));
   Refuses = ScriptCause deck;
   Gives = ScriptGives deck;
   decided = true;

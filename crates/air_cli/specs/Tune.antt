@@ -7,7 +7,7 @@ use Rattle.air_model.specs.Outputs.{tune_output}
 use Rattle.air_model.specs.Tapes.{tape_read}
 use Rattle.air_status.specs.declared.status.Status.{Status}
 use Rattle.air_status.specs.declared.status.Status.TheVariants as status
-use Rattle.deck_files.specs.RunnableDecks.{IsRunnable, UnrunnableCause}
+use Rattle.deck_files.specs.RunnableDecks.{IsShort, UnrunnableCause}
 use Rattle.deck_files.specs.NamedDecks.{OfDeck}
 use Rattle.deck_files.specs.NamedFiles.{UnreadCause}
 use Rattle.deck_files.specs.FileLimits.{tape_limit}
@@ -21,8 +21,8 @@ IsCutAt at bytes = (length bytes ≤ tape_limit) × ((tape_read bytes).cut ≡ S
 
 -- Why it is refused: its deck can't be run, or it can, and then the tape can't be heard.
 unfoldable pub TuneCause : List ℕ → List ℕ → Shelved → Shelved → Status → Type 0
-TuneCause deck tape before now (status.TapeCut at) = OfDeck deck before IsRunnable × WhereTold (before.told.file tape) (IsCutAt at)
-TuneCause deck tape before now s = UnrunnableCause deck before now s ⊎ (OfDeck deck before IsRunnable × UnreadCause tape tape_limit before now s)
+TuneCause deck tape before now (status.TapeCut at) = OfDeck deck before IsShort × WhereTold (before.told.file tape) (IsCutAt at)
+TuneCause deck tape before now s = UnrunnableCause deck before now s ⊎ (OfDeck deck before IsShort × UnreadCause tape tape_limit before now s)
 
 -- The named file's bytes, where they are told, are a whole tape, and this is so of its records.
 abbrev pub OfTape : List ℕ → Shelved → (List (List ℕ) → Type 0) → Type 0
@@ -35,7 +35,7 @@ tune_given d records = record { text = tune_output d records; tape = [] }
 -- What it gives: its deck can be run, its tape is whole, the sessions in the report are true, and this is the report.
 unfoldable pub TuneGives : List ℕ → List ℕ → Shelved → Given → Type 0
 TuneGives deck tape before given =
-    OfDeck deck before (λ d. IsRunnable d × OfTape tape before (λ records. IsTrueTape d records × (given ≡ tune_given d records)))
+    OfDeck deck before (λ d. IsShort d × OfTape tape before (λ records. IsTrueTape d records × (given ≡ tune_given d records)))
 
 -- It reads its deck, which must be one that can be run, and the tape, which must be whole, and writes no output; the two decide
 -- the report.
@@ -43,7 +43,7 @@ abbrev pub tune_meaning : List ℕ → List ℕ → Meaning
 tune_meaning deck tape = record {
   IsInput = λ name. (name ≡ deck) ⊎ (name ≡ tape);
   output = None;
-  Suits = λ before. OfDeck deck before IsRunnable × OfTape tape before (λ records. ⊤);
+  Suits = λ before. OfDeck deck before IsShort × OfTape tape before (λ records. ⊤);
   Refuses = TuneCause deck tape;
   Gives = TuneGives deck tape;
   decided = true;

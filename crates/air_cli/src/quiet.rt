@@ -21,7 +21,7 @@ use std::thread::Threads;
 
 /// Runs what the words ask for: `plan DECK`, `script DECK`, `script DECK TAPE` or `tune DECK TAPE`.
 pub fn air_quiet<T: Threads + Sync, S: Shelf>(
-    _threads: &T,
+    threads: &T,
     alloc: Global,
     words: &[String],
     shelf: &mut S,
@@ -31,17 +31,22 @@ pub fn air_quiet<T: Threads + Sync, S: Shelf>(
     ensures leaves { Leaves (words_meaning (asked_of (map (λ w. string_bytes w) words.now))) (S.state shelf.old) (S.state shelf.new) }
 {
     match command_of(words) {
-        Some(command) => run(alloc, shelf, &command),
+        Some(command) => run(threads, alloc, shelf, &command),
         None => refuse(alloc, shelf, Status::Words),
     }
 }
 
 /// Runs a command: makes what it gives, and delivers it; or refuses.
-fn run<S: Shelf>(alloc: Global, shelf: &mut S, command: &Command) -> Status
+fn run<T: Threads + Sync, S: Shelf>(
+    threads: &T,
+    alloc: Global,
+    shelf: &mut S,
+    command: &Command,
+) -> Status
     ensures answers { QuietAnswers (meaning_of (asked_by command.now)) (S.state shelf.old) (S.state shelf.new) result }
     ensures leaves { Leaves (meaning_of (asked_by command.now)) (S.state shelf.old) (S.state shelf.new) }
 {
-    match make(alloc, shelf, command) {
+    match make(threads, alloc, shelf, command) {
         Ok(given) => deliver(shelf, command.output(), &given),
         Err(status) => match status {
             Status::NoMemory => Status::NoMemory,
@@ -52,14 +57,19 @@ fn run<S: Shelf>(alloc: Global, shelf: &mut S, command: &Command) -> Status
 
 /// What a command gives; nothing is printed or written yet.
 #[tactic(auto, using(crate::proofs::ScriptFacts::made_for, crate::proofs::ScriptFacts::unmade_for, crate::proofs::ScriptFacts::reads_for))]
-fn make<S: Shelf>(alloc: Global, shelf: &mut S, command: &Command) -> Result<Given, Status>
+fn make<T: Threads + Sync, S: Shelf>(
+    threads: &T,
+    alloc: Global,
+    shelf: &mut S,
+    command: &Command,
+) -> Result<Given, Status>
     ensures made { IfOk result (IsMade (meaning_of (asked_by command.now)) (S.state shelf.old) (S.state shelf.new)) }
     ensures unmade { IfErr result (IsUnmade (meaning_of (asked_by command.now)) (S.state shelf.old) (S.state shelf.new)) }
     ensures reads { Reads (meaning_of (asked_by command.now)) (S.state shelf.old) (S.state shelf.new) }
 {
     match command {
         Command::Plan { deck } => plan(alloc, shelf, deck),
-        Command::Script { deck, .. } => script(alloc, shelf, deck),
+        Command::Script { deck, .. } => script(threads, alloc, shelf, deck),
         Command::Tune { deck, tape } => tune(alloc, shelf, deck, tape),
     }
 }

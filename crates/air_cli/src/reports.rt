@@ -1,7 +1,7 @@
 //! The reports of `script` and `tune`, in memory: what a deck's readers made of a tape.
 //!
-//! `script` runs the deck's script and lets its readers hear the tape of it: over this tape both judges give one
-//! session, so the report is the one that the history judges. `tune` lets them hear a given tape.
+//! `script` runs the deck's script and lets each of its readers hear its own ether of the tape of it: over this tape both
+//! judges give one session, so the report is the one that the history judges. `tune` lets them hear a given tape.
 
 ghost use Rattle.std.specs.Prelude.{◌≡◌, ◌<◌, ◌≤◌, ◌^◌, [], length, None, IfOk};
 ghost use Rattle.air_history.specs.Histories.{starts};
@@ -11,7 +11,6 @@ ghost use Rattle.air_model.specs.Reports.{report_text};
 ghost use Rattle.air_model.specs.Tapes.{tape_of, tape_read};
 ghost use Rattle.air_sender.specs.TapeMasts.{told_by};
 ghost use Rattle.deck_files.specs.FileLimits.{tape_limit};
-ghost use Rattle.deck_files.specs.RunnableDecks.{IsSupported};
 
 use air_base::NoMemory;
 use air_history::{Event, History};
@@ -19,9 +18,10 @@ use air_report::{Report, write_report};
 use air_sender::TapeMast;
 use chunk_program::Program;
 use item_catalog::Deck;
-use listeners::{Sessions, tape_sessions};
+use listeners::{Sessions, ether_sessions, tape_sessions};
 use script_run::run_script;
 use std::alloc::Global;
+use std::thread::Threads;
 
 /// What a script comes to: the report's text, and the tape.
 #[derive(Drop)]
@@ -31,13 +31,13 @@ pub(crate) struct Scripted {
 }
 
 /// Runs the script of a deck: the report of its history and of its readers' sessions, and the tape of its history.
-pub(crate) fn script_report(
+pub(crate) fn script_report<T: Threads + Sync>(
+    threads: &T,
     alloc: Global,
     deck: &Deck,
     program: &Program,
 ) -> Result<Scripted, NoMemory>
     requires planned { program.now ≡ disks_in deck.now }
-    requires form { IsSupported deck.now }
     requires size { length (script_tape deck.now) ≤ tape_limit }
     ensures report { IfOk result (λ s. s.report.items ≡ script_output deck.now) }
     ensures tape { IfOk result (λ s. tape_of (told_by s.tape).buckets ≡ script_tape deck.now) }
@@ -45,7 +45,7 @@ pub(crate) fn script_report(
     deck.well_made();
     let _slots = program.slots();
     let scripted = run_script(alloc, deck, program)?;
-    let sessions = tape_sessions(alloc, deck, program, scripted.tape.tape())?;
+    let sessions = ether_sessions(threads, alloc, deck, program, scripted.tape.tape())?;
     let report = report_of(alloc, scripted.events, sessions)?;
     Ok(Scripted {
         report,
@@ -61,7 +61,6 @@ pub(crate) fn tune_report(
     tape: &[u8],
 ) -> Result<Vec<u8>, NoMemory>
     requires planned { program.now ≡ disks_in deck.now }
-    requires form { IsSupported deck.now }
     requires whole { (tape_read tape.now).cut ≡ None }
     ensures { IfOk result (λ text. text.items ≡ tune_output deck.now (tape_read tape.now).records) }
 {

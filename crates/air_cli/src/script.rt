@@ -18,9 +18,15 @@ use deck_files::read_runnable_deck;
 use delivery::Given;
 use item_catalog::Deck;
 use std::alloc::Global;
+use std::thread::Threads;
 
 /// The report and the tape of the named deck's script, whatever output is to take the tape.
-pub(crate) fn script<S: Shelf>(alloc: Global, shelf: &mut S, name: &str) -> Result<Given, Status>
+pub(crate) fn script<T: Threads + Sync, S: Shelf>(
+    threads: &T,
+    alloc: Global,
+    shelf: &mut S,
+    name: &str,
+) -> Result<Given, Status>
     ensures made { IfOk result (IsMade (script_meaning name.now None) (S.state shelf.old) (S.state shelf.new)) }
     ensures unmade { IfErr result (IsUnmade (script_meaning name.now None) (S.state shelf.old) (S.state shelf.new)) }
     ensures reads { Reads (script_meaning name.now None) (S.state shelf.old) (S.state shelf.new) }
@@ -30,7 +36,7 @@ pub(crate) fn script<S: Shelf>(alloc: Global, shelf: &mut S, name: &str) -> Resu
     if bytes > MOST_TAPE_BYTES as u64 {
         return Err(Status::TooLong { bytes });
     }
-    let scripted = script_report(alloc, &deck, &program)?;
+    let scripted = script_report(threads, alloc, &deck, &program)?;
     script_is_true(&deck);
     Ok(Given {
         text: scripted.report,

@@ -1,8 +1,21 @@
-//! The words of a command.
+//! The words of a command, and the help on them.
 
 ghost use Rattle.std.specs.Prelude.{◌≡◌, option_map, map, string_bytes};
 ghost use Rattle.air_cli.specs.Words.{asked_of, asked_of_one, asked_of_two};
 ghost use Rattle.air_cli.specs.Commands.{asked_by, meaning_of};
+
+/// What the program can do, a line a command.
+pub const HELP: &str = "airdisk: data on air, proved
+
+  airdisk plan DECK           print the broadcast program of a deck
+  airdisk script DECK         do the script of a deck, and print the report of its readers
+  airdisk script DECK TAPE    the same, and write what was aired to a tape
+  airdisk tune DECK TAPE      let the readers of a deck hear a tape, and print their report
+  airdisk --help              print this text
+  airdisk --version           print the version
+
+The manual is docs/GUIDE.md in the repository.
+";
 
 /// What the words ask for.
 #[derive(Clone, Copy, Debug)]

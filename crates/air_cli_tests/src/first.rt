@@ -6,6 +6,7 @@ use air_cli::Status;
 /// Two items on one flat disk, one reader with one query, one cycle.
 pub const FIRST: &str = "item,0,10,1\nitem,1,20,1\ndisk,2,1\nreader,0,0,1\nquery,0,0 1\nscript,s\n";
 
+/// The report of the first deck's script.
 pub const FIRST_REPORT: &[u8] = b"start\naccept,0,0,1,0@1=10 1@1=20\ncounts,0,2,0,0,0,0,0\n";
 
 /// The tape of the first deck.
@@ -15,12 +16,16 @@ pub const FIRST_TAPE: [u8; 72] = [
     0, 0, 0, 0, 0, 20, 0, 0, 0, 0, 0, 0, 0, 0,
 ];
 
+/// To plan the deck.
 pub const PLAN: &[&str] = &["plan", "deck"];
 
+/// To run the deck's script.
 pub const SCRIPT: &[&str] = &["script", "deck"];
 
+/// To run it, and to write the tape.
 pub const SCRIPT_TAPE: &[&str] = &["script", "deck", "tape"];
 
+/// To let the deck's reader hear the tape.
 pub const TUNE: &[&str] = &["tune", "deck", "tape"];
 
 /// A case of the first deck and its tape with room enough, of which the words and what is wanted are left to say.

@@ -7,6 +7,8 @@
 #[cfg(test)]
 mod cases;
 #[cfg(test)]
+mod ethers;
+#[cfg(test)]
 mod first;
 #[cfg(test)]
 mod orders;

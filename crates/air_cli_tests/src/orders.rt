@@ -70,7 +70,7 @@ fn a_fault_of_the_deck_is_told_before_all_else(rt: HostRuntime) {
         refused("by a script to a tape", SCRIPT_TAPE, base, fault, line),
         refused("before a missing tape", TUNE_NONE, base, fault, line),
         refused("of an empty deck", SCRIPT, &[], empty, empty_line),
-        refused("before another form", SCRIPT, odd, odd_tag, odd_tag_line),
+        refused("of an unknown tag", SCRIPT, odd, odd_tag, odd_tag_line),
     ];
     assert_eq!(rt; first_other(&rt, rt.alloc(), &cases), None);
 }
@@ -90,45 +90,8 @@ fn difference_with<R: Threads + Sync>(
     difference(rt, alloc, &case)
 }
 
-/// In what a deck of one item and these records differs from one that is planned, and that neither `script` nor
-/// `tune` does for its form.
-fn difference_of_form<R: Threads + Sync>(rt: &R, alloc: Global, more: &str) -> Option<Other> {
-    let form = Status::Deck { row: 0, kind: 12 };
-    let line = "fault,2,0,12\n";
-    let script = difference_with(rt, alloc, SCRIPT, more, form, line);
-    let tune = difference_with(rt, alloc, TUNE_NONE, more, form, line);
-    let text = "program,1,1,1\ndisk,0,1,1,1\nminor,0,0\nitem,0,0,1,1,0,1\n";
-    let plan = difference_with(rt, alloc, PLAN, more, Status::Ok, text);
-    script.or(tune).or(plan)
-}
-
-/// The first of these kinds of records by which a deck isn't of another form, and what is other there.
-fn first_done<'a, R: Threads + Sync>(
-    rt: &R,
-    alloc: Global,
-    forms: &[(&'a str, &'a str)],
-) -> Option<(&'a str, Other)> {
-    for (shows, more) in forms {
-        if let Some(other) = difference_of_form(rt, alloc, more) {
-            return Some((*shows, other));
-        }
-    }
-    None
-}
-
-#[test]
-fn decks_of_another_form_are_planned_and_not_done(rt: HostRuntime) {
-    let decks = [
-        ("a reader keeps copies", "reader,1,0,1\n"),
-        ("buckets are lost", "set,loss,1\n"),
-        ("buckets are heard again", "set,again,1\n"),
-        ("buckets are heard late", "set,late,1\n"),
-    ];
-    assert_eq!(rt; first_done(&rt, rt.alloc(), &decks), None);
-}
-
-/// The first of these settings with which a deck of one item isn't done, and what is other there.
-fn first_undone<'a, R: Threads + Sync>(
+/// The first of these settings with which a deck of one item isn't run, and what is other there.
+fn first_refused<'a, R: Threads + Sync>(
     rt: &R,
     alloc: Global,
     settings: &[&'a str],
@@ -143,16 +106,19 @@ fn first_undone<'a, R: Threads + Sync>(
 }
 
 #[test]
-fn settings_that_no_reader_sees_are_done(rt: HostRuntime) {
+fn settings_that_no_reader_sees_are_run(rt: HostRuntime) {
     let settings = [
         "set,policy,D\n",
         "set,policy,R\n",
         "set,cycles,5\n",
         "set,seed,3\n",
+        "set,loss,1\n",
+        "set,again,1\n",
+        "set,late,1\n",
         "set,monitors,1\n",
         "set,hears,5\n",
     ];
-    assert_eq!(rt; first_undone(&rt, rt.alloc(), &settings), None);
+    assert_eq!(rt; first_refused(&rt, rt.alloc(), &settings), None);
 }
 
 #[test]
@@ -163,16 +129,13 @@ fn a_program_that_is_too_long_is_refused_before_its_tape(rt: HostRuntime) {
     let less = Status::PlanTooLong { slots: 20_160 };
     let less_line: Parts<'_> = &[Part::Text("fault,13,20160\n")];
     let copies: Parts<'_> = &[Part::Text(LONG), Part::Text("reader,1,0,1\n")];
-    let form = Status::Deck { row: 0, kind: 12 };
-    let form_line: Parts<'_> = &[Part::Text("fault,2,0,12\n")];
     let cases = [
         refused("by a plan", PLAN, deck, long, line),
         refused("by a script", SCRIPT, deck, long, line),
         refused("by a script to a tape", SCRIPT_TAPE, deck, long, line),
         refused("before a missing tape", TUNE_NONE, deck, long, line),
         refused("of eight starts", SCRIPT, LONG_SCRIPT, less, less_line),
-        refused("behind another form", SCRIPT, copies, form, form_line),
-        refused("by a plan of another form", PLAN, copies, long, line),
+        refused("of a reader that keeps copies", SCRIPT, copies, long, line),
     ];
     assert_eq!(rt; first_other(&rt, rt.alloc(), &cases), None);
 }

@@ -28,6 +28,7 @@ const PLANNED: Case<'static> = Case {
     ..FIRST_CASE
 };
 
+/// Three disks, aired four times, twice and once a cycle.
 const THREE_DISKS: Case<'static> = Case {
     shows: "three disks are interleaved",
     deck: &[
@@ -44,6 +45,7 @@ const THREE_DISKS: Case<'static> = Case {
     ..PLANNED
 };
 
+/// Two disks whose last chunks are not full.
 const SIX_ITEMS: Case<'static> = Case {
     shows: "idle slots are dashes",
     deck: &[Part::Rows(6, FLAT), Part::Text("disk,1,3\ndisk,5,2\n")],
@@ -56,6 +58,7 @@ const SIX_ITEMS: Case<'static> = Case {
     ..PLANNED
 };
 
+/// Three disks that say no frequency.
 const BY_DELTA: Case<'static> = Case {
     shows: "a dash takes its frequency from delta",
     deck: &[
@@ -72,6 +75,7 @@ const BY_DELTA: Case<'static> = Case {
     ..PLANNED
 };
 
+/// Items of which two have one rate.
 const EQUAL_RATES: Case<'static> = Case {
     shows: "equal rates go by the smaller number",
     deck: &[Part::Text("item,0,1,5\nitem,1,1,7\nitem,2,1,5\nitem,3,1,0\ndisk,2,2\ndisk,2,1\n")],
@@ -82,6 +86,7 @@ const EQUAL_RATES: Case<'static> = Case {
     ..PLANNED
 };
 
+/// A disk with fewer items than chunks.
 const SMALL_DISK: Case<'static> = Case {
     shows: "a disk smaller than its chunks idles",
     deck: &[Part::Rows(2, FLAT), Part::Text("disk,1,1\ndisk,1,4\n")],

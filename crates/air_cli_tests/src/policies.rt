@@ -14,24 +14,30 @@ const BOTH: Part<'static> = Part::Text("update,0,,0=11\nupdate,0,,1=21\nscript,s
 /// Only the item that was read before is overwritten.
 const ONE: Part<'static> = Part::Text("update,0,,0=11\nscript,s 0 s\n");
 
+/// The deck's policy is Datacycle.
 const D: Part<'static> = Part::Text("set,policy,D\n");
 
+/// The deck's policy is R-Matrix.
 const R: Part<'static> = Part::Text("set,policy,R\n");
 
+/// Where both are overwritten, the report of a reader that accepts.
 const BOTH_ACCEPTED: Parts<'static> = &[Part::Text(
     "start\ncommit,0,0\ncommit,0,1\nstart\n\
     accept,0,0,1,0@1=10 1@2=21\ncounts,0,2,2,0,0,0,0\n",
 )];
 
+/// Where both are overwritten, the report of a reader that aborts.
 const BOTH_ABORTED: Parts<'static> = &[Part::Text(
     "start\ncommit,0,0\ncommit,0,1\nstart\n\
     abort,0,0,1,0@1=10,1@2,0\ncounts,0,2,2,0,0,0,0\n",
 )];
 
+/// Where one is overwritten, the report of a reader that accepts.
 const ONE_ACCEPTED: Parts<'static> = &[Part::Text(
     "start\ncommit,0,0\nstart\naccept,0,0,1,0@1=10 1@2=20\ncounts,0,2,2,0,0,0,0\n",
 )];
 
+/// Where one is overwritten, the report of a reader that aborts.
 const ONE_ABORTED: Parts<'static> = &[Part::Text(
     "start\ncommit,0,0\nstart\nabort,0,0,1,0@1=10,1@2,0\ncounts,0,2,2,0,0,0,0\n",
 )];
@@ -96,20 +102,26 @@ const OLD: Part<'static> = Part::Bytes(&[
     0, 0, 0, 0, 0, 0, 0,
 ]);
 
+/// A tape of columns: that of the first deck.
 const COLUMNS: Parts<'static> = &[Part::Bytes(&FIRST_TAPE)];
 
+/// The report where the two reads go together.
 const TOGETHER: Parts<'static> = &[Part::Text(
     "accept,0,0,1,0@4=10 1@2=20\ncounts,0,2,0,0,0,0,0\n",
 )];
 
+/// The report where they clash.
 const CLASH: Parts<'static> = &[Part::Text("abort,0,0,1,0@4=10,1@2,0\ncounts,0,2,0,0,0,0,0\n")];
 
+/// The report where the second bucket is late.
 const LATE: Parts<'static> = &[Part::Text("unfinished,0,0,1,0@4=10\ncounts,0,1,0,1,0,0,0\n")];
 
+/// The report where a bucket isn't wanted, and the one after it is late.
 const DOZED_AND_LATE: Parts<'static> = &[Part::Text(
     "unfinished,0,0,1,0@4=10\ncounts,0,1,1,1,0,0,0\n",
 )];
 
+/// The report where every bucket is foreign.
 const ALL_FOREIGN: Parts<'static> = &[Part::Text("unfinished,0,0,1,\ncounts,0,0,0,0,0,2,0\n")];
 
 #[test]

@@ -20,6 +20,7 @@ const IN_ORDER: Parts<'static> = &[
     Part::Text("disk,3,1\nreader,0,0,1\nquery,0,2 0\nscript,s s\n"),
 ];
 
+/// Its report.
 const IN_ORDER_REPORT: Parts<'static> = &[Part::Text(
     "start\nstart\naccept,0,0,1,2@1=0 0@2=0\ncounts,0,2,4,0,0,0,0\n",
 )];
@@ -29,6 +30,7 @@ const NO_START: Parts<'static> = &[Part::Text(
     "item,0,10,1\ndisk,1,1\nreader,0,0,1\nquery,0,0\nscript,\n",
 )];
 
+/// Its report.
 const NO_START_REPORT: Parts<'static> = &[Part::Text("unfinished,0,0,1,\ncounts,0,0,0,0,0,0,0\n")];
 
 /// An update that adds one to the greatest value.
@@ -37,6 +39,7 @@ const SUMS: Parts<'static> = &[Part::Text(
     reader,0,0,1\nquery,0,0\nscript,0 s\n",
 )];
 
+/// Its report: the sum begins again at 0.
 const SUMS_REPORT: Parts<'static> = &[Part::Text(
     "commit,0,0\nstart\naccept,0,0,1,0@1=0\ncounts,0,1,0,0,0,0,0\n",
 )];
@@ -47,6 +50,7 @@ const DISKS: Parts<'static> = &[Part::Text(
     reader,0,0,1\nquery,0,2 0\nquery,0,1\nscript,s s\n",
 )];
 
+/// Its report.
 const DISKS_REPORT: Parts<'static> = &[Part::Text(
     "start\nstart\naccept,0,0,1,2@1=9 0@2=7\naccept,0,1,1,1@2=8\ncounts,0,3,5,0,0,0,0\n",
 )];

@@ -15,7 +15,7 @@ use Rattle.rand_pcg.specs.Pcg.{pcg32}
 use Rattle.air_model.specs.Draws.{generator, words_of}
 use Rattle.air_model.specs.Ethers.{Odds, due_at, due_number, heard, heard_by, heard_places, places_due, times_heard}
 use Rattle.air_ether.specs.declared.cursor.Cursor.{Cursor}
-use Rattle.air_ether.specs.HeardPositions.{InWindow, before, copies_at, of_push, position, row}
+use Rattle.air_ether.specs.HeardPositions.{InWindow, before, copies_at, left_at, of_push, position, row}
 use Rattle.air_ether.specs.HeardSoFar.{Ether, Follows, due_of, limit_of}
 use Rattle.air_ether.specs.KeptPushes.{Push, nothing, push_in}
 use Rattle.air_ether.specs.PushWords.{due_in, left_by, times_in}
@@ -113,6 +113,21 @@ open_window n ended rooms c e w = subst (λ b. InWindow n (limit_of b n) rooms c
 
 pub open_after : (n : ℕ) (ended : Bool) (rooms : List Push) (c : Cursor) → ended ≡ false → InWindow n n rooms c → InWindow n (limit_of ended n) rooms c
 open_after n ended rooms c e w = subst (λ b. InWindow n (limit_of b n) rooms c) (sym e) w
+
+-- From the front of a number on few are due at that number, and at each of the next eight.
+pub few_due : (n limit most : ℕ) (rooms : List Push) (c : Cursor) → InWindow n limit rooms c → c.number ≡ limit → most ≤ limit + 8 → left_at most c ≤ 269
+few_due n limit most rooms c w quiet far =
+    let front = w.front quiet in
+    let first = w.first quiet in
+    omega arith
+
+pub few_after_push : (n : ℕ) (ended : Bool) (rooms : List Push) (c : Cursor) → ended ≡ false → InWindow n (limit_of ended n) rooms c → c.number ≡ limit_of ended n → left_at (limit_of ended (n + 1)) c ≤ 269
+few_after_push n true rooms c opened w quiet = cc
+few_after_push n false rooms c opened w quiet = few_due n n (n + 1) rooms c w quiet (omega arith)
+
+pub few_after_end : (n : ℕ) (ended : Bool) (rooms : List Push) (c : Cursor) → InWindow n (limit_of ended n) rooms c → c.number ≡ limit_of ended n → left_at (limit_of true n) c ≤ 269
+few_after_end n true rooms c w quiet = few_due n (n + 8) (n + 8) rooms c w quiet (omega arith)
+few_after_end n false rooms c w quiet = few_due n n (n + 8) rooms c w quiet (omega arith)
 
 -- Each place of the window has its own room.
 set_here : (rooms : List Push) (n : ℕ) (w : Push) → length rooms ≡ 9 → push_in (set rooms (n % 9) w) n ≡ w

@@ -2,6 +2,7 @@
 use Rattle.std.specs.Prelude.{◌≡◌, ◌≤◌, ◌-◌, ◌^◌, length, map, All}
 use Rattle.air_model.specs.Ethers as model
 use Rattle.air_ether.specs.declared.odds.Odds.{Odds}
+use Rattle.air_ether.specs.declared.waiting.TheConstants.{KEPT}
 use Rattle.air_ether.specs.declared.ether.Ether.TheInside.{Inside}
 use Rattle.air_ether.specs.HeardPositions.{InWindow}
 use Rattle.air_ether.specs.HeardSoFar.{Ether, limit_of}
@@ -23,9 +24,9 @@ ether_of e = record {
   rooms = map push_of e.rooms.items;
 }
 
--- There are nine rooms, each for the longest bucket, and the cursor is in the window.
+-- There are `KEPT` rooms, each for the longest bucket, and the cursor is in the window.
 pub record IsEther (e : Inside) : Type 0 where
-  pub nine : length e.rooms.items ≡ 9
+  pub count : length e.rooms.items ≡ KEPT
   pub sized : All (λ w. length w.room.items ≡ e.most) e.rooms.items
   pub short : All (λ w. w.len ≤ e.most) e.rooms.items
   pub twice : All (λ w. w.times ≤ 2) e.rooms.items

@@ -4,13 +4,14 @@ use Rattle.rand_pcg.specs.Lcg.{Lcg}
 use Rattle.rand_pcg.specs.Pcg.{pcg32}
 use Rattle.air_model.specs.Draws.{generator, words_of}
 use Rattle.air_model.specs.Ethers.{Odds, places_due}
+use Rattle.air_ether.specs.declared.waiting.TheConstants.{KEPT}
 use Rattle.air_ether.specs.declared.cursor.Cursor.{Cursor}
 use Rattle.air_ether.specs.HeardPositions.{left_at, position}
 use Rattle.air_ether.specs.KeptPushes.{Push, Waits, push_in}
 use Rattle.air_ether.specs.PushWords.{due_in, left_by, times_in}
 
 -- The odds, the greatest length of a bucket, the generator, how many were pushed, whether the end was told, where it stands
--- in the heard list, and the last nine pushes, each at its place modulo nine.
+-- in the heard list, and the last `KEPT` pushes, each at its place modulo `KEPT`.
 pub record Ether : Type 0 where
   pub odds : Odds
   pub most : ℕ
@@ -43,5 +44,5 @@ pub record Follows (seed number : ℕ) (pushed : List (List ℕ)) (given : ℕ) 
   pub drawn : e.generator ≡ left_by pcg32 (3 * length pushed) (generator seed number)
   pub pushes : e.pushes ≡ length pushed
   pub waits : Waits (due_in seed number e.odds) (times_in seed number e.odds) e.pushes e.rooms
-  pub bytes : (p : ℕ) → p < e.pushes → e.pushes ≤ p + 9 → (push_in e.rooms p).bytes ≡ slice_index_or pushed p []
+  pub bytes : (p : ℕ) → p < e.pushes → e.pushes ≤ p + KEPT → (push_in e.rooms p).bytes ≡ slice_index_or pushed p []
   pub counted : given ≡ position (due_in seed number e.odds) (times_in seed number e.odds) e.pushes e.cursor

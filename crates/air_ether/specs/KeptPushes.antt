@@ -1,5 +1,6 @@
--- What an ether keeps of its last nine pushes: each has the room of its place modulo nine.
+-- What an ether keeps of its last `KEPT` pushes: each has the room of its place modulo `KEPT`.
 use Rattle.std.specs.Prelude.{◌≡◌, ℕ, ◌+◌, ◌%◌, ◌<◌, ◌≤◌, ◌==◌, if◌then◌else◌, List, [], take, get_or}
+use Rattle.air_ether.specs.declared.waiting.TheConstants.{KEPT}
 use Rattle.air_ether.specs.declared.waiting.Waiting.{Waiting}
 
 -- What is kept of a push: its due number, how often it is heard, and its bytes.
@@ -22,11 +23,11 @@ copies_of push number = if push.due == number then push.times else 0
 
 -- What is kept of the push at a place.
 abbrev pub push_in : List Push → ℕ → Push
-push_in rooms place = get_or rooms (place % 9) nothing
+push_in rooms place = get_or rooms (place % KEPT) nothing
 
--- The due number and the number of copies of each push are told by these, and the rooms have those of the last nine.
+-- The due number and the number of copies of each push are told by these, and the rooms have those of the last `KEPT`.
 pub record Waits (due times : ℕ → ℕ) (pushes : ℕ) (rooms : List Push) : Type 0 where
   pub low : (p : ℕ) → p ≤ due p
-  pub high : (p : ℕ) → due p < p + 9
-  pub due_kept : (p : ℕ) → p < pushes → pushes ≤ p + 9 → (push_in rooms p).due ≡ due p
-  pub times_kept : (p : ℕ) → p < pushes → pushes ≤ p + 9 → (push_in rooms p).times ≡ times p
+  pub high : (p : ℕ) → due p < p + KEPT
+  pub due_kept : (p : ℕ) → p < pushes → pushes ≤ p + KEPT → (push_in rooms p).due ≡ due p
+  pub times_kept : (p : ℕ) → p < pushes → pushes ≤ p + KEPT → (push_in rooms p).times ≡ times p

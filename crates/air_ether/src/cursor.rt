@@ -14,10 +14,10 @@ pub struct Cursor {
     pub copy: u32,
 }
 
-/// Moves the cursor to the next copy with a due number below `limit`, or to the limit where there is none. At most nine
+/// Moves the cursor to the next copy with a due number below `limit`, or to the limit where there is none. At most `KEPT`
 /// places are looked at for each number.
 pub fn seek(cursor: &mut Cursor, rooms: &[Waiting], pushes: u64, limit: u64) -> bool
-    requires nine { length rooms.now ≡ 9 }
+    requires count { length rooms.now ≡ KEPT }
     requires fits { pushes ≤ 2 ^ 64 - 16 }
     requires far { limit ≤ pushes + 8 }
     requires within { InWindow pushes limit (map push_of rooms.now) cursor.old }

@@ -4,22 +4,26 @@
 
 ghost use Rattle.std.specs.Prelude.{◌≡◌, ℕ, ◌+◌, ◌-◌, ◌<◌, ◌≤◌, ◌^◌, List, [], ◌∷◌, ◌++◌, true, false, length, IfOk, Some, Contains, IfSome, MatchOption, slice_get};
 ghost use Rattle.air_base.specs.declared.limits.TheConstants.{MOST_SHARE};
-ghost use Rattle.air_ether.specs.HeardSoFar.{Follows, IsQuiet, due_of, limit_of};
-ghost use Rattle.air_ether.specs.declared.ether.TheConstants.{MOST_BYTES, MOST_PUSHES};
+ghost use Rattle.air_ether.specs.HeardSoFar.{Follows, IsQuiet, due_of, left_of, limit_of};
+ghost use Rattle.air_ether.specs.declared.ether.TheConstants.{MOST_BYTES, MOST_DUE, MOST_PUSHES};
 
 use crate::cursor::{Cursor, seek};
 use crate::odds::Odds;
 use crate::waiting::{KEPT, Waiting, rooms};
 use air_base::NoMemory;
+use air_base::limits::MOST_DATAGRAM_BYTES;
 use rand_pcg::Lcg64Xsh32;
 use std::alloc::Global;
 use std::marker::Model;
 
 /// The most bytes of a bucket: those of the longest datagram.
-pub const MOST_BYTES: usize = 65_507;
+pub const MOST_BYTES: usize = MOST_DATAGRAM_BYTES;
 
 /// The most pushes: no due number goes over 64 bits.
 pub const MOST_PUSHES: u64 = 18_446_744_073_709_551_600;
+
+/// After a push, and after the end, at most so many buckets are due.
+pub const MOST_DUE: u64 = 269;
 
 /// Due numbers below this are due: after the end, all of them.
 fn limit_of(ended: bool, pushes: u64) -> u64
@@ -30,7 +34,7 @@ fn limit_of(ended: bool, pushes: u64) -> u64
 }
 
 /// The ether of one reader: its odds, the most bytes of a bucket, its words, how many buckets were pushed, whether the end was
-/// told, where it stands in the heard list, and the last nine pushes.
+/// told, where it stands in the heard list, and the last `KEPT` pushes.
 #[derive(Drop)]
 pub struct Ether {
     odds: Odds,
@@ -102,6 +106,7 @@ impl Ether {
         ensures odds { self.new.odds ≡ self.old.odds }
         ensures open { self.new.ended ≡ false }
         ensures pushes { self.new.pushes ≡ self.old.pushes + 1 }
+        ensures few { left_of self.new ≤ MOST_DUE }
         ensures follows { (seed number given : ℕ) (pushed : List (List ℕ)) → Follows seed number pushed given self.old →
             Follows seed number (pushed ++ bytes.now ∷ []) given self.new }
     {
@@ -136,6 +141,7 @@ impl Ether {
         ensures odds { self.new.odds ≡ self.old.odds }
         ensures ended { self.new.ended ≡ true }
         ensures pushes { self.new.pushes ≡ self.old.pushes }
+        ensures few { left_of self.new ≤ MOST_DUE }
         ensures follows { (seed number given : ℕ) (pushed : List (List ℕ)) → Follows seed number pushed given self.old →
             Follows seed number pushed given self.new }
     {

@@ -1,6 +1,6 @@
 //! The ether of one reader: which pushed buckets it hears, how often, and when.
 //!
-//! An ether draws three words for each push, whatever becomes of it (`odds`). It keeps the last nine pushes alone
+//! An ether draws three words for each push, whatever becomes of it (`odds`). It keeps the last `KEPT` pushes alone
 //! (`waiting`), so no call but `new` takes memory. What `next` gives is the heard list of all that was pushed: `cursor`
 //! finds the next of its members that is due. `laws` says what is due before and after the end.
 #![tactic(auto)]
@@ -12,4 +12,4 @@ mod odds;
 mod waiting;
 
 pub use air_base::NoMemory;
-pub use ether::{Ether, MOST_BYTES, MOST_PUSHES};
+pub use ether::{Ether, MOST_BYTES, MOST_DUE, MOST_PUSHES};

@@ -1,4 +1,4 @@
-//! The room for one push, and the nine rooms that the last nine pushes have by their places modulo nine.
+//! The room for one push, and the `KEPT` rooms that the last pushes have by their places modulo `KEPT`.
 
 ghost use Rattle.std.specs.Prelude.{◌≡◌, ◌≤◌, ◌==◌, ◌^◌, ◌++◌, drop, length, All, IfOk, if◌then◌else◌};
 ghost use Rattle.air_ether.specs.KeptPushes.{copies_of, push_of};
@@ -69,9 +69,9 @@ impl Waiting {
     }
 }
 
-/// Nine rooms for `most` bytes.
+/// `KEPT` rooms for `most` bytes.
 pub fn rooms(alloc: Global, most: usize) -> Result<Vec<Waiting>, NoMemory>
-    ensures nine { IfOk result (λ v. length v.items ≡ 9) }
+    ensures count { IfOk result (λ v. length v.items ≡ KEPT) }
     ensures sized { IfOk result (λ v. All (λ w. length w.room.items ≡ most) v.items) }
     ensures blank { IfOk result (λ v. All (λ w. (w.len ≡ 0) × (w.times ≡ 0)) v.items) }
 {

@@ -15,18 +15,18 @@ use std::alloc::Global;
 pub fn refusal_line(alloc: Global, status: &Status) -> Result<Vec<u8>, NoMemory>
     ensures { IfOk result (λ text. text.items ≡ line_of status.now) }
 {
+    let code = u64::from(status.code());
     match *status {
         Status::Ok | Status::WriteFault | Status::NoMemory | Status::Differs => Ok(Vec::new(alloc)),
-        Status::Words => fault_text(alloc, &[1]),
-        Status::Deck { row, kind } => fault_text(alloc, &[2, u64::from(row), u64::from(kind)]),
-        Status::ReadFault => fault_text(alloc, &[3]),
-        Status::TapeCut { at } => fault_text(alloc, &[6, at]),
-        Status::TooLarge { limit } => fault_text(alloc, &[7, limit]),
-        Status::Report { row, kind } => fault_text(alloc, &[8, u64::from(row), u64::from(kind)]),
-        Status::AirFault { at } => fault_text(alloc, &[10, at]),
-        Status::TooMuch { product } => fault_text(alloc, &[11, product]),
-        Status::TooLong { bytes } => fault_text(alloc, &[12, bytes]),
-        Status::PlanTooLong { slots } => fault_text(alloc, &[13, slots]),
+        Status::Words | Status::ReadFault => fault_text(alloc, &[code]),
+        Status::Deck { row, kind } | Status::Report { row, kind } => {
+            fault_text(alloc, &[code, u64::from(row), u64::from(kind)])
+        }
+        Status::TapeCut { at } | Status::AirFault { at } => fault_text(alloc, &[code, at]),
+        Status::TooLarge { limit } => fault_text(alloc, &[code, limit]),
+        Status::TooMuch { product } => fault_text(alloc, &[code, product]),
+        Status::TooLong { bytes } => fault_text(alloc, &[code, bytes]),
+        Status::PlanTooLong { slots } => fault_text(alloc, &[code, slots]),
     }
 }
 

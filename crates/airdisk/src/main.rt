@@ -4,6 +4,7 @@
 //! number. `--help` and `--version`, each as the only word, are answered here.
 #![tactic(auto)]
 
+use air_cli::words::HELP;
 use air_cli::{Status, air_quiet};
 use air_devices::FileShelf;
 use std::alloc::Global;
@@ -11,19 +12,6 @@ use std::env::{self, Env};
 use std::io::{self, Write};
 use std::process::ExitCode;
 use std::rt::Files;
-
-/// What the program can do, a line a command.
-const HELP: &str = "airdisk: data on air, proved
-
-  airdisk plan DECK           print the broadcast program of a deck
-  airdisk script DECK         do the script of a deck, and print the report of its readers
-  airdisk script DECK TAPE    the same, and write what was aired to a tape
-  airdisk tune DECK TAPE      let the readers of a deck hear a tape, and print their report
-  airdisk --help              print this text
-  airdisk --version           print the version
-
-The manual is docs/GUIDE.md in the repository.
-";
 
 /// The version of the program.
 const VERSION: &str = "airdisk 0.1.0\n";

@@ -1,5 +1,5 @@
 -- What is known of a named deck, and how a cause at one stage is one at the next.
-use Rattle.std.proofs.Common.{ℕ, ◌≤◌, List, length, Option, Some, None, subst, inl}
+use Rattle.std.proofs.Common.{ℕ, ◌≤◌, List, length, Option, Some, None, subst}
 use Rattle.item_catalog.specs.Grammar.{Spells}
 use Rattle.air_devices.specs.Told.{ToldIs, WhereTold}
 use Rattle.air_devices.specs.Shelves.{Shelved}
@@ -10,7 +10,7 @@ use Rattle.air_status.specs.declared.status.Status.TheVariants as status
 use Rattle.deck_files.specs.FileLimits.{deck_limit}
 use Rattle.deck_files.specs.NamedFiles.{UnreadCause}
 use Rattle.deck_files.specs.NamedDecks.{DeckCause, OfDeck, SpellsDeck}
-use Rattle.deck_files.specs.RunnableDecks.{IsSupported, LengthCause, UnrunnableCause}
+use Rattle.deck_files.specs.RunnableDecks.{LengthCause, UnrunnableCause}
 
 -- ---- told bytes
 
@@ -40,13 +40,12 @@ unread_deck name before now s h = h
 -- Where there is no deck, none can be run.
 pub deck_runs : (name : List ℕ) (before now : Shelved) (s : Status) → DeckCause name before now s → UnrunnableCause name before now s
 unfolding UnrunnableCause DeckCause UnreadCause
-deck_runs name before now (status.Deck row kind) h = inl h
 deck_runs name before now (status.PlanTooLong slots) h = absurd h
 deck_runs name before now s h = h
 
 -- Nor can a deck whose program would be too long.
-pub length_runs : (name : List ℕ) (before now : Shelved) (d : Deck) (s : Status) → SpellsDeck name before d → IsSupported d → LengthCause d s → UnrunnableCause name before now s
+pub length_runs : (name : List ℕ) (before now : Shelved) (d : Deck) (s : Status) → SpellsDeck name before d → LengthCause d s → UnrunnableCause name before now s
 unfolding UnrunnableCause DeckCause UnreadCause LengthCause
-length_runs name before now d status.NoMemory spells form h = h
-length_runs name before now d (status.PlanTooLong slots) spells form h = of_deck name before d (λ d. IsSupported d × IsTooLong (disks_in d) slots) spells (form, h)
-length_runs name before now d s spells form h = absurd h
+length_runs name before now d status.NoMemory spells h = h
+length_runs name before now d (status.PlanTooLong slots) spells h = of_deck name before d (λ d. IsTooLong (disks_in d) slots) spells h
+length_runs name before now d s spells h = absurd h

@@ -1,7 +1,7 @@
 //! Named files read whole, the deck that a named file spells, and its program: each or the status that refuses it.
 //!
 //! Whatever is read here changes what is left of the named file alone. A refusal has its cause: the file's, the
-//! deck's, that of a form which isn't supported yet, or the length of the program.
+//! deck's, or the length of the program.
 #![tactic(auto)]
 
 mod decks;

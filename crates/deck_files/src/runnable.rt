@@ -1,10 +1,10 @@
 //! The deck of a named file and its program, where the deck can be run, or the status that refuses it.
 
-ghost use Rattle.std.specs.Prelude.{◌≡◌, ◌↔◌, All, IfErr, IfOk, IsTrue};
+ghost use Rattle.std.specs.Prelude.{◌≡◌, IfErr, IfOk};
 ghost use Rattle.air_model.specs.Decks.{disks_in};
 ghost use Rattle.deck_files.specs.NamedFiles.{ReadsInput};
 ghost use Rattle.deck_files.specs.NamedDecks.{SpellsDeck};
-ghost use Rattle.deck_files.specs.RunnableDecks.{IsRunnable, IsSupported, UnrunnableCause};
+ghost use Rattle.deck_files.specs.RunnableDecks.{IsShort, UnrunnableCause};
 
 use crate::decks::read_deck_file;
 use crate::plans::plan_deck;
@@ -23,34 +23,11 @@ pub fn read_runnable_deck<S: Shelf>(
 ) -> Result<(Deck, Program), Status>
     ensures deck { IfOk result (λ p. SpellsDeck name.now (S.state shelf.old) p.0) }
     ensures program { IfOk result (λ p. p.1 ≡ disks_in p.0) }
-    ensures runnable { IfOk result (λ p. IsRunnable p.0) }
+    ensures runnable { IfOk result (λ p. IsShort p.0) }
     ensures refused { IfErr result (UnrunnableCause name.now (S.state shelf.old) (S.state shelf.new)) }
     ensures reads { ReadsInput name.now result (S.state shelf.old) (S.state shelf.new) }
 {
     let deck = read_deck_file(alloc, shelf, name)?;
-    if !is_supported(&deck) {
-        return Err(Status::Deck { row: 0, kind: 12 });
-    }
     let (_cut, program) = plan_deck(alloc, &deck)?;
     Ok((deck, program))
-}
-
-/// Whether the deck is of a form that is supported.
-fn is_supported(deck: &Deck) -> bool
-    ensures { IsTrue result ↔ IsSupported deck.now }
-{
-    let settings = deck.settings();
-    settings.loss == 0 && settings.again == 0 && settings.late == 0 && keeps_no_copies(deck)
-}
-
-/// Whether no reader of the deck has room for copies.
-fn keeps_no_copies(deck: &Deck) -> bool
-    ensures { IsTrue result ↔ All (λ r. r.room ≡ 0) deck.now.readers }
-{
-    for r in 0..deck.readers() {
-        if deck.reader(r).room != 0 {
-            return false;
-        }
-    }
-    true
 }

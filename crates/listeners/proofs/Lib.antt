@@ -3,3 +3,5 @@ pub mod EndLemmas
 pub mod CountLemmas
 pub mod HearLemmas
 pub mod ReaderLemmas
+pub mod EtherLemmas
+pub mod RunLemmas

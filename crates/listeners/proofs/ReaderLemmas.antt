@@ -131,7 +131,7 @@ all_counts A e = counts_from 0 A e
 abbrev pub heard_readers : Deck → List (Option Bucket) → List Listener
 heard_readers deck members = map (hears members) (map (listener_of deck) (range_with_len 0 (length deck.readers)))
 
-keeps_number : (members : List (Option Bucket)) (l : Listener) → (hears members l).number ≡ l.number
+pub keeps_number : (members : List (Option Bucket)) (l : Listener) → (hears members l).number ≡ l.number
 unfolding hears hears_one
 keeps_number [] l = refl
 keeps_number (o ∷ members) l = keeps_number members (hears_one o l)

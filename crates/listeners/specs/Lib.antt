@@ -1,2 +1,3 @@
 pub mod Listeners
+pub mod EtherListeners
 pub mod Steps

@@ -1,5 +1,5 @@
 -- What contracts see of a listener, and what becomes of it as it hears: so a deck's readers hear one tape together.
-use Rattle.std.specs.Prelude.{◌≡◌, ℕ, false, List, [], ◌∷◌, All, Option, Result, Ok, Err, length, map}
+use Rattle.std.specs.Prelude.{◌≡◌, ℕ, false, List, [], ◌∷◌, Option, Result, Ok, Err, length, map}
 use Rattle.std.specs.List.{range_with_len}
 use Rattle.air_model.specs.declared.bucket.BucketFault.{BucketFault}
 use Rattle.air_model.specs.Aired.{Air, air_of, fits}
@@ -47,7 +47,3 @@ ended l = end (judge_of l) l.air l.reader (settle (judge_of l) l.air l.reader l.
 -- Each listener has the number of its place.
 abbrev pub AreNumbered : List Listener → Type 0
 AreNumbered ls = map (λ l. l.number) ls ≡ range_with_len 0 (length ls)
-
--- Which decks have listeners yet: those of which no reader keeps copies.
-abbrev pub CanListen : Deck → Type 0
-CanListen deck = All (λ r. r.room ≡ 0) deck.readers

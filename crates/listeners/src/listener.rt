@@ -8,7 +8,7 @@ ghost use Rattle.air_model.specs.Buckets.{IsInRange};
 ghost use Rattle.air_model.specs.Decks.{disks_in};
 ghost use Rattle.air_model.specs.Reports.{line_by};
 ghost use Rattle.receiver_core.specs.Receivers.{heard_count};
-ghost use Rattle.listeners.specs.Listeners.{CanListen, ChangesNoAttempt, ended, hears, hears_one, listener_of};
+ghost use Rattle.listeners.specs.Listeners.{ChangesNoAttempt, ended, hears, hears_one, listener_of};
 
 use crate::verdicts::{Line, end_queries, take_verdicts};
 use air_base::NoMemory;
@@ -47,7 +47,6 @@ impl Listener {
     ) -> Result<Listener, NoMemory>
         requires number { number < length deck.now.readers }
         requires planned { program.now ≡ disks_in deck.now }
-        requires form { CanListen deck.now }
         ensures { IfOk result (λ l. l ≡ listener_of deck.now number) }
     {
         Ok(Listener {

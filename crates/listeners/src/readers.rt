@@ -14,7 +14,7 @@ ghost use Rattle.air_model.specs.Outputs.{sessions_over};
 ghost use Rattle.air_model.specs.Reports.{counts_lines, verdict_lines};
 ghost use Rattle.air_model.specs.Tapes.{tape_read};
 ghost use Rattle.receiver_core.specs.Receivers.{heard_count};
-ghost use Rattle.listeners.specs.Listeners.{AreNumbered, CanListen, ended, hears, hears_one, listener_of};
+ghost use Rattle.listeners.specs.Listeners.{AreNumbered, ended, hears, hears_one, listener_of};
 
 use crate::listener::Listener;
 use air_base::NoMemory;
@@ -38,7 +38,6 @@ pub fn listeners_of(
     program: &Program,
 ) -> Result<Vec<Listener>, NoMemory>
     requires planned { program.now ≡ disks_in deck.now }
-    requires form { CanListen deck.now }
     ensures { IfOk result (λ ls. ls.items ≡ map (listener_of deck.now) (range_with_len 0 (length deck.now.readers))) }
 {
     let mut listeners = Vec::new(alloc);
@@ -99,7 +98,6 @@ pub fn tape_sessions(
     tape: &[u8],
 ) -> Result<Sessions, NoMemory>
     requires planned { program.now ≡ disks_in deck.now }
-    requires form { CanListen deck.now }
     requires whole { (tape_read tape.now).cut ≡ None }
     ensures verdicts { IfOk result (λ s. s.verdicts.items ≡ verdict_lines (sessions_over (by_entries (scheme_in deck.now)) deck.now (λ r. (tape_read tape.now).records))) }
     ensures counts { IfOk result (λ s. s.counts.items ≡ counts_lines (sessions_over (by_entries (scheme_in deck.now)) deck.now (λ r. (tape_read tape.now).records))) }

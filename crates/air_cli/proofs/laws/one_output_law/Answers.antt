@@ -1,5 +1,5 @@
 use Rattle.air_cli.specs.Words.{asked_of}
-use Rattle.air_cli.proofs.InputFacts.{one_given}
+use Rattle.air_cli.proofs.TopFacts.{one_given}
 use Rattle.air_cli.proofs.laws.one_output_law.Goals as goal
 
 pub returns : goal.returns

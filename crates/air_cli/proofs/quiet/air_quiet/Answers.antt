@@ -4,7 +4,7 @@ use Rattle.air_cli.specs.Answers.{QuietAnswers}
 use Rattle.air_cli.specs.Commands.{words_meaning}
 use Rattle.air_cli.specs.Meanings.{no_form}
 use Rattle.air_cli.specs.Words.{asked_of}
-use Rattle.air_cli.proofs.InputFacts.{words_complete}
+use Rattle.air_cli.proofs.TopFacts.{words_complete}
 use Rattle.air_cli.proofs.RefusalFacts.{answers_refused, keeps_all, no_form_sound, reads_nothing, words_refused}
 use Rattle.air_cli.proofs.quiet.air_quiet.Goals as goal
 

@@ -2,7 +2,7 @@ use Rattle.std.proofs.Common.{inl, subst}
 use Rattle.air_cli.specs.Commands.{asked_by, meaning_of}
 use Rattle.delivery.specs.Deliveries.{KeepsButDelivered, Delivers}
 use Rattle.air_cli.proofs.AnswerFacts.{answers_made}
-use Rattle.air_cli.proofs.CommandFacts.{sound_of}
+use Rattle.air_cli.proofs.CommandFacts.{facts_of}
 use Rattle.air_cli.proofs.RefusalFacts.{answers_refused, leaves_refused, untouched}
 use Rattle.air_cli.proofs.quiet.run.Goals as goal
 
@@ -32,7 +32,7 @@ returns-in_default g c =
     let mid = S.state c.make.new.shelf in
     let now = S.state c.refuse.new.shelf in
     record {
-      answers = answers_refused (meaning_of asked) (sound_of asked) before mid now c.in-Err.status c.refuse.result c.in_default.not-NoMemory c.make.ensures.reads c.in-Err.ensures.unmade.cause
+      answers = answers_refused (meaning_of asked) (facts_of asked).sound before mid now c.in-Err.status c.refuse.result c.in_default.not-NoMemory c.make.ensures.reads c.in-Err.ensures.unmade.cause
           c.in-Err.ensures.unmade.kept c.refuse.ensures.gives c.refuse.ensures.rest c.refuse.ensures.counts;
       leaves = leaves_refused (meaning_of asked) before mid now c.make.ensures.reads c.refuse.ensures.rest c.refuse.ensures.counts;
     }

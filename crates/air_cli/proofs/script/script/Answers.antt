@@ -2,7 +2,7 @@ use Rattle.std.proofs.Common.{◌≡◌, ◌≤◌, None, Some, ap₂, length, s
 use Rattle.std.specs.Io.KnownBytes.{IsAtEnd}
 use Rattle.air_model.specs.Outputs.{script_tape}
 use Rattle.air_status.specs.declared.status.Status.TheVariants as status
-use Rattle.deck_files.specs.RunnableDecks.{IsRunnable}
+use Rattle.deck_files.specs.RunnableDecks.{IsShort}
 use Rattle.deck_files.specs.FileLimits.{tape_limit}
 use Rattle.air_cli.specs.Steps.Making.{IsMade, IsUnmade}
 use Rattle.delivery.specs.Given.{Given}
@@ -56,7 +56,7 @@ returns-clause-made g c =
     let d = c.in_ok-deck.deck in
     let work : Given = record { text = c.in_ok-scripted.scripted.report.items; tape = tape_sent (Some c.in_ok-scripted.scripted.tape) } in
     record {
-      gives = of_deck name before d (λ d. IsRunnable d × (length (script_tape d) ≤ tape_limit) × IsTrueScript d × (work ≡ script_given d)) c.in_ok-deck.ensures.deck (
+      gives = of_deck name before d (λ d. IsShort d × (length (script_tape d) ≤ tape_limit) × IsTrueScript d × (work ≡ script_given d)) c.in_ok-deck.ensures.deck (
         c.in_ok-deck.ensures.runnable,
         omega (arith, c.if-bytes.false, c.tape_len-bytes.ensures),
         record { legal = c.script_is_true.ensures.legal; bases = c.script_is_true.ensures.bases; sessions = c.script_is_true.ensures.sessions },

@@ -3,7 +3,7 @@ use Rattle.std.specs.Io.KnownBytes.{IsAtEnd}
 use Rattle.air_devices.specs.Counts.{KeepsCounts}
 use Rattle.air_model.specs.Tapes.{tape_read}
 use Rattle.air_status.specs.declared.status.Status.TheVariants as status
-use Rattle.deck_files.specs.RunnableDecks.{IsRunnable}
+use Rattle.deck_files.specs.RunnableDecks.{IsShort}
 use Rattle.air_cli.specs.Steps.Making.{IsMade, IsUnmade}
 use Rattle.delivery.specs.Given.{Given}
 use Rattle.air_cli.specs.Truths.{IsTrueTape}
@@ -33,7 +33,7 @@ returns-in_err-bytes-clause-unmade g c =
     let before = S.state c.args.shelf.now in
     let mid = S.state c.read_runnable_deck.new.shelf in
     let now = S.state c.read_bytes.new.shelf in
-    let can = of_deck c.args.name.now before c.in_ok-deck.deck IsRunnable c.in_ok-deck.ensures.deck c.in_ok-deck.ensures.runnable in
+    let can = of_deck c.args.name.now before c.in_ok-deck.deck IsShort c.in_ok-deck.ensures.deck c.in_ok-deck.ensures.runnable in
     let unread = unread_since tape 1073741824 before mid now c.in_err-bytes.field-0.0 (c.read_runnable_deck.ensures.reads.rest.files tape) c.in_ok-deck.ensures.reads.calm c.in_err-bytes.ensures.refused in
     let h : IsUnmade (tune_meaning c.args.name.now tape) before now c.in_err-bytes.field-0.0 = record {
       cause = unread_tune c.args.name.now tape before now c.in_err-bytes.field-0.0 can unread;
@@ -51,7 +51,7 @@ returns-in-Some-clause-unmade g c =
     let now = S.state c.read_bytes.new.shelf in
     record {
       cause = (
-        of_deck c.args.name.now before c.in_ok-deck.deck IsRunnable c.in_ok-deck.ensures.deck c.in_ok-deck.ensures.runnable,
+        of_deck c.args.name.now before c.in_ok-deck.deck IsShort c.in_ok-deck.ensures.deck c.in_ok-deck.ensures.runnable,
         of_cut tape before mid c.in_ok-bytes.bytes.items c.deref-bytes.result.now c.in-Some.at c.in_ok-bytes.ensures.bytes (c.read_runnable_deck.ensures.reads.rest.files tape) c.deref-bytes.ensures.value
             c.in_ok-bytes.ensures.fits (sym c.in-Some.ensures),
       );
@@ -83,7 +83,7 @@ returns-clause-made g c =
     let work : Given = only_text c.in_ok-text-in-None.text.items in
     let deck_end = end_still c.args.name.now tape mid now c.read_bytes.ensures.reads.rest c.in_ok-deck.ensures.reads.end c.in_ok-bytes.ensures.reads.end in
     record {
-      gives = of_deck c.args.name.now before deck (λ d. IsRunnable d × OfTape tape before (λ records. IsTrueTape d records × (work ≡ tune_given d records))) c.in_ok-deck.ensures.deck (
+      gives = of_deck c.args.name.now before deck (λ d. IsShort d × OfTape tape before (λ records. IsTrueTape d records × (work ≡ tune_given d records))) c.in_ok-deck.ensures.deck (
         c.in_ok-deck.ensures.runnable,
         of_tape tape before mid c.in_ok-bytes.bytes.items read (λ records. IsTrueTape deck records × (work ≡ tune_given deck records)) c.in_ok-bytes.ensures.bytes (c.read_runnable_deck.ensures.reads.rest.files tape) c.deref-bytes.ensures.value
             c.in_ok-bytes.ensures.fits (sym c.in-None.ensures) (c.tapes_are_true.ensures (tape_read read).records, ap only_text c.in_ok-text-in-None.ensures),

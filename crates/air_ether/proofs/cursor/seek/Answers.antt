@@ -10,7 +10,7 @@ pub returns-then-cursor-copies-clause-found : goal.returns-then-cursor-copies-cl
 returns-then-cursor-copies-clause-found c = λ _. (
   c.loop-cursor-test.true,
   c.if-cursor-pushes.true,
-  (let e = room_read c.args.rooms.now c.loop-cursor.cursor.place c.index-rooms-cursor.result c.requires.nine c.index-rooms-cursor.is in
+  (let e = room_read c.args.rooms.now c.loop-cursor.cursor.place c.index-rooms-cursor.result c.requires.count c.index-rooms-cursor.is in
       let f = ap (λ w. copies_of w c.loop-cursor.cursor.number) e in omega (arith, c.copies.ensures)),
 )
 
@@ -28,7 +28,7 @@ loop-cursor-preserved c =
     let cursor = c.loop-cursor.cursor in
     elim c.if-cursor-pushes.branch [
       | then-cursor-pushes+then-cursor+else-cursor-copies w ↦
-          let read = room_read c.args.rooms.now cursor.place w.index-rooms-cursor.result c.requires.nine w.index-rooms-cursor.is in
+          let read = room_read c.args.rooms.now cursor.place w.index-rooms-cursor.result c.requires.count w.index-rooms-cursor.is in
           let same = ap (λ p. copies_of p cursor.number) read in
           let passed : copies_at rooms cursor ≤ cursor.copy = omega (arith, w.copies.ensures) in
           stepped c.args.pushes c.args.limit rooms c.args.cursor.now _ _ w.cursor-is

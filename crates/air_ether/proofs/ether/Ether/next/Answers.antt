@@ -50,7 +50,7 @@ returns-then-not-seek c =
 pub overflow_add-self : goal.overflow_add-self
 overflow_add-self c =
     let items = c.deref.ensures.value in
-    let few = copies_few c.self.inside.rooms.items c.seek.new.cursor c.self.invariant.nine c.self.invariant.twice in
+    let few = copies_few c.self.inside.rooms.items c.seek.new.cursor c.self.invariant.count c.self.invariant.twice in
     let found = (c.seek.ensures.found c.if-not-seek.false).2 in
     let same = ap (λ (r : List Waiting). copies_at (map push_of r) c.seek.new.cursor) items in
     omega arith
@@ -64,11 +64,11 @@ returns c =
     let within = in_window e.pushes _ (limit_of e.ended e.pushes) _ _ cursor c.limit_of-limit.ensures items c.seek.ensures.within in
     let below : cursor.number < limit_of e.ended e.pushes = subst (λ l. cursor.number < l) c.limit_of-limit.ensures found.0 in
     let left : cursor.copy < copies_at e.rooms cursor = subst (λ (r : List Waiting). cursor.copy < copies_at (map push_of r) cursor) items found.2 in
-    let read = room_read c.self.inside.rooms.items cursor.place c.index.result.now c.self.invariant.nine c.index.ensures in
+    let read = room_read c.self.inside.rooms.items cursor.place c.index.result.now c.self.invariant.count c.index.ensures in
     let same : (seed number given : ℕ) (pushed : List (List ℕ)) → Follows seed number pushed given e →
     position (due_in seed number e.odds) (times_in seed number e.odds) e.pushes cursor ≡ position (due_in seed number e.odds) (times_in seed number e.odds) e.pushes e.cursor =
     λ seed number given pushed f. c.seek.ensures.same _ _ (subst (λ (r : List Waiting). Waits (due_in seed number e.odds) (times_in seed number e.odds) e.pushes (map push_of r)) (sym items) f.waits) in
-    let few = copies_few c.self.inside.rooms.items cursor c.self.invariant.nine c.self.invariant.twice in
+    let few = copies_few c.self.inside.rooms.items cursor c.self.invariant.count c.self.invariant.twice in
     let given_one : left_of (record e { cursor = record { number = cursor.number; place = cursor.place; copy = cursor.copy + 1 } }) < left_of e =
     subst (λ l. left_at l (record { number = cursor.number; place = cursor.place; copy = cursor.copy + 1 }) < left_at l e.cursor) c.limit_of-limit.ensures (omega (arith, c.seek.ensures.fewer, left, few)) in
     let on : Cursor = record { number = cursor.number; place = cursor.place; copy = cursor.copy + 1 } in (

@@ -10,7 +10,7 @@ use Rattle.air_ether.specs.HeardSoFar.{Ether, Follows, limit_of}
 use Rattle.air_ether.specs.KeptPushes.{Push, push_of}
 use Rattle.air_ether.specs.PushWords.{left_by}
 use Rattle.air_ether.specs.EtherView.{ether_of}
-use Rattle.air_ether.proofs.EtherLemmas.{followed, one_more, open_after, open_window, pushed_window}
+use Rattle.air_ether.proofs.EtherLemmas.{few_after_push, followed, one_more, open_after, open_window, pushed_window}
 use Rattle.air_ether.proofs.WordLemmas.{due_drawn, left_from, times_drawn}
 use Rattle.air_ether.proofs.ether.Ether.push.Goals as goal
 
@@ -18,7 +18,7 @@ pub fill-requires : goal.fill-requires
 fill-requires c =
     let small : c.self.inside.pushes % 9 < 9 = mod-lt c.self.inside.pushes (omega arith) in
     let room = c.index_mut-room.result.now in
-    let size = c.self.invariant.sized (c.self.inside.pushes % 9) room (omega (arith, c.self.invariant.nine)) in
+    let size = c.self.invariant.sized (c.self.inside.pushes % 9) room (omega (arith, c.self.invariant.count)) in
     let same = ap (λ w. length w.room.items) c.index_mut-room.ensures.value in
     let most = ap (λ s. s.most) c.self.view_is in
     omega (arith, c.requires.room)
@@ -29,14 +29,14 @@ invariant_of-self c =
     let items = c.self.inside.rooms.items in
     let small : n % 9 < 9 = mod-lt n (omega arith) in
     let room = c.index_mut-room.result.now in
-    let size = c.self.invariant.sized (n % 9) room (omega (arith, c.self.invariant.nine)) in
+    let size = c.self.invariant.sized (n % 9) room (omega (arith, c.self.invariant.count)) in
     let same = ap (λ w. length w.room.items) c.index_mut-room.ensures.value in
     let most = ap (λ s. s.most) c.self.view_is in
     let quiet : c.self.inside.cursor.number ≡ limit_of c.self.inside.ended n = subst (λ (s : Ether). s.cursor.number ≡ limit_of s.ended s.pushes) (sym c.self.view_is) c.requires.quiet in
     let opened : c.self.inside.ended ≡ false = ap (λ s. s.ended) c.self.view_is ∙ c.requires.open in
     let pushes = ap (λ s. s.pushes) c.self.view_is in
     record {
-      nine = length-set items (n % 9) c.fill.new.self ∙ c.self.invariant.nine;
+      count = length-set items (n % 9) c.fill.new.self ∙ c.self.invariant.count;
       sized = All-set (λ w. length w.room.items ≡ c.self.inside.most) items (n % 9) c.fill.new.self (c.fill.ensures.room ∙ same ∙ size) c.self.invariant.sized;
       short = All-set (λ w. w.len ≤ c.self.inside.most) items (n % 9) c.fill.new.self (omega (arith, c.fill.ensures.len, c.requires.room)) c.self.invariant.short;
       twice = All-set (λ w. w.times ≤ 2) items (n % 9) c.fill.new.self (let t = ap (λ w. w.times) c.fill.ensures.value in omega (arith, c.draw-hearing.ensures.few)) c.self.invariant.twice;
@@ -45,6 +45,12 @@ invariant_of-self c =
           (pushed_window n (map push_of items) _ c.self.inside.cursor (open_window n c.self.inside.ended (map push_of items) c.self.inside.cursor opened c.self.invariant.within)
           (subst (λ b. c.self.inside.cursor.number ≡ limit_of b n) opened quiet));
     }
+
+pub returns-clause-few : goal.returns-clause-few
+returns-clause-few c =
+    let e : Ether = ether_of c.self.inside in
+    let quiet : e.cursor.number ≡ limit_of e.ended e.pushes = subst (λ (s : Ether). s.cursor.number ≡ limit_of s.ended s.pushes) (sym c.self.view_is) c.requires.quiet in
+    few_after_push e.pushes e.ended e.rooms e.cursor (ap (λ s. s.ended) c.self.view_is ∙ c.requires.open) c.self.invariant.within quiet
 
 pub returns-clause-follows : goal.returns-clause-follows
 returns-clause-follows c = λ seed number given pushed given_that.
@@ -62,4 +68,4 @@ returns-clause-follows c = λ seed number given pushed given_that.
     let at : c.self.inside.cursor.number ≡ n = subst (λ b. c.self.inside.cursor.number ≡ limit_of b n) opened quiet in omega arith) in
     subst (λ (r : List Push). Follows seed number (pushed ++ c.args.bytes.now ∷ []) given (record (one_more seed number given pushed c.args.bytes.now e c.draw-hearing.result.due c.draw-hearing.result.times c.draw-hearing.new.generator) { rooms = r })) (sym rooms)
     (followed seed number given pushed c.args.bytes.now e c.draw-hearing.result.due c.draw-hearing.result.times c.draw-hearing.new.generator
-    f (length-map c.self.inside.rooms.items push_of ∙ c.self.invariant.nine) upto due times c.draw-hearing.ensures.after)
+    f (length-map c.self.inside.rooms.items push_of ∙ c.self.invariant.count) upto due times c.draw-hearing.ensures.after)

@@ -1,0 +1,32 @@
+-- For private steps alone. What a reader's run over a tape needs, and what it leaves.
+use Rattle.std.specs.Prelude.{◌≡◌, ◌<◌, ◌≤◌, ◌^◌, ℕ, true, List, [], All, None, length, map, get_or}
+use Rattle.air_model.specs.Buckets.{bucket_in}
+use Rattle.air_model.specs.Decks.{Deck}
+use Rattle.air_model.specs.Ethers.{heard_by}
+use Rattle.air_model.specs.Tapes.{tape_read}
+use Rattle.listeners.specs.declared.runs.ReaderRun.{ReaderRun}
+use Rattle.listeners.specs.EtherListeners.{HeardDue, IsOpen}
+use Rattle.listeners.specs.Listeners.{Listener, hears}
+
+-- The reader heard nothing yet, and the tape is whole and has few records, for each of which its ether has room.
+unfoldable pub IsReady : List ℕ → ReaderRun → Type 0
+IsReady tape run =
+    ((tape_read tape).cut ≡ None) × IsOpen run.reader × (run.reader.ether.pushes ≡ 0)
+    × All (λ r. length r ≤ run.reader.ether.most) (tape_read tape).records × (length (tape_read tape).records ≤ 2 ^ 40)
+
+-- Where there was memory, the reader heard its ether of the tape.
+unfoldable pub IsDone : List ℕ → ReaderRun → ReaderRun → Type 0
+IsDone tape before now =
+    (seed number : ℕ) (first : Listener) → HeardDue seed number first [] before.reader.ether before.reader.listener → now.done ≡ true →
+    now.reader.listener ≡ hears (map bucket_in (heard_by seed number before.reader.ether.odds (tape_read tape).records)) first
+
+-- So it is of each reader.
+abbrev pub EachDone : List ℕ → List ReaderRun → List ReaderRun → Type 0
+EachDone tape before now =
+    (length now ≡ length before) × ((k : ℕ) (d : ReaderRun) → k < length before → IsDone tape (get_or before k d) (get_or now k d))
+
+-- Nothing of what is aired is lost, heard again or late.
+pub record IsClear (deck : Deck) : Type 0 where
+  pub loss : deck.settings.loss ≡ 0
+  pub again : deck.settings.again ≡ 0
+  pub late : deck.settings.late ≡ 0
