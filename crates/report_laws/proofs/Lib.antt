@@ -1,0 +1,6 @@
+mod TextFacts
+mod WrittenRows
+mod StandingLines
+mod KeptLines
+mod LegalLines
+mod ReportExamples

@@ -1,0 +1,25 @@
+//! Laws of reports: what is written of lines in the grammar is read back as these lines, and what is read
+//! is in the grammar. No code runs.
+#![tactic(auto)]
+
+ghost use Rattle.std.specs.Prelude.{ℕ, List};
+ghost use Rattle.air_model.specs.Decks.{Deck, IsLegal};
+ghost use Rattle.air_model.specs.Reports.{Report, report_text};
+ghost use Rattle.report_reading.specs.ReportGrammar.{SpellsReport};
+ghost use Rattle.report_reading.specs.ReportLines.{ReportLines, lines_in, report_in};
+ghost use Rattle.report_laws.specs.ReportRules.{HasWidths, InGrammar};
+
+/// The text of a report whose numbers fit their types and whose lines are in the grammar spells these lines.
+pub fn round_trip_law()
+    ensures { (deck : Deck) (report : Report) → HasWidths (lines_in report) → InGrammar deck (lines_in report) → SpellsReport deck (report_text report) (lines_in report) }
+{}
+
+/// The lines that a text spells are in the grammar.
+pub fn kept_law()
+    ensures { (deck : Deck) (text : List ℕ) (lines : ReportLines) → SpellsReport deck text lines → InGrammar deck lines }
+{}
+
+/// The history of the lines that a text spells is legal for the deck.
+pub fn legal_report_law()
+    ensures { (deck : Deck) (text : List ℕ) (lines : ReportLines) → SpellsReport deck text lines → IsLegal deck (report_in deck lines).history }
+{}

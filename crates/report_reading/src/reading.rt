@@ -1,0 +1,40 @@
+//! Reports read from texts: one pass over the records, each taken once and forgotten.
+
+ghost use Rattle.std.specs.Prelude.{◌≡◌, ◌≤◌, length, IfErr, IfOk};
+ghost use Rattle.report_reading.specs.declared.limits.TheConstants.{MOST_REPORT_BYTES};
+ghost use Rattle.report_reading.specs.ReportGrammar.{IsReportAnswer, SpellsReport};
+
+use crate::draft::Draft;
+use crate::faults::ReportError;
+use crate::refusals::Refusal;
+use crate::report::ReadReport;
+use csv::{ByteRecord, ReaderBuilder};
+use item_catalog::Deck;
+use std::alloc::Global;
+
+/// The report of the deck that a text spells, or the first faulty record of the text with the least kind that applies there.
+pub fn read_report(alloc: Global, deck: &Deck, bytes: &[u8]) -> Result<ReadReport, ReportError>
+    requires limit { length bytes.now ≤ MOST_REPORT_BYTES }
+    ensures report { IfOk result (SpellsReport deck.now bytes.now) }
+    ensures fault { IfErr result (IsReportAnswer deck.now bytes.now) }
+{
+    let mut draft = Draft::new(alloc);
+    let mut records = ReaderBuilder::new()
+        .has_headers(false)
+        .flexible(true)
+        .from_reader(alloc, bytes);
+    let mut record = ByteRecord::new(alloc);
+    for row in 1..u32::MAX {
+        match records.read_byte_record(&mut record) {
+            Ok(true) => {}
+            Ok(false) => return Ok(draft.into_report()),
+            Err(_) => return Err(ReportError::NoMemory),
+        }
+        match draft.add(alloc, deck, &record) {
+            Ok(()) => {}
+            Err(Refusal::Kind(kind)) => return Err(ReportError::at(row, kind)),
+            Err(Refusal::NoMemory) => return Err(ReportError::NoMemory),
+        }
+    }
+    unreachable!()
+}

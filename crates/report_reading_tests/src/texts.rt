@@ -1,0 +1,60 @@
+//! The table of texts, and its checker.
+//!
+//! A row is a record, or some, and what the text is that has them behind a front: a report, or one with a fault.
+
+use item_catalog::read_deck;
+use report_reading::limits::MOST_REPORT_BYTES;
+use report_reading::{ReportError, read_report};
+use std::alloc::{AllocError, Global};
+
+/// Three items, three updates of two updaters, two readers with three queries, and two monitors.
+pub const DECK: &[u8] =
+    b"item,0,1,1\nitem,1,2,1\nitem,2,3,1\ndisk,3,1\nupdate,0,,0=1\nupdate,0,,1=2\nupdate,1,0,2=0+1\nreader,0,0,2\nquery,0,0 1\nquery,0,2\nreader,0,0,1\nquery,1,1 2 0\nset,monitors,2\n";
+
+/// Two starts with a commit of each updater between them.
+pub const FRONT: &[u8] = b"start\ncommit,0,0\ncommit,1,0\nstart\n";
+
+/// What a text is.
+#[derive(Clone, Copy, Debug, PartialEq, Eq)]
+pub enum Text {
+    /// It is a report of the deck.
+    Report,
+    /// Its first faulty record, and the least kind of fault there.
+    Fault(u32, u8),
+    /// There was no memory to tell.
+    NoMemory,
+    /// It has more bytes than any report, or its deck is none.
+    Other,
+}
+
+/// What the bytes are.
+fn read(alloc: Global, bytes: &[u8]) -> Text {
+    if bytes.len() > MOST_REPORT_BYTES {
+        return Text::Other;
+    }
+    let Ok(deck) = read_deck(alloc, DECK) else {
+        return Text::Other;
+    };
+    match read_report(alloc, &deck, bytes) {
+        Ok(_) => Text::Report,
+        Err(ReportError::Fault { row, kind }) => Text::Fault(row, kind),
+        Err(ReportError::NoMemory) => Text::NoMemory,
+    }
+}
+
+/// The place of the first row that is another text than told, and what it is.
+pub fn first_other(
+    alloc: Global,
+    front: &[u8],
+    rows: &[(&[u8], Text)],
+) -> Result<Option<(usize, Text)>, AllocError> {
+    for (place, (records, told)) in rows.iter().enumerate() {
+        let mut bytes = Vec::from_slice(alloc, front)?;
+        bytes.extend_from_slice(records)?;
+        let text = read(alloc, &bytes);
+        if text != *told {
+            return Ok(Some((place, text)));
+        }
+    }
+    Ok(None)
+}
