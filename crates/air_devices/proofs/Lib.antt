@@ -4,3 +4,4 @@ pub mod CallFacts
 pub mod WrittenFacts
 pub mod RecordFacts
 pub mod ReadFileFacts
+pub mod EarFacts

@@ -10,5 +10,7 @@ pub mod Written
 pub mod Masts
 pub mod Recordings
 pub mod MemoryMasts
+pub mod Ears
+pub mod MemoryEars
 pub mod FileFailures
 pub mod ReadFiles

@@ -1,17 +1,20 @@
-//! Where files are read, outputs are written, text is printed and buckets are sent.
+//! Where files are read, outputs are written, text is printed and buckets are sent and heard.
 //!
 //! `shelves` has the trait of a device with files and outputs, and the one refusal; `masts` that of a device that sends
-//! buckets. A call that fails says which count rose, so that a caller can name the cause of its own answer.
-//! `memory_shelf` and `memory_mast` are forms in memory, which tell all that they hold and fail where they are told to
-//! (`calls`); `file_shelf` is a shelf over real files and standard output. `reading` reads a whole file through any shelf.
-//! `tape_room` is a tape that grows in memory that was taken at once.
+//! buckets, `ears` of one that hears them. A call that fails says which count rose, so that a caller can name the cause of its own
+//! answer. `memory_shelf`, `memory_mast` and `memory_ear` are forms in memory, which tell all that they hold and fail where they
+//! are told to (`calls`); `file_shelf` is a shelf over real files and standard output. `reading` reads a whole file through any
+//! shelf. `tape_room` is a tape that grows in memory that was taken at once. `gates` has what is called round what jobs do.
 #![tactic(auto)]
 
 mod calls;
+pub mod ears;
 pub mod file_failures;
 pub mod file_shelf;
 mod fixed_bytes;
+pub mod gates;
 pub mod masts;
+pub mod memory_ear;
 pub mod memory_mast;
 pub mod memory_shelf;
 mod read_files;
@@ -19,9 +22,12 @@ pub mod reading;
 pub mod shelves;
 pub mod tape_room;
 
+pub use ears::{Ear, Heard};
 pub use file_failures::{FileCall, FileFailure};
 pub use file_shelf::FileShelf;
+pub use gates::{Gate, OpenGate};
 pub use masts::Mast;
+pub use memory_ear::MemEar;
 pub use memory_mast::MemMast;
 pub use memory_shelf::MemShelf;
 pub use reading::{ReadFileError, read_file};

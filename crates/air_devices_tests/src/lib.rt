@@ -2,11 +2,13 @@
 //!
 //! `shelves` has the calls of a shelf and their checker; `shelf_tests` plays them on the shelf in memory, `file_tests` and
 //! `room_tests` on the one over files, `failure_tests` also where each call fails (`broken`). `mast_tests` plays calls on
-//! the mast in memory, and adds to a tape; `refusal_tests` prints refusals.
+//! the mast in memory, and adds to a tape, `ear_tests` on the ear; `refusal_tests` prints refusals.
 #![tactic(auto)]
 
 #[cfg(test)]
 mod broken;
+#[cfg(test)]
+mod ear_tests;
 #[cfg(test)]
 mod failure_tests;
 #[cfg(test)]

@@ -4,7 +4,7 @@
 //! have three items (10, 20, 30). There item 0 is set to 11, item 2 to item 0 plus 1, item 1 to item 2 plus 1, all in
 //! cycle 1; in cycle 2 the columns are 1 0 0, 1 1 1 and 1 0 1, and the vector is 1 1 1.
 
-use crate::boards::{Step, made};
+use crate::boards::{Step, program_and_board};
 use crate::tapes::{Slot, cycle_tape};
 use air_base::Policy;
 use air_devices::MemMast;
@@ -74,7 +74,7 @@ fn other_with(
     case: &Case<'_>,
     behind: u8,
 ) -> Result<Option<Other>, Fail> {
-    let (program, board) = made(rt, alloc, case.deck, case.steps)?;
+    let (program, board) = program_and_board(rt, alloc, case.deck, case.steps)?;
     let long = 24 + 4 * usize::from(board.n());
     let mut buf = vec![in alloc; 0xeeu8; long + usize::from(behind)]?;
     let (answer, sent) = match case.on {

@@ -97,7 +97,7 @@ fn values_of(alloc: Global, deck: &Deck) -> Result<Vec<u64>, Fail> {
 }
 
 /// A deck's program, and its board after the steps and a start.
-pub fn made(
+pub fn program_and_board(
     rt: &impl Abort,
     alloc: Global,
     text: &str,

@@ -3,7 +3,7 @@
 //! A cycle of the two-item deck is 72 bytes long, one of the four-item deck 248.
 
 use crate::airing_tests::{FOUR, TWO};
-use crate::boards::made;
+use crate::boards::program_and_board;
 use air_sender::tape_bytes;
 use std::alloc::Global;
 use std::process::Abort;
@@ -23,7 +23,7 @@ fn first_other_length(
     rows: &[(&str, u16, u32, u64)],
 ) -> Result<Option<(usize, Other)>, Fail> {
     for (place, (deck, n, cycles, told)) in rows.iter().enumerate() {
-        let (program, board) = made(rt, alloc, deck, &[])?;
+        let (program, board) = program_and_board(rt, alloc, deck, &[])?;
         if board.n() != *n {
             return Ok(Some((place, Other::Items(board.n()))));
         }

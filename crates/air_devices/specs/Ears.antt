@@ -1,0 +1,32 @@
+-- An ear, as a call finds or leaves it. The trait `Ear` has this as its one ghost member, and every clause on an ear
+-- goes by it. What a form doesn't tell is None.
+use Rattle.std.specs.Prelude.{◌≡◌, ◌≤◌, ℕ, List, [], ◌∷◌, length, take, Option, Some, None, ⊤}
+use Rattle.air_devices.specs.declared.ears.Heard.{Heard}
+use Rattle.air_devices.specs.declared.ears.Heard.TheVariants as heard
+
+-- What an ear tells of the datagrams that are still to be heard, how often its calls failed, and the port that it was tuned
+-- to, if it was.
+pub record Eared : Type 0 where
+  pub told : Option (List (List ℕ))
+  pub faults : ℕ
+  pub port : Option ℕ
+
+-- An ear that has just been made, and tells all: it has these datagrams still to hear, no call failed, and it was not tuned.
+abbrev pub fresh_ear : List (List ℕ) → Eared
+fresh_ear waiting = record { told = Some waiting; faults = 0; port = None }
+
+-- What is still to be heard, where it is told, begins with this datagram, which was taken from it.
+abbrev pub TakesFirst : Option (List (List ℕ)) → Option (List (List ℕ)) → (List ℕ → Type 0) → Type 0
+TakesFirst None now P = ⊤
+TakesFirst (Some []) now P = ⊥
+TakesFirst (Some (first ∷ rest)) now P = (now ≡ Some rest) × P first
+
+-- Nothing is still to be heard, where it is told, and that stays so.
+abbrev pub IsUsedUp : Option (List (List ℕ)) → Option (List (List ℕ)) → Type 0
+IsUsedUp None now = ⊤
+IsUsedUp (Some waiting) now = (waiting ≡ []) × (now ≡ Some [])
+
+-- What a call heard: the first datagram, cut to the room, in front of the buffer; or the end, where nothing is left.
+abbrev pub Hears : Option (List (List ℕ)) → Option (List (List ℕ)) → List ℕ → Heard → Type 0
+Hears before now buf (heard.Bucket len) = (1 ≤ len) × (len ≤ length buf) × TakesFirst before now (λ first. take len buf ≡ take (length buf) first)
+Hears before now buf heard.Over = IsUsedUp before now

@@ -1,0 +1,18 @@
+use Rattle.std.proofs.Common.{◌≡◌, ◌<◌, subst, sym, arith}
+use Rattle.air_jobs.specs.Looks.{LookedTimes}
+use Rattle.air_jobs.proofs.LookLemmas.{looked_more, looked_none}
+use Rattle.air_jobs.proofs.monitors.monitor_job.Goals as goal
+
+pub loop-look-init : goal.loop-look-init
+loop-look-init g c = looked_none c.args.monitor.now (subst (λ n. n < 18446744073709551616) c.looks-before.ensures c.looks-before.type_inv)
+
+pub loop-look-preserved : goal.loop-look-preserved
+loop-look-preserved g c = looked_more c.args.monitor.now c.loop-look.monitor c.look.new.self c.loop-look.look c.loop-look.invariant c.in-Ok.ensures
+
+pub returns-in-Err : goal.returns-in-Err
+returns-in-Err g c = record { looked = (c.loop-look.look, c.loop-look-test.true, subst (LookedTimes c.loop-look.look c.args.monitor.now) (sym c.in-Err.ensures) c.loop-look.invariant) }
+
+pub returns : goal.returns
+returns g c =
+    let all : c.loop-look.look ≡ c.args.looks = omega arith in
+    record { looked = (subst (λ n. LookedTimes n c.args.monitor.now c.loop-look.monitor) all c.loop-look.invariant, c.line_of.ensures.line) }

@@ -1,0 +1,87 @@
+//! All jobs of a deck, from the beginning.
+ghost use Rattle.std.specs.Prelude.{◌≡◌, ◌≤◌, ◌+◌, ◌*◌, [], length, All, IfErr, MatchResult, OnOk};
+ghost use Rattle.air_history.specs.Histories.{starts};
+ghost use Rattle.air_history.specs.Boards.{board_of};
+ghost use Rattle.air_model.specs.Decks.{disks_in, values_in};
+ghost use Rattle.air_model.specs.Aired.{air_of};
+ghost use Rattle.air_devices.specs.Masts.{Changes, with_buckets};
+ghost use Rattle.bucket_codec.specs.declared.offsets.TheConstants.{ENTRY_BYTES, HEAD_BYTES};
+ghost use Rattle.station.specs.PassStates.{new_pass};
+ghost use Rattle.cycle_snapshot.specs.SnapshotStates.{new_publisher};
+ghost use Rattle.air_jobs.specs.Published.{GoesOn, IsPublishedUpTo, IsUpTo, PublishesOn};
+ghost use Rattle.air_jobs.specs.Sendings.{IsCause, SendsPart, bytes_aired};
+ghost use Rattle.air_jobs.specs.Crews.{EachDone, EachWatched, IsReady};
+ghost use Rattle.air_jobs.specs.declared.runs.TheConstants.{LOOKS};
+
+use crate::conductors::ConductFault;
+use crate::crews::{MonitorRun, UpdaterRun, run_beside};
+use air_devices::{Gate, Mast};
+use chunk_program::Program;
+use control_matrix::Board;
+use cycle_snapshot::Publisher;
+use item_catalog::Deck;
+use station::{ConductorPass, Station};
+use std::alloc::Global;
+use std::sync::Wait;
+use std::thread::Threads;
+
+/// How often each monitor looks while the others work.
+pub const LOOKS: u32 = 100;
+
+/// Runs the deck's conductor beside all its updaters and its monitors, each on a thread where there is one. Whatever the schedule,
+/// each updater committed its updates in order, or the first of them; each monitor made its looks, or the first of them; and what
+/// was sent are the buckets of the history that the conductor's pass has seen. A job that ends before its time leaves the others
+/// to go on.
+pub fn run_jobs<R: Threads + Wait + Sync, M: Mast + Send, G: Gate + Sync>(
+    rt: &R,
+    alloc: Global,
+    deck: &Deck,
+    program: &Program,
+    station: &Station,
+    pass: &mut ConductorPass,
+    publisher: &mut Publisher,
+    board: &mut Board,
+    mast: &mut M,
+    buf: &mut [u8],
+    updaters: &mut [UpdaterRun],
+    monitors: &mut [MonitorRun],
+    gate: &G,
+) -> Result<(), ConductFault>
+    requires pass { pass.old ≡ new_pass station.now deck.now (length deck.now.updates) }
+    requires publisher { publisher.old ≡ new_publisher publisher.old.id (values_in deck.now) deck.now.settings.cycles }
+    requires board { board.old ≡ board_of (values_in deck.now) [] }
+    requires program { program.now ≡ disks_in deck.now }
+    requires buffer { HEAD_BYTES + ENTRY_BYTES * length deck.now.items ≤ length buf.old }
+    requires ready { All (IsReady station.now deck.now) updaters.old }
+    ensures pass { GoesOn pass.old pass.new }
+    ensures publisher { PublishesOn publisher.old publisher.new }
+    ensures whole { OnOk result (IsUpTo 0 pass.new.seen publisher.new.batches × (starts pass.new.seen ≡ deck.now.settings.cycles)) }
+    ensures few { starts pass.new.seen ≤ deck.now.settings.cycles }
+    ensures published { IfErr result (IsPublishedUpTo pass.new.seen publisher.new.batches) }
+    ensures aired { MatchResult result (λ _. Changes (with_buckets (bytes_aired (values_in deck.now) (air_of deck.now) pass.new.seen)) (M.state mast.old).told (M.state mast.new).told) (SendsPart M.state deck.now pass.new.seen publisher.new.batches mast.old mast.new) }
+    ensures cause { MatchResult result (λ _. (M.state mast.new).faults ≡ (M.state mast.old).faults) (IsCause (M.state mast.old).faults (M.state mast.new).faults) }
+    ensures port { (M.state mast.new).port ≡ (M.state mast.old).port }
+    ensures updaters { EachDone deck.now updaters.old updaters.new }
+    ensures monitors { EachWatched LOOKS monitors.old monitors.new }
+{
+    deck.well_made();
+    let settings = deck.settings();
+    run_beside(
+        rt,
+        alloc,
+        deck,
+        program,
+        station,
+        pass,
+        publisher,
+        board,
+        settings.policy,
+        settings.cycles,
+        mast,
+        buf,
+        updaters,
+        monitors,
+        LOOKS,
+        gate,
+    )
+}

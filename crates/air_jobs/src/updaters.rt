@@ -1,0 +1,43 @@
+//! An updater's job.
+ghost use Rattle.std.specs.Prelude.{◌≡◌, ◌<◌, ◌+◌, ◌^◌, length, All, MatchResult};
+ghost use Rattle.air_history.specs.UpdateRules.{UpdateFits};
+ghost use Rattle.air_model.specs.Decks.{count_made};
+ghost use Rattle.station.specs.PassStates.{with_seen};
+ghost use Rattle.air_jobs.specs.Commits.{Makes, MakesSome};
+
+use air_base::NoMemory;
+use air_devices::Gate;
+use air_history::Update;
+use station::{Station, UpdaterPass};
+use std::alloc::Global;
+use std::sync::Wait;
+
+/// Commits the updates in order, each between its two gate calls. The pass made just these further commits, and after `NoMemory`
+/// the first of them. `Update::fits` tells whether an update fits, `UpdaterPass::made` how many commits the pass made.
+pub fn updater_job<R: Wait, G: Gate>(
+    wait: &R,
+    alloc: Global,
+    station: &Station,
+    pass: &mut UpdaterPass,
+    updates: &[Update],
+    gate: &G,
+) -> Result<(), NoMemory>
+    requires own { pass.old.station ≡ station.now }
+    requires fits { All (UpdateFits (length pass.old.values)) updates.now }
+    requires few { count_made pass.old.number pass.old.seen + length updates.now < 2 ^ 32 }
+    ensures pass { pass.new ≡ with_seen pass.old pass.new.seen }
+    ensures made { MatchResult result (λ _. Makes updates.now pass.old pass.new) (λ _. MakesSome updates.now pass.old pass.new) }
+{
+    for update in updates {
+        let by = pass.by();
+        let seq = pass.made();
+        gate.before_commit(by, seq);
+        match station.commit(wait, alloc, pass, update) {
+            Ok(_receipt) => gate.after_commit(by, seq),
+            Err(_) => {
+                return Err(NoMemory);
+            }
+        }
+    }
+    Ok(())
+}

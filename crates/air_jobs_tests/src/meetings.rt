@@ -1,0 +1,32 @@
+//! A run in which an updater, the conductor and a monitor meet, as no run on one thread can.
+
+use crate::cases::{Case, Tape, first_other};
+use crate::decks::{Aired, MEETING};
+use crate::gates::MeetingGate;
+use std::test::Fail;
+
+/// The first commit stands before all cycles, the second in the second one: then item 1 has 16, by way of item 0.
+const MEETING_TAPE: [Aired; 6] = [
+    (1, 0, 11, [0, 0]),
+    (1, 1, 20, [0, 0]),
+    (2, 0, 11, [0, 0]),
+    (2, 1, 20, [0, 0]),
+    (3, 0, 11, [0, 0]),
+    (3, 1, 16, [0, 2]),
+];
+
+#[test]
+fn a_commit_a_cycle_and_a_look_meet(rt: HostRuntime) -> Result<(), Fail> {
+    let case = Case {
+        deck: MEETING,
+        room: 216,
+        conducted: Ok(()),
+        committed: &[true],
+        glances: &[(2, 2, Some(31))],
+        tape: Tape::Buckets(&MEETING_TAPE),
+    };
+    let gate = MeetingGate::new();
+    let other = first_other(&rt, rt.alloc(), &case, &gate)?;
+    assert_eq!(rt; (gate.counts(), other), ([1, 1, 1, 1, 1, 1, 1, 0], None));
+    Ok(())
+}
