@@ -5,8 +5,8 @@ use Rattle.air_model.specs.Decks.{Deck, disks_in, script_history, values_in}
 use Rattle.air_model.specs.Programs.{program}
 use Rattle.air_model.specs.Aired.{air_of}
 use Rattle.air_model.specs.Outputs.{script_tape}
-use Rattle.air_sender.specs.TapeSizes.{cycle_size}
-use Rattle.air_sender.proofs.TapeLengths.{TapeSizeLaw}
+use Rattle.board_laws.specs.TapeSizes.{cycle_size}
+use Rattle.board_laws.proofs.TapeLengths.{TapeSizeLaw}
 use Rattle.air_cli.proofs.TruthLemmas.{starts_script}
 
 pub length-script_tape : (d : Deck) → TapeSizeLaw → length (script_tape d) ≡ script_starts d * cycle_size (length d.items) (program (disks_in d))

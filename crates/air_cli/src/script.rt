@@ -10,7 +10,7 @@ use crate::reports::script_report;
 use crate::truths::script_is_true;
 use air_base::limits::MOST_TAPE_BYTES;
 use air_devices::Shelf;
-use air_sender::laws::tape_size_law;
+use board_laws::tape_size_law;
 use air_sender::tape_bytes;
 use air_status::Status;
 use chunk_program::Program;

@@ -13,14 +13,14 @@ use Rattle.air_devices.specs.Masts.{Changes, Masted, Sent, with_buckets}
 use Rattle.air_sender.specs.AirFaults.{FailedAt, IsAirAnswer, failed_slot}
 use Rattle.air_sender.specs.declared.airing.AirFault.{AirFault}
 use Rattle.air_sender.specs.declared.airing.AirFault.TheVariants as fault
-use Rattle.air_sender.specs.BoardBuckets.{last_bytes, last_cycle}
-use Rattle.air_sender.proofs.GrowFacts.{grow}
+use Rattle.board_laws.specs.BoardBuckets.{last_bytes, last_cycle}
+use Rattle.board_laws.proofs.GrowFacts.{grow}
 use Rattle.air_sender.proofs.SendFacts.{sent_none}
 use Rattle.cycle_snapshot.specs.Batches.{IsBatch, events_in}
 use Rattle.cycle_snapshot.proofs.BatchLemmas.{events_more}
 use Rattle.air_base.specs.declared.verdicts.Policy.{Policy}
 use Rattle.air_history.specs.Boards.{Board, board_of}
-use Rattle.air_sender.specs.BoardBuckets.{EntriesBelow, IsLastBoard, cycle_bytes}
+use Rattle.board_laws.specs.BoardBuckets.{EntriesBelow, IsLastBoard, cycle_bytes}
 use Rattle.air_sender.proofs.SendFacts.{length_cycle}
 use Rattle.station.specs.PassStates.{PassState}
 use Rattle.cycle_snapshot.specs.SnapshotStates.{PublisherState}

@@ -19,7 +19,7 @@ use crate::conductors::ConductFault;
 use air_base::{NoMemory, Policy};
 use air_devices::Mast;
 use air_history::Event;
-use air_sender::laws::below_law;
+use board_laws::below_law;
 use air_sender::{AirFault, air_cycle};
 use chunk_program::Program;
 use control_matrix::Board;

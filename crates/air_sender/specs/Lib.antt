@@ -1,4 +1,2 @@
-pub mod BoardBuckets
 pub mod TapeMasts
 pub mod AirFaults
-pub mod TapeSizes

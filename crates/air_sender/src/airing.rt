@@ -13,9 +13,9 @@ ghost use Rattle.air_model.specs.Buckets.{spelling};
 ghost use Rattle.air_model.specs.Aired.{Air};
 ghost use Rattle.air_devices.specs.Counts.{HasCause};
 ghost use Rattle.air_devices.specs.Masts.{Changes, with_buckets};
-ghost use Rattle.air_sender.specs.BoardBuckets.{EntriesBelow, IsLastBoard, bucket_on, cycle_bytes, last_bytes};
+ghost use Rattle.board_laws.specs.BoardBuckets.{EntriesBelow, IsLastBoard, bucket_on, cycle_bytes, last_bytes};
 ghost use Rattle.air_sender.specs.AirFaults.{IsAirAnswer, SendsUpToFault};
-ghost use Rattle.air_sender.specs.TapeSizes.{cycle_size};
+ghost use Rattle.board_laws.specs.TapeSizes.{cycle_size};
 
 use crate::buckets::slot_bucket;
 use air_base::Policy;
@@ -37,7 +37,7 @@ pub enum AirFault {
 }
 
 /// Sends the bucket of each slot in order for the board's cycle. `Board::new` and `Board::apply` tell whose board it is: where the last
-/// event was a start its cycle has started, and by `below_law` its entries are below it. `Program::plan` tells that the program has
+/// event was a start its cycle has started, and by `below_law` of `board_laws` its entries are below it. `Program::plan` tells that the program has
 /// the deck's items, as many as `Board::new` got values, and `Board::n` how many entries the buffer is for.
 pub fn air_cycle<M: Mast>(
     program: &Program,

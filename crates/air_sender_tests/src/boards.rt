@@ -6,10 +6,10 @@ ghost use Rattle.std.specs.Prelude.{◌≡◌, ◌<◌, ◌≤◌, ℕ, List, �
 ghost use Rattle.air_history.specs.declared.histories.Event.{Event};
 ghost use Rattle.air_history.specs.Boards.{board_of};
 ghost use Rattle.air_model.specs.Disks.{all_items};
-ghost use Rattle.air_sender.specs.BoardBuckets.{EntriesBelow};
+ghost use Rattle.board_laws.specs.BoardBuckets.{EntriesBelow};
 
 use air_history::{Event, Update, Write};
-use air_sender::laws::below_law;
+use board_laws::below_law;
 use chunk_program::{Program, cut};
 use control_matrix::Board;
 use item_catalog::{Deck, read_deck};

@@ -12,7 +12,7 @@ use Rattle.air_history.specs.Histories.{is_start, starts}
 use Rattle.air_model.specs.Buckets.{Bucket}
 use Rattle.air_model.specs.Aired.{Air, bucket_of, buckets_of}
 use Rattle.air_model.proofs.LaterLemmas.{later}
-use Rattle.air_sender.specs.BoardBuckets.{last_cycle}
+use Rattle.board_laws.specs.BoardBuckets.{last_cycle}
 
 -- ---- ranges of numbers
 

@@ -21,7 +21,7 @@ use Rattle.air_history.proofs.HistoryLemmas.{front_cycle, front_cycle_same, writ
 use Rattle.control_matrix.proofs.BoardLemmas.{board_push, start_board}
 use Rattle.air_model.specs.Buckets.{Body, Bucket}
 use Rattle.air_model.specs.Aired.{Air, SlotsFit, aired_as, body_of, bucket_of}
-use Rattle.air_sender.specs.BoardBuckets.{EntriesBelow, body_on, bucket_on, cycle_buckets, entries_on}
+use Rattle.board_laws.specs.BoardBuckets.{EntriesBelow, body_on, bucket_on, cycle_buckets, entries_on}
 
 -- ---- the front of the last cycle
 

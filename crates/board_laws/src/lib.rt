@@ -1,4 +1,7 @@
 //! The laws of what a board airs and of how long a tape is, each carried by a function that does nothing.
+//!
+//! They stand apart so that they are checked once: no test and no edit has them proved again.
+#![tactic(auto)]
 
 ghost use Rattle.std.specs.Prelude.{◌≡◌, ◌*◌, ℕ, cond, List, [], ◌∷◌, ◌++◌, length, map};
 ghost use Rattle.std.specs.List.{range_with_len};
@@ -7,8 +10,8 @@ ghost use Rattle.air_history.specs.declared.histories.Event.TheVariants.{Start};
 ghost use Rattle.air_history.specs.Histories.{is_start, starts};
 ghost use Rattle.air_history.specs.Boards.{board_of};
 ghost use Rattle.air_model.specs.Aired.{Air, SlotsFit, bucket_of, buckets_of, history_tape};
-ghost use Rattle.air_sender.specs.BoardBuckets.{EntriesBelow, cycle_buckets, last_cycle};
-ghost use Rattle.air_sender.specs.TapeSizes.{cycle_size};
+ghost use Rattle.board_laws.specs.BoardBuckets.{EntriesBelow, cycle_buckets, last_cycle};
+ghost use Rattle.board_laws.specs.TapeSizes.{cycle_size};
 
 /// The board of a history that ends with a start airs the history's buckets of that cycle.
 pub fn own_cycle_law()

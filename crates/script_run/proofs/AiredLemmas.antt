@@ -20,8 +20,8 @@ use Rattle.air_model.specs.Aired.{Air, air_of, bucket_of, buckets_of}
 use Rattle.air_model.specs.Decks.{Deck, IsDeck, disks_in, rates_in, values_in}
 use Rattle.air_model.specs.Disks.{Disk, all_items, order}
 use Rattle.air_model.specs.Programs.{program}
-use Rattle.air_sender.specs.BoardBuckets.{cycle_buckets, cycle_bytes}
-use Rattle.air_sender.proofs.StartedBoards.{OwnCycleLaw}
+use Rattle.board_laws.specs.BoardBuckets.{cycle_buckets, cycle_bytes}
+use Rattle.board_laws.proofs.StartedBoards.{OwnCycleLaw}
 use Rattle.air_devices.specs.Masts.{Masted, Sent, fresh_mast}
 use Rattle.air_sender.specs.TapeMasts.{masted_of}
 use Rattle.script_run.specs.declared.runs.ScriptRun.{ScriptRun}

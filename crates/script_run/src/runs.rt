@@ -14,7 +14,7 @@ ghost use Rattle.script_run.specs.Steps.RunSteps.{IsScriptRun};
 use crate::parts::{count_part, event_at, values_of};
 use air_base::NoMemory;
 use air_history::Event;
-use air_sender::laws::{below_law, own_cycle_law};
+use board_laws::{below_law, own_cycle_law};
 use air_sender::{TapeMast, air_cycle, tape_bytes};
 use bucket_codec::offsets::{ENTRY_BYTES, HEAD_BYTES};
 use chunk_program::Program;

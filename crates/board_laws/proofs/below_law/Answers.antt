@@ -1,5 +1,5 @@
-use Rattle.air_sender.proofs.StartedBoards.{below}
-use Rattle.air_sender.proofs.laws.below_law.Goals as goal
+use Rattle.board_laws.proofs.StartedBoards.{below}
+use Rattle.board_laws.proofs.below_law.Goals as goal
 
 pub returns : goal.returns
 returns c = below

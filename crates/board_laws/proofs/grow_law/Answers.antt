@@ -1,5 +1,5 @@
-use Rattle.air_sender.proofs.GrowFacts.{grow}
-use Rattle.air_sender.proofs.laws.grow_law.Goals as goal
+use Rattle.board_laws.proofs.GrowFacts.{grow}
+use Rattle.board_laws.proofs.grow_law.Goals as goal
 
 pub returns : goal.returns
 returns c = grow

@@ -1,5 +1,5 @@
-use Rattle.air_sender.proofs.TapeLengths.{tape_size}
-use Rattle.air_sender.proofs.laws.tape_size_law.Goals as goal
+use Rattle.board_laws.proofs.TapeLengths.{tape_size}
+use Rattle.board_laws.proofs.tape_size_law.Goals as goal
 
 pub returns : goal.returns
 returns c = tape_size

@@ -3,7 +3,7 @@ use Rattle.item_catalog.specs.DeckLimits.{script_starts}
 use Rattle.air_model.specs.Decks.{disks_in}
 use Rattle.air_model.specs.Programs.{program}
 use Rattle.air_model.specs.Disks.{all_items}
-use Rattle.air_sender.specs.TapeSizes.{cycle_size}
+use Rattle.board_laws.specs.TapeSizes.{cycle_size}
 use Rattle.script_run.proofs.AiredLemmas.{items_aired}
 use Rattle.air_cli.proofs.TapeLemmas.{length-script_tape}
 use Rattle.air_cli.proofs.script.tape_len.Goals as goal

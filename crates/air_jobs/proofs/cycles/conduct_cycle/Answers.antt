@@ -2,7 +2,7 @@ use Rattle.std.proofs.Common.{◌≡◌, ◌+◌, ◌<◌, ◌≤◌, ◌∙◌,
 use Rattle.air_history.specs.declared.histories.Event.TheVariants.{Start}
 use Rattle.air_history.specs.Boards.{board_of}
 use Rattle.air_model.specs.Programs.{program as slots_of}
-use Rattle.air_sender.specs.BoardBuckets.{EntriesBelow}
+use Rattle.board_laws.specs.BoardBuckets.{EntriesBelow}
 use Rattle.cycle_snapshot.specs.Batches.{events_in}
 use Rattle.air_jobs.proofs.CycleLemmas.{board_sized, publishes_batch, publishes_none}
 use Rattle.air_jobs.proofs.SendLemmas.{cycle_failed_by, cycle_sent, front, last, last_board, rose_by, started, within_cycle}

@@ -1,5 +1,5 @@
 use Rattle.std.proofs.Common.{sym, subst}
-use Rattle.air_sender.specs.BoardBuckets.{EntriesBelow}
+use Rattle.board_laws.specs.BoardBuckets.{EntriesBelow}
 use Rattle.air_sender_tests.proofs.boards.started_board.Goals as goal
 
 pub returns-clause-below : goal.returns-clause-below

@@ -1,7 +1,7 @@
 use Rattle.std.proofs.Common.{◌++◌, ◌∷◌, [], ◌∙◌, length, sym, ap, subst, arith}
 use Rattle.air_model.specs.Decks.{values_in}
 use Rattle.air_model.specs.Disks.{all_items}
-use Rattle.air_sender.specs.BoardBuckets.{EntriesBelow}
+use Rattle.board_laws.specs.BoardBuckets.{EntriesBelow}
 use Rattle.air_devices.specs.Masts.{Sent}
 use Rattle.air_sender.specs.TapeMasts.{told_by}
 use Rattle.script_run.proofs.AiredLemmas.{board_started, commit_aired, items_aired, start_aired, started_board, told_alike, values_kept}

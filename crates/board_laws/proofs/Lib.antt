@@ -1,0 +1,3 @@
+pub mod StartedBoards
+pub mod TapeLengths
+pub mod GrowFacts

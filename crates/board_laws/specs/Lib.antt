@@ -1,0 +1,2 @@
+pub mod BoardBuckets
+pub mod TapeSizes
