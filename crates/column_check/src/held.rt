@@ -98,7 +98,7 @@ impl Held {
         lesser_of_two(clash, self.held.least_having(item, cycle))
     }
 
-    /// Holds the new read too, after those before it.
+    /// Holds the new read too, after those before it, where `clashes` answered none for it; `len` tells whether there is room.
     pub fn hold(&mut self, item: u16, cycle: u32, column: &[u32])
         requires room { length self.old.reads < ROOM }
         requires new { IsNew self.old (heard item cycle column.now) }

@@ -68,7 +68,7 @@ impl EtherListener {
         })
     }
 
-    /// Pushes a bucket's bytes, and hears all that is due.
+    /// Pushes a bucket's bytes, and hears all that is due. It is open from `new` on, and stays so until a call runs out of memory.
     pub fn push(&mut self, alloc: Global, bytes: &[u8]) -> Result<(), NoMemory>
         requires open { IsOpen self.old }
         requires room { length bytes.now ≤ self.old.ether.most }
@@ -85,7 +85,7 @@ impl EtherListener {
         Ok(())
     }
 
-    /// Hears all the rest.
+    /// Hears all the rest, where no call before ran out of memory.
     pub fn end(&mut self, alloc: Global) -> Result<(), NoMemory>
         requires open { IsOpen self.old }
         requires few { self.old.ether.pushes ≤ 2 ^ 40 }

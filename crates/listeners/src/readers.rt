@@ -63,7 +63,7 @@ pub fn all_hear(
     Ok(())
 }
 
-/// Lets all hear the records of a tape, or of a piece of one.
+/// Lets all hear the records of a tape, or of a piece of one. `TapeReader` tells whether a tape is whole.
 pub fn all_hear_tape(alloc: Global, listeners: &mut [Listener], tape: &[u8]) -> Result<(), NoMemory>
     requires whole { (tape_read tape.now).cut ≡ None }
     requires counts { All (λ l. heard_count l.state.counts + length (tape_read tape.now).records < 2 ^ 64) listeners.old }
@@ -90,7 +90,7 @@ pub fn end_all(alloc: Global, listeners: Vec<Listener>) -> Result<Sessions, NoMe
     Ok(Sessions { verdicts, counts })
 }
 
-/// The sessions of all readers of a deck over the records of a tape.
+/// The sessions of all readers of a deck over the records of a tape. `TapeReader` tells whether a tape is whole.
 pub fn tape_sessions(
     alloc: Global,
     deck: &Deck,

@@ -100,7 +100,8 @@ fn is_clear(deck: &Deck) -> bool
     set.loss == 0 && set.again == 0 && set.late == 0
 }
 
-/// The sessions of all readers of a deck, each over its own ether of the records of a tape.
+/// The sessions of all readers of a deck, each over its own ether of the records of a tape: one that was aired for the deck, whose
+/// records are of its buckets' sizes.
 pub fn ether_sessions<T: Threads + Sync>(
     threads: &T,
     alloc: Global,

@@ -102,7 +102,7 @@ impl DataHeld {
         self.held.least_of_cycle(newest)
     }
 
-    /// Holds the new read too, after those before it.
+    /// Holds the new read too, after those before it, where `clashes` answered none for it; `len` tells whether there is room.
     pub fn hold(&mut self, item: u16, cycle: u32, vector: &[u32])
         requires room { length self.old.reads < ROOM }
         requires new { IsNew self.old (heard item cycle vector.now) }
