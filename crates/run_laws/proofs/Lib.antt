@@ -1,0 +1,7 @@
+pub mod ListFacts
+pub mod StartFacts
+pub mod ClosingLemmas
+pub mod AiringLemmas
+pub mod BeyondLemmas
+pub mod FrameLemmas
+mod RunExamples
