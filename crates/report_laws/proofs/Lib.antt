@@ -4,3 +4,4 @@ mod StandingLines
 mod KeptLines
 mod LegalLines
 mod ReportExamples
+mod HistoryRows

@@ -125,7 +125,7 @@ plain_kind kind.Accept x = λ rest. refl
 plain_kind (kind.Abort item cycle clash) x = λ rest. refl
 plain_kind kind.Unfinished x = λ rest. refl
 
-plain_report : (report : Report) → EachPlain (report_rows report)
+pub plain_report : (report : Report) → EachPlain (report_rows report)
 plain_report report =
     let H = map event_row report.history in let V = map verdict_row report.verdicts in let C = map counts_row report.counts in
     let G = map (look_row (codes "glance")) report.glances in let L = map (look_row (codes "look")) report.looks in

@@ -1,10 +1,11 @@
-//! Laws of reports: what is written of lines in the grammar is read back as these lines, and what is read
-//! is in the grammar. No code runs.
+//! Laws of reports: what is written of lines in the grammar is read back as these lines, what is read is in the grammar,
+//! and a text tells the history that it begins with. No code runs.
 #![tactic(auto)]
 
-ghost use Rattle.std.specs.Prelude.{ℕ, List};
+ghost use Rattle.std.specs.Prelude.{◌≡◌, ℕ, List};
 ghost use Rattle.air_model.specs.Decks.{Deck, IsLegal};
 ghost use Rattle.air_model.specs.Reports.{Report, report_text};
+ghost use Rattle.item_catalog.specs.DeckLimits.{WithinLimits};
 ghost use Rattle.report_reading.specs.ReportGrammar.{SpellsReport};
 ghost use Rattle.report_reading.specs.ReportLines.{ReportLines, lines_in, report_in};
 ghost use Rattle.report_laws.specs.ReportRules.{HasWidths, InGrammar};
@@ -22,4 +23,10 @@ pub fn kept_law()
 /// The history of the lines that a text spells is legal for the deck.
 pub fn legal_report_law()
     ensures { (deck : Deck) (text : List ℕ) (lines : ReportLines) → SpellsReport deck text lines → IsLegal deck (report_in deck lines).history }
+{}
+
+/// A printed text tells the history that it begins with: for a deck of the grammar two reports with legal histories that are the same text
+/// have one history, whatever else they say.
+pub fn one_history_law()
+    ensures { (deck : Deck) (r s : Report) → WithinLimits deck → IsLegal deck r.history → IsLegal deck s.history → report_text r ≡ report_text s → r.history ≡ s.history }
 {}
