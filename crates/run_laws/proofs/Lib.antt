@@ -4,4 +4,5 @@ pub mod ClosingLemmas
 pub mod AiringLemmas
 pub mod BeyondLemmas
 pub mod FrameLemmas
+pub mod ItemLemmas
 mod RunExamples

@@ -1,3 +1,4 @@
+pub mod AiredItems
 pub mod Closings
 pub mod Fronts
 pub mod Runs

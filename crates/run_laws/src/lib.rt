@@ -8,9 +8,10 @@ ghost use Rattle.air_history.specs.declared.histories.Event.{Event};
 ghost use Rattle.air_history.specs.Histories.{starts};
 ghost use Rattle.air_history.specs.Boards.{frame_of};
 ghost use Rattle.air_model.specs.Buckets.{Bucket};
-ghost use Rattle.air_model.specs.Decks.{Deck, IsLegal, IsWhole};
-ghost use Rattle.air_model.specs.Aired.{Air, buckets_of};
+ghost use Rattle.air_model.specs.Decks.{Deck, IsDeck, IsLegal, IsWhole, values_in};
+ghost use Rattle.air_model.specs.Aired.{Air, air_of, buckets_of};
 ghost use Rattle.air_model.specs.declared.reports.LookLine.{LookLine};
+ghost use Rattle.run_laws.specs.AiredItems.{AirsItems};
 ghost use Rattle.run_laws.specs.Closings.{HaveMadeAll, HaveMadeSome, IsClosing};
 ghost use Rattle.run_laws.specs.Fronts.{EndsAtStart, IsSeen};
 
@@ -46,4 +47,10 @@ pub fn more_buckets_law()
 pub fn frame_law()
     ensures { (values : List ℕ) (G later : List Event) (line : LookLine) → EndsAtStart G →
         line.cycle ≡ (frame_of values G).cycle → line.total ≡ (frame_of values G).total → IsSeen values (G ++ later) line }
+{}
+
+/// In each cycle of a history each item of a well made deck is aired as often as its disk says, and each bucket with an item has the item's
+/// value at the start of its cycle.
+pub fn aired_items_law()
+    ensures { (deck : Deck) (H : List Event) → IsDeck deck → AirsItems deck H (buckets_of (values_in deck) (air_of deck) H) }
 {}
