@@ -17,7 +17,8 @@ use Rattle.cycle_snapshot.specs.BoardRuns.{step_all}
 use Rattle.cycle_snapshot.specs.SnapshotStates.{PublisherState, with_batch}
 use Rattle.cycle_snapshot.proofs.BatchLemmas.{starts_append, batch_starts, events_more, board_all, board_values}
 use Rattle.cycle_snapshot.proofs.PrefixLemmas.{prefix_self, prefix_trans}
-use Rattle.air_jobs.specs.Published.{AreInStep, EndsAtStart, GoesOn, IsUpTo, PublishesOn}
+use Rattle.run_laws.specs.Fronts.{EndsAtStart}
+use Rattle.air_jobs.specs.Published.{AreInStep, GoesOn, IsUpTo, PublishesOn}
 
 -- ---- after the last start
 

@@ -9,7 +9,8 @@ use Rattle.cycle_snapshot.proofs.BatchLemmas.{starts_append}
 use Rattle.air_history.specs.declared.histories.Event.TheVariants.{Start}
 use Rattle.air_history.specs.Histories.{starts}
 use Rattle.air_model.specs.declared.reports.LookLine.{LookLine}
-use Rattle.air_jobs.specs.Published.{EndsAtStart, IsUpTo}
+use Rattle.run_laws.specs.Fronts.{EndsAtStart}
+use Rattle.air_jobs.specs.Published.{IsUpTo}
 use Rattle.air_history.specs.Boards.{frame_of}
 use Rattle.air_history.specs.declared.histories.Event.{Event}
 use Rattle.cycle_snapshot.specs.Batches.{IsBatch, events_in}

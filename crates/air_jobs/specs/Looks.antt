@@ -4,9 +4,9 @@ use mathlib.Core.List.{IsPrefix}
 use Rattle.air_history.specs.declared.histories.Event.{Event}
 use Rattle.air_history.specs.Boards.{frame_of}
 use Rattle.air_model.specs.declared.reports.LookLine.{LookLine}
+use Rattle.run_laws.specs.Fronts.{EndsAtStart}
 use Rattle.cycle_snapshot.specs.Batches.{IsBatch, events_in}
 use Rattle.cycle_snapshot.specs.SnapshotStates.{MonitorState}
-use Rattle.air_jobs.specs.Published.{EndsAtStart}
 
 -- A monitor m looked so many times and is then n. Where it looked it has seen whole batches, no more than the most, that go on from
 -- all that it saw or was told, and keeps their frame; the number of looks is raised, up to its last value; nothing else changed.

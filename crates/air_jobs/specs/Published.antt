@@ -1,19 +1,15 @@
 -- How a publisher's list and a board keep up with what the conductor's pass has seen.
-use Rattle.std.specs.Prelude.{◌≡◌, ◌⊎◌, ℕ, ◌+◌, List, [], ◌∷◌, ◌++◌, length}
+use Rattle.std.specs.Prelude.{◌≡◌, ◌⊎◌, ℕ, ◌+◌, List, ◌++◌, length}
 use mathlib.Core.List.{IsPrefix}
 use Rattle.air_history.specs.declared.histories.Event.{Event}
-use Rattle.air_history.specs.declared.histories.Event.TheVariants.{Start}
 use Rattle.air_history.specs.Histories.{starts}
 use Rattle.air_history.specs.Boards.{Board, board_of}
+use Rattle.run_laws.specs.Fronts.{EndsAtStart}
 use Rattle.station.specs.PassStates.{PassState, with_seen}
 use Rattle.cycle_snapshot.specs.Batches.{events_in}
 use Rattle.cycle_snapshot.specs.SnapshotStates.{PublisherState}
 use Rattle.air_jobs.specs.declared.conductors.ConductFault.{ConductFault}
 use Rattle.air_jobs.specs.declared.conductors.ConductFault.TheVariants as fault
-
--- The list is empty, or its last event is a start.
-abbrev pub EndsAtStart : List Event → Type 0
-EndsAtStart G = (G ≡ []) ⊎ ((F : List Event) × (G ≡ F ++ Start ∷ []))
 
 -- The batches are what was seen up to and with a start, or nothing; behind them so many starts were seen.
 pub record IsUpTo (behind : ℕ) (seen : List Event) (batches : List (List Event)) : Type 0 where
