@@ -1,66 +1,7 @@
 //! What is heard, and when: tables of ethers over buckets of one byte, which are pushed as 0, 1, 2 and so on.
 
-ghost use Rattle.std.specs.Prelude.{◌≡◌, IfOk};
-ghost use Rattle.air_ether.specs.HeardSoFar.{IsQuiet};
-
-use air_ether::Ether;
-use std::alloc::Global;
+use crate::cases::{Case, first_other};
 use std::test::Fail;
-
-/// A seed, a reader's number, how many of a hundred are lost, heard again and late; what is heard after each push, and what
-/// after the end.
-#[derive(Drop)]
-struct Case<'a> {
-    seed: u64,
-    number: u32,
-    odds: [u32; 3],
-    heard: &'a [&'a [u8]],
-    left: &'a [u8],
-}
-
-/// Hears all that is due, and tells whether it is as told.
-fn hears(alloc: Global, ether: &mut Ether, told: &[u8]) -> Result<bool, Fail>
-    ensures quiet { IfOk result (λ _. IsQuiet ether.new) }
-    ensures most { IfOk result (λ _. ether.new.most ≡ ether.old.most) }
-    ensures pushes { IfOk result (λ _. ether.new.pushes ≡ ether.old.pushes) }
-    ensures ended { IfOk result (λ _. ether.new.ended ≡ ether.old.ended) }
-{
-    let mut heard = Vec::new(alloc);
-    while let Some(bytes) = ether.next() {
-        heard.extend_from_slice(bytes)?;
-    }
-    Ok(heard.as_slice() == told)
-}
-
-/// The first push after which something else is heard; the number of pushes where that is so after the end.
-fn push_apart(alloc: Global, case: &Case<'_>) -> Result<Option<usize>, Fail> {
-    let [loss, again, late] = case.odds;
-    if loss > 100 || again > 100 || late > 100 {
-        return Err("odds of more than a hundred".into());
-    }
-    let mut ether = Ether::new(alloc, case.seed, case.number, loss, again, late, 1)?;
-    for (place, told) in case.heard.iter().enumerate() {
-        ether.push(&[place.min(255) as u8]);
-        if !hears(alloc, &mut ether, told)? {
-            return Ok(Some(place));
-        }
-    }
-    ether.end();
-    if !hears(alloc, &mut ether, case.left)? || ether.next().is_some() {
-        return Ok(Some(case.heard.len()));
-    }
-    Ok(None)
-}
-
-/// The place of the first case that comes out otherwise, and at which push.
-fn first_other(alloc: Global, cases: &[Case<'_>]) -> Result<Option<(usize, usize)>, Fail> {
-    for (place, case) in cases.iter().enumerate() {
-        if let Some(push) = push_apart(alloc, case)? {
-            return Ok(Some((place, push)));
-        }
-    }
-    Ok(None)
-}
 
 #[test]
 fn a_clear_ether_gives_each_push_at_once(rt: HostRuntime) -> Result<(), Fail> {

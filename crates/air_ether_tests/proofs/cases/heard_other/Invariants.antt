@@ -1,6 +1,6 @@
 use Rattle.std.proofs.Common.{◌≡◌}
 use Rattle.air_ether.specs.HeardSoFar.{left_of}
-use Rattle.air_ether_tests.proofs.hearing.hears.Given as goal
+use Rattle.air_ether_tests.proofs.cases.heard_other.Given as goal
 
 abbrev pub invariant-loop-bytes : goal.invariant-loop-bytes
 invariant-loop-bytes l = record {

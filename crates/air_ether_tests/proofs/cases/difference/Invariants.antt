@@ -1,6 +1,6 @@
 use Rattle.std.proofs.Common.{◌≡◌, false}
 use Rattle.air_ether.specs.HeardSoFar.{IsQuiet}
-use Rattle.air_ether_tests.proofs.hearing.push_apart.Given as goal
+use Rattle.air_ether_tests.proofs.cases.difference.Given as goal
 
 abbrev pub invariant-loop-place : goal.invariant-loop-place
 invariant-loop-place l = record {
