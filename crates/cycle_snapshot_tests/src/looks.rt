@@ -47,26 +47,48 @@ const ONE_KEPT: Kept = (1, [u64::MAX, 25], [[0, 0], [0, 0]], 24);
 /// The frame of both: item 1 was written in cycle 1, and item 0 after a read of it.
 const TWO_KEPT: Kept = (2, [3, 2], [[1, 1], [0, 1]], 5);
 
-/// Whether the monitor keeps this.
-fn keeps(monitor: &Monitor, kept: &Kept) -> bool
-    requires { length monitor.now.values ≡ 2 }
-{
-    let (cycle, values, columns, total) = *kept;
-    monitor.cycle() == cycle
-        && [monitor.value(0), monitor.value(1)] == values
-        && monitor.column(0) == columns[0].as_slice()
-        && monitor.column(1) == columns[1].as_slice()
-        && monitor.total() == total
+/// In what a step is answered otherwise than told: what came in its place.
+#[derive(Clone, Copy, Debug, PartialEq, Eq)]
+enum Other {
+    /// The publisher has no room for one more batch.
+    NoRoom,
+    Cycle(u32),
+    Values([u64; 2]),
+    /// The item's column is another.
+    Column(u16),
+    Total(u64),
+    Looked(u64),
 }
 
-/// Makes the call; whether it is answered as told.
-fn holds<R: Wait>(
+/// In what the monitor keeps something else than told.
+fn kept_other(monitor: &Monitor, told: &Kept) -> Option<Other>
+    requires { length monitor.now.values ≡ 2 }
+{
+    let (cycle, values, columns, total) = *told;
+    if monitor.cycle() != cycle {
+        return Some(Other::Cycle(monitor.cycle()));
+    }
+    let kept = [monitor.value(0), monitor.value(1)];
+    if kept != values {
+        return Some(Other::Values(kept));
+    }
+    if monitor.column(0) != columns[0].as_slice() {
+        return Some(Other::Column(0));
+    }
+    if monitor.column(1) != columns[1].as_slice() {
+        return Some(Other::Column(1));
+    }
+    (monitor.total() != total).then_some(Other::Total(monitor.total()))
+}
+
+/// Makes the call; in what it is answered otherwise than told.
+fn difference<R: Wait>(
     wait: &R,
     alloc: Global,
     source: &mut Publisher,
     monitor: &mut Monitor,
     step: &Step<'_>,
-) -> Result<bool, NoMemory>
+) -> Result<Option<Other>, NoMemory>
     requires own { monitor.old.publisher ≡ source.old.id }
     requires items { (length source.old.values ≡ 2) × (length monitor.old.values ≡ 2) }
     requires room { length source.old.batches < source.old.most }
@@ -78,38 +100,44 @@ fn holds<R: Wait>(
         Step::Publishes(rows) => source.publish(wait, batch_of(alloc, 2, rows)?)?,
         Step::Learns => monitor.learn(source.tell()),
         Step::Looks => monitor.look()?,
-        Step::Keeps(kept) => return Ok(keeps(monitor, kept)),
-        Step::Looked(looks) => return Ok(monitor.looks() == *looks),
+        Step::Keeps(kept) => return Ok(kept_other(monitor, kept)),
+        Step::Looked(told) => {
+            let looks = monitor.looks();
+            return Ok((looks != *told).then_some(Other::Looked(looks)));
+        }
     }
-    Ok(true)
+    Ok(None)
 }
 
-/// The first of the steps that is answered otherwise.
+/// The place of the first of the steps that is answered otherwise than told, and in what.
 fn walk<R: Wait>(
     wait: &R,
     alloc: Global,
     source: &mut Publisher,
     monitor: &mut Monitor,
     steps: &[Step<'_>],
-) -> Result<Option<usize>, NoMemory>
+) -> Result<Option<(usize, Other)>, NoMemory>
     requires own { monitor.old.publisher ≡ source.old.id }
     requires items { (length source.old.values ≡ 2) × (length monitor.old.values ≡ 2) }
     requires room { (length source.old.batches ≡ 0) × (source.old.most ≡ 100) }
 {
     for (place, step) in steps.iter().enumerate() {
-        if place >= 100 || !holds(wait, alloc, source, monitor, step)? {
-            return Ok(Some(place));
+        if place >= 100 {
+            return Ok(Some((place, Other::NoRoom)));
+        }
+        if let Some(other) = difference(wait, alloc, source, monitor, step)? {
+            return Ok(Some((place, other)));
         }
     }
     Ok(None)
 }
 
-/// The first of the steps that is answered otherwise, by a new publisher and its monitor.
+/// The place of the first of the steps that a new publisher and its monitor answer otherwise than told, and in what.
 fn first_other<R: Wait>(
     wait: &R,
     alloc: Global,
     steps: &[Step<'_>],
-) -> Result<Option<usize>, NoMemory> {
+) -> Result<Option<(usize, Other)>, NoMemory> {
     let (mut source, mut monitors) = publisher(wait, alloc, &FIRST, 1, 100)?;
     let other = match monitors.pop() {
         Some(mut monitor) => walk(wait, alloc, &mut source, &mut monitor, steps),
@@ -182,6 +210,7 @@ fn a_publisher_comes_with_its_monitors(rt: HostRuntime) -> Result<(), Fail> {
 #[test]
 fn another_answer_is_found(rt: HostRuntime) -> Result<(), Fail> {
     let steps = [Step::Publishes(ONE), Step::Looks, Step::Keeps(TWO_KEPT)];
-    assert_eq!(rt; first_other(&rt, rt.alloc(), &steps)?, Some(2));
+    let found = first_other(&rt, rt.alloc(), &steps)?;
+    assert_eq!(rt; found, Some((2, Other::Cycle(1))));
     Ok(())
 }
