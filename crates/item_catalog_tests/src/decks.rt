@@ -1,7 +1,7 @@
-//! What a deck gives when it is asked for its parts: one that uses everything, one that sets nothing, and the two that
-//! the guide leads through.
+//! What a deck gives when it is asked for its parts: one that uses everything, one that sets nothing, and some that show one thing
+//! each.
 
-use crate::parts::{Part, first_other_part};
+use crate::parts::{Case, Part, first_other_case, first_other_part};
 use air_base::Policy;
 use air_history::Write;
 use air_model::deck::{ReaderPlan, Settings};
@@ -21,14 +21,6 @@ const GRADED: &[u8] =
 /// Two updates with long amounts.
 const LONG: &[u8] =
     b"item,0,1,1\nitem,1,1,1\ndisk,2,1\nupdate,0,0 1,0=1+123456789 1=0-18446744073709551614\nupdate,0,1,1=1+1000000000000000 0=1-98765432\n";
-
-/// A copy of `examples/ticker.csv`.
-const TICKER: &[u8] =
-    b"item,0,500,40\nitem,1,300,40\nitem,2,120,10\nitem,3,80,10\nitem,4,60,1\nitem,5,45,1\nitem,6,30,1\nitem,7,25,1\ndisk,2,4\ndisk,2,2\ndisk,4,1\nupdate,0,0 7,0=0+10 7=7-10\nupdate,0,0 1,0=0-20 1=1+20\nupdate,1,,6=31\nupdate,1,2,2=2+1 3=2-40\nreader,0,0,3\nquery,0,7 0\nquery,0,0 1\nreader,0,0,2\nquery,1,6 3 1\nquery,1,2 3\nscript,s 0 1\nscript,s 0\nscript,s 1 s\n";
-
-/// A copy of `examples/timetable.csv`.
-const TIMETABLE: &[u8] =
-    b"item,0,0,20\nitem,1,0,20\nitem,2,1,5\nitem,3,805,5\nitem,4,2,5\nitem,5,820,5\nset,delta,1\ndisk,2,-\ndisk,4,-\nupdate,0,,0=12 3=817\nupdate,0,0 3,0=0-4 3=3-4\nreader,0,0,1\nquery,0,2 3 0\nquery,0,3 0\nquery,0,3 0\nreader,0,0,1\nquery,1,5 1 4\nscript,s 0 s 0 s\n";
 
 /// A write of an item from a base, or none.
 fn write(item: u16, base: Option<u16>, minus: bool, amount: u64) -> Write {
@@ -124,9 +116,10 @@ fn readers_and_queries_are_given(rt: HostRuntime) -> Result<(), Fail> {
     Ok(())
 }
 
-#[test]
-fn settings_are_as_they_are_set_or_have_their_defaults(rt: HostRuntime) -> Result<(), Fail> {
-    let set = Settings {
+/// The deck that sets everything.
+const SETS_ALL: Case<'static> = Case {
+    text: ALL,
+    parts: &[Part::Settings(Settings {
         policy: Policy::RMatrix,
         cycles: 0,
         seed: u64::MAX,
@@ -135,47 +128,59 @@ fn settings_are_as_they_are_set_or_have_their_defaults(rt: HostRuntime) -> Resul
         late: 7,
         monitors: 16,
         hears: 100_000_000,
-    };
-    let unset = Settings {
-        policy: Policy::FMatrix,
-        cycles: 10,
-        seed: 0,
-        loss: 0,
-        again: 0,
-        late: 0,
-        monitors: 0,
-        hears: 1_000_000,
-    };
-    let bare = [
+    })],
+};
+
+/// The deck that sets nothing.
+const SETS_NOTHING: Case<'static> = Case {
+    text: BARE,
+    parts: &[
         Part::Items(1),
         Part::Disks(1),
         Part::Disk(0, 1, 1),
         Part::Updaters(0),
         Part::Readers(0),
         Part::Script(0, 0),
-        Part::Settings(unset),
-    ];
-    let others = (
-        first_other_part(rt.alloc(), ALL, &[Part::Settings(set)])?,
-        first_other_part(rt.alloc(), BARE, &bare)?,
-    );
-    assert_eq!(rt; others, (None, None));
+        Part::Settings(Settings {
+            policy: Policy::FMatrix,
+            cycles: 10,
+            seed: 0,
+            loss: 0,
+            again: 0,
+            late: 0,
+            monitors: 0,
+            hears: 1_000_000,
+        }),
+    ],
+};
+
+#[test]
+fn settings_are_as_they_are_set_or_have_their_defaults(rt: HostRuntime) -> Result<(), Fail> {
+    let cases = [SETS_ALL, SETS_NOTHING];
+    assert_eq!(rt; first_other_case(rt.alloc(), &cases)?, None);
     Ok(())
 }
 
+/// Decks that set a policy by its letter.
+const F: Case<'static> = Case {
+    text: b"item,0,1,1\ndisk,1,1\nset,policy,F\n",
+    parts: &[Part::Policy(Policy::FMatrix)],
+};
+
+const D: Case<'static> = Case {
+    text: b"item,0,1,1\ndisk,1,1\nset,policy,D\n",
+    parts: &[Part::Policy(Policy::Datacycle)],
+};
+
+const R: Case<'static> = Case {
+    text: b"item,0,1,1\ndisk,1,1\nset,policy,R\n",
+    parts: &[Part::Policy(Policy::RMatrix)],
+};
+
 #[test]
 fn each_policy_has_its_letter(rt: HostRuntime) -> Result<(), Fail> {
-    let (f, d, r) = (
-        [Part::Policy(Policy::FMatrix)],
-        [Part::Policy(Policy::Datacycle)],
-        [Part::Policy(Policy::RMatrix)],
-    );
-    let others = (
-        first_other_part(rt.alloc(), b"item,0,1,1\ndisk,1,1\nset,policy,F\n", &f)?,
-        first_other_part(rt.alloc(), b"item,0,1,1\ndisk,1,1\nset,policy,D\n", &d)?,
-        first_other_part(rt.alloc(), b"item,0,1,1\ndisk,1,1\nset,policy,R\n", &r)?,
-    );
-    assert_eq!(rt; others, (None, None, None));
+    let cases = [F, D, R];
+    assert_eq!(rt; first_other_case(rt.alloc(), &cases)?, None);
     Ok(())
 }
 
@@ -192,38 +197,5 @@ fn a_graded_frequency_counts_from_the_last_disk(rt: HostRuntime) -> Result<(), F
         Part::Disk(7, 1, 1),
     ];
     assert_eq!(rt; first_other_part(rt.alloc(), GRADED, &parts)?, None);
-    Ok(())
-}
-
-#[test]
-fn the_decks_of_the_guide_are_read(rt: HostRuntime) -> Result<(), Fail> {
-    let ticker = [
-        Part::Items(8),
-        Part::Disks(3),
-        Part::Updaters(2),
-        Part::Readers(2),
-        Part::Script(8, 4),
-        Part::Disk(0, 2, 4),
-        Part::Disk(1, 2, 2),
-        Part::Disk(2, 4, 1),
-        Part::Queries(0, 2),
-        Part::Queries(1, 2),
-    ];
-    let timetable = [
-        Part::Items(6),
-        Part::Disks(2),
-        Part::Updaters(1),
-        Part::Readers(2),
-        Part::Script(5, 3),
-        Part::Disk(0, 2, 2),
-        Part::Disk(1, 4, 1),
-        Part::Queries(0, 3),
-        Part::Queries(1, 1),
-    ];
-    let others = (
-        first_other_part(rt.alloc(), TICKER, &ticker)?,
-        first_other_part(rt.alloc(), TIMETABLE, &timetable)?,
-    );
-    assert_eq!(rt; others, (None, None));
     Ok(())
 }

@@ -2,7 +2,7 @@
 //! decks in docs/FORMATS.md.
 //!
 //! `texts` has the table of texts and what each of them is, `totals` that of long ones, `parts` that of a deck's parts. The decks of
-//! `drills` are those of an independent program.
+//! `guide` are those that docs/GUIDE.md leads through; the decks of `drills` are those of an independent program.
 #![tactic(auto)]
 
 #[cfg(test)]
@@ -11,6 +11,8 @@ mod bytes;
 mod decks;
 #[cfg(test)]
 mod drills;
+#[cfg(test)]
+mod guide;
 #[cfg(test)]
 mod kinds;
 #[cfg(test)]

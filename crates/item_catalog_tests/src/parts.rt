@@ -43,6 +43,13 @@ pub enum Part<'a> {
     Settings(Settings),
 }
 
+/// The text of a deck, and questions to it.
+#[derive(Clone, Copy)]
+pub struct Case<'a> {
+    pub text: &'a [u8],
+    pub parts: &'a [Part<'a>],
+}
+
 /// In what a deck answers a question otherwise than told: what came in its place.
 #[derive(Clone, Copy, Debug, PartialEq, Eq)]
 pub enum Other {
@@ -220,6 +227,19 @@ pub fn first_other_part(
     }
     let deck = read_deck(alloc, text)?;
     Ok(first_other(&deck, parts))
+}
+
+/// The place of the first case whose deck answers a question otherwise, the place of the question, and in what.
+pub fn first_other_case(
+    alloc: Global,
+    cases: &[Case<'_>],
+) -> Result<Option<(usize, usize, Other)>, Fail> {
+    for (place, case) in cases.iter().enumerate() {
+        if let Some((question, other)) = first_other_part(alloc, case.text, case.parts)? {
+            return Ok(Some((place, question, other)));
+        }
+    }
+    Ok(None)
 }
 
 /// The place of the first question that the deck of a drill answers otherwise, and in what.
