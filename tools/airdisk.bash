@@ -1,0 +1,18 @@
+# Made by tools/manual from the text of airdisk --help. To have bash complete the words of airdisk: . tools/airdisk.bash
+_airdisk() {
+    local word=${COMP_WORDS[COMP_CWORD]} ending
+    COMPREPLY=()
+    if [ "$COMP_CWORD" -eq 1 ]; then
+        mapfile -t COMPREPLY < <(compgen -W 'plan script tune --help --version --build' -- "$word")
+        return
+    fi
+    case ${COMP_WORDS[1]}.$COMP_CWORD in
+    plan.2 | script.2 | tune.2) ending=csv ;;
+    script.3 | tune.3) ending=tape ;;
+    *) return ;;
+    esac
+    compopt -o filenames 2>/dev/null
+    mapfile -t COMPREPLY < <(compgen -f -X "!*.$ending" -- "$word"; compgen -d -- "$word")
+    [ "${#COMPREPLY[@]}" -gt 0 ] || mapfile -t COMPREPLY < <(compgen -f -- "$word")
+}
+complete -F _airdisk airdisk
