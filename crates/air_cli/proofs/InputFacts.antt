@@ -1,11 +1,10 @@
 -- What told inputs decide: where they suit a command nothing refuses it, and what it gives is a function of them.
-use Rattle.std.proofs.Common.{◌≡◌, ℕ, ◌+◌, ◌≤◌, true, List, length, drop, Option, Some, refl, sym, ◌∙◌, subst, inl, inr, arith}
+use Rattle.std.proofs.Common.{◌≡◌, ℕ, ◌+◌, ◌≤◌, true, List, length, drop, Option, Some, refl, subst, arith}
 use Rattle.std.specs.Prelude.{◌<◌}
 use Rattle.air_devices.specs.Shelves.{Shelved}
 use Rattle.air_devices.specs.Told.{WhereTold}
-use Rattle.item_catalog.specs.Records.{records_of}
 use Rattle.item_catalog.specs.Grammar.{HasFault, Spells}
-use Rattle.item_catalog.proofs.FaultPlaces.{not_both}
+use Rattle.item_catalog.proofs.GrammarFacts.{no_fault, one_deck}
 use Rattle.air_model.specs.Decks.{Deck, disks_in}
 use Rattle.chunk_program.specs.Plans.{IsTooLong}
 use Rattle.air_status.specs.declared.status.Status.{Status}
@@ -42,16 +41,6 @@ of_told file bytes P told h = subst (λ f. WhereTold f P) told h
 pub deck_told : (name : List ℕ) (before : Shelved) (bytes : List ℕ) (P : Deck → Type 0) → before.told.file name ≡ Some bytes → OfDeck name before P
     → (length bytes ≤ deck_limit) × ((d : Deck) × Spells bytes d × P d)
 deck_told name before bytes P told h = of_told (before.told.file name) bytes (λ bytes. (length bytes ≤ deck_limit) × ((d : Deck) × Spells bytes d × P d)) told h
-
--- A text spells one deck.
-pub one_deck : (text : List ℕ) (a b : Deck) → Spells text a → Spells text b → a ≡ b
-unfolding Spells
-one_deck text a b first second = first.parts ∙ sym second.parts
-
--- A text that spells a deck has no fault.
-no_fault : (text : List ℕ) (d : Deck) (row kind : ℕ) → Spells text d → HasFault text row kind → ⊥
-unfolding Spells HasFault
-no_fault text d row kind spells fault = not_both (records_of text) fault.0 kind spells.faultless fault.2
 
 -- What is so of the named deck twice is so of one deck.
 pub both : (name : List ℕ) (before : Shelved) (bytes : List ℕ) (P Q : Deck → Type 0) → before.told.file name ≡ Some bytes → OfDeck name before P → OfDeck name before Q

@@ -1,15 +1,15 @@
 -- What the proofs of `plan` need of its definitions.
 use Rattle.std.proofs.Common.{◌≡◌, ℕ, List, refl, sym, ap, ◌∙◌}
 use Rattle.air_devices.specs.Counts.{NoCountFalls}
-use Rattle.air_devices.specs.Unchanged.{KeepsButLeft, KeepsButPrinted}
+use Rattle.air_devices.specs.Unchanged.{KeepsButPrinted}
 use Rattle.air_devices.specs.Shelves.{Shelved}
 use Rattle.air_status.specs.declared.status.Status.{Status}
 use Rattle.air_status.specs.declared.status.Status.TheVariants as status
-use Rattle.air_cli.specs.Steps.Making.{Reads}
 use Rattle.chunk_program.specs.Plans.{IsTooLong}
 use Rattle.air_model.specs.Decks.{Deck, disks_in}
 use Rattle.deck_files.specs.NamedDecks.{DeckCause, SpellsDeck}
 use Rattle.deck_files.specs.NamedFiles.{UnreadCause}
+use Rattle.item_catalog.proofs.GrammarFacts.{one_deck}
 use Rattle.air_cli.specs.Plan.{PlanCause, plan_meaning}
 use Rattle.deck_files.specs.RunnableDecks.{LengthCause}
 use Rattle.deck_files.proofs.CauseFacts.{of_deck}
@@ -20,7 +20,7 @@ use Rattle.deck_files.specs.RunnableDecks.{IsShort}
 use Rattle.air_cli.specs.Plan.{PlanGives, plan_given}
 use Rattle.air_cli.specs.ToldInputs.{TellSameInputs, TellsInputs}
 use Rattle.air_cli.specs.Answers.{NoCountRose}
-use Rattle.air_cli.proofs.InputFacts.{CommandFacts, both, deck_fits, deck_told, one_deck, too_long}
+use Rattle.air_cli.proofs.InputFacts.{CommandFacts, both, deck_fits, deck_told, too_long}
 
 -- A deck that isn't had isn't planned.
 pub deck_plan : (name : List ℕ) (before now : Shelved) (s : Status) → DeckCause name before now s → PlanCause name before now s
@@ -38,9 +38,6 @@ length_plan name before now d s spells h = absurd h
 pub wanting_plan : (name : List ℕ) (before now : Shelved) → PlanCause name before now status.NoMemory
 unfolding PlanCause DeckCause UnreadCause
 wanting_plan name before now = tt
-
-pub reads_plan : (deck : List ℕ) (before now : Shelved) → KeepsButLeft deck before.told now.told → NoCountFalls before.faults now.faults → Reads (plan_meaning deck) before now
-reads_plan deck before now rest counts = record { files = rest.files; left = rest.other_left; outputs = rest.outputs; printed = rest.printed; counts = counts }
 
 plan_still : (name : List ℕ) (before mid now : Shelved) (s : Status) → KeepsButPrinted mid.told now.told → NoCountFalls mid.faults now.faults → PlanCause name before mid s → PlanCause name before now s
 unfolding PlanCause

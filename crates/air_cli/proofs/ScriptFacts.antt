@@ -1,11 +1,11 @@
 -- What the proofs of `script` need of its definitions.
 use Rattle.std.proofs.Common.{◌≡◌, ℕ, ◌≤◌, List, length, Option, None, refl, sym, ap, ◌∙◌, arith}
-use Rattle.std.specs.Prelude.{◌<◌}
 use Rattle.air_devices.specs.Counts.{NoCountFalls}
-use Rattle.air_devices.specs.Unchanged.{KeepsButLeft, KeepsButPrinted}
+use Rattle.air_devices.specs.Unchanged.{KeepsButPrinted}
 use Rattle.air_devices.specs.Shelves.{Shelved}
 use Rattle.air_status.specs.declared.status.Status.{Status}
 use Rattle.air_status.specs.declared.status.Status.TheVariants as status
+use Rattle.item_catalog.proofs.GrammarFacts.{one_deck}
 use Rattle.air_cli.specs.Steps.Making.{IsMade, IsUnmade, Reads}
 use Rattle.delivery.specs.Given.{Given}
 use Rattle.deck_files.specs.NamedDecks.{DeckCause}
@@ -23,7 +23,7 @@ use Rattle.air_cli.specs.Script.{HasLongTape, ScriptGives, script_given}
 use Rattle.air_cli.specs.Truths.{IsTrueScript}
 use Rattle.air_cli.specs.ToldInputs.{TellSameInputs, TellsInputs}
 use Rattle.air_cli.specs.Answers.{NoCountRose}
-use Rattle.air_cli.proofs.InputFacts.{CommandFacts, both, deck_told, one_deck, runs_fits}
+use Rattle.air_cli.proofs.InputFacts.{CommandFacts, both, deck_told, runs_fits}
 
 -- A deck that can't be done has no script done.
 pub unrunnable_script : (name : List ℕ) (before now : Shelved) (s : Status) → UnrunnableCause name before now s → ScriptCause name before now s
@@ -34,9 +34,6 @@ unrunnable_script name before now s h = h
 pub wanting_script : (name : List ℕ) (before now : Shelved) → ScriptCause name before now status.NoMemory
 unfolding ScriptCause UnrunnableCause DeckCause UnreadCause
 wanting_script name before now = tt
-
-pub reads_script : (deck : List ℕ) (before now : Shelved) → KeepsButLeft deck before.told now.told → NoCountFalls before.faults now.faults → Reads (script_meaning deck None) before now
-reads_script deck before now rest counts = record { files = rest.files; left = rest.other_left; outputs = rest.outputs; printed = rest.printed; counts = counts }
 
 script_still : (name : List ℕ) (before mid now : Shelved) (s : Status) → KeepsButPrinted mid.told now.told → NoCountFalls mid.faults now.faults → ScriptCause name before mid s → ScriptCause name before now s
 unfolding ScriptCause

@@ -1,21 +1,20 @@
 -- What the proofs of `tune` need of its definitions.
 use Rattle.std.proofs.Common.{◌≡◌, ℕ, ◌≤◌, List, length, Some, None, refl, sym, ap, ◌∙◌, subst, inl, inr}
-use Rattle.air_devices.specs.Counts.{NoCountFalls, Rose}
-use Rattle.air_devices.specs.Unchanged.{KeepsButLeft, KeepsButPrinted}
+use Rattle.air_devices.specs.Counts.{NoCountFalls}
+use Rattle.air_devices.specs.Unchanged.{KeepsButPrinted}
 use Rattle.air_devices.specs.Shelves.{Shelved}
 use Rattle.air_status.specs.declared.status.Status.{Status}
 use Rattle.air_status.specs.declared.status.Status.TheVariants as status
-use Rattle.air_cli.specs.Steps.Making.{Reads}
 use Rattle.air_devices.specs.Told.{ToldIs, WhereTold}
 use Rattle.air_model.specs.Tapes.{tape_read}
 use Rattle.deck_files.specs.NamedDecks.{DeckCause, OfDeck}
 use Rattle.deck_files.specs.RunnableDecks.{IsShort, UnrunnableCause}
 use Rattle.deck_files.specs.NamedFiles.{UnreadCause}
 use Rattle.deck_files.specs.FileLimits.{tape_limit}
+use Rattle.item_catalog.proofs.GrammarFacts.{one_deck}
 use Rattle.air_cli.specs.Tune.{IsCutAt, OfTape, TuneCause, tune_meaning}
 use Rattle.air_cli.specs.Answers.{InputFailed}
 use Rattle.deck_files.proofs.CauseFacts.{where_read}
-use Rattle.air_cli.proofs.ReadFacts.{falls_twice}
 use Rattle.air_cli.proofs.RefusalFacts.{IsSound, unrunnable_still, unread_still}
 use Rattle.std.specs.Prelude.{⊤}
 use Rattle.delivery.specs.Given.{Given}
@@ -23,7 +22,7 @@ use Rattle.air_cli.specs.Tune.{TuneGives, tune_given}
 use Rattle.air_cli.specs.Truths.{IsTrueTape}
 use Rattle.air_cli.specs.ToldInputs.{TellSameInputs, TellsInputs}
 use Rattle.air_cli.specs.Answers.{NoCountRose}
-use Rattle.air_cli.proofs.InputFacts.{CommandFacts, deck_told, of_told, one_deck, runs_fits, unread_fits}
+use Rattle.air_cli.proofs.InputFacts.{CommandFacts, deck_told, of_told, runs_fits, unread_fits}
 
 -- Nor is a tape heard.
 pub unrunnable_tune : (deck tape : List ℕ) (before now : Shelved) (s : Status) → UnrunnableCause deck before now s → TuneCause deck tape before now s
@@ -40,25 +39,6 @@ unread_tune deck tape before now s can h = inr (can, h)
 pub wanting_tune : (deck tape : List ℕ) (before now : Shelved) → TuneCause deck tape before now status.NoMemory
 unfolding TuneCause UnrunnableCause DeckCause UnreadCause
 wanting_tune deck tape before now = inl tt
-
-pub reads_deck : (deck tape : List ℕ) (before now : Shelved) → KeepsButLeft deck before.told now.told → NoCountFalls before.faults now.faults → Reads (tune_meaning deck tape) before now
-reads_deck deck tape before now rest counts = record {
-  files = rest.files;
-  left = λ name other. rest.other_left name (λ same. other (inl same));
-  outputs = rest.outputs;
-  printed = rest.printed;
-  counts = counts;
-}
-
-pub reads_both : (deck tape : List ℕ) (before mid now : Shelved) → KeepsButLeft deck before.told mid.told → NoCountFalls before.faults mid.faults
-    → KeepsButLeft tape mid.told now.told → NoCountFalls mid.faults now.faults → Reads (tune_meaning deck tape) before now
-reads_both deck tape before mid now first counts second later = record {
-  files = λ name. second.files name ∙ first.files name;
-  left = λ name other. second.other_left name (λ same. other (inr same)) ∙ first.other_left name (λ same. other (inl same));
-  outputs = λ name. second.outputs name ∙ first.outputs name;
-  printed = second.printed ∙ first.printed;
-  counts = falls_twice before.faults mid.faults now.faults counts later;
-}
 
 -- What is so of the whole tape that was read is so of the named tape.
 pub of_tape : (tape : List ℕ) (before mid : Shelved) (bytes read : List ℕ) (P : List (List ℕ) → Type 0) → ToldIs (mid.told.file tape) bytes → mid.told.file tape ≡ before.told.file tape

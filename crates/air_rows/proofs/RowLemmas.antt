@@ -16,11 +16,6 @@ pub rows_none : (before : List ℕ) → before ≡ before ++ rows_text []
 unfolding rows_text
 rows_none before = sym (append-nil before)
 
--- One row.
-pub row_alone : (row : List (List ℕ)) → rows_text (row ∷ []) ≡ row_text row_writer row
-unfolding rows_text
-row_alone row = append-nil (row_text row_writer row)
-
 -- One more line, whose row this is.
 pub rows_more : {L : Type 0} (row : L → List (List ℕ)) (lines : List L) (i : ℕ) (line : L) (before now after : List ℕ) → i < length lines → line ≡ get_or lines i line
     → now ≡ before ++ rows_text (map row (take i lines)) → after ≡ now ++ row_text row_writer (row line) → after ≡ before ++ rows_text (map row (take (i + 1) lines))

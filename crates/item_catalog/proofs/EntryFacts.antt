@@ -16,7 +16,8 @@ use Rattle.air_base.specs.Pieces.{cut_at, two_of}
 use Rattle.item_catalog.specs.Fields.{event_of}
 use Rattle.item_catalog.specs.declared.faults.FaultKind.{FaultKind}
 use Rattle.item_catalog.specs.declared.faults.FaultKind.TheVariants as fault
-use Rattle.item_catalog.specs.Faults.{first_of, script_passes, update_tests}
+use Rattle.text_records.specs.Kinds.{first_of}
+use Rattle.item_catalog.specs.Faults.{script_passes, update_tests}
 use Rattle.update_texts.specs.ListTests.{is_unread, option_any, reaches, write_reaches}
 use Rattle.item_catalog.specs.Steps.ScriptView.{EventsRead}
 use Rattle.update_texts.specs.KeptLists.{ReadIs}

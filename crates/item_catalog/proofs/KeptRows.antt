@@ -1,24 +1,28 @@
 -- Records without fault declare parts that keep every limit, up to each place; so what a text spells is well made.
-use Rattle.std.proofs.Common.{◌≡◌, ◌<◌, ◌≤◌, ◌+◌, ◌++◌, ◌∷◌, [], ℕ, zero, suc, List, None, Result, Ok, Err, ◌∙◌, sym, refl, ap, subst, arith, get_or, length, take, inl, inr}
+use Rattle.std.proofs.Common.{◌≡◌, ◌<◌, ◌++◌, ◌∷◌, [], ℕ, List, None, Result, Ok, Err, ◌∙◌, sym, refl, ap, subst, arith, get_or, length, inl, inr}
 use Rattle.std.proofs.lemmas.Bool.{cases_lt}
-use Rattle.std.proofs.lemmas.List.{get_or_past, take_all, take_more}
+use Rattle.std.proofs.lemmas.List.{get_or_past}
 use Rattle.std.proofs.lemmas.List.FromFn.{length-map-range_with_len, get_or-map-range_with_len}
-use Rattle.std.proofs.lemmas.Option.{slice_get-get_or}
 use Rattle.air_base.specs.declared.limits.TheConstants.{MOST_READERS, MOST_UPDATERS}
 use Rattle.air_history.specs.UpdateLists.{UpdateLists}
 use Rattle.air_model.specs.Decks.{Deck, IsDeck}
+use Rattle.text_records.specs.FirstFaults.{NoneBefore}
+use Rattle.text_records.specs.Kinds.{first_of}
+use Rattle.text_records.proofs.KindFacts.{none_first}
+use Rattle.text_records.proofs.PlaceFacts.{along, kinds_end}
 use Rattle.item_catalog.specs.DeckLimits.{WithinLimits}
 use Rattle.item_catalog.specs.Decks.{for_each}
 use Rattle.item_catalog.specs.Drafts.{draft_of, draft_tests}
 use Rattle.item_catalog.specs.DeckEntries.{Entry, entry_of}
-use Rattle.item_catalog.specs.Faults.{end_tests, entries_in, first_of, kinds_after, kinds_at, tests_of}
-use Rattle.item_catalog.specs.Grammar.{Faultless, RowsSpell}
+use Rattle.item_catalog.specs.Faults.{end_tests, entries_in, kinds_after, kinds_at, tests_of}
+use Rattle.item_catalog.specs.Grammar.{RowsSpell}
+use Rattle.item_catalog.specs.Kinds.{code_of}
 use Rattle.item_catalog.specs.Parts.{disks_in, items_in}
 use Rattle.item_catalog.specs.declared.faults.FaultKind.{FaultKind}
 use Rattle.item_catalog.proofs.DraftFacts.{draft_more, tests_same}
 use Rattle.item_catalog.proofs.KeptFacts.{Kept}
 use Rattle.item_catalog.proofs.KeptSteps.{kept_more}
-use Rattle.item_catalog.proofs.PlaceFacts.{entries_more, kinds_end, some_apply}
+use Rattle.item_catalog.proofs.PlaceFacts.{entries_more, judge}
 use Rattle.item_catalog.proofs.SpeltFacts.{entry_spelt}
 use Rattle.item_catalog.proofs.WellMadeFacts.{deck_same, made, within}
 
@@ -65,31 +69,19 @@ kept_row rows row none k = by (entry_of row) refl none
     by : (r : Result Entry FaultKind) → entry_of row ≡ r → kinds_after (entries_in rows) r ≡ [] → Kept (draft_of (entries_in (rows ++ row ∷ [])))
     by (Err kind) e h = cc h
     by (Ok x) e h =
-        let first : first_of (draft_tests (draft_of (entries_in rows)) x) ≡ None = ap first_of (tests_same (entries_in rows) x) ∙ some_apply (tests_of (entries_in rows) x) h in
+        let first : first_of (draft_tests (draft_of (entries_in rows)) x) ≡ None = ap first_of (tests_same (entries_in rows) x) ∙ none_first code_of (tests_of (entries_in rows) x) h in
         rw (entries_more rows row x e, draft_more (entries_in rows) x) (kept_more (draft_of (entries_in rows)) x k (entry_spelt row x e) first)
 
-pub kept_rows : (rows : List (List (List ℕ))) (n : ℕ) → n ≤ length rows → Faultless rows n → Kept (draft_of (entries_in (take n rows)))
-kept_rows rows zero few none = kept_none
-kept_rows rows (suc n) few none =
-    let d : List (List ℕ) = [] in let row = get_or rows n d in
-    let more : take (suc n) rows ≡ take n rows ++ row ∷ [] = ap (λ k. take k rows) (plus_one n) ∙ take_more rows n d (omega arith) in
-    let here : kinds_after (entries_in (take n rows)) (entry_of row) ≡ [] = sym (at rows n d (omega arith)) ∙ none n (omega arith) in
-    rw more (kept_row (take n rows) row here (kept_rows rows n (omega arith) (λ place below. none place (omega arith))))
-  where
-    plus_one : (n : ℕ) → suc n ≡ n + 1
-    plus_one n = omega arith
-
-    at : (rows : List (List (List ℕ))) (n : ℕ) (d : List (List ℕ)) → n < length rows → kinds_at rows n ≡ kinds_after (entries_in (take n rows)) (entry_of (get_or rows n d))
-    at rows n d below = unfold kinds_at in rw (slice_get-get_or rows n d below) refl
-
-pub kept_all : (rows : List (List (List ℕ))) → Faultless rows (length rows) → Kept (draft_of (entries_in rows))
-kept_all rows none = let P : List (List (List ℕ)) → Type 0 = λ rs. Kept (draft_of (entries_in rs)) in subst P (take_all (length rows) rows (omega arith)) (kept_rows rows (length rows) (omega arith) none)
+pub kept_all : (rows : List (List (List ℕ))) → NoneBefore (kinds_at rows) (length rows) → Kept (draft_of (entries_in rows))
+unfolding kinds_at
+kept_all rows before = along judge (λ rows. Kept (draft_of (entries_in rows))) kept_none (λ rows row none k. kept_row rows row none k) rows before
 
 -- What records spell is well made, and within the limits.
 pub spelled_made : (rows : List (List (List ℕ))) (deck : Deck) → RowsSpell rows deck → IsDeck deck × WithinLimits deck
+unfolding kinds_at
 spelled_made rows deck spelled =
     let k = kept_all rows (λ place below. spelled.faultless place (omega arith)) in
     let end : first_of (end_tests (length (items_in (entries_in rows))) (disks_in (entries_in rows))) ≡ None
-    = some_apply (end_tests (length (items_in (entries_in rows))) (disks_in (entries_in rows))) (sym (kinds_end rows) ∙ spelled.faultless (length rows) (omega arith)) in
+    = none_first code_of (end_tests (length (items_in (entries_in rows))) (disks_in (entries_in rows))) (sym (kinds_end judge rows) ∙ spelled.faultless (length rows) (omega arith)) in
     let same = deck_same (entries_in rows) k ∙ sym spelled.parts in
     (subst IsDeck same (made (draft_of (entries_in rows)) k end), subst WithinLimits same (within (draft_of (entries_in rows)) k end))

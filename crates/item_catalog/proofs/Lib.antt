@@ -1,11 +1,8 @@
 pub mod DiskFacts
-pub mod FaultPlaces
 pub mod EventFronts
 pub mod WriteFacts
 pub mod ScriptFacts
 pub mod EntryFacts
-pub mod RecordFacts
-pub mod RowFacts
 pub mod DraftFacts
 pub mod PlaceFacts
 pub mod KeptFacts
@@ -14,9 +11,7 @@ pub mod SpeltFacts
 pub mod WellMadeFacts
 pub mod KeptRows
 pub mod ReadingFacts
+pub mod GrammarFacts
 pub mod GrammarExamples
-pub mod DrawFacts
-pub mod AroundFacts
-pub mod DrawnFacts
 pub mod DealFacts
 pub mod DrillFacts

@@ -1,60 +1,57 @@
 -- What is answered of a text whose first records were read: the fault of the next one, or that of the end, or the deck.
-use Rattle.std.proofs.Common.{◌≡◌, ◌+◌, ◌++◌, ◌∷◌, [], ℕ, List, Option, Some, None, Result, Ok, Err, ◌∙◌, sym, refl, ap, subst, length, option_map}
+use Rattle.std.proofs.Common.{◌≡◌, ◌+◌, ◌++◌, ◌∷◌, [], ℕ, List, Option, Some, None, Result, Ok, Err, ◌∙◌, sym, refl, ap, subst, length, option_map, arith}
 use Rattle.std.specs.Prelude.{IfErr, IfOk}
 use Rattle.csv.specs.Machine.{next_record}
-use Rattle.csv.specs.Reading.{Reached, default_config, strip_bom}
+use Rattle.csv.specs.Reading.{default_config}
 use Rattle.csv.specs.declared.parser.State.{State}
-use Rattle.csv.specs.declared.parser.State.TheVariants as st
 use Rattle.air_model.specs.Decks.{Deck}
+use Rattle.text_records.specs.FirstFaults.{NoneBefore}
+use Rattle.text_records.specs.Kinds.{first_of}
+use Rattle.text_records.specs.Records.{records_of}
+use Rattle.text_records.proofs.FaultPlaces.{more_places}
+use Rattle.text_records.proofs.ReadingFacts.{WereRead, every_row, next_fault}
 use Rattle.item_catalog.specs.Drafts.{DraftValue, deck_from, draft_of, judged}
 use Rattle.item_catalog.specs.Steps.ReadEnds.{CanEnd, EndsBy}
 use Rattle.item_catalog.specs.DeckEntries.{entry_of}
-use Rattle.item_catalog.specs.Faults.{end_tests, entries_in, first_of}
-use Rattle.item_catalog.specs.Grammar.{Faultless, HasFault, IsAnswer, IsFirstFault, RowsSpell, Spells}
-use Rattle.item_catalog.specs.Parts.{disks_in, items_in}
-use Rattle.item_catalog.specs.Records.{records_of}
+use Rattle.item_catalog.specs.Faults.{end_tests, entries_in, kinds_at}
+use Rattle.item_catalog.specs.Grammar.{HasFault, IsAnswer, RowsFail, RowsSpell, Spells}
 use Rattle.item_catalog.specs.Kinds.{code_of}
 use Rattle.item_catalog.specs.declared.faults.FaultKind.{FaultKind}
 use Rattle.item_catalog.specs.declared.faults.DeckError.{DeckError}
 use Rattle.item_catalog.specs.declared.faults.DeckError.TheVariants as error
 use Rattle.item_catalog.proofs.KeptRows.{kept_all}
-use Rattle.item_catalog.proofs.PlaceFacts.{ended_bad, ended_good, refused}
-use Rattle.item_catalog.proofs.RowFacts.{all_first, all_rows}
+use Rattle.item_catalog.proofs.PlaceFacts.{end_of, ended_bad, ended_good, judge, least_after}
 use Rattle.item_catalog.proofs.WellMadeFacts.{deck_same, delta_small, made, within}
 
--- The first kind at the end of records.
-abbrev pub end_of : List (List (List ℕ)) → Option FaultKind
-end_of rows = first_of (end_tests (length (items_in (entries_in rows))) (disks_in (entries_in rows)))
-
-pub can_end : (rows : List (List (List ℕ))) → Faultless rows (length rows) → CanEnd (draft_of (entries_in rows))
+pub can_end : (rows : List (List (List ℕ))) → NoneBefore (kinds_at rows) (length rows) → CanEnd (draft_of (entries_in rows))
 can_end rows before none =
     let k = kept_all rows before in let d = draft_of (entries_in rows) in
     (made d k none, within d k none, delta_small d k none)
 
-module _ (text : List ℕ) (rows : List (List (List ℕ))) (before : Faultless rows (length rows)) (state : State) (left : List ℕ) where
-  pub read_fault : (row : List (List ℕ)) (kind : FaultKind) → Reached default_config st.StartRecord (strip_bom text) (rows ++ row ∷ []) state left
+module _ (text : List ℕ) (rows : List (List (List ℕ))) (before : NoneBefore (kinds_at rows) (length rows)) (state : State) (left : List ℕ) where
+  pub read_fault : (row : List (List ℕ)) (kind : FaultKind) → WereRead text (rows ++ row ∷ []) state left
       → judged (draft_of (entries_in rows)) (entry_of row) ≡ Some kind → HasFault text (length rows + 1) (code_of kind)
-  unfolding HasFault
+  unfolding HasFault kinds_at
   read_fault row kind reached h =
-      let all = all_first default_config (strip_bom text) (rows ++ row ∷ []) state left reached in
-      let P : List (List (List ℕ)) → Type 0 = λ all. IsFirstFault all (length rows) (code_of kind) in
-      (length rows, refl, subst P (sym all.1) (refused rows row all.0 kind before h))
+      let all = length (records_of text) in (
+        length rows,
+        refl,
+        more_places (kinds_at (records_of text)) all (all + 1) (length rows) (code_of kind) (omega arith)
+            (next_fault judge text rows row state left (code_of kind) reached before (least_after rows row kind h)),
+      )
 
-  module _ (reached : Reached default_config st.StartRecord (strip_bom text) rows state left) (end : next_record default_config state [] [] left ≡ None) where
-    every_row : records_of text ≡ rows
-    every_row = all_rows default_config (strip_bom text) rows state left reached end
-
+  module _ (reached : WereRead text rows state left) (end : next_record default_config state [] [] left ≡ None) where
     pub read_end_fault : (kind : FaultKind) → end_of rows ≡ Some kind → HasFault text (length rows + 1) (code_of kind)
     unfolding HasFault
     read_end_fault kind h =
-        let P : List (List (List ℕ)) → Type 0 = λ all. IsFirstFault all (length rows) (code_of kind) in
-        (length rows, refl, subst P (sym every_row) (ended_bad rows kind before h))
+        let P : List (List (List ℕ)) → Type 0 = λ all. RowsFail all (length rows) (code_of kind) in
+        (length rows, refl, subst P (sym (every_row text rows state left reached end)) (ended_bad rows kind before h))
 
     pub read_deck_is : end_of rows ≡ None → Spells text (deck_from (draft_of (entries_in rows)))
     unfolding Spells
     read_deck_is h =
         let P : List (List (List ℕ)) → Type 0 = λ all. RowsSpell all (deck_from (draft_of (entries_in rows))) in
-        subst P (sym every_row) (record { faultless = ended_good rows before h; parts = deck_same (entries_in rows) (kept_all rows before) })
+        subst P (sym (every_row text rows state left reached end)) (record { faultless = ended_good rows before h; parts = deck_same (entries_in rows) (kept_all rows before) })
 
 -- What the end answers, where the draft has what the records declare.
 pub ok_more : {A E : Type 0} (r : Result A E) (P Q : A → Type 0) → ((x : A) → P x → Q x) → IfOk r P → IfOk r Q
@@ -65,8 +62,8 @@ pub err_more : {A E : Type 0} (r : Result A E) (P Q : E → Type 0) → ((e : E)
 err_more (Ok x) P Q f h = tt
 err_more (Err e) P Q f h = f e h
 
-module _ (text : List ℕ) (rows : List (List (List ℕ))) (before : Faultless rows (length rows)) (state : State) (left : List ℕ)
-    (reached : Reached default_config st.StartRecord (strip_bom text) rows state left) (end : next_record default_config state [] [] left ≡ None)
+module _ (text : List ℕ) (rows : List (List (List ℕ))) (before : NoneBefore (kinds_at rows) (length rows)) (state : State) (left : List ℕ)
+    (reached : WereRead text rows state left) (end : next_record default_config state [] [] left ≡ None)
     (draft : DraftValue) (same : draft ≡ draft_of (entries_in rows)) (row : ℕ) (number : row ≡ length rows + 1) where
   kind_same : first_of (end_tests (length draft.items) draft.disks) ≡ end_of rows
   kind_same = ap (λ (d : DraftValue). first_of (end_tests (length d.items) d.disks)) same

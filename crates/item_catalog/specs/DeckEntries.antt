@@ -2,13 +2,16 @@
 --
 -- Four kinds need no other record: those of the number of fields, of the form of a field, of the tag and of a setting. Every other
 -- kind is asked of the numbers that a record spells, so a record that spells no entry has the one kind told here.
-use Rattle.std.specs.Prelude.{ℕ, List, [], ◌∷◌, Option, Some, None, Result, Ok, Err, codes, if◌then◌else◌}
+use Rattle.std.specs.Prelude.{ℕ, List, Option, Some, None, Result, Err, codes, if◌then◌else◌}
 use Rattle.air_base.specs.Numbers.{number_of}
 use Rattle.air_base.specs.NumberLists.{list_of}
 use Rattle.air_base.specs.Pieces.{one_of, two_of, three_of}
 use Rattle.air_history.specs.declared.updates.Write.{Write}
 use Rattle.update_texts.specs.Writes.{write_of}
-use Rattle.item_catalog.specs.Fields.{◌is◌, event_of, freq_of}
+use Rattle.text_records.specs.Fields.{◌is◌}
+use Rattle.text_records.specs.Spelled.{◌>>=◌, or_fault}
+use Rattle.text_records.specs.Tags.{by_tag}
+use Rattle.item_catalog.specs.Fields.{event_of, freq_of}
 use Rattle.item_catalog.specs.Settings.{setting_of}
 use Rattle.item_catalog.specs.declared.reading.Tag.{Tag}
 use Rattle.item_catalog.specs.declared.reading.Tag.TheVariants as t
@@ -25,17 +28,6 @@ pub data Entry : Type 0 where
   Query : (reader : ℕ) (items : List ℕ) → Entry
   Script : (events : List (Option ℕ)) → Entry
   Set : (setting : Setting) → Entry
-
--- What comes of a value, if there is one.
-infixl 10 ◌>>=◌
-abbrev pub ◌>>=◌ : {A B : Type 0} → Option A → (A → Option B) → Option B
-None >>= f = None
-(Some x) >>= f = f x
-
--- What is spelled, or a fault of this kind.
-abbrev pub or_fault : {A : Type 0} → FaultKind → Option A → Result A FaultKind
-or_fault kind None = Err kind
-or_fault kind (Some x) = Ok x
 
 -- What the fields of an item's record spell, `item,<id>,<value>,<rate>`.
 abbrev pub item_by : Option (List ℕ × List ℕ × List ℕ) → Result Entry FaultKind
@@ -117,7 +109,6 @@ entry_by (Some t.Script) fields = script_by (one_of fields)
 entry_by (Some t.Set) fields = set_by (two_of fields)
 entry_by None fields = Err fault.Tag
 
--- What a record spells. Its first field is its tag; the reader of csv gives no record without a field.
+-- What a record spells, by its tag.
 abbrev pub entry_of : List (List ℕ) → Result Entry FaultKind
-entry_of [] = Err fault.Tag
-entry_of (tag ∷ fields) = entry_by (tag_of tag) fields
+entry_of row = by_tag tag_of entry_by row

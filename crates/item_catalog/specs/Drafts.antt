@@ -1,5 +1,5 @@
 -- A deck while it is read: what the entries so far declare, and what one more entry adds.
-use Rattle.std.specs.Prelude.{◌≡◌, ◌+◌, ◌++◌, ℕ, List, [], ◌∷◌, Bool, Option, Some, None, Result, Ok, Err, length, max, get_or, map, slice_set, take}
+use Rattle.std.specs.Prelude.{◌≡◌, ◌+◌, ◌++◌, ℕ, List, [], ◌∷◌, Bool, Option, Result, Ok, length, max, get_or, map, slice_set, take}
 use Rattle.air_base.specs.declared.limits.TheConstants.{MOST_READERS, MOST_UPDATERS}
 use Rattle.air_history.specs.UpdateLists.{UpdateLists}
 use Rattle.air_model.specs.declared.deck.ReaderPlan.{ReaderPlan}
@@ -10,13 +10,14 @@ use Rattle.air_model.specs.Decks.{Deck}
 use Rattle.item_catalog.specs.Decks.{for_each, plain_item, with_freqs}
 use Rattle.item_catalog.specs.Settings.{number_in, settings_in}
 use Rattle.item_catalog.specs.declared.deck.draft.settings.Name.TheVariants.{Delta}
-use Rattle.item_catalog.specs.Faults.{first_of, item_tests, disk_tests, update_tests, reader_tests, query_tests, script_tests, set_tests}
+use Rattle.text_records.specs.Kinds.{least_kind, with_spelled}
+use Rattle.text_records.specs.ReadAnswers.{Answers}
+use Rattle.text_records.specs.declared.refusals.Refusal.{Refusal}
+use Rattle.item_catalog.specs.Faults.{item_tests, disk_tests, update_tests, reader_tests, query_tests, script_tests, set_tests}
 use Rattle.item_catalog.specs.declared.faults.FaultKind.{FaultKind}
 use Rattle.item_catalog.specs.declared.parts.ItemPart.{ItemPart}
 use Rattle.item_catalog.specs.declared.parts.DiskPart.{DiskPart}
 use Rattle.item_catalog.specs.declared.deck.draft.settings.Setting.{Setting}
-use Rattle.item_catalog.specs.declared.faults.Refusal.{Refusal}
-use Rattle.item_catalog.specs.declared.faults.Refusal.TheVariants.{NoMemory, Kind}
 
 -- The parts so far, with a list for each updater and each reader that there can be.
 pub record DraftValue : Type 0 where
@@ -86,30 +87,18 @@ deck_from d = record {
   settings = settings_in d.set;
 }
 
--- The least kind that applies to what a record spells, and the parts with it.
+-- The least kind that applies to what a record spells, after the parts so far.
 abbrev pub judged : DraftValue → Result Entry FaultKind → Option FaultKind
-judged d (Err kind) = Some kind
-judged d (Ok entry) = first_of (draft_tests d entry)
-
--- The parts after a record: one more entry where it spells one, else as before.
-abbrev pub with_spelled : DraftValue → Result Entry FaultKind → DraftValue
-with_spelled d (Err kind) = d
-with_spelled d (Ok entry) = with_entry d entry
+judged d spelled = least_kind (draft_tests d) spelled
 
 -- A call adds what a record spells, where no kind applies; else it tells the least. What it leaves then is not told.
-abbrev pub Adds : {A : Type 0} → Result A Refusal → Result Entry FaultKind → DraftValue → DraftValue → Type 0
-Adds (Ok _) spelled old new = (judged old spelled ≡ None) × (new ≡ with_spelled old spelled)
-Adds (Err (Kind kind)) spelled old new = judged old spelled ≡ Some kind
-Adds (Err NoMemory) spelled old new = Unit {0}
+abbrev pub Adds : {A : Type 0} → Result A (Refusal FaultKind) → Result Entry FaultKind → DraftValue → DraftValue → Type 0
+Adds result spelled old new = Answers result (judged old spelled) (λ _. new ≡ with_spelled with_entry old spelled)
 
 -- A call reads what an update spells, and adds nothing.
-abbrev pub UpdateRead : Result (ℕ × UpdateLists) Refusal → Result Entry FaultKind → DraftValue → Type 0
-UpdateRead (Ok read) spelled d = (judged d spelled ≡ None) × (spelled ≡ Ok (e.Update read.0 read.1.reads read.1.writes))
-UpdateRead (Err (Kind kind)) spelled d = judged d spelled ≡ Some kind
-UpdateRead (Err NoMemory) spelled d = Unit {0}
+abbrev pub UpdateRead : Result (ℕ × UpdateLists) (Refusal FaultKind) → Result Entry FaultKind → DraftValue → Type 0
+UpdateRead result spelled d = Answers result (judged d spelled) (λ read. spelled ≡ Ok (e.Update read.0 read.1.reads read.1.writes))
 
 -- The same for a query.
-abbrev pub QueryRead : Result (ℕ × List ℕ) Refusal → Result Entry FaultKind → DraftValue → Type 0
-QueryRead (Ok read) spelled d = (judged d spelled ≡ None) × (spelled ≡ Ok (e.Query read.0 read.1))
-QueryRead (Err (Kind kind)) spelled d = judged d spelled ≡ Some kind
-QueryRead (Err NoMemory) spelled d = Unit {0}
+abbrev pub QueryRead : Result (ℕ × List ℕ) (Refusal FaultKind) → Result Entry FaultKind → DraftValue → Type 0
+QueryRead result spelled d = Answers result (judged d spelled) (λ read. spelled ≡ Ok (e.Query read.0 read.1))

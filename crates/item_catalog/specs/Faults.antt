@@ -3,13 +3,15 @@
 -- For each tag there is a list of kinds with their tests, by rising number, and a kind applies where its test holds. A test
 -- asks of what the entries before declare alone: how many items, how many updates of an updater, and so on. The end of the
 -- deck is judged as one further record.
-use Rattle.std.specs.Prelude.{◌+◌, ◌==◌, ◌||◌, ◌++◌, ℕ, zero, suc, List, [], ◌∷◌, Bool, false, not, Option, Some, None, Result, Ok, Err, length, take, nat_lt, nat_le, map, count_by, slice_get, if◌then◌else◌}
-use Rattle.std.specs.List.{list_any, filter, filter_map, sum_by}
+use Rattle.std.specs.Prelude.{◌+◌, ◌==◌, ◌||◌, ◌++◌, ℕ, zero, suc, List, [], ◌∷◌, Bool, false, not, Option, Some, None, Result, length, take, nat_lt, nat_le, map, count_by, slice_get}
+use Rattle.std.specs.List.{list_any, filter_map, sum_by}
+use Rattle.std.specs.Result.{result_ok}
 use Rattle.air_base.specs.declared.limits.TheConstants.{MOST_AGE, MOST_ASKED, MOST_DISKS, MOST_EVENTS, MOST_FREQ, MOST_ITEMS, MOST_QUERIES, MOST_RATE, MOST_READERS, MOST_READS, MOST_ROOM, MOST_SIZE, MOST_STARTS, MOST_TRIES, MOST_UPDATERS, MOST_UPDATES, MOST_WRITES}
 use Rattle.air_history.specs.declared.updates.Write.{Write}
 use Rattle.air_history.specs.UpdateRules.{has_repeat, item_of}
 use Rattle.air_model.specs.Decks.{count_parts}
 use Rattle.update_texts.specs.ListTests.{is_unread, option_any, reaches, write_reaches}
+use Rattle.text_records.specs.Kinds.{kinds_of, spelled_kinds}
 use Rattle.item_catalog.specs.DeckLimits.{is_start_part}
 use Rattle.item_catalog.specs.Ranges.{outside}
 use Rattle.item_catalog.specs.DeckEntries.{Entry, entry_of}
@@ -96,33 +98,18 @@ end_tests items disks =
     (fault.Sizes, not (sum_by (λ d. d.size) disks == items)) ∷
     (fault.Limit, items == 0 || length disks == 0) ∷ []
 
--- The first of them, which is the least, as the tests stand by rising kind.
-abbrev pub first_of : List (FaultKind × Bool) → Option FaultKind
-first_of [] = None
-first_of (t ∷ tests) = if t.1 then Some t.0 else first_of tests
-
--- The numbers of the kinds whose tests hold.
-abbrev pub kinds_of : List (FaultKind × Bool) → List ℕ
-kinds_of tests = map (λ t. code_of t.0) (filter (λ t. t.1) tests)
-
 -- The numbers of the kinds that apply to what a record spells, after entries.
 abbrev pub kinds_after : List Entry → Result Entry FaultKind → List ℕ
-kinds_after before (Err kind) = code_of kind ∷ []
-kinds_after before (Ok entry) = kinds_of (tests_of before entry)
-
--- The entries that records spell; a record that spells none adds nothing.
-abbrev pub entry_if : Result Entry FaultKind → Option Entry
-entry_if (Err kind) = None
-entry_if (Ok entry) = Some entry
+kinds_after before spelled = spelled_kinds code_of (tests_of before) spelled
 
 -- The entries that the records spell, without those that spell none.
 abbrev pub entries_in : List (List (List ℕ)) → List Entry
-entries_in rows = filter_map (λ row. entry_if (entry_of row)) rows
+entries_in rows = filter_map (λ row. result_ok (entry_of row)) rows
 
 -- The numbers of the kinds that apply to a record after entries, and at the end, where there is no record.
 abbrev pub place_kinds : List Entry → Option (List (List ℕ)) → List ℕ
 place_kinds before (Some row) = kinds_after before (entry_of row)
-place_kinds before None = kinds_of (end_tests (length (items_in before)) (disks_in before))
+place_kinds before None = kinds_of code_of (end_tests (length (items_in before)) (disks_in before))
 
 -- The numbers of the kinds that apply at a place, counted from 0: to the record there, after all records before it, or at the end.
 unfoldable pub kinds_at : List (List (List ℕ)) → ℕ → List ℕ

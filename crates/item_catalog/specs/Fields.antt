@@ -1,13 +1,8 @@
 -- What a field's text spells: a frequency, an event of the script. Numbers and lists are those of `air_base`, writes those of
 -- `update_texts`.
-use Rattle.std.specs.Prelude.{ℕ, List, Bool, Option, Some, None, nat_eq, option_map, codes, if◌then◌else◌}
-use Rattle.std.specs.Cmp.Lexicographic.{pointwise}
+use Rattle.std.specs.Prelude.{ℕ, List, Option, Some, None, option_map, codes, if◌then◌else◌}
 use Rattle.air_base.specs.Numbers.{number_of}
-
--- The two texts are the same.
-infix 20 ◌is◌
-abbrev pub ◌is◌ : List ℕ → List ℕ → Bool
-a is b = pointwise nat_eq a b
+use Rattle.text_records.specs.Fields.{◌is◌}
 
 -- A frequency: `-`, which says none, or a number.
 unfoldable pub freq_of : List ℕ → Option (Option ℕ)

@@ -2,33 +2,23 @@
 --
 -- A text spells a deck where no kind of fault applies to any of its records, nor at the end. Else its fault is that of the
 -- first place at which some kind applies, with the least of them. `GrammarLaws` says that every text has just one of both.
-use Rattle.std.specs.Prelude.{◌≡◌, ◌+◌, ◌<◌, ◌≤◌, ℕ, List, [], length, All, Contains, ⊤}
+use Rattle.std.specs.Prelude.{◌≡◌, ◌+◌, ℕ, List, length, ⊤}
 use Rattle.air_model.specs.Decks.{Deck}
-use Rattle.item_catalog.specs.Records.{records_of}
+use Rattle.text_records.specs.FirstFaults.{IsFirstFault, NoneBefore}
+use Rattle.text_records.specs.Records.{records_of}
 use Rattle.item_catalog.specs.Faults.{entries_in, kinds_at}
 use Rattle.item_catalog.specs.Decks.{deck_of}
 use Rattle.item_catalog.specs.declared.faults.DeckError.{DeckError}
 use Rattle.item_catalog.specs.declared.faults.DeckError.TheVariants as error
 
--- No kind applies at a place before this one.
-abbrev pub Faultless : List (List (List ℕ)) → ℕ → Type 0
-Faultless rows places = (place : ℕ) → place < places → kinds_at rows place ≡ []
-
 -- The records spell the deck: no kind applies to a record, nor at the end, and these are the parts that they declare.
 pub record RowsSpell (rows : List (List (List ℕ))) (deck : Deck) : Type 0 where
-  pub faultless : Faultless rows (length rows + 1)
+  pub faultless : NoneBefore (kinds_at rows) (length rows + 1)
   pub parts : deck ≡ deck_of (entries_in rows)
 
--- The kind is the least of these.
-pub record IsLeast (kind : ℕ) (kinds : List ℕ) : Type 0 where
-  pub one : Contains kinds kind
-  pub least : All (λ other. kind ≤ other) kinds
-
--- The place is the first at which a kind applies, and this the least kind there.
-pub record IsFirstFault (rows : List (List (List ℕ))) (place kind : ℕ) : Type 0 where
-  pub within : place ≤ length rows
-  pub first : Faultless rows place
-  pub least : IsLeast kind (kinds_at rows place)
+-- The place is the first at which a kind applies to the records, or at the end, and this the least kind there.
+abbrev pub RowsFail : List (List (List ℕ)) → ℕ → ℕ → Type 0
+RowsFail rows place kind = IsFirstFault (length rows + 1) (kinds_at rows) place kind
 
 -- The text spells the deck.
 unfoldable pub Spells : List ℕ → Deck → Type 0
@@ -37,7 +27,7 @@ Spells text deck = RowsSpell (records_of text) deck
 -- The first faulty record of the text, counted from 1, is this row, and this the least kind that applies there; the end
 -- is the row after the last.
 unfoldable pub HasFault : List ℕ → ℕ → ℕ → Type 0
-HasFault text row kind = (place : ℕ) × (row ≡ place + 1) × IsFirstFault (records_of text) place kind
+HasFault text row kind = (place : ℕ) × (row ≡ place + 1) × RowsFail (records_of text) place kind
 
 -- A fault that is answered is the text's; no memory has no cause.
 abbrev pub IsAnswer : List ℕ → DeckError → Type 0

@@ -1,5 +1,4 @@
 pub mod Kinds
-pub mod Records
 pub mod Ranges
 pub mod Fields
 pub mod Settings

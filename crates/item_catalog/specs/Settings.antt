@@ -1,12 +1,12 @@
 -- Settings: which name and value a record may give one, and what all settings are where some were set.
-use Rattle.std.specs.Prelude.{ℕ, Bool, true, false, List, [], ◌∷◌, Option, Some, None, option_map, unwrap_or, codes, if◌then◌else◌}
+use Rattle.std.specs.Prelude.{◌-◌, ◌^◌, ℕ, Bool, true, false, List, [], ◌∷◌, Option, Some, None, option_map, unwrap_or, codes, if◌then◌else◌}
 use Rattle.air_base.specs.declared.limits.TheConstants.{DEFAULT_CYCLES, DEFAULT_HEARS, MOST_CYCLES, MOST_DELTA, MOST_HEARS, MOST_MONITORS, MOST_SHARE}
 use Rattle.air_base.specs.Numbers.{number_of}
 use Rattle.air_base.specs.declared.verdicts.Policy.{Policy}
 use Rattle.air_base.specs.declared.verdicts.Policy.TheVariants.{FMatrix, Datacycle, RMatrix}
 use Rattle.air_model.specs.declared.deck.Settings.{Settings}
 use Rattle.item_catalog.specs.Ranges.{outside}
-use Rattle.item_catalog.specs.Fields.{◌is◌}
+use Rattle.text_records.specs.Fields.{◌is◌}
 use Rattle.item_catalog.specs.declared.deck.draft.settings.Name.{Name}
 use Rattle.item_catalog.specs.declared.deck.draft.settings.Name.TheVariants.{Delta, Cycles, Seed, Loss, Again, Late, Monitors, Hears}
 use Rattle.item_catalog.specs.declared.deck.draft.settings.Setting.{Setting}
@@ -16,7 +16,7 @@ use Rattle.item_catalog.specs.declared.deck.draft.settings.Setting.TheVariants a
 abbrev pub range_of : Name → ℕ × ℕ
 range_of Delta = (0, MOST_DELTA)
 range_of Cycles = (0, MOST_CYCLES)
-range_of Seed = (0, 18446744073709551615)
+range_of Seed = (0, 2 ^ 64 - 1)
 range_of Loss = (0, MOST_SHARE)
 range_of Again = (0, MOST_SHARE)
 range_of Late = (0, MOST_SHARE)

@@ -1,10 +1,9 @@
-//! Why a text is no deck: the kinds of fault, each with its number, why a record adds nothing, and the fault that is told.
+//! Why a text is no deck: the kinds of fault, each with its number, and the fault that is told.
 
 ghost use Rattle.std.specs.Prelude.{◌≡◌};
 ghost use Rattle.item_catalog.specs.Kinds.{code_of};
 
-use air_base::NoMemory;
-use std::alloc::{AllocError, AllocFailed};
+use std::alloc::AllocError;
 use std::error::Error;
 use std::fmt;
 
@@ -53,46 +52,6 @@ impl FaultKind {
             FaultKind::Setting => 10,
             FaultKind::Overdrawn => 11,
         }
-    }
-}
-
-/// Why a record adds nothing to a deck that is read: a fault of this kind applies, or there was no memory.
-#[derive(Clone, Copy, Debug, PartialEq, Eq)]
-pub enum Refusal {
-    Kind(FaultKind),
-    NoMemory,
-}
-
-impl From<AllocError> for Refusal {
-    ghost use Rattle.std.specs.Prelude.{◌≡◌};
-    ghost use Rattle.item_catalog.specs.declared.faults.Refusal.TheVariants.{NoMemory};
-
-    ghost from_gives = { λ _ e. e ≡ NoMemory };
-
-    fn from(_error: AllocError) -> Self {
-        Refusal::NoMemory
-    }
-}
-
-impl<T: Drop> From<AllocFailed<T>> for Refusal {
-    ghost use Rattle.std.specs.Prelude.{◌≡◌};
-    ghost use Rattle.item_catalog.specs.declared.faults.Refusal.TheVariants.{NoMemory};
-
-    ghost from_gives = { λ _ e. e ≡ NoMemory };
-
-    fn from(_error: AllocFailed<T>) -> Self {
-        Refusal::NoMemory
-    }
-}
-
-impl From<NoMemory> for Refusal {
-    ghost use Rattle.std.specs.Prelude.{◌≡◌};
-    ghost use Rattle.item_catalog.specs.declared.faults.Refusal.TheVariants.{NoMemory};
-
-    ghost from_gives = { λ _ e. e ≡ NoMemory };
-
-    fn from(_error: NoMemory) -> Self {
-        Refusal::NoMemory
     }
 }
 

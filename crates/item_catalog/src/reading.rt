@@ -1,20 +1,21 @@
-//! Decks read from texts: the tag and the fields of a record, and one pass over the records, each taken once and forgotten.
+//! Decks read from texts: the tag of a record, and one pass over the records, each taken once and forgotten.
 
-ghost use Rattle.std.specs.Prelude.{◌≡◌, ◌<◌, ◌≤◌, drop, length, option_map, IfErr, IfOk, None, Some};
-ghost use Rattle.csv.specs.Records.{field_at, fields_of};
+ghost use Rattle.std.specs.Prelude.{◌≡◌, ◌≤◌, drop, length, IfErr, IfOk, None};
+ghost use Rattle.csv.specs.Records.{fields_of};
 ghost use Rattle.air_base.specs.declared.limits.TheConstants.{MOST_DECK_BYTES};
-ghost use Rattle.air_base.specs.Pieces.{one_of, three_of, two_of};
+ghost use Rattle.text_records.specs.Kinds.{first_of};
 ghost use Rattle.item_catalog.specs.DeckEntries.{entry_by, entry_of, tag_of};
 ghost use Rattle.item_catalog.specs.Drafts.{deck_from};
 ghost use Rattle.item_catalog.specs.Steps.ReadEnds.{CanEnd, EndsBy};
-ghost use Rattle.item_catalog.specs.Faults.{end_tests, first_of};
+ghost use Rattle.item_catalog.specs.Faults.{end_tests};
 ghost use Rattle.item_catalog.specs.Grammar.{IsAnswer, Spells};
 
 use crate::deck::Deck;
 use crate::deck::draft::Draft;
-use crate::faults::{DeckError, Refusal};
+use crate::faults::DeckError;
 use csv::{ByteRecord, ReaderBuilder};
 use std::alloc::Global;
+use text_records::Refusal;
 
 /// The tags of records.
 #[derive(Clone, Copy, Debug, PartialEq, Eq)]
@@ -52,7 +53,6 @@ fn tag_of(text: &[u8]) -> Option<Tag>
 }
 
 /// The tag of a record.
-#[tactic(auto, using(crate::proofs::RecordFacts::by_tag, crate::proofs::RecordFacts::no_tag))]
 pub(crate) fn read_tag(row: &ByteRecord) -> Option<Tag>
     ensures { entry_of (fields_of row.now) ≡ entry_by result (drop 1 (fields_of row.now)) }
 {
@@ -60,51 +60,6 @@ pub(crate) fn read_tag(row: &ByteRecord) -> Option<Tag>
         Some(text) => tag_of(text),
         None => None,
     }
-}
-
-/// The field at a place.
-#[tactic(auto, using(crate::proofs::RecordFacts::field_there))]
-fn field(row: &ByteRecord, place: usize) -> &[u8]
-    requires { place < length (fields_of row.now) }
-    ensures { Some result.now ≡ field_at (fields_of row.now) place }
-{
-    match row.get(place) {
-        Some(field) => field,
-        None => unreachable!(),
-    }
-}
-
-/// The one field.
-#[tactic(auto, using(crate::proofs::RecordFacts::one_field, crate::proofs::RecordFacts::other_than_one))]
-pub(crate) fn one(row: &ByteRecord) -> Option<&[u8]>
-    ensures { option_map (λ f. f.now) result ≡ one_of (drop 1 (fields_of row.now)) }
-{
-    if row.len() != 2 {
-        return None;
-    }
-    Some(field(row, 1))
-}
-
-/// The two fields.
-#[tactic(auto, using(crate::proofs::RecordFacts::two_fields, crate::proofs::RecordFacts::other_than_two))]
-pub(crate) fn two(row: &ByteRecord) -> Option<(&[u8], &[u8])>
-    ensures { option_map (λ f. (f.0.now, f.1.now)) result ≡ two_of (drop 1 (fields_of row.now)) }
-{
-    if row.len() != 3 {
-        return None;
-    }
-    Some((field(row, 1), field(row, 2)))
-}
-
-/// The three fields.
-#[tactic(auto, using(crate::proofs::RecordFacts::three_fields, crate::proofs::RecordFacts::other_than_three))]
-pub(crate) fn three(row: &ByteRecord) -> Option<(&[u8], &[u8], &[u8])>
-    ensures { option_map (λ f. (f.0.now, f.1.now, f.2.now)) result ≡ three_of (drop 1 (fields_of row.now)) }
-{
-    if row.len() != 4 {
-        return None;
-    }
-    Some((field(row, 1), field(row, 2), field(row, 3)))
 }
 
 /// The deck of the parts, where no kind applies at the end, which is the record of this number.

@@ -1,13 +1,16 @@
 -- The lines that a text spells are in the grammar, line by line.
-use Rattle.std.proofs.Common.{◌≡◌, ◌<◌, ◌≤◌, ◌+◌, ◌++◌, ◌∷◌, [], ℕ, zero, suc, List, None, Result, Ok, Err, Bool, true, false, not, refl, sym, ap, ◌∙◌, subst, append_assoc, get_or, length, take, arith}
+use Rattle.std.proofs.Common.{◌≡◌, ◌++◌, ◌∷◌, [], ℕ, List, None, Result, Ok, Err, Bool, true, false, not, refl, sym, ap, ◌∙◌, subst, append_assoc, arith}
 use Rattle.std.specs.Prelude.{◌||◌, All}
-use Rattle.std.proofs.lemmas.List.{append-nil, take_all, take_more}
+use Rattle.std.proofs.lemmas.List.{append-nil}
 use Rattle.std.proofs.lemmas.List.Elements.{All-cons, All-head, All-nil, All-tail}
-use Rattle.std.proofs.lemmas.Option.{slice_get-get_or}
 use Rattle.air_model.specs.Decks.{Deck}
+use Rattle.text_records.specs.Kinds.{first_of}
+use Rattle.text_records.proofs.KindFacts.{none_first}
+use Rattle.text_records.proofs.PlaceFacts.{along}
+use Rattle.report_reading.specs.Kinds.{code_of}
 use Rattle.report_reading.specs.LineTexts.{line_of}
-use Rattle.report_reading.specs.ReportFaults.{comes_late, comes_next, filled, first_of, is_begun, is_known, is_next, kinds_after, kinds_at, lines_of, tests_of}
-use Rattle.report_reading.specs.ReportGrammar.{NoFaultBefore, RowsSpellLines}
+use Rattle.report_reading.specs.ReportFaults.{comes_late, comes_next, filled, is_begun, is_known, is_next, kinds_after, kinds_at, lines_of, tests_of}
+use Rattle.report_reading.specs.ReportGrammar.{RowsSpellLines}
 use Rattle.report_reading.specs.ReportLines.{ReportLines, sections_of, starts_in}
 use Rattle.report_reading.specs.Steps.Answers.{with_line}
 use Rattle.report_reading.specs.declared.kinds.FaultKind.{FaultKind}
@@ -15,7 +18,7 @@ use Rattle.report_reading.specs.declared.kinds.FaultKind.TheVariants as fault
 use Rattle.report_reading.specs.declared.lines.EventLine.{EventLine}
 use Rattle.report_reading.specs.declared.lines.Line.{Line}
 use Rattle.report_reading.specs.declared.lines.Line.TheVariants as l
-use Rattle.report_reading.proofs.PlaceFacts.{lines_more, sections_more, some_apply}
+use Rattle.report_reading.proofs.PlaceFacts.{judge, lines_more, sections_more}
 use Rattle.report_laws.specs.ReportRules.{EachNext, InGrammar, IsRight}
 
 all_more : {A : Type 0} (P : A → Type 0) (xs : List A) (x : A) → All P xs → P x → All P (xs ++ x ∷ [])
@@ -98,23 +101,10 @@ module _ (deck : Deck) where
     where
       by : (r : Result Line FaultKind) → line_of row ≡ r → kinds_after deck (sections_of (lines_of rows)) r ≡ [] → InGrammar deck (sections_of (lines_of (rows ++ row ∷ [])))
       by (Err kind) e h = cc h
-      by (Ok x) e h = rw (lines_more rows row x e, sections_more (lines_of rows) x) (kept_more (sections_of (lines_of rows)) x k (some_apply (tests_of deck (sections_of (lines_of rows)) x) h))
-
-  kept_rows : (rows : List (List (List ℕ))) (n : ℕ) → n ≤ length rows → NoFaultBefore deck rows n → InGrammar deck (sections_of (lines_of (take n rows)))
-  kept_rows rows zero few none = kept_none
-  kept_rows rows (suc n) few none =
-      let d : List (List ℕ) = [] in let row = get_or rows n d in
-      let more : take (suc n) rows ≡ take n rows ++ row ∷ [] = ap (λ k. take k rows) (plus_one n) ∙ take_more rows n d (omega arith) in
-      let here : kinds_after deck (sections_of (lines_of (take n rows))) (line_of row) ≡ [] = sym (at rows n d (omega arith)) ∙ none n (omega arith) in
-      rw more (kept_row (take n rows) row here (kept_rows rows n (omega arith) (λ place below. none place (omega arith))))
-    where
-      plus_one : (n : ℕ) → suc n ≡ n + 1
-      plus_one n = omega arith
-
-      at : (rows : List (List (List ℕ))) (n : ℕ) (d : List (List ℕ)) → n < length rows → kinds_at deck rows n ≡ kinds_after deck (sections_of (lines_of (take n rows))) (line_of (get_or rows n d))
-      at rows n d below = unfold kinds_at in rw (slice_get-get_or rows n d below) refl
+      by (Ok x) e h = rw (lines_more rows row x e, sections_more (lines_of rows) x) (kept_more (sections_of (lines_of rows)) x k (none_first code_of (tests_of deck (sections_of (lines_of rows)) x) h))
 
   pub spelled_kept : (rows : List (List (List ℕ))) (lines : ReportLines) → RowsSpellLines deck rows lines → InGrammar deck lines
+  unfolding kinds_at
   spelled_kept rows lines s =
-      let P : ReportLines → Type 0 = InGrammar deck in let Q : List (List (List ℕ)) → Type 0 = λ rs. InGrammar deck (sections_of (lines_of rs)) in
-      subst P (sym s.sections) (subst Q (take_all (length rows) rows (omega arith)) (kept_rows rows (length rows) (omega arith) s.faultless))
+      let P : ReportLines → Type 0 = InGrammar deck in
+      subst P (sym s.sections) (along (judge deck) (λ rows. InGrammar deck (sections_of (lines_of rows))) kept_none (λ rows row none k. kept_row rows row none k) rows s.faultless)

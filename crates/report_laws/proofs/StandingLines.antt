@@ -12,15 +12,17 @@ use Rattle.air_model.specs.Reports.{Report, counts_row, event_row, kind_row, loo
 use Rattle.air_model.specs.declared.reports.CountsLine.{CountsLine}
 use Rattle.air_model.specs.declared.reports.LookLine.{LookLine}
 use Rattle.air_model.specs.declared.reports.VerdictLine.{VerdictLine}
+use Rattle.text_records.specs.FirstFaults.{NoneBefore}
+use Rattle.text_records.specs.Kinds.{first_of}
 use Rattle.report_reading.specs.LineTexts.{line_of}
-use Rattle.report_reading.specs.ReportFaults.{first_of, lines_of, tests_of}
-use Rattle.report_reading.specs.ReportGrammar.{NoFaultBefore, RowsSpellLines, SpellsReport}
+use Rattle.report_reading.specs.ReportFaults.{kinds_at, lines_of, tests_of}
+use Rattle.report_reading.specs.ReportGrammar.{RowsSpellLines, SpellsReport}
 use Rattle.report_reading.specs.ReportLines.{ReportLines, lines_in, named, sections_of, starts_in}
 use Rattle.report_reading.specs.Steps.Answers.{judged, with_line}
 use Rattle.report_reading.specs.declared.lines.EventLine.{EventLine}
 use Rattle.report_reading.specs.declared.lines.Line.{Line}
 use Rattle.report_reading.specs.declared.lines.Line.TheVariants as l
-use Rattle.report_reading.proofs.PlaceFacts.{faultless_more, lines_more, sections_more}
+use Rattle.report_reading.proofs.PlaceFacts.{lines_more, none_added, sections_more}
 use Rattle.report_laws.specs.ReportRules.{CountsWide, EachNext, EventWide, HasWidths, InGrammar, IsRight, LookWide, VerdictWide}
 use Rattle.report_laws.proofs.WrittenRows.{EachPlain, Plain, plain_map, plain_more, written_rows}
 use Rattle.report_laws.proofs.TextFacts.{counts_spelled, event_spelled, glance_spelled, look_spelled, verdict_spelled}
@@ -31,7 +33,7 @@ by_parts es vs cs gs ls = record { events = es; verdicts = vs; counts = cs; glan
 module _ (deck : Deck) where
   -- The rows are without fault, and spell these lines.
   pub record Stands (rows : List (List (List ℕ))) (r : ReportLines) : Type 0 where
-    pub faultless : NoFaultBefore deck rows (length rows)
+    pub faultless : NoneBefore (kinds_at deck rows) (length rows)
     pub sections : sections_of (lines_of rows) ≡ r
 
   -- One row more.
@@ -39,7 +41,7 @@ module _ (deck : Deck) where
   step rows r row x s spelled none =
       let judge : judged deck (sections_of (lines_of rows)) (line_of row) ≡ None = ap (λ q. judged deck (sections_of (lines_of rows)) q) spelled ∙ ap (λ q. first_of (tests_of deck q x)) s.sections ∙ none in
       record {
-        faultless = faultless_more deck rows row s.faultless judge;
+        faultless = none_added deck rows row s.faultless judge;
         sections = ap sections_of (lines_more rows row x spelled) ∙ sections_more (lines_of rows) x ∙ ap (λ q. with_line q x) s.sections;
       }
 

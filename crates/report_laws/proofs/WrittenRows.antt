@@ -8,8 +8,8 @@ use Rattle.csv.specs.Writing.{default_writer, escaped, field_text, fields_text, 
 use Rattle.csv.specs.declared.parser.State.TheVariants as st
 use Rattle.csv.proofs.RoundTrip.{read-write}
 use Rattle.air_model.specs.Rows.{row_writer, rows_text}
-use Rattle.item_catalog.specs.Records.{records_of}
-use Rattle.item_catalog.proofs.RowFacts.{all_rows}
+use Rattle.text_records.specs.Records.{records_of}
+use Rattle.text_records.proofs.RowFacts.{all_rows}
 
 -- How reports write a row is csv's own way.
 same_escaped : (field : List ℕ) → escaped row_writer field ≡ escaped default_writer field

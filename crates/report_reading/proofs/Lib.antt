@@ -2,5 +2,4 @@ pub mod RecordFacts
 pub mod ReadFacts
 pub mod LineFacts
 pub mod PlaceFacts
-pub mod FaultPlaces
 pub mod ReadingFacts

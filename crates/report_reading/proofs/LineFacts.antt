@@ -8,7 +8,8 @@ use Rattle.std.proofs.lemmas.List.Sums.{sum_by-append}
 use Rattle.air_base.specs.declared.limits.TheConstants.{MOST_UPDATERS}
 use Rattle.air_base.specs.declared.verdicts.ReadOf.{ReadOf}
 use Rattle.air_model.specs.Decks.{Deck, updates_by}
-use Rattle.report_reading.specs.ReportFaults.{comes_late, first_of, is_begun, is_known, is_next, its_item, leads}
+use Rattle.text_records.specs.Kinds.{first_of}
+use Rattle.report_reading.specs.ReportFaults.{comes_late, is_begun, is_known, is_next, its_item, leads}
 use Rattle.report_reading.specs.ReportLines.{ReportLines, commits_by, commits_of, starts_in, starts_cycle}
 use Rattle.report_reading.specs.Steps.Answers.{CanPush, judged}
 use Rattle.report_reading.specs.declared.kinds.FaultKind.{FaultKind}

@@ -16,7 +16,7 @@ use Rattle.air_base.specs.declared.verdicts.ReadOf.{ReadOf}
 use Rattle.air_base.proofs.Cuts.{Two, cut_none, cut_then, is_not, two_pieces}
 use Rattle.air_base.proofs.FrontFacts.{behind_past, front_behind, front_past}
 use Rattle.air_base.proofs.NumberFronts.{after_byte, all_such, part_with, spelled_digits}
-use Rattle.report_reading.specs.Fields.{◌>>=◌}
+use Rattle.text_records.specs.Spelled.{◌>>=◌}
 use Rattle.report_reading.specs.LineTexts.{below, item_of, place_of, read_of, short_of}
 use Rattle.report_reading.specs.Steps.ReadFronts.{behind_byte, leading_place, leading_read}
 

@@ -10,9 +10,11 @@ use Rattle.air_base.specs.declared.verdicts.ReadOf.{ReadOf}
 use Rattle.air_base.specs.declared.verdicts.VerdictKind.{VerdictKind}
 use Rattle.air_base.specs.declared.verdicts.VerdictKind.TheVariants as kind
 use Rattle.air_model.specs.declared.reports.LookLine.{LookLine}
-use Rattle.report_reading.specs.Fields.{◌is◌, ◌>>=◌, as_line, or_fault, four_of, seven_of, six_of}
-use Rattle.report_reading.specs.declared.fields.Tag.{Tag}
-use Rattle.report_reading.specs.declared.fields.Tag.TheVariants as t
+use Rattle.text_records.specs.Fields.{◌is◌, four_of, seven_of, six_of}
+use Rattle.text_records.specs.Spelled.{◌>>=◌, or_fault}
+use Rattle.text_records.specs.Tags.{by_tag}
+use Rattle.report_reading.specs.declared.tags.Tag.{Tag}
+use Rattle.report_reading.specs.declared.tags.Tag.TheVariants as t
 use Rattle.report_reading.specs.declared.kinds.FaultKind.{FaultKind}
 use Rattle.report_reading.specs.declared.kinds.FaultKind.TheVariants as fault
 use Rattle.report_reading.specs.declared.lines.EventLine.TheVariants.{Commit, Start}
@@ -126,6 +128,11 @@ tag_of text =
     else if text is codes "look" then Some t.Look
     else None
 
+-- What is spelled, as a line.
+abbrev pub as_line : {A : Type 0} → (A → Line) → Result A FaultKind → Result Line FaultKind
+as_line f (Err kind) = Err kind
+as_line f (Ok x) = Ok (f x)
+
 -- What the fields after a tag spell.
 abbrev pub line_by : Option Tag → List (List ℕ) → Result Line FaultKind
 line_by (Some t.Commit) fields = commit_by (two_of fields)
@@ -138,7 +145,6 @@ line_by (Some t.Glance) fields = as_line Glance (seen_by (three_of fields))
 line_by (Some t.Look) fields = as_line Look (seen_by (three_of fields))
 line_by None fields = Err fault.Tag
 
--- What a record spells. Its first field is its tag; the reader of csv gives no record without a field.
+-- What a record spells, by its tag.
 abbrev pub line_of : List (List ℕ) → Result Line FaultKind
-line_of [] = Err fault.Tag
-line_of (tag ∷ fields) = line_by (tag_of tag) fields
+line_of row = by_tag tag_of line_by row

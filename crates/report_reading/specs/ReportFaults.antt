@@ -2,14 +2,16 @@
 --
 -- A line is asked four things, by rising kind: whether a line of a later section stands before it, whether a commit is its
 -- updater's next, whether what it names is the deck's, and whether each of its cycles has begun before it.
-use Rattle.std.specs.Prelude.{◌==◌, ◌&&◌, ◌||◌, ℕ, List, [], ◌∷◌, Bool, true, false, not, Option, Some, None, Result, Ok, Err, length, map, nat_lt, nat_le, get_or, slice_get, take, if◌then◌else◌}
-use Rattle.std.specs.List.{list_all, list_any, filter, filter_map}
+use Rattle.std.specs.Prelude.{◌==◌, ◌&&◌, ◌||◌, ℕ, List, [], ◌∷◌, Bool, true, false, not, Option, Some, None, Result, length, map, nat_lt, nat_le, get_or, slice_get, take}
+use Rattle.std.specs.List.{list_all, list_any, filter_map}
 use Rattle.std.specs.Option.{option_map_or}
+use Rattle.std.specs.Result.{result_ok}
 use Rattle.air_base.specs.declared.verdicts.ReadOf.{ReadOf}
 use Rattle.air_base.specs.declared.verdicts.VerdictKind.{VerdictKind}
 use Rattle.air_base.specs.declared.verdicts.VerdictKind.TheVariants.{Accept, Abort, Unfinished}
 use Rattle.air_model.specs.Decks.{Deck, updates_by}
 use Rattle.air_model.specs.declared.reports.VerdictLine.{VerdictLine}
+use Rattle.text_records.specs.Kinds.{spelled_kinds}
 use Rattle.report_reading.specs.Kinds.{code_of}
 use Rattle.report_reading.specs.LineTexts.{line_of}
 use Rattle.report_reading.specs.ReportLines.{ReportLines, commits_by, sections_of, starts_in}
@@ -110,27 +112,13 @@ tests_of deck before line =
     (fault.Deck, not (is_known deck line)) ∷
     (fault.Cycle, not (is_begun (starts_in before.events) line)) ∷ []
 
--- The first of them, which is the least, as the tests stand by rising kind.
-abbrev pub first_of : List (FaultKind × Bool) → Option FaultKind
-first_of [] = None
-first_of (t ∷ tests) = if t.1 then Some t.0 else first_of tests
-
--- The numbers of the kinds whose tests hold.
-abbrev pub kinds_of : List (FaultKind × Bool) → List ℕ
-kinds_of tests = map (λ t. code_of t.0) (filter (λ t. t.1) tests)
-
 -- The numbers of the kinds that apply to what a record spells, after lines.
 abbrev pub kinds_after : Deck → ReportLines → Result Line FaultKind → List ℕ
-kinds_after deck before (Err kind) = code_of kind ∷ []
-kinds_after deck before (Ok line) = kinds_of (tests_of deck before line)
+kinds_after deck before spelled = spelled_kinds code_of (tests_of deck before) spelled
 
 -- The lines that records spell; a record that spells none adds nothing.
-abbrev pub line_if : Result Line FaultKind → Option Line
-line_if (Err kind) = None
-line_if (Ok line) = Some line
-
 abbrev pub lines_of : List (List (List ℕ)) → List Line
-lines_of rows = filter_map (λ row. line_if (line_of row)) rows
+lines_of rows = filter_map (λ row. result_ok (line_of row)) rows
 
 -- At the end no kind applies.
 abbrev pub place_kinds : Deck → ReportLines → Option (List (List ℕ)) → List ℕ

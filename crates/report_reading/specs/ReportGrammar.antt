@@ -2,29 +2,19 @@
 --
 -- A text spells lines where no kind of fault applies to any of its records. Else its fault is that of the first record to which
 -- some kind applies, with the least of them. The laws of `laws` say that every text has just one of both.
-use Rattle.std.specs.Prelude.{◌≡◌, ◌+◌, ◌<◌, ℕ, List, [], length, ⊤}
+use Rattle.std.specs.Prelude.{◌≡◌, ◌+◌, ℕ, List, length, ⊤}
 use Rattle.air_model.specs.Decks.{Deck}
-use Rattle.item_catalog.specs.Grammar.{IsLeast}
-use Rattle.item_catalog.specs.Records.{records_of}
+use Rattle.text_records.specs.FirstFaults.{IsFirstFault, NoneBefore}
+use Rattle.text_records.specs.Records.{records_of}
 use Rattle.report_reading.specs.ReportFaults.{kinds_at, lines_of}
 use Rattle.report_reading.specs.ReportLines.{ReportLines, sections_of}
 use Rattle.report_reading.specs.declared.faults.ReportError.{ReportError}
 use Rattle.report_reading.specs.declared.faults.ReportError.TheVariants as error
 
--- No kind applies to a record at a place before this one.
-abbrev pub NoFaultBefore : Deck → List (List (List ℕ)) → ℕ → Type 0
-NoFaultBefore deck rows places = (place : ℕ) → place < places → kinds_at deck rows place ≡ []
-
 -- The records spell the lines: no kind applies to a record, and these are the lines that they spell, by their sections.
 pub record RowsSpellLines (deck : Deck) (rows : List (List (List ℕ))) (lines : ReportLines) : Type 0 where
-  pub faultless : NoFaultBefore deck rows (length rows)
+  pub faultless : NoneBefore (kinds_at deck rows) (length rows)
   pub sections : lines ≡ sections_of (lines_of rows)
-
--- The record at this place is the first to which a kind applies, and this is the least kind there.
-pub record IsFirstFaulty (deck : Deck) (rows : List (List (List ℕ))) (place kind : ℕ) : Type 0 where
-  pub within : place < length rows
-  pub first : NoFaultBefore deck rows place
-  pub least : IsLeast kind (kinds_at deck rows place)
 
 -- The text spells the lines, as a report of the deck.
 unfoldable pub SpellsReport : Deck → List ℕ → ReportLines → Type 0
@@ -32,7 +22,7 @@ SpellsReport deck text lines = RowsSpellLines deck (records_of text) lines
 
 -- The first faulty record of the text, counted from 1, is this row, and this the least kind that applies there.
 unfoldable pub HasReportFault : Deck → List ℕ → ℕ → ℕ → Type 0
-HasReportFault deck text row kind = (place : ℕ) × (row ≡ place + 1) × IsFirstFaulty deck (records_of text) place kind
+HasReportFault deck text row kind = (place : ℕ) × (row ≡ place + 1) × IsFirstFault (length (records_of text)) (kinds_at deck (records_of text)) place kind
 
 -- A fault that is answered is the text's; no memory has no cause.
 abbrev pub IsReportAnswer : Deck → List ℕ → ReportError → Type 0

@@ -13,7 +13,6 @@ ghost use Rattle.report_reading.specs.Steps.Answers.{Adds, CanCommit, CanPush, P
 use crate::kinds::FaultKind;
 use crate::lines::{EventLine, Line};
 use crate::parsing::read_line;
-use crate::refusals::Refusal;
 use crate::report::ReadReport;
 use crate::rules::{is_begun, is_known};
 use air_base::limits::MOST_UPDATERS;
@@ -21,6 +20,7 @@ use csv::ByteRecord;
 use item_catalog::Deck;
 use std::alloc::Global;
 use std::marker::Model;
+use text_records::Refusal;
 
 /// The lines so far, the number of each updater's commits, and that of starts.
 #[derive(Debug, Drop)]
@@ -32,7 +32,7 @@ pub struct Draft {
 
 impl Model for Draft {
     ghost use Rattle.report_reading.specs.ReportLines.{ReportLines};
-    ghost use Rattle.report_reading.specs.ReportView.{DraftCounts};
+    ghost use Rattle.report_reading.specs.Steps.ReportView.{DraftCounts};
 
     ghost Value = { ReportLines };
 
@@ -114,7 +114,7 @@ impl Draft {
     }
 
     /// Adds a line of the history, which is a start or its updater's next commit.
-    fn push_event(&mut self, event: EventLine) -> Result<(), Refusal>
+    fn push_event(&mut self, event: EventLine) -> Result<(), Refusal<FaultKind>>
         requires { CanCommit self.old event }
         ensures { Pushed result (self.new ≡ with_line self.old (Line.Event event)) }
     {
@@ -128,7 +128,7 @@ impl Draft {
     }
 
     /// Adds a line to which no kind applies.
-    fn push(&mut self, line: Line) -> Result<(), Refusal>
+    fn push(&mut self, line: Line) -> Result<(), Refusal<FaultKind>>
         requires { CanPush self.old line }
         ensures { Pushed result (self.new ≡ with_line self.old line) }
     {
@@ -143,7 +143,12 @@ impl Draft {
     }
 
     /// Adds the line of a record.
-    pub fn add(&mut self, alloc: Global, deck: &Deck, row: &ByteRecord) -> Result<(), Refusal>
+    pub fn add(
+        &mut self,
+        alloc: Global,
+        deck: &Deck,
+        row: &ByteRecord,
+    ) -> Result<(), Refusal<FaultKind>>
         ensures { Adds result deck.now (line_of (fields_of row.now)) self.old self.new }
     {
         deck.well_made();

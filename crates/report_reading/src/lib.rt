@@ -6,7 +6,6 @@
 
 mod draft;
 pub mod faults;
-mod fields;
 mod kinds;
 mod laws;
 pub mod limits;
@@ -14,9 +13,9 @@ pub mod lines;
 mod parsing;
 mod reading;
 mod reads;
-mod refusals;
 pub mod report;
 mod rules;
+mod tags;
 
 pub use faults::ReportError;
 pub use laws::{not_both_reports_law, one_report_fault_law, one_report_law, report_or_fault_law};

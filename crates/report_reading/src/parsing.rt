@@ -3,23 +3,24 @@
 ghost use Rattle.std.specs.Prelude.{◌≡◌, ◌<◌, drop, length};
 ghost use Rattle.air_base.specs.Pieces.{three_of, two_of};
 ghost use Rattle.csv.specs.Records.{fields_of};
-ghost use Rattle.report_reading.specs.Fields.{four_of, or_fault, seven_of, six_of};
+ghost use Rattle.text_records.specs.Fields.{four_of, seven_of, six_of};
+ghost use Rattle.text_records.specs.ReadAnswers.{Reads};
+ghost use Rattle.text_records.specs.Spelled.{or_fault};
 ghost use Rattle.report_reading.specs.LineTexts.{abort_by, abort_of, commit_by, counts_by, ended_by, line_of, seen_by, start_by, verdict_by};
-ghost use Rattle.report_reading.specs.Steps.Answers.{Reads};
 ghost use Rattle.report_reading.specs.declared.kinds.FaultKind.TheVariants as fault;
 
-use crate::fields::{Tag, four, read_tag, seven, six, three, two};
 use crate::kinds::FaultKind;
 use crate::lines::{EventLine, Line};
 use crate::reads::{read_item, read_place, read_reads, read_short};
-use crate::refusals::Refusal;
+use crate::tags::{Tag, read_tag};
 use air_base::{Counts, Verdict, VerdictKind, read_u64};
 use air_model::reports::{CountsLine, LookLine, VerdictLine};
 use csv::ByteRecord;
 use std::alloc::Global;
+use text_records::{Refusal, four, seven, six, three, two};
 
 /// The commit of a record.
-fn read_commit(row: &ByteRecord) -> Result<Line, Refusal>
+fn read_commit(row: &ByteRecord) -> Result<Line, Refusal<FaultKind>>
     ensures { Reads result (commit_by (two_of (drop 1 (fields_of row.now)))) }
 {
     let Some((by, seq)) = two(row) else {
@@ -36,7 +37,7 @@ fn read_commit(row: &ByteRecord) -> Result<Line, Refusal>
 
 /// The start of a record.
 #[tactic(auto, using(crate::proofs::RecordFacts::no_fields, crate::proofs::RecordFacts::some_fields))]
-fn read_start(row: &ByteRecord) -> Result<Line, Refusal>
+fn read_start(row: &ByteRecord) -> Result<Line, Refusal<FaultKind>>
     requires { 0 < length (fields_of row.now) }
     ensures { Reads result (start_by (drop 1 (fields_of row.now))) }
 {
@@ -54,7 +55,7 @@ fn read_verdict(
     query: &[u8],
     attempt: &[u8],
     reads: &[u8],
-) -> Result<Line, Refusal>
+) -> Result<Line, Refusal<FaultKind>>
     ensures { Reads result (or_fault fault.Form (verdict_by kind reader.now query.now attempt.now reads.now)) }
 {
     let Some(reader) = read_short(reader) else {
@@ -85,7 +86,11 @@ fn read_verdict(
 }
 
 /// The accept or the unfinished attempt of a record.
-fn read_ended(alloc: Global, kind: VerdictKind, row: &ByteRecord) -> Result<Line, Refusal>
+fn read_ended(
+    alloc: Global,
+    kind: VerdictKind,
+    row: &ByteRecord,
+) -> Result<Line, Refusal<FaultKind>>
     ensures { Reads result (ended_by kind (four_of (drop 1 (fields_of row.now)))) }
 {
     let Some((reader, query, attempt, reads)) = four(row) else {
@@ -104,7 +109,7 @@ fn abort_of(place: &[u8], clash: &[u8]) -> Option<VerdictKind>
 }
 
 /// The abort of a record.
-fn read_abort(alloc: Global, row: &ByteRecord) -> Result<Line, Refusal>
+fn read_abort(alloc: Global, row: &ByteRecord) -> Result<Line, Refusal<FaultKind>>
     ensures { Reads result (abort_by (six_of (drop 1 (fields_of row.now)))) }
 {
     let Some((reader, query, attempt, reads, place, clash)) = six(row) else {
@@ -114,7 +119,7 @@ fn read_abort(alloc: Global, row: &ByteRecord) -> Result<Line, Refusal>
 }
 
 /// The counts of a record.
-fn read_counts(row: &ByteRecord) -> Result<Line, Refusal>
+fn read_counts(row: &ByteRecord) -> Result<Line, Refusal<FaultKind>>
     ensures { Reads result (counts_by (seven_of (drop 1 (fields_of row.now)))) }
 {
     let Some((reader, opened, dozed, late, refused, foreign, copied)) = seven(row) else {
@@ -153,7 +158,7 @@ fn read_counts(row: &ByteRecord) -> Result<Line, Refusal>
 }
 
 /// What a monitor saw, by a record.
-fn read_seen(row: &ByteRecord) -> Result<LookLine, Refusal>
+fn read_seen(row: &ByteRecord) -> Result<LookLine, Refusal<FaultKind>>
     ensures { Reads result (seen_by (three_of (drop 1 (fields_of row.now)))) }
 {
     let Some((monitor, cycle, total)) = three(row) else {
@@ -176,7 +181,7 @@ fn read_seen(row: &ByteRecord) -> Result<LookLine, Refusal>
 }
 
 /// The line that a record spells.
-pub fn read_line(alloc: Global, row: &ByteRecord) -> Result<Line, Refusal>
+pub fn read_line(alloc: Global, row: &ByteRecord) -> Result<Line, Refusal<FaultKind>>
     ensures { Reads result (line_of (fields_of row.now)) }
 {
     match read_tag(row) {

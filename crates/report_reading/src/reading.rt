@@ -6,11 +6,11 @@ ghost use Rattle.report_reading.specs.ReportGrammar.{IsReportAnswer, SpellsRepor
 
 use crate::draft::Draft;
 use crate::faults::ReportError;
-use crate::refusals::Refusal;
 use crate::report::ReadReport;
 use csv::{ByteRecord, ReaderBuilder};
 use item_catalog::Deck;
 use std::alloc::Global;
+use text_records::Refusal;
 
 /// The report of the deck that a text spells, or the first faulty record of the text with the least kind that applies there.
 pub fn read_report(alloc: Global, deck: &Deck, bytes: &[u8]) -> Result<ReadReport, ReportError>

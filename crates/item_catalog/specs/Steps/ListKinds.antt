@@ -3,7 +3,7 @@ use Rattle.std.specs.Prelude.{◌||◌, ℕ, [], ◌∷◌, Option, length, nat_
 use Rattle.air_base.specs.declared.limits.TheConstants.{MOST_ASKED, MOST_QUERIES, MOST_READS, MOST_UPDATERS, MOST_UPDATES, MOST_WRITES}
 use Rattle.update_texts.specs.KeptLists.{ItemsSeen, WritesSeen}
 use Rattle.item_catalog.specs.Ranges.{outside}
-use Rattle.item_catalog.specs.Faults.{first_of}
+use Rattle.text_records.specs.Kinds.{first_of}
 use Rattle.item_catalog.specs.declared.faults.FaultKind.{FaultKind}
 use Rattle.item_catalog.specs.declared.faults.FaultKind.TheVariants as fault
 

@@ -6,11 +6,12 @@
 ghost use Rattle.std.specs.Prelude.{◌≡◌, ◌<◌, ◌≤◌, [], IfOk, drop, length, replicate};
 ghost use Rattle.csv.specs.Records.{fields_of};
 ghost use Rattle.air_model.specs.Decks.{IsDeck};
+ghost use Rattle.text_records.specs.Kinds.{first_of};
 ghost use Rattle.item_catalog.specs.DeckLimits.{WithinLimits};
 ghost use Rattle.item_catalog.specs.Drafts.{Adds, deck_from, draft_of};
 ghost use Rattle.item_catalog.specs.Settings.{number_in};
 ghost use Rattle.item_catalog.specs.DeckEntries.{disk_by, entry_of, item_by, reader_by};
-ghost use Rattle.item_catalog.specs.Faults.{end_tests, first_of};
+ghost use Rattle.item_catalog.specs.Faults.{end_tests};
 ghost use Rattle.air_base.specs.Pieces.{three_of, two_of};
 
 mod lists;
@@ -18,11 +19,11 @@ mod settings;
 
 use crate::deck::Deck;
 use crate::deck::draft::settings::{Name, Setting, delta_in, settings_in};
-use crate::faults::{FaultKind, Refusal};
+use crate::faults::FaultKind;
 use crate::parts::{
     DiskPart, ItemPart, Queries, Updates, is_no_freq, narrow_freq, read_freq, sizes_of,
 };
-use crate::reading::{Tag, read_tag, three, two};
+use crate::reading::{Tag, read_tag};
 use crate::scripts::Script;
 use air_base::limits::{
     MOST_AGE, MOST_DELTA, MOST_DISKS, MOST_ITEMS, MOST_RATE, MOST_READERS, MOST_ROOM, MOST_SIZE,
@@ -33,6 +34,7 @@ use air_model::deck::ReaderPlan;
 use csv::ByteRecord;
 use std::alloc::{AllocError, Global};
 use std::marker::Model;
+use text_records::{Refusal, three, two};
 use update_texts::{ItemList, WriteList};
 
 /// The parts so far, with a list for each updater and each reader that there can be, and the lists of the record at hand.
@@ -107,7 +109,7 @@ impl Draft {
     }
 
     /// Adds the item of a record.
-    pub fn add_item(&mut self, row: &ByteRecord) -> Result<(), Refusal>
+    pub fn add_item(&mut self, row: &ByteRecord) -> Result<(), Refusal<FaultKind>>
         ensures { Adds result (item_by (three_of (drop 1 (fields_of row.now)))) self.old self.new }
     {
         let Some((id, value, rate)) = three(row) else {
@@ -134,7 +136,7 @@ impl Draft {
     }
 
     /// Adds the disk of a record.
-    pub fn add_disk(&mut self, row: &ByteRecord) -> Result<(), Refusal>
+    pub fn add_disk(&mut self, row: &ByteRecord) -> Result<(), Refusal<FaultKind>>
         ensures { Adds result (disk_by (two_of (drop 1 (fields_of row.now)))) self.old self.new }
     {
         let Some((size, freq)) = two(row) else {
@@ -157,7 +159,7 @@ impl Draft {
     }
 
     /// Adds the reader of a record.
-    pub fn add_reader(&mut self, row: &ByteRecord) -> Result<(), Refusal>
+    pub fn add_reader(&mut self, row: &ByteRecord) -> Result<(), Refusal<FaultKind>>
         ensures { Adds result (reader_by (three_of (drop 1 (fields_of row.now)))) self.old self.new }
     {
         let Some((room, age, tries)) = three(row) else {
@@ -189,7 +191,7 @@ impl Draft {
     }
 
     /// Adds what a record spells.
-    pub fn add(&mut self, alloc: Global, row: &ByteRecord) -> Result<(), Refusal>
+    pub fn add(&mut self, alloc: Global, row: &ByteRecord) -> Result<(), Refusal<FaultKind>>
         ensures { Adds result (entry_of (fields_of row.now)) self.old self.new }
     {
         match read_tag(row) {

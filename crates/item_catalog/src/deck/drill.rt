@@ -2,28 +2,27 @@
 //!
 //! Its parts are drawn one after another, in the order of the definition `drill_deck`.
 
-ghost use Rattle.std.specs.Prelude.{◌≡◌, ◌≤◌, ◌<◌, ◌++◌, [], length, IfOk, OnOk, map};
+ghost use Rattle.std.specs.Prelude.{◌≡◌, ◌≤◌, ◌<◌, ◌*◌, ◌++◌, [], length, IfOk, OnOk, map};
 ghost use Rattle.std.specs.List.{range_with_len};
 ghost use Rattle.air_model.specs.Draws.{draw_each};
-ghost use Rattle.air_model.specs.Drills.{dealt_to, draw_item, draw_query, draw_update, drill_deck, drill_disks, drill_readers, drill_script, drill_settings, turn_of};
+ghost use Rattle.air_model.specs.Drills.{dealt_to, draw_item, draw_query, draw_update, drill_deck, drill_disks, drill_script, turn_of};
 ghost use Rattle.item_catalog.specs.Decks.{plain_item, with_freqs};
-ghost use Rattle.item_catalog.specs.declared.deck.drill.TheConstants.{MOST_DRILL_SIZE};
-
-mod draws;
+ghost use Rattle.item_catalog.specs.declared.deck.drill.TheConstants.{MOST_DRILL_SIZE, MOST_DRILL_UPDATES};
 
 use crate::deck::Deck;
-use crate::deck::drill::draws::{draw_item, draw_query, draw_update};
 use crate::laws::drill_law;
-use crate::parts::{DiskPart, ItemPart, Queries, Updates};
+use crate::parts::{DiskPart, ItemPart, Queries, Query, Updates};
 use crate::scripts::Script;
-use air_base::limits::{DEFAULT_CYCLES, DEFAULT_HEARS};
-use air_base::{NoMemory, Policy};
-use air_model::deck::{ReaderPlan, Settings};
+use air_base::NoMemory;
+use drill_parts::{draw_item, draw_query, draw_update, drill_readers, drill_settings};
 use rand_pcg::Lcg64Xsh32;
 use std::alloc::Global;
 
 /// The greatest size of a drill.
 pub const MOST_DRILL_SIZE: u32 = 100;
+
+/// The most updates of a drill: ten for each step of its size.
+const MOST_DRILL_UPDATES: u32 = 1_000;
 
 /// The items.
 fn draw_items(alloc: Global, generator: &mut Lcg64Xsh32, n: u16) -> Result<Vec<ItemPart>, NoMemory>
@@ -31,7 +30,8 @@ fn draw_items(alloc: Global, generator: &mut Lcg64Xsh32, n: u16) -> Result<Vec<I
 {
     let mut items = Vec::new(alloc);
     for _i in 0..n {
-        items.push(draw_item(generator))?;
+        let (value, rate) = draw_item(generator);
+        items.push(ItemPart { value, rate })?;
     }
     Ok(items)
 }
@@ -78,7 +78,7 @@ fn draw_queries(
 {
     let mut queries = Queries::new(alloc);
     for _q in 0..count {
-        queries.push(draw_query(alloc, generator, n)?)?;
+        queries.push(Query::from_vec(draw_query(alloc, generator, n)?))?;
     }
     Ok(queries)
 }
@@ -102,7 +102,7 @@ fn draw_all_queries(
 
 /// Adds the commit of an update, and a start before each fifth.
 fn add_turn(script: &mut Script, u: u32) -> Result<(), NoMemory>
-    requires { length script.old ≤ 2000 }
+    requires { length script.old ≤ 2 * MOST_DRILL_UPDATES }
     ensures { OnOk result (script.new ≡ script.old ++ turn_of u) }
 {
     if u % 5 == 0 {
@@ -114,7 +114,7 @@ fn add_turn(script: &mut Script, u: u32) -> Result<(), NoMemory>
 
 /// The script of so many updates.
 fn drill_script(alloc: Global, updates: u32) -> Result<Script, NoMemory>
-    requires { updates ≤ 1000 }
+    requires { updates ≤ MOST_DRILL_UPDATES }
     ensures { IfOk result (λ script. script ≡ drill_script updates) }
 {
     let mut script = Script::new(alloc);
@@ -146,34 +146,6 @@ fn drill_disks(alloc: Global, n: u16) -> Result<Vec<DiskPart>, NoMemory>
         freq: Some(1),
     })?;
     Ok(disks)
-}
-
-/// The eight readers.
-fn drill_readers(alloc: Global) -> Result<Vec<ReaderPlan>, NoMemory>
-    ensures { IfOk result (λ readers. readers.items ≡ drill_readers) }
-{
-    let plan = ReaderPlan {
-        room: 4,
-        age: 8,
-        tries: 3,
-    };
-    Ok(vec![in alloc; plan; 8]?)
-}
-
-/// The settings of a drill.
-fn drill_settings(seed: u64) -> Settings
-    ensures { result ≡ drill_settings seed }
-{
-    Settings {
-        policy: Policy::FMatrix,
-        cycles: DEFAULT_CYCLES as u32,
-        seed,
-        loss: 5,
-        again: 3,
-        late: 10,
-        monitors: 0,
-        hears: DEFAULT_HEARS as u32,
-    }
 }
 
 /// The deck of a drill.

@@ -1,4 +1,4 @@
-use Rattle.item_catalog.specs.Records.{records_of}
+use Rattle.text_records.specs.Records.{records_of}
 use Rattle.report_reading.specs.ReportGrammar.{SpellsReport}
 use Rattle.report_laws.proofs.KeptLines.{spelled_kept}
 use Rattle.report_laws.proofs.kept_law.Goals as goal

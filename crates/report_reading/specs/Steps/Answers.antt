@@ -1,22 +1,18 @@
 -- For private steps alone. What is answered of a record, and what it adds to the lines before it.
-use Rattle.std.specs.Prelude.{◌≡◌, ◌<◌, ◌++◌, ⊤, [], ◌∷◌, Option, Some, None, Result, Ok, Err}
+use Rattle.std.specs.Prelude.{◌≡◌, ◌<◌, ◌++◌, ⊤, [], ◌∷◌, Option, Result, Ok, Err}
 use Rattle.air_model.specs.Decks.{Deck}
 use Rattle.air_base.specs.declared.limits.TheConstants.{MOST_UPDATERS}
-use Rattle.report_reading.specs.ReportFaults.{first_of, tests_of}
+use Rattle.text_records.specs.Kinds.{least_kind, with_spelled}
+use Rattle.text_records.specs.ReadAnswers.{Answers}
+use Rattle.text_records.specs.declared.refusals.Refusal.{Refusal}
+use Rattle.text_records.specs.declared.refusals.Refusal.TheVariants.{NoMemory}
+use Rattle.report_reading.specs.ReportFaults.{tests_of}
 use Rattle.report_reading.specs.ReportLines.{ReportLines, commits_by}
 use Rattle.report_reading.specs.declared.kinds.FaultKind.{FaultKind}
 use Rattle.report_reading.specs.declared.lines.EventLine.{EventLine}
 use Rattle.report_reading.specs.declared.lines.EventLine.TheVariants.{Commit, Start}
 use Rattle.report_reading.specs.declared.lines.Line.{Line}
 use Rattle.report_reading.specs.declared.lines.Line.TheVariants.{Event, Verdict, Counts, Glance, Look}
-use Rattle.report_reading.specs.declared.refusals.Refusal.{Refusal}
-use Rattle.report_reading.specs.declared.refusals.Refusal.TheVariants.{NoMemory, Kind}
-
--- A reader of a record answers what it spells; no memory has no cause.
-abbrev pub Reads : {A : Type 0} → Result A Refusal → Result A FaultKind → Type 0
-Reads (Ok line) spelled = spelled ≡ Ok line
-Reads (Err (Kind kind)) spelled = spelled ≡ Err kind
-Reads (Err NoMemory) spelled = Unit {0}
 
 -- The lines with one more.
 abbrev pub with_line : ReportLines → Line → ReportLines
@@ -28,22 +24,14 @@ with_line r (Look line) = record r { looks = r.looks ++ line ∷ [] }
 
 -- The least kind that applies to what a record spells.
 abbrev pub judged : Deck → ReportLines → Result Line FaultKind → Option FaultKind
-judged deck before (Err kind) = Some kind
-judged deck before (Ok line) = first_of (tests_of deck before line)
-
--- The lines after a record: one more where it spells one, else as before.
-abbrev pub with_spelled : ReportLines → Result Line FaultKind → ReportLines
-with_spelled r (Err kind) = r
-with_spelled r (Ok line) = with_line r line
+judged deck before spelled = least_kind (tests_of deck before) spelled
 
 -- A call adds what a record spells, where no kind applies; else it tells the least. What it leaves then is not told.
-abbrev pub Adds : {A : Type 0} → Result A Refusal → Deck → Result Line FaultKind → ReportLines → ReportLines → Type 0
-Adds (Ok _) deck spelled old new = (judged deck old spelled ≡ None) × (new ≡ with_spelled old spelled)
-Adds (Err (Kind kind)) deck spelled old new = judged deck old spelled ≡ Some kind
-Adds (Err NoMemory) deck spelled old new = Unit {0}
+abbrev pub Adds : {A : Type 0} → Result A (Refusal FaultKind) → Deck → Result Line FaultKind → ReportLines → ReportLines → Type 0
+Adds result deck spelled old new = Answers result (judged deck old spelled) (λ _. new ≡ with_spelled with_line old spelled)
 
 -- Memory ran out, or this holds.
-abbrev pub Pushed : {A : Type 0} → Result A Refusal → Type 0 → Type 0
+abbrev pub Pushed : {A : Type 0} → Result A (Refusal FaultKind) → Type 0 → Type 0
 Pushed (Ok _) Holds = Holds
 Pushed (Err refusal) Holds = refusal ≡ NoMemory
 

@@ -3,7 +3,7 @@ use Rattle.std.specs.Prelude.{◌==◌, ℕ, List, [], ◌∷◌, Option, Some, 
 use Rattle.air_base.specs.Fronts.{after_digits, after_part, digits_of, first_part}
 use Rattle.air_base.specs.Numbers.{number_of}
 use Rattle.air_base.specs.declared.verdicts.ReadOf.{ReadOf}
-use Rattle.report_reading.specs.Fields.{◌>>=◌}
+use Rattle.text_records.specs.Spelled.{◌>>=◌}
 use Rattle.report_reading.specs.LineTexts.{item_of, short_of}
 
 -- The text behind this byte, where it stands at the front.

@@ -3,15 +3,16 @@ use Rattle.csv.specs.Reading.{Reached, default_config, strip_bom}
 use Rattle.csv.specs.Records.{fields_of}
 use Rattle.csv.specs.declared.parser.State.TheVariants as st
 use Rattle.csv.proofs.ReadFacts.{rows-end, rows-more}
+use Rattle.text_records.specs.Kinds.{with_spelled}
+use Rattle.text_records.proofs.ReadingFacts.{few_rows}
 use Rattle.item_catalog.specs.Kinds.{code_of}
-use Rattle.item_catalog.specs.Drafts.{DraftValue, draft_of, judged, with_spelled}
+use Rattle.item_catalog.specs.Drafts.{DraftValue, draft_of, judged, with_entry}
 use Rattle.item_catalog.specs.Steps.ReadEnds.{CanEnd}
 use Rattle.item_catalog.specs.DeckEntries.{entry_of}
 use Rattle.item_catalog.specs.Faults.{entries_in}
 use Rattle.item_catalog.specs.Grammar.{HasFault, IsAnswer, Spells}
-use Rattle.item_catalog.proofs.PlaceFacts.{added, faultless_more}
+use Rattle.item_catalog.proofs.PlaceFacts.{added, none_added}
 use Rattle.item_catalog.proofs.ReadingFacts.{can_end, ends_deck, ends_fault, err_more, ok_more, read_fault}
-use Rattle.item_catalog.proofs.RowFacts.{rows_fit, strip_short}
 use Rattle.item_catalog.proofs.reading.read_deck.Goals as goal
 
 pub loop-row-init : goal.loop-row-init
@@ -43,8 +44,8 @@ loop-row-preserved c =
       m.1,
       rows ++ row ∷ [],
       m.2,
-      faultless_more rows row inv.7 none,
-      c.in-Ok.ensures.1 ∙ ap (λ d. with_spelled d (entry_of row)) inv.8 ∙ added rows row none,
+      none_added rows row inv.7 none,
+      c.in-Ok.ensures.1 ∙ ap (λ d. with_spelled with_entry d (entry_of row)) inv.8 ∙ added rows row none,
       omega (arith, length-append rows (row ∷ []), inv.9),
     )
 
@@ -83,4 +84,4 @@ returns-in-Err-Kind-clause-fault c =
 pub unreachable-requires : goal.unreachable-requires
 unreachable-requires c =
     let inv = c.loop-row.invariant in
-    omega (arith, rows_fit default_config st.StartRecord (strip_bom c.args.bytes.now) inv.5 c.loop-row.records.state inv.3 inv.6, strip_short c.args.bytes.now, inv.9, c.requires.limit)
+    omega (arith, few_rows c.args.bytes.now inv.5 c.loop-row.records.state inv.3 inv.6, inv.9, c.requires.limit)

@@ -8,9 +8,8 @@ ghost use Rattle.air_base.specs.Pieces.{one_of, three_of, two_of};
 ghost use Rattle.item_catalog.specs.Steps.ListKinds.{seen_query_kind, seen_update_kind};
 
 use crate::deck::draft::Draft;
-use crate::faults::{FaultKind, Refusal};
+use crate::faults::FaultKind;
 use crate::parts::Query;
-use crate::reading::{one, three, two};
 use air_base::limits::{
     MOST_ASKED, MOST_QUERIES, MOST_READS, MOST_UPDATERS, MOST_UPDATES, MOST_WRITES,
 };
@@ -18,6 +17,7 @@ use air_base::read_u64;
 use air_history::Update;
 use csv::ByteRecord;
 use std::alloc::Global;
+use text_records::{Refusal, one, three, two};
 use update_texts::{ItemList, WriteList};
 
 /// The least kind that applies to an update, where so many updates were given before it.
@@ -65,7 +65,11 @@ fn query_kind(asked: &ItemList, readers: usize, reader: u64, given: u32) -> Opti
 
 impl Draft {
     /// Reads the update of a record, and adds nothing.
-    fn read_update(&mut self, alloc: Global, row: &ByteRecord) -> Result<(u64, Update), Refusal>
+    fn read_update(
+        &mut self,
+        alloc: Global,
+        row: &ByteRecord,
+    ) -> Result<(u64, Update), Refusal<FaultKind>>
         ensures same { OnOk result (self.new ≡ self.old) }
         ensures read { UpdateRead result (update_by (three_of (drop 1 (fields_of row.now)))) self.old }
     {
@@ -90,7 +94,7 @@ impl Draft {
     }
 
     /// Adds the update of a record.
-    pub fn add_update(&mut self, alloc: Global, row: &ByteRecord) -> Result<(), Refusal>
+    pub fn add_update(&mut self, alloc: Global, row: &ByteRecord) -> Result<(), Refusal<FaultKind>>
         ensures { Adds result (update_by (three_of (drop 1 (fields_of row.now)))) self.old self.new }
     {
         let (by, update) = self.read_update(alloc, row)?;
@@ -101,7 +105,11 @@ impl Draft {
     }
 
     /// Reads the query of a record, and adds nothing.
-    fn read_query(&mut self, alloc: Global, row: &ByteRecord) -> Result<(u64, Query), Refusal>
+    fn read_query(
+        &mut self,
+        alloc: Global,
+        row: &ByteRecord,
+    ) -> Result<(u64, Query), Refusal<FaultKind>>
         ensures same { OnOk result (self.new ≡ self.old) }
         ensures read { QueryRead result (query_by (two_of (drop 1 (fields_of row.now)))) self.old }
     {
@@ -128,7 +136,7 @@ impl Draft {
     }
 
     /// Adds the query of a record.
-    pub fn add_query(&mut self, alloc: Global, row: &ByteRecord) -> Result<(), Refusal>
+    pub fn add_query(&mut self, alloc: Global, row: &ByteRecord) -> Result<(), Refusal<FaultKind>>
         ensures { Adds result (query_by (two_of (drop 1 (fields_of row.now)))) self.old self.new }
     {
         let (reader, query) = self.read_query(alloc, row)?;
@@ -138,7 +146,7 @@ impl Draft {
     }
 
     /// Adds the events of a record.
-    pub fn add_events(&mut self, row: &ByteRecord) -> Result<(), Refusal>
+    pub fn add_events(&mut self, row: &ByteRecord) -> Result<(), Refusal<FaultKind>>
         ensures { Adds result (script_by (one_of (drop 1 (fields_of row.now)))) self.old self.new }
     {
         let Some(events) = one(row) else {

@@ -10,14 +10,14 @@ ghost use Rattle.item_catalog.specs.DeckLimits.{SettingsWithin};
 ghost use Rattle.item_catalog.specs.Settings.{default_of, name_of, number_in, number_said, number_set, policy_in, policy_of, range_of, same_setting, setting_of, settings_in};
 
 use crate::deck::draft::Draft;
-use crate::faults::{FaultKind, Refusal};
-use crate::reading::two;
+use crate::faults::FaultKind;
 use air_base::limits::{
     DEFAULT_CYCLES, DEFAULT_HEARS, MOST_CYCLES, MOST_DELTA, MOST_HEARS, MOST_MONITORS, MOST_SHARE,
 };
 use air_base::{Policy, read_u64};
 use air_model::deck::Settings;
 use csv::ByteRecord;
+use text_records::{Refusal, two};
 
 /// The settings that are numbers.
 #[derive(Clone, Copy, Debug, PartialEq, Eq)]
@@ -142,7 +142,7 @@ pub fn is_set(setting: Setting, set: &[Setting]) -> bool
 
 impl Draft {
     /// Adds the setting of a record.
-    pub fn add_setting(&mut self, row: &ByteRecord) -> Result<(), Refusal>
+    pub fn add_setting(&mut self, row: &ByteRecord) -> Result<(), Refusal<FaultKind>>
         ensures { Adds result (set_by (two_of (drop 1 (fields_of row.now)))) self.old self.new }
     {
         let Some((name, value)) = two(row) else {

@@ -3,14 +3,15 @@ use Rattle.csv.specs.Reading.{Reached, default_config, strip_bom}
 use Rattle.csv.specs.Records.{fields_of}
 use Rattle.csv.specs.declared.parser.State.TheVariants as st
 use Rattle.csv.proofs.ReadFacts.{rows-end, rows-more}
-use Rattle.item_catalog.proofs.RowFacts.{rows_fit, strip_short}
+use Rattle.text_records.specs.Kinds.{with_spelled}
+use Rattle.text_records.proofs.ReadingFacts.{few_rows}
 use Rattle.report_reading.specs.Kinds.{code_of}
 use Rattle.report_reading.specs.LineTexts.{line_of}
 use Rattle.report_reading.specs.ReportFaults.{lines_of}
 use Rattle.report_reading.specs.ReportGrammar.{HasReportFault, IsReportAnswer, SpellsReport}
 use Rattle.report_reading.specs.ReportLines.{ReportLines, sections_of}
-use Rattle.report_reading.specs.Steps.Answers.{judged, with_spelled}
-use Rattle.report_reading.proofs.PlaceFacts.{added, faultless_more}
+use Rattle.report_reading.specs.Steps.Answers.{judged, with_line}
+use Rattle.report_reading.proofs.PlaceFacts.{added, none_added}
 use Rattle.report_reading.proofs.ReadingFacts.{read_fault, read_lines}
 use Rattle.report_reading.proofs.reading.read_report.Goals as goal
 
@@ -43,8 +44,8 @@ loop-row-preserved c =
       m.1,
       rows ++ row ∷ [],
       m.2,
-      faultless_more deck rows row inv.7 none,
-      c.in-Ok.ensures.1 ∙ ap (λ d. with_spelled d (line_of row)) inv.8 ∙ added deck rows row none,
+      none_added deck rows row inv.7 none,
+      c.in-Ok.ensures.1 ∙ ap (λ d. with_spelled with_line d (line_of row)) inv.8 ∙ added deck rows row none,
       omega (arith, length-append rows (row ∷ []), inv.9),
     )
 
@@ -70,4 +71,4 @@ returns-in-Err-Kind-clause-fault c =
 pub unreachable-requires : goal.unreachable-requires
 unreachable-requires c =
     let inv = c.loop-row.invariant in
-    omega (arith, rows_fit default_config st.StartRecord (strip_bom c.args.bytes.now) inv.5 c.loop-row.records.state inv.3 inv.6, strip_short c.args.bytes.now, inv.9, c.requires.limit)
+    omega (arith, few_rows c.args.bytes.now inv.5 c.loop-row.records.state inv.3 inv.6, inv.9, c.requires.limit)

@@ -1,6 +1,6 @@
 use Rattle.std.proofs.Common.{ℕ, ◌∙◌, ap, sym}
 use Rattle.air_model.specs.Drills.{draw_query}
-use Rattle.item_catalog.proofs.DrawFacts.{drawn_more, drawn_none}
+use Rattle.drill_parts.proofs.DrawFacts.{drawn_more, drawn_none}
 use Rattle.item_catalog.proofs.deck.drill.draw_queries.Goals as goal
 
 pub loop-q-init : goal.loop-q-init
@@ -9,5 +9,5 @@ loop-q-init c = drawn_none (λ (q : ℕ). draw_query c.args.n) c.args.generator.
 pub loop-q-preserved : goal.loop-q-preserved
 loop-q-preserved c =
     let after = c.draw_query.new.generator in
-    drawn_more (λ (q : ℕ). draw_query c.args.n) c.loop-q._q c.args.generator.now c.loop-q.generator after c.loop-q.queries c.in_ok-draw_query.field-0 c.loop-q.invariant c.in_ok-draw_query.ensures
+    drawn_more (λ (q : ℕ). draw_query c.args.n) c.loop-q._q c.args.generator.now c.loop-q.generator after c.loop-q.queries c.from_vec.result c.loop-q.invariant (c.in_ok-draw_query.ensures ∙ ap (λ items. (items, after)) (sym c.from_vec.ensures))
     ∙ ap (λ xs. (xs, after)) (sym c.in_ok-push.ensures)

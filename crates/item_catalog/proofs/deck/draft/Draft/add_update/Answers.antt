@@ -1,7 +1,8 @@
 use Rattle.std.proofs.Common.{◌≡◌, ◌∙◌, None, ap, arith, length, sym}
 use Rattle.std.proofs.lemmas.List.{length-set}
 use Rattle.item_catalog.specs.Drafts.{DraftValue, judged}
-use Rattle.item_catalog.specs.Faults.{first_of, update_tests}
+use Rattle.text_records.specs.Kinds.{first_of}
+use Rattle.item_catalog.specs.Faults.{update_tests}
 use Rattle.item_catalog.proofs.EntryFacts.{update_tested}
 use Rattle.item_catalog.proofs.deck.draft.Draft.add_update.Goals as goal
 

@@ -6,7 +6,8 @@ use Rattle.item_catalog.specs.declared.faults.FaultKind.{FaultKind}
 use Rattle.item_catalog.specs.Drafts.{DraftValue, judged}
 use Rattle.item_catalog.specs.DeckEntries as e
 use Rattle.item_catalog.specs.DeckEntries.{Entry, query_by}
-use Rattle.item_catalog.specs.Faults.{first_of, query_tests}
+use Rattle.text_records.specs.Kinds.{first_of}
+use Rattle.item_catalog.specs.Faults.{query_tests}
 use Rattle.air_base.specs.Pieces.{two_of}
 use Rattle.update_texts.specs.KeptLists.{ItemsSeen, items_seen}
 use Rattle.item_catalog.specs.Steps.ListKinds.{seen_query_kind}

@@ -9,7 +9,8 @@ use Rattle.item_catalog.specs.declared.faults.FaultKind.{FaultKind}
 use Rattle.item_catalog.specs.Drafts.{DraftValue, judged}
 use Rattle.item_catalog.specs.DeckEntries as e
 use Rattle.item_catalog.specs.DeckEntries.{Entry, update_by}
-use Rattle.item_catalog.specs.Faults.{first_of, update_tests}
+use Rattle.text_records.specs.Kinds.{first_of}
+use Rattle.item_catalog.specs.Faults.{update_tests}
 use Rattle.air_base.specs.Pieces.{three_of}
 use Rattle.update_texts.specs.Writes.{write_of}
 use Rattle.update_texts.specs.KeptLists.{ItemsSeen, WritesSeen, items_seen, writes_seen}

@@ -1,0 +1,3 @@
+pub mod DrawFacts
+pub mod AroundFacts
+pub mod DrawnFacts

@@ -1,0 +1,7 @@
+pub mod Records
+pub mod Fields
+pub mod Spelled
+pub mod Tags
+pub mod Kinds
+pub mod FirstFaults
+pub mod ReadAnswers
