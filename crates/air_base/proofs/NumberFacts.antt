@@ -75,9 +75,6 @@ spelled text n some alone digits value below =
 
 -- ---- digit by digit
 
-pub digits_none : (text : List ℕ) → DigitsRead text 0 0
-digits_none text = record { digits = refl; value = refl; below = omega arith }
-
 -- The value with one more digit.
 pub value_more : (text : List ℕ) (i n : ℕ) → i < length text → is_ascii_digit (get_or text i 0) ≡ true → DigitsRead text i n → digits_value 10 (take (i + 1) text) ≡ n * 10 + (get_or text i 0 - 48)
 value_more text i n within digit reading =

@@ -11,10 +11,6 @@ pub record Eared : Type 0 where
   pub faults : ℕ
   pub port : Option ℕ
 
--- An ear that has just been made, and tells all: it has these datagrams still to hear, no call failed, and it was not tuned.
-abbrev pub fresh_ear : List (List ℕ) → Eared
-fresh_ear waiting = record { told = Some waiting; faults = 0; port = None }
-
 -- What is still to be heard, where it is told, begins with this datagram, which was taken from it.
 abbrev pub TakesFirst : Option (List (List ℕ)) → Option (List (List ℕ)) → (List ℕ → Type 0) → Type 0
 TakesFirst None now P = ⊤

@@ -1,7 +1,7 @@
 -- Writing new values from the last write back, and running event after event.
-use Rattle.std.proofs.Common.{◌≡◌, ℕ, ◌+◌, ◌<◌, ◌≤◌, ◌==◌, List, [], ◌∷◌, ◌++◌, length, get_or, set, take, drop, find, All, None, refl, sym, ◌∙◌, ap, inl, inr, arith}
-use Rattle.std.proofs.lemmas.Bool.{cases_lt, cases_eq, cond-true, cond-false, eq-eqb, ne_eqb}
-use Rattle.std.proofs.lemmas.List.{at_drop_more, at_drop_all, get_or-set_same, get_or-set_other, get_or_default, get_or_past, take_more}
+use Rattle.std.proofs.Common.{◌≡◌, ℕ, ◌+◌, ◌<◌, ◌≤◌, ◌==◌, List, [], ◌∷◌, ◌++◌, length, get_or, set, take, find, All, None, refl, sym, ◌∙◌, ap, inl, inr, arith}
+use Rattle.std.proofs.lemmas.Bool.{cases_lt, cond-false, ne_eqb}
+use Rattle.std.proofs.lemmas.List.{get_or-set_same, get_or-set_other, get_or_default, get_or_past, take_more}
 use Rattle.std.proofs.lemmas.List.Elements.{All-head, All-tail}
 use Rattle.std.proofs.lemmas.List.FromFn.{fill_by_all}
 use Rattle.air_history.specs.declared.updates.Write.{Write}
@@ -11,20 +11,6 @@ use Rattle.air_history.specs.UpdateLists.{UpdateLists}
 use Rattle.air_history.specs.Tables.{put, written, values_of, write_of, value_after, table, table_list}
 use Rattle.air_history.proofs.ScanLemmas.{event_read}
 use Rattle.air_history.proofs.TableLemmas.{table_nil, table_push, value_after_same}
-
-pub write_none : (V : List ℕ) (writes : List Write) (i k : ℕ) → length writes ≤ k → get_or V i 0 ≡ put (values_of V) i (find (λ w. w.item == i) (drop k writes))
-write_none V writes i k l = ap (put (values_of V) i) (sym (at_drop_all (find (λ w. w.item == i)) writes k l))
-
-pub write_more : (V now : List ℕ) (writes : List Write) (i k : ℕ) (d : Write) (x : ℕ) → k < length writes → (get_or writes k d).item < length now → x ≡ written (values_of V) (get_or writes k d) →
-    get_or now i 0 ≡ put (values_of V) i (find (λ w. w.item == i) (drop (k + 1) writes)) →
-    get_or (set now (get_or writes k d).item x) i 0 ≡ put (values_of V) i (find (λ w. w.item == i) (drop k writes))
-write_more V now writes i k d x lk inside is was =
-    elim (cases_eq i (get_or writes k d).item) as (λ _. get_or (set now (get_or writes k d).item x) i 0 ≡ put (values_of V) i (find (λ w. w.item == i) (drop k writes))) [
-      | inl same ↦ ap (λ j. get_or (set now (get_or writes k d).item x) j 0) same ∙ get_or-set_same now (get_or writes k d).item x 0 inside ∙ is
-          ∙ ap (put (values_of V) i) (sym (at_drop_more (find (λ w. w.item == i)) writes k d lk ∙ cond-true ((get_or writes k d).item == i) _ _ (eq-eqb _ _ (sym same))))
-      | inr other ↦ get_or-set_other now (get_or writes k d).item i x 0 other ∙ was
-          ∙ ap (put (values_of V) i) (sym (at_drop_more (find (λ w. w.item == i)) writes k d lk ∙ cond-false ((get_or writes k d).item == i) _ _ (ne_eqb _ _ (λ e. other (sym e)))))
-    ]
 
 -- One more new value.
 pub fresh_more : (V : List ℕ) (writes : List Write) (fresh : List ℕ) (k : ℕ) (e : Write) (x : ℕ) → k < length writes → k < length fresh → x ≡ written (values_of V) (get_or writes k e) →

@@ -1,9 +1,9 @@
 -- One listener hears member by member: what it is after a list, after its pieces, and at its end.
 -- The methods of `Listener` and the laws cite these.
-use Rattle.std.proofs.Common.{◌≡◌, ℕ, ◌+◌, ◌<◌, ◌^◌, List, [], ◌∷◌, ◌++◌, Option, Result, Ok, Err, length, map, take, get_or, refl, sym, ◌∙◌, ap, arith}
+use Rattle.std.proofs.Common.{◌≡◌, ℕ, ◌+◌, ◌<◌, List, [], ◌∷◌, ◌++◌, Option, Result, Ok, Err, length, map, take, get_or, refl, sym, ◌∙◌, ap, arith}
 use Rattle.std.specs.Result.{result_ok}
 use Rattle.std.proofs.lemmas.Bool.{cond-false}
-use Rattle.std.proofs.lemmas.List.{append-nil, length-map, length-take, map_more}
+use Rattle.std.proofs.lemmas.List.{append-nil, map_more}
 use Rattle.air_model.specs.declared.bucket.BucketFault.{BucketFault}
 use Rattle.air_model.specs.Aired.{fits, scheme_in}
 use Rattle.air_model.specs.Buckets.{Bucket}
@@ -100,12 +100,3 @@ unfolding hears
 hears_more member xs i x before now after below here so_far heard =
     heard ∙ ap (hears_one (member x)) so_far ∙ sym (pieces (map member (take i xs)) (member x ∷ []) before)
     ∙ ap (λ l. hears l before) (ap (λ y. map member (take i xs) ++ member y ∷ []) here ∙ sym (map_more member xs i x below))
-
--- And there is room to count one more.
-pub room_for_next : {X : Type 0} (member : X → Option Bucket) (xs : List X) (i : ℕ) (before now : Listener) → i < length xs → now ≡ hears (map member (take i xs)) before
-    → heard_by before.state + length xs < 2 ^ 64 → heard_by now.state + 1 < 2 ^ 64
-room_for_next member xs i before now below so_far most =
-    let all = ap (λ (l : Listener). heard_by l.state) so_far ∙ counted_all (map member (take i xs)) before in
-    let few = length-map (take i xs) member in
-    let short = length-take i xs in
-    omega arith

@@ -26,12 +26,6 @@ heard_from [] V e = refl
 heard_from (h ∷ R) [] e = absurd (omega arith)
 heard_from (h ∷ R) (v ∷ V) e = ap (λ S. h ∷ S) (heard_from R V (omega arith))
 
-length-with_values : (R : List Heard) (V : List ReadOf) → length V ≡ length R → length (with_values R V) ≡ length R
-unfolding with_values
-length-with_values [] V e = refl
-length-with_values (h ∷ R) [] e = absurd (omega arith)
-length-with_values (h ∷ R) (v ∷ V) e = let rest = length-with_values R V (omega arith) in omega arith
-
 -- The read with both parts.
 abbrev joined : Heard → ReadOf → Read
 joined h v = record { item = h.item; cycle = h.cycle; value = v.value; entries = h.entries }
@@ -43,9 +37,6 @@ with_values-push [] [] h v e = refl
 with_values-push [] (w ∷ V) h v e = absurd (omega arith)
 with_values-push (g ∷ R) [] h v e = absurd (omega arith)
 with_values-push (g ∷ R) (w ∷ V) h v e = ap (λ S. joined g w ∷ S) (with_values-push R V h v (omega arith))
-
-pub held_number : (a : Inside) → KeepsBoth a → length (held_values a).reads ≡ length (held_of a.held).reads
-held_number a k = length-with_values (held_of a.held).reads a.line_reads k.even
 
 columns_are : (a : Inside) → KeepsBoth a → columns_of (held_values a) ≡ held_of a.held
 columns_are a k = ap (λ R. let t : HeldReads = record { n = (held_of a.held).n; reads = R } in t) (heard_from (held_of a.held).reads a.line_reads k.even)

@@ -4,10 +4,9 @@ use Rattle.std.specs.Prelude.{Contains, IfSome, MatchOption}
 use Rattle.std.specs.List.{filter}
 use Rattle.std.specs.Option.{is_some}
 use Rattle.std.proofs.lemmas.Bool.{eqb-false}
-use Rattle.std.proofs.lemmas.List.{length-map, length_push, length-take, map-append, take_more}
+use Rattle.std.proofs.lemmas.List.{length_push, map-append, take_more}
 use Rattle.std.proofs.lemmas.List.Elements.{All-append, All-cons, All-contains, All-filter, All-head, All-nil, All-tail, All-take}
 use Rattle.std.proofs.lemmas.Option.{get_or_from_slice_get, slice_get_within}
-use Rattle.held_entries.specs.declared.held.TheConstants.{ROOM}
 use Rattle.air_model.specs.Aired.{Air}
 use Rattle.air_model.specs.Copies.{keep, with_copy, without}
 use Rattle.air_base.specs.declared.verdicts.Clash.{Clash}
@@ -68,15 +67,6 @@ more_held r held x k e w =
 pub same_held : (r : Inside) (held : HeldValues) → IsReceiver r → held ≡ r.held → HoldsFirst r.air r.reader r.query held.policy held.items held.reads
 same_held r held k e = subst (λ (h : HeldValues). HoldsFirst r.air r.reader r.query h.policy h.items h.reads) (sym e) k.held
 
--- At most as many reads are held as there is room for.
-pub few_held : (r : Inside) → IsReceiver r → r.query < length r.reader.queries → length r.held.reads ≤ ROOM
-few_held r k here =
-    let q = at_hand r in
-    let long : length r.held.reads ≡ length (take (length r.held.reads) q) = sym (length-map r.held.reads (λ (x : Read). x.item)) ∙ ap length k.held.first in
-    let short : length q ≤ ROOM = k.deck.short.items r.query [] here in
-    let part = length-take (length r.held.reads) q in
-    omega arith
-
 -- ---- the reads from copies
 
 pub few_opened : (r : Inside) (held : HeldValues) (x : Read) → IsReceiver r → held ≡ record r.held { reads = r.held.reads ++ x ∷ [] } → CopiesFew r.query r.attempt (length held.reads) r.counts.copied
@@ -93,29 +83,6 @@ few_taken r held x k e =
 
 pub few_same : (r : Inside) (held : HeldValues) → IsReceiver r → held ≡ r.held → CopiesFew r.query r.attempt (length held.reads) r.counts.copied
 few_same r held k e = subst (λ (h : HeldValues). CopiesFew r.query r.attempt (length h.reads) r.counts.copied) (sym e) k.few
-
-pub few_again : (r : Inside) (n : ℕ) → IsReceiver r → r.query < length r.reader.queries → r.attempt < r.reader.plan.tries → CopiesFew r.query (r.attempt + 1) n r.counts.copied
-few_again r n k here again =
-    let few = k.few.within in
-    let held = few_held r k here in
-    let most = k.deck.tries in
-    record { tried = omega arith; within = omega arith }
-
-pub few_next : (r : Inside) (n : ℕ) → IsReceiver r → r.query < length r.reader.queries → CopiesFew (r.query + 1) 1 n r.counts.copied
-few_next r n k here =
-    let few = k.few.within in
-    let held = few_held r k here in
-    let tried = k.few.tried in
-    record { tried = omega arith; within = omega arith }
-
--- One more doesn't overflow.
-pub copied_fits : (r : Inside) → IsReceiver r → r.query < length r.reader.queries → r.counts.copied + 1 < 18446744073709551616
-copied_fits r k here =
-    let few = k.few.within in
-    let held = few_held r k here in
-    let tried = k.few.tried in
-    let queries = k.deck.short.queries in
-    omega arith
 
 -- ---- items
 

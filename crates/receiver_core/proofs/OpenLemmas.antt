@@ -113,9 +113,6 @@ pub late_told : (r : Inside) (b : Bucket) (late : Bool) (cycle : ℕ) → IsRece
 late_told r b late cycle k told e =
     sym (late_at r (read_of b) late k (told (item_of b.body) ∙ ap (λ n. is_late r.held.policy (map place_of r.held.reads) (record { item = item_of b.body; cycle = n })) e))
 
-pub in_time_at : (r : Inside) (x : Read) (b : Bool) → IsReceiver r → comes_late (receiver_in r).air (receiver_in r).state x ≡ b → is_late r.held.policy (map place_of r.held.reads) (place_of x) ≡ b
-in_time_at r x b k e = ap (λ p. is_late p (map place_of r.held.reads) (place_of x)) k.held.policy ∙ e
-
 -- ---- an opened bucket
 
 -- The fields with one more opened bucket.

@@ -6,7 +6,6 @@ use Rattle.std.specs.Prelude.{All}
 use Rattle.std.proofs.lemmas.Option.{none-some}
 use Rattle.std.proofs.lemmas.List.{length_push, get_or_push, get_or_append_left}
 use Rattle.turnstile_tests.specs.declared.workers.Worker.{Worker}
-use Rattle.std.specs.List.{ReversedBelow}
 use Rattle.turnstile_tests.specs.Workers.{InOrder}
 
 pub within_front : {A : Type 0} (xs : List A) (y : A) (k : ℕ) (p : A) → slice_get xs k ≡ Some p → slice_get (xs ++ y ∷ []) k ≡ Some p
@@ -36,6 +35,3 @@ order_but_last ws w h = let long = length_push ws w in (
   λ k d less. sym (ap (λ (v : Worker). v.by) (get_or_append_left ws (w ∷ []) d k less)) ∙ h k d (omega arith),
   sym (ap (λ (v : Worker). v.by) (get_or_push ws w w (length ws) refl)) ∙ h (length ws) w (omega arith),
 )
-
-pub order_turned : (ws vs : List Worker) → CountDown (length ws) ws → length vs ≡ length ws → ReversedBelow ws vs (length ws) → InOrder vs
-order_turned ws vs h len back k d less = let e = ap (λ (v : Worker). v.by) (back k d (omega arith)) in let g = h (length ws - 1 - k) d (omega arith) in omega arith
