@@ -1,0 +1,15 @@
+//! The notes on refused decks and tapes: for each fault a text written by hand, as a person should read it.
+#![tactic(auto)]
+
+#[cfg(test)]
+mod fields;
+#[cfg(test)]
+mod lines;
+#[cfg(test)]
+mod names;
+#[cfg(test)]
+mod rows;
+#[cfg(test)]
+mod tapes;
+#[cfg(test)]
+mod totals;

@@ -1,0 +1,78 @@
+//! Where a note says that a record stands, and decks that have a fault at their end.
+
+use air_base::NoMemory;
+use fault_notes::deck_note;
+use item_catalog::DeckFault;
+use std::alloc::Global;
+use std::test::Fail;
+
+/// A text, the row and the kind of its fault, and the whole note.
+type Case<'a> = (&'a str, u32, u8, &'a str);
+
+/// The place of the first case whose note isn't the wanted one.
+fn first_other(alloc: Global, cases: &[Case<'_>]) -> Result<Option<usize>, NoMemory> {
+    for (place, (text, row, kind, wanted)) in cases.iter().enumerate() {
+        let fault = DeckFault {
+            row: *row,
+            kind: *kind,
+        };
+        let note = deck_note(alloc, "a deck", text.as_bytes(), fault)?;
+        if note.as_str() != *wanted {
+            return Ok(Some(place));
+        }
+    }
+    Ok(None)
+}
+
+#[test]
+fn lines_are_those_of_an_editor(rt: HostRuntime) -> Result<(), Fail> {
+    let tag = "none of item, disk, update, reader, query, script and set";
+    let alloc = rt.alloc();
+    let at = |line: u64| format!(in alloc; "a deck:{line}: record 2: the tag is a: {tag}");
+    let first = format!(in alloc; "a deck:1: record 1: the tag is a: {tag}")?;
+    let second = at(2)?;
+    let third = at(3)?;
+    let fourth = at(4)?;
+    let cases: &[Case<'_>] = &[
+        ("a", 1, 9, first.as_str()),
+        ("\u{feff}a", 1, 9, first.as_str()),
+        ("item,0,1,1\na\n", 2, 9, second.as_str()),
+        ("item,0,1,1\r\na\r\n", 2, 9, second.as_str()),
+        ("item,0,1,1\ra\r", 2, 9, second.as_str()),
+        ("item,0,1,1\n\n\na\n", 2, 9, fourth.as_str()),
+        ("\n\nitem,0,1,1\na", 2, 9, fourth.as_str()),
+        ("\r\n\r\nitem,0,1,1\r\na", 2, 9, fourth.as_str()),
+        ("\"item\",\"0\",1,1\n\na", 2, 9, third.as_str()),
+        ("set,\"a\nb\",1\na", 2, 9, third.as_str()),
+    ];
+    assert_eq!(rt; first_other(alloc, cases)?, None);
+    Ok(())
+}
+
+#[test]
+fn a_fault_at_the_end_is_told_as_that(rt: HostRuntime) -> Result<(), Fail> {
+    let cases: &[Case<'_>] = &[
+        (
+            "",
+            1,
+            7,
+            "a deck: the end, record 1: there is no item and no disk",
+        ),
+        (
+            "item,0,1,1\nitem,1,1,1\ndisk,1,1\n",
+            4,
+            6,
+            "a deck: the end, record 4: the sizes of the disks add up to 1, and the number of items is 2",
+        ),
+        // the text is another than that of the fault
+        ("a\n", 9, 9, "a deck: record 9: its tag is unknown"),
+        (
+            "item,0,1,1\n",
+            1,
+            5,
+            "a deck:1: record 1: an item stands twice in a list",
+        ),
+    ];
+    assert_eq!(rt; first_other(rt.alloc(), cases)?, None);
+    Ok(())
+}
