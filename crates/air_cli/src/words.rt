@@ -11,7 +11,7 @@ pub const HELP: &str = "airdisk: data on air, proved
   airdisk script DECK         do the script of a deck, and print the report of its readers
   airdisk script DECK TAPE    the same, and write what was aired to a tape
   airdisk tune DECK TAPE      let the readers of a deck hear a tape, and print their report
-  airdisk --help              print this text
+  airdisk --help, -h          print this text
   airdisk --version           print the version
 
 The manual is docs/GUIDE.md in the repository.

@@ -1,9 +1,12 @@
 //! The program: words in, a status out.
 //!
-//! It hands its words and a shelf over files and standard output to the top call, and ends with the status's
-//! number. `--help` and `--version`, each as the only word, are answered here.
+//! It hands its words and a shelf over files and standard output to the top call, says on standard error what went wrong where
+//! something did (`notes`), and ends with the status's number. `--help`, `-h` and `--version`, each as the only word, are answered here.
 #![tactic(auto)]
 
+mod notes;
+
+use crate::notes::explain;
 use air_cli::words::HELP;
 use air_cli::{Status, air_quiet};
 use air_devices::FileShelf;
@@ -23,7 +26,7 @@ fn main(rt: HostRuntime) -> ExitCode {
         Err(status) => return ExitCode::from(status.code()),
     };
     match words.as_slice() {
-        [word] if word.as_str() == "--help" => print_text(&rt, HELP),
+        [word] if word.as_str() == "--help" || word.as_str() == "-h" => print_text(&rt, HELP),
         [word] if word.as_str() == "--version" => print_text(&rt, VERSION),
         words => {
             let Ok(handle) = rt.clone() else {
@@ -31,6 +34,7 @@ fn main(rt: HostRuntime) -> ExitCode {
             };
             let mut shelf = FileShelf::new(handle);
             let status = air_quiet(&rt, alloc, words, &mut shelf);
+            explain(&rt, alloc, words, &mut shelf, status);
             ExitCode::from(status.code())
         }
     }

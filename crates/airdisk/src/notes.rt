@@ -1,0 +1,142 @@
+//! What is said on standard error of a command that ended with a status from 2 on: one line for a person.
+//!
+//! It is made after the command has answered, of the same words and files, and changes neither the status nor what was printed. A
+//! file is looked into again only where it is a plain one. Where a note can't be made, there is none.
+
+use air_base::NoMemory;
+use air_base::limits::{MOST_DECK_BYTES, MOST_SLOTS, MOST_TAPE_BYTES};
+use air_cli::Status;
+use air_devices::{FileShelf, read_file};
+use fault_notes::{deck_note, tape_note};
+use item_catalog::DeckFault;
+use std::alloc::Global;
+use std::fs;
+use std::rt::Files;
+
+/// The word at a place; an empty one where there is none.
+fn word(words: &[String], place: usize) -> &str {
+    match words.get(place) {
+        Some(word) => word.as_str(),
+        None => "",
+    }
+}
+
+/// How many bytes a plain file has; none of what is no plain file.
+fn plain_size<R: Files>(rt: &R, name: &str) -> Option<u64> {
+    match fs::metadata(rt, name) {
+        Ok(known) if known.is_file() => Some(known.len()),
+        _ => None,
+    }
+}
+
+/// What the system said of the last call that failed.
+fn failure_note<R: Files + Print + Drop>(
+    alloc: Global,
+    shelf: &FileShelf<R>,
+) -> Result<Option<String>, NoMemory> {
+    match shelf.last_failure() {
+        Some(failure) => Ok(Some(format!(in alloc; "airdisk: {failure}")?)),
+        None => Ok(None),
+    }
+}
+
+/// What is wrong with a deck.
+fn fault_note<R: Files + Print + Drop>(
+    rt: &R,
+    alloc: Global,
+    shelf: &mut FileShelf<R>,
+    name: &str,
+    fault: DeckFault,
+) -> Result<Option<String>, NoMemory> {
+    let again = match plain_size(rt, name) {
+        Some(_) => read_file(alloc, shelf, name, MOST_DECK_BYTES).ok(),
+        None => None,
+    };
+    match again {
+        Some(bytes) => Ok(Some(deck_note(alloc, name, &bytes, fault)?)),
+        None => Ok(Some(format!(in alloc; "{name}: {fault}")?)),
+    }
+}
+
+/// Where a tape is cut.
+fn cut_note<R: Files + Print + Drop>(
+    rt: &R,
+    alloc: Global,
+    shelf: &mut FileShelf<R>,
+    name: &str,
+    at: u64,
+) -> Result<Option<String>, NoMemory> {
+    let again = match plain_size(rt, name) {
+        Some(_) => read_file(alloc, shelf, name, MOST_TAPE_BYTES).ok(),
+        None => None,
+    };
+    match again {
+        Some(tape) => Ok(Some(tape_note(alloc, name, &tape, at)?)),
+        None => Ok(Some(format!(in alloc; "{name}: the record that begins at byte {at} is cut")?)),
+    }
+}
+
+/// How much larger a file is than it may be.
+fn size_note<R: Files>(
+    rt: &R,
+    alloc: Global,
+    words: &[String],
+    limit: u64,
+) -> Result<Option<String>, NoMemory> {
+    let (name, what) = if limit == MOST_DECK_BYTES as u64 {
+        (word(words, 1), "deck")
+    } else {
+        (word(words, 2), "tape")
+    };
+    match plain_size(rt, name) {
+        Some(size) => Ok(Some(format!(in alloc;
+            "{name}: it has {size} bytes, and a {what} may have {limit}"
+        )?)),
+        None => Ok(Some(format!(in alloc;
+            "{name}: it has more than the {limit} bytes that a {what} may have"
+        )?)),
+    }
+}
+
+/// What is said of a status; none where nothing is.
+fn text_of<R: Files + Print + Drop>(
+    rt: &R,
+    alloc: Global,
+    words: &[String],
+    shelf: &mut FileShelf<R>,
+    status: Status,
+) -> Result<Option<String>, NoMemory> {
+    let deck = word(words, 1);
+    match status {
+        Status::Deck { row, kind } => {
+            fault_note(rt, alloc, shelf, deck, DeckFault { row, kind })
+        }
+        Status::ReadFault | Status::WriteFault => failure_note(alloc, shelf),
+        Status::TapeCut { at } => cut_note(rt, alloc, shelf, word(words, 2), at),
+        Status::TooLarge { limit } => size_note(rt, alloc, words, limit),
+        Status::TooLong { bytes } => Ok(Some(format!(in alloc;
+            "{deck}: its tape would have {bytes} bytes, and a tape may have {MOST_TAPE_BYTES}"
+        )?)),
+        Status::PlanTooLong { slots } => Ok(Some(format!(in alloc;
+            "{deck}: its program would have {slots} slots, and a program may have {MOST_SLOTS}"
+        )?)),
+        _ => Ok(None),
+    }
+}
+
+/// Says a line on standard error where a command ended with a status from 2 on; nothing where that fails.
+pub fn explain<R: Files + Print + Eprint + Drop>(
+    rt: &R,
+    alloc: Global,
+    words: &[String],
+    shelf: &mut FileShelf<R>,
+    status: Status,
+) {
+    if status == Status::NoMemory {
+        let _ = eprintln!(rt; "airdisk: out of memory");
+        return;
+    }
+    if let Ok(Some(text)) = text_of(rt, alloc, words, shelf, status) {
+        let _ = eprintln!(rt; "{text}");
+    }
+}
