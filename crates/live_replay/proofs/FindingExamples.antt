@@ -1,0 +1,89 @@
+-- Findings of single lines over small histories, computed.
+use Rattle.std.specs.Prelude.{◌≡◌, ℕ, List, [], ◌∷◌, Option, Some, None, refl}
+use Rattle.air_base.specs.declared.verdicts.Policy.{Policy}
+use Rattle.air_base.specs.declared.verdicts.Policy.TheVariants.{Datacycle, RMatrix}
+use Rattle.air_base.specs.declared.verdicts.ReadOf.{ReadOf}
+use Rattle.air_base.specs.declared.verdicts.VerdictKind.{VerdictKind}
+use Rattle.air_base.specs.declared.verdicts.VerdictKind.TheVariants.{Accept, Abort, Unfinished}
+use Rattle.air_history.specs.Places.{last_place}
+use Rattle.air_history.specs.Histories.{cycle_at, front, writer, writer_before, writes, reads, is_start}
+use Rattle.air_history.specs.Descents.{descends, descends_in}
+use Rattle.air_history.specs.Tables.{based, write_of, value_after, table}
+use Rattle.air_history.specs.Reads.{origin, stale}
+use Rattle.air_history.specs.Consistency.{descends_from, runs_alone, last_alone, consistent}
+use Rattle.air_history.specs.Clashes.{least, is_late, clash_by_history}
+use Rattle.air_history.specs.ClashLaws.{passes}
+use Rattle.air_model.specs.Decks.{Deck, event_of, script_history, values_in}
+use Rattle.air_model.specs.Reports.{total_at}
+use Rattle.air_model.proofs.SessionExamples.{chained, judged_by, s, swapped, u}
+use Rattle.live_replay.specs.declared.findings.Cause.{Cause}
+use Rattle.live_replay.specs.declared.findings.Cause.TheVariants.{Value, Verdict, Clash, Total}
+use Rattle.live_replay.specs.Findings.{all_pass, is_refused, is_clash, verdict_cause, look_cause}
+
+-- A read of an item in a cycle, with its value.
+abbrev r : ℕ → ℕ → ℕ → ReadOf
+r item cycle value = record { item = item; cycle = cycle; value = value }
+
+-- The finding of a verdict on the first query, over the deck's script.
+abbrev told : Deck → VerdictKind → List ReadOf → Option Cause
+told deck kind reads = verdict_cause deck (script_history deck) (record { reader = 0; verdict = record { query = 0; attempt = 1; kind = kind }; reads = reads })
+
+-- The finding of a look at a cycle, over the deck's script.
+abbrev seen : Deck → ℕ → ℕ → Option Cause
+seen deck cycle total = look_cause deck (script_history deck) (record { monitor = 0; cycle = cycle; total = total })
+
+-- Item 0 becomes 11 and item 1 becomes 21, both in cycle 1.
+abbrev both : Deck
+both = swapped (s ∷ u ∷ u ∷ s ∷ [])
+
+pub record Verdicts : Type 0 where
+  agrees : told both Accept (r 0 1 10 ∷ r 1 2 21 ∷ []) ≡ None
+  aborted : told both (Abort 1 2 0) (r 0 1 10 ∷ []) ≡ Some Verdict
+  value : told both Accept (r 0 1 10 ∷ r 1 2 22 ∷ []) ≡ Some Value
+  -- The value goes before the verdict.
+  value_first : told both (Abort 1 2 0) (r 0 1 11 ∷ []) ≡ Some Value
+  unfinished : told both Unfinished (r 0 2 11 ∷ []) ≡ None
+  nothing_read : told both Unfinished [] ≡ None
+  -- Under the other policies the same reads don't go together.
+  stale : told (judged_by Datacycle both) Accept (r 0 1 10 ∷ r 1 2 21 ∷ []) ≡ Some Verdict
+  refused : told (judged_by Datacycle both) (Abort 1 2 0) (r 0 1 10 ∷ []) ≡ None
+  other_clash : told (judged_by Datacycle both) (Abort 1 2 1) (r 0 1 10 ∷ []) ≡ Some Clash
+  taken : told (judged_by RMatrix both) Accept (r 0 1 10 ∷ r 1 1 20 ∷ []) ≡ None
+  -- A read that comes too late passes under R-Matrix in no place.
+  late : told (judged_by RMatrix both) Accept (r 0 2 11 ∷ r 1 1 20 ∷ []) ≡ Some Verdict
+  late_named : told (judged_by RMatrix both) (Abort 1 1 0) (r 0 2 11 ∷ []) ≡ Some Verdict
+
+verdicts : Verdicts
+unfolding verdict_cause all_pass is_refused is_clash passes is_late clash_by_history least stale origin consistent last_alone runs_alone descends_from descends descends_in writer writer_before writes reads is_start front last_place table value_after write_of based script_history event_of
+verdicts = record {
+  agrees = refl;
+  aborted = refl;
+  value = refl;
+  value_first = refl;
+  unfinished = refl;
+  nothing_read = refl;
+  stale = refl;
+  refused = refl;
+  other_clash = refl;
+  taken = refl;
+  late = refl;
+  late_named = refl;
+}
+
+-- Item 0 becomes 11, item 2 that and 1, item 1 that and 1, all in cycle 1.
+abbrev chain : Deck
+chain = chained 1 (s ∷ u ∷ u ∷ u ∷ s ∷ [])
+
+pub record Chain : Type 0 where
+  apart : told chain Accept (r 0 1 10 ∷ r 1 2 13 ∷ []) ≡ Some Verdict
+  abort : told chain (Abort 1 2 0) (r 0 1 10 ∷ []) ≡ None
+  passes : told chain (Abort 1 1 0) (r 0 1 10 ∷ []) ≡ Some Verdict
+  together : told chain Accept (r 0 2 11 ∷ r 1 2 13 ∷ []) ≡ None
+  at_start : seen chain 1 60 ≡ None
+  later : seen chain 2 36 ≡ None
+  other_cycle : seen chain 1 36 ≡ Some Total
+  catalog : seen chain 0 60 ≡ None
+
+chain_is : Chain
+unfolding verdict_cause look_cause total_at all_pass is_refused is_clash passes is_late clash_by_history least stale origin consistent last_alone runs_alone descends_from descends descends_in writer writer_before writes reads is_start front last_place table value_after write_of based script_history event_of
+chain_is = record { apart = refl; abort = refl; passes = refl; together = refl; at_start = refl; later = refl; other_cycle = refl; catalog = refl }

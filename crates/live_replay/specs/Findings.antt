@@ -1,0 +1,69 @@
+-- What the audit finds of a line, by a history and the deck alone: that it agrees, or the first cause for which it differs.
+-- Values are those that reads of the history have; what passes and what clashes is judged by origins, and by no column.
+use Rattle.std.specs.Prelude.{ℕ, Bool, true, false, not, ◌&&◌, ◌==◌, if◌then◌else◌, List, map, take, get_or, length, Option, Some, None}
+use Rattle.std.specs.List.{list_all, range_with_len}
+use Rattle.std.specs.Option.{is_some, option_map_or}
+use Rattle.air_base.specs.declared.verdicts.Policy.{Policy}
+use Rattle.air_base.specs.declared.verdicts.ReadOf.{ReadOf}
+use Rattle.air_base.specs.declared.verdicts.VerdictKind.{VerdictKind}
+use Rattle.air_base.specs.declared.verdicts.VerdictKind.TheVariants.{Accept, Abort, Unfinished}
+use Rattle.air_history.specs.declared.histories.Event.{Event}
+use Rattle.air_history.specs.Tables.{values_of}
+use Rattle.air_history.specs.Reads.{ReadAt, read_value}
+use Rattle.air_history.specs.Clashes.{clash_by_history, is_late}
+use Rattle.air_history.specs.ClashLaws.{passes}
+use Rattle.air_model.specs.Decks.{Deck, values_in}
+use Rattle.air_model.specs.Reports.{total_at}
+use Rattle.air_model.specs.declared.reports.LookLine.{LookLine}
+use Rattle.air_model.specs.declared.reports.VerdictLine.{VerdictLine}
+use Rattle.live_replay.specs.declared.findings.Cause.{Cause}
+use Rattle.live_replay.specs.declared.findings.Cause.TheVariants.{Value, Verdict, Clash, Total}
+
+-- The item and the cycle of a read.
+abbrev pub place_of : ReadOf → ReadAt
+place_of read = record { item = read.item; cycle = read.cycle }
+
+-- The items and cycles of reads.
+abbrev pub places_of : List ReadOf → List ReadAt
+places_of reads = map place_of reads
+
+-- A read of an item in a cycle.
+abbrev pub read_of : ℕ → ℕ → ReadAt
+read_of item cycle = record { item = item; cycle = cycle }
+
+-- A read has its value: that of its item at its cycle's start.
+abbrev pub has_value : List ℕ → List Event → ReadOf → Bool
+has_value values H read = read.value == read_value (values_of values) H (place_of read)
+
+-- Each read passes after those before it.
+unfoldable pub all_pass : Policy → List Event → List ReadAt → Bool
+all_pass policy H R = list_all (λ k. passes policy H (take k R) (get_or R k (read_of 0 0))) (range_with_len 0 (length R))
+
+-- The named read of an abort is refused: it comes in time, and clashes with a read before it. No other verdict names a read.
+unfoldable pub is_refused : Policy → List Event → List ReadAt → VerdictKind → Bool
+is_refused policy H R Accept = true
+is_refused policy H R (Abort item cycle clash) =
+    not (is_late policy R (read_of item cycle)) && is_some (clash_by_history policy H R (read_of item cycle))
+is_refused policy H R Unfinished = true
+
+-- The named clash of an abort is the item of the read with which the named one clashes. No other verdict names one.
+unfoldable pub is_clash : Policy → List Event → List ReadAt → VerdictKind → Bool
+is_clash policy H R Accept = true
+is_clash policy H R (Abort item cycle clash) =
+    option_map_or (λ held. held.item == clash) (clash_by_history policy H R (read_of item cycle)) false
+is_clash policy H R Unfinished = true
+
+-- Why a verdict's line differs: the first of three causes that applies, in this order.
+unfoldable pub verdict_cause : Deck → List Event → VerdictLine → Option Cause
+verdict_cause deck H line =
+    let policy = deck.settings.policy in
+    let R = places_of line.reads in
+    let kind = line.verdict.kind in
+    if not (list_all (has_value (values_in deck) H) line.reads) then Some Value
+    else if not (all_pass policy H R && is_refused policy H R kind) then Some Verdict
+    else if not (is_clash policy H R kind) then Some Clash
+    else None
+
+-- Why the line of a glance or a look differs: its total isn't that of its cycle.
+unfoldable pub look_cause : Deck → List Event → LookLine → Option Cause
+look_cause deck H line = if line.total == total_at (values_in deck) H line.cycle then None else Some Total

@@ -1,0 +1,7 @@
+//! The audit: each verdict, glance and look of a report is replayed by the report's own history.
+#![tactic(auto)]
+
+pub mod findings;
+pub mod limits;
+
+pub use findings::{AuditError, Cause, Finding};
