@@ -1,1 +1,2 @@
 mod FindingExamples
+pub mod CountFacts

@@ -3,5 +3,6 @@
 
 pub mod findings;
 pub mod limits;
+mod writes;
 
 pub use findings::{AuditError, Cause, Finding};

@@ -1,0 +1,33 @@
+-- For private steps alone. Commits by their numbers, which leave the starts out; what each reads from, and each item's writes.
+use Rattle.std.specs.Prelude.{ℕ, zero, suc, ◌+◌, Bool, not, cond, List, [], ◌∷◌, ◌++◌, map, take, count_by}
+use Rattle.std.specs.List.{filter_map}
+use Rattle.air_history.specs.declared.histories.Event.{Event}
+use Rattle.air_history.specs.Histories.{is_start, writes, reads, event_at, cycle_at, writer_before}
+use Rattle.air_history.specs.Tables.{table, values_of}
+use Rattle.live_replay.specs.declared.writes.ItemWrite.{ItemWrite}
+
+-- The event is a commit.
+abbrev pub is_commit : Event → Bool
+is_commit e = not (is_start e)
+
+-- The number of a place: how many commits stand before it.
+unfoldable pub number_at : List Event → ℕ → ℕ
+number_at H p = count_by is_commit (take p H)
+
+-- The numbers of the commits that the commit at a place reads from.
+unfoldable pub sources_at : List Event → ℕ → List ℕ
+sources_at H p = map (number_at H) (filter_map (writer_before H p) (reads (event_at H p)))
+
+-- The same of each commit before place n, in order.
+unfoldable pub sources_to : List Event → ℕ → List (List ℕ)
+sources_to H zero = []
+sources_to H (suc n) = sources_to H n ++ cond (is_commit (event_at H n)) (sources_at H n ∷ []) []
+
+-- The write of an item at a place, where the catalog has these values.
+unfoldable pub write_at : List ℕ → List Event → ℕ → ℕ → ItemWrite
+write_at V H i p = record { commit = number_at H p; cycle = cycle_at H p; value = table (values_of V) (take (p + 1) H) i }
+
+-- The writes of an item at the n places from m on, in order.
+unfoldable pub writes_from : List ℕ → List Event → ℕ → ℕ → ℕ → List ItemWrite
+writes_from V H i m zero = []
+writes_from V H i m (suc n) = writes_from V H i m n ++ cond (writes (event_at H (m + n)) i) (write_at V H i (m + n) ∷ []) []
