@@ -1,2 +1,5 @@
 mod FindingExamples
 pub mod CountFacts
+pub mod NumberFacts
+pub mod WriteFacts
+pub mod LastFacts

@@ -1,0 +1,125 @@
+-- The writes of an item: what each of them is, how they split at a front, and what the last one before a place tells.
+use Rattle.std.proofs.Common.{◌≡◌, ℕ, zero, suc, ◌+◌, ◌-◌, ◌<◌, ◌≤◌, Bool, true, false, cond, ◌||◌, ◌⊎◌, Option, Some, None, List, [], ◌∷◌, ◌++◌, length, get_or, take, drop, count_by, ltb, All, refl, sym, ◌∙◌, ap, subst, inl, inr, arith, add-one, append_assoc}
+use Rattle.std.specs.List.{list_any}
+use Rattle.std.specs.List.Sorted.{IsNonDecreasingBy}
+use Rattle.std.proofs.lemmas.Bool.{cases_Bool, cases_lt, cond-true, cond-false, lt-ltb, le-ltb, or_cases, or_left, or_right, false≢true, both_ways}
+use Rattle.std.proofs.lemmas.List.{append-nil, take_more, length_push, drop_at, length-append}
+use Rattle.std.proofs.lemmas.List.Elements.{All-push, All-nil}
+use Rattle.std.proofs.lemmas.List.Folds.{list_any-append}
+use Rattle.std.proofs.lemmas.List.Sorted.{IsNonDecreasingBy-push, IsNonDecreasingBy-short}
+use Rattle.air_history.specs.declared.histories.Event.{Event}
+use Rattle.air_history.specs.declared.histories.Event.TheVariants.{Start}
+use Rattle.air_history.specs.Histories.{is_start, writes, event_at, cycle_at, front, writer_before}
+use Rattle.air_history.specs.Tables.{table, value_after, values_of}
+use Rattle.air_history.proofs.HistoryLemmas.{writer_no_start, writes_within, front_cycle, front_holds, front_within, cycle_mono, writer_before_some}
+use Rattle.air_history.proofs.PlaceLemmas.{IsLast, last_place_suc, last_unique}
+use Rattle.air_history.proofs.ScanLemmas.{writer_before_none}
+use Rattle.air_history.proofs.TableLemmas.{table_nil, table_push}
+use Rattle.history_laws.proofs.AloneLemmas.{not_written}
+use Rattle.live_replay.specs.declared.writes.ItemWrite.{ItemWrite}
+use Rattle.live_replay.specs.Steps.Commits.{number_at, write_at, writes_from}
+use Rattle.live_replay.proofs.CountFacts.{front_count}
+
+pub take_next : (H : List Event) (p : ℕ) → p < length H → take (p + 1) H ≡ take p H ++ event_at H p ∷ []
+take_next H p l = take_more H p Start l
+
+pub before_next : (H : List Event) (n i : ℕ) → writer_before H (n + 1) i ≡ cond (writes (event_at H n) i) (Some n) (writer_before H n i)
+unfolding writer_before
+before_next H n i = ap (λ m. writer_before H m i) (add-one n) ∙ last_place_suc n (λ q. writes (event_at H q) i)
+
+module _ (V : List ℕ) (H : List Event) (i : ℕ) where
+  -- Each write is that of a place that writes the item.
+  pub each_write : (P : ItemWrite → Type 0) (m n : ℕ) → ((p : ℕ) → m ≤ p → p < m + n → writes (event_at H p) i ≡ true → P (write_at V H i p)) → All P (writes_from V H i m n)
+  unfolding writes_from
+  each_write P m zero h = All-nil P
+  each_write P m (suc n) h = more (writes (event_at H (m + n)) i) refl (each_write P m n (λ p a b w. h p a (omega arith) w))
+    where
+      more : (b : Bool) → writes (event_at H (m + n)) i ≡ b → All P (writes_from V H i m n) → All P (writes_from V H i m n ++ cond b (write_at V H i (m + n) ∷ []) [])
+      more true e rest = All-push P _ _ rest (h (m + n) (omega arith) (omega arith) e)
+      more false e rest = subst (All P) (sym (append-nil (writes_from V H i m n))) rest
+
+  pub no_places : (m : ℕ) → writes_from V H i m 0 ≡ []
+  unfolding writes_from
+  no_places m = refl
+
+  pub one_more : (m n : ℕ) → writes_from V H i m (n + 1) ≡ writes_from V H i m n ++ cond (writes (event_at H (m + n)) i) (write_at V H i (m + n) ∷ []) []
+  unfolding writes_from
+  one_more m n = ap (writes_from V H i m) (add-one n)
+
+  -- The writes of so many places and of those behind them.
+  pub split_writes : (m n k : ℕ) → writes_from V H i m (n + k) ≡ writes_from V H i m n ++ writes_from V H i (m + n) k
+  unfolding writes_from
+  split_writes m n zero = let e : n + 0 ≡ n = omega arith in ap (writes_from V H i m) e ∙ sym (append-nil (writes_from V H i m n))
+  split_writes m n (suc k) =
+      let e : n + suc k ≡ (n + k) + 1 = omega arith in
+      let at : m + (n + k) ≡ (m + n) + k = omega arith in
+      ap (writes_from V H i m) e ∙ one_more m (n + k)
+      ∙ ap (λ q. writes_from V H i m (n + k) ++ cond (writes (event_at H q) i) (write_at V H i q ∷ []) []) at
+      ∙ ap (λ ws. ws ++ cond (writes (event_at H ((m + n) + k)) i) (write_at V H i ((m + n) + k) ∷ []) []) (split_writes m n k)
+      ∙ append_assoc (writes_from V H i m n) (writes_from V H i (m + n) k) (cond (writes (event_at H ((m + n) + k)) i) (write_at V H i ((m + n) + k) ∷ []) [])
+
+  -- A test passes at some write, and at the place of it.
+  pub some_write : (t : ItemWrite → Bool) (m n : ℕ) → list_any t (writes_from V H i m n) ≡ true → (p : ℕ) × (m ≤ p) × (p < m + n) × (writes (event_at H p) i ≡ true) × (t (write_at V H i p) ≡ true)
+  unfolding writes_from
+  some_write t m zero h = absurd (false≢true h)
+  some_write t m (suc n) h = more (writes (event_at H (m + n)) i) refl h (some_write t m n)
+    where
+      Found : ℕ → Type 0
+      Found n = (p : ℕ) × (m ≤ p) × (p < m + n) × (writes (event_at H p) i ≡ true) × (t (write_at V H i p) ≡ true)
+
+      up : Found n → Found (suc n)
+      up r = (r.0, r.1, (let l = r.2 in omega arith), r.3, r.4)
+
+      last : (b : Bool) → t (write_at V H i (m + n)) ≡ b → (b || false) ≡ true → t (write_at V H i (m + n)) ≡ true
+      last true e f = e
+      last false e f = cc
+
+      more : (b : Bool) → writes (event_at H (m + n)) i ≡ b → list_any t (writes_from V H i m n ++ cond b (write_at V H i (m + n) ∷ []) []) ≡ true → (list_any t (writes_from V H i m n) ≡ true → Found n) → Found (suc n)
+      more true e f rest = elim (or_cases (list_any t (writes_from V H i m n)) (list_any t (write_at V H i (m + n) ∷ [])) (sym (list_any-append t (writes_from V H i m n) (write_at V H i (m + n) ∷ [])) ∙ f)) as (λ _. Found (suc n)) [
+        | inl there ↦ up (rest there)
+        | inr here ↦ (m + n, omega arith, omega arith, e, last (t (write_at V H i (m + n))) refl here)
+      ]
+      more false e f rest = up (rest (ap (list_any t) (sym (append-nil (writes_from V H i m n))) ∙ f))
+
+  pub write_passes : (t : ItemWrite → Bool) (m n p : ℕ) → m ≤ p → p < m + n → writes (event_at H p) i ≡ true → t (write_at V H i p) ≡ true → list_any t (writes_from V H i m n) ≡ true
+  unfolding writes_from
+  write_passes t m zero p a b w h = absurd (omega arith)
+  write_passes t m (suc n) p a b w h = elim (cases_lt p (m + n)) as (λ _. list_any t (writes_from V H i m (suc n)) ≡ true) [
+    | inl l ↦ list_any-append t (writes_from V H i m n) _ ∙ or_left _ _ (write_passes t m n p a l w h)
+    | inr g ↦ (let same : p ≡ m + n = omega arith in
+        let wrote : writes (event_at H (m + n)) i ≡ true = ap (λ q. writes (event_at H q) i) (sym same) ∙ w in
+        let hit : t (write_at V H i (m + n)) ≡ true = ap (λ q. t (write_at V H i q)) (sym same) ∙ h in
+        list_any-append t (writes_from V H i m n) _ ∙ or_right _ _ (ap (λ b. list_any t (cond b (write_at V H i (m + n) ∷ []) [])) wrote ∙ or_left _ _ hit))
+  ]
+
+  -- The writes before a front's end are those of earlier cycles.
+  pub count_before : (c : ℕ) → count_by (λ w. ltb w.cycle c) (writes_from V H i 0 (length H)) ≡ length (writes_from V H i 0 (length (front H c)))
+  unfolding write_at
+  count_before c =
+      let m = length (front H c) in
+      let within = front_within H c in
+      let whole : length H ≡ m + (length H - m) = omega arith in
+      ap (λ n. count_by (λ w. ltb w.cycle c) (writes_from V H i 0 n)) whole
+      ∙ ap (count_by (λ w. ltb w.cycle c)) (split_writes 0 m (length H - m))
+      ∙ front_count (λ w. ltb w.cycle c) (writes_from V H i 0 m) (writes_from V H i (0 + m) (length H - m))
+      (each_write (λ w. ltb w.cycle c ≡ true) 0 m (λ p a b w. lt-ltb (cycle_at H p) c (front_cycle H c p (omega arith))))
+      (each_write (λ w. ltb w.cycle c ≡ false) (0 + m) (length H - m) (λ p a b w. le-ltb (cycle_at H p) c (late p (omega arith) w)))
+    where
+      late : (p : ℕ) → length (front H c) ≤ p → writes (event_at H p) i ≡ true → c ≤ cycle_at H p
+      late p a w = elim (cases_lt (cycle_at H p) c) as (λ _. c ≤ cycle_at H p) [
+        | inl l ↦ absurd (let inside = front_holds H c p (writes_within H p i w) (writer_no_start (event_at H p) i w) l in omega arith)
+        | inr g ↦ g
+      ]
+
+  -- Their cycles only rise.
+  pub writes_rise : (n : ℕ) → IsNonDecreasingBy (λ w. w.cycle) (writes_from V H i 0 n)
+  unfolding writes_from write_at
+  writes_rise zero = IsNonDecreasingBy-short (λ (w : ItemWrite). w.cycle) [] (omega arith)
+  writes_rise (suc n) = more (writes (event_at H (0 + n)) i) (writes_rise n)
+    where
+      earlier : All (λ w. w.cycle ≤ cycle_at H (0 + n)) (writes_from V H i 0 n)
+      earlier = each_write (λ w. w.cycle ≤ cycle_at H (0 + n)) 0 n (λ p a b w. cycle_mono H p (0 + n) (omega arith))
+
+      more : (b : Bool) → IsNonDecreasingBy (λ w. w.cycle) (writes_from V H i 0 n) → IsNonDecreasingBy (λ w. w.cycle) (writes_from V H i 0 n ++ cond b (write_at V H i (0 + n) ∷ []) [])
+      more true rest = IsNonDecreasingBy-push (λ (w : ItemWrite). w.cycle) (writes_from V H i 0 n) (write_at V H i (0 + n)) rest (λ d l. earlier (length (writes_from V H i 0 n) - 1) d (omega arith))
+      more false rest = subst (IsNonDecreasingBy (λ (w : ItemWrite). w.cycle)) (sym (append-nil (writes_from V H i 0 n))) rest
