@@ -3,3 +3,5 @@ pub mod CountFacts
 pub mod NumberFacts
 pub mod WriteFacts
 pub mod LastFacts
+pub mod SourceFacts
+pub mod MarkFacts

@@ -1,9 +1,11 @@
 -- For private steps alone. Commits by their numbers, which leave the starts out; what each reads from, and each item's writes.
-use Rattle.std.specs.Prelude.{ℕ, zero, suc, ◌+◌, Bool, not, cond, List, [], ◌∷◌, ◌++◌, map, take, count_by}
+use Rattle.std.specs.Prelude.{◌≡◌, ℕ, zero, suc, ◌+◌, ◌<◌, Bool, false, not, cond, List, [], ◌∷◌, ◌++◌, length, get_or, map, take, count_by}
 use Rattle.std.specs.List.{filter_map}
 use Rattle.air_history.specs.declared.histories.Event.{Event}
 use Rattle.air_history.specs.Histories.{is_start, writes, reads, event_at, cycle_at, writer_before}
 use Rattle.air_history.specs.Tables.{table, values_of}
+use Rattle.air_history.specs.Reads.{ReadAt}
+use Rattle.air_history.specs.Consistency.{runs_alone}
 use Rattle.live_replay.specs.declared.writes.ItemWrite.{ItemWrite}
 
 -- The event is a commit.
@@ -31,3 +33,8 @@ write_at V H i p = record { commit = number_at H p; cycle = cycle_at H p; value 
 unfoldable pub writes_from : List ℕ → List Event → ℕ → ℕ → ℕ → List ItemWrite
 writes_from V H i m zero = []
 writes_from V H i m (suc n) = writes_from V H i m n ++ cond (writes (event_at H (m + n)) i) (write_at V H i (m + n) ∷ []) []
+
+-- The commits are marked from which the reads descend, each by its number.
+pub record MarksAlone (H : List Event) (R : List ReadAt) (marks : List Bool) : Type 0 where
+  pub sized : length marks ≡ number_at H (length H)
+  pub marked : (p : ℕ) → p < length H → is_start (event_at H p) ≡ false → get_or marks (number_at H p) false ≡ runs_alone H R p
