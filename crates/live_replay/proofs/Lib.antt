@@ -5,3 +5,4 @@ pub mod WriteFacts
 pub mod LastFacts
 pub mod SourceFacts
 pub mod MarkFacts
+pub mod ClearFacts
