@@ -6,3 +6,4 @@ pub mod LastFacts
 pub mod SourceFacts
 pub mod MarkFacts
 pub mod ClearFacts
+pub mod PassFacts
