@@ -26,11 +26,11 @@ module _ (V : List ℕ) (H : List Event) (i : ℕ) where
   abbrev pub written : ℕ → List ItemWrite
   written n = writes_from V H i 0 n
 
-  written_next : (n : ℕ) → written (n + 1) ≡ written n ++ cond (writes (event_at H n) i) (write_at V H i n ∷ []) []
+  pub written_next : (n : ℕ) → written (n + 1) ≡ written n ++ cond (writes (event_at H n) i) (write_at V H i n ∷ []) []
   written_next n = one_more V H i 0 n ∙ ap (λ p. written n ++ cond (writes (event_at H p) i) (write_at V H i p ∷ []) []) (zero-add n)
 
   -- Writes end with that of the last writer; there are none where there is none.
-  abbrev EndWith : Option ℕ → List ItemWrite → Type 0
+  abbrev pub EndWith : Option ℕ → List ItemWrite → Type 0
   EndWith None ws = ws ≡ []
   EndWith (Some w) ws = ws ≡ written w ++ write_at V H i w ∷ []
 
@@ -44,7 +44,7 @@ module _ (V : List ℕ) (H : List Event) (i : ℕ) where
       more false None e rest = written_next n ∙ ap (λ b. written n ++ cond b (write_at V H i n ∷ []) []) e ∙ append-nil (written n) ∙ rest
       more false (Some w) e rest = written_next n ∙ ap (λ b. written n ++ cond b (write_at V H i n ∷ []) []) e ∙ append-nil (written n) ∙ rest
 
-  ends : (n : ℕ) (o : Option ℕ) → writer_before H n i ≡ o → EndWith o (written n)
+  pub ends : (n : ℕ) (o : Option ℕ) → writer_before H n i ≡ o → EndWith o (written n)
   ends n o e = subst (λ o. EndWith o (written n)) e (end_with n)
 
   -- The value that a place left, or the first one.

@@ -7,3 +7,4 @@ pub mod SourceFacts
 pub mod MarkFacts
 pub mod ClearFacts
 pub mod PassFacts
+pub mod RunFacts

@@ -20,10 +20,10 @@ module _ (H : List Event) where
   unfolding sources_to
   sources_next n = ap (sources_to H) (add-one n)
 
-  sources_start : (n : ℕ) → is_start (event_at H n) ≡ true → sources_to H (n + 1) ≡ sources_to H n
+  pub sources_start : (n : ℕ) → is_start (event_at H n) ≡ true → sources_to H (n + 1) ≡ sources_to H n
   sources_start n s = sources_next n ∙ ap (λ b. sources_to H n ++ cond (not b) (sources_at H n ∷ []) []) s ∙ append-nil (sources_to H n)
 
-  sources_commit : (n : ℕ) → is_start (event_at H n) ≡ false → sources_to H (n + 1) ≡ sources_to H n ++ sources_at H n ∷ []
+  pub sources_commit : (n : ℕ) → is_start (event_at H n) ≡ false → sources_to H (n + 1) ≡ sources_to H n ++ sources_at H n ∷ []
   sources_commit n s = sources_next n ∙ ap (λ b. sources_to H n ++ cond (not b) (sources_at H n ∷ []) []) s
 
   pub sources_count : (n : ℕ) → n ≤ length H → length (sources_to H n) ≡ number_at H n

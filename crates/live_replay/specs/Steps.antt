@@ -1,2 +1,3 @@
 -- Definitions that private steps alone speak of: no public contract cites them, nor what a public type shows.
 pub mod Commits
+pub mod Runs

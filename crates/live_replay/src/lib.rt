@@ -3,6 +3,7 @@
 
 pub mod findings;
 pub mod limits;
+mod running;
 mod writes;
 
 pub use findings::{AuditError, Cause, Finding};
