@@ -15,9 +15,9 @@ use Rattle.air_history.proofs.HistoryLemmas.{descends_self, writer_no_start, wri
 use Rattle.air_history.proofs.OriginLemmas.{origin_some, origin_none}
 use Rattle.history_laws.proofs.ConsistencyLemmas.{alone_from, same_place_decides}
 use Rattle.live_replay.specs.declared.writes.ItemWrite.{ItemWrite}
-use Rattle.live_replay.specs.Steps.Commits.{MarksAlone, number_at, write_at, writes_from}
+use Rattle.live_replay.specs.Steps.Commits.{MarksAlone, count_at, number_at, write_at, writes_from}
 use Rattle.live_replay.proofs.WriteFacts.{some_write, split_writes, write_passes}
-use Rattle.live_replay.proofs.LastFacts.{count_at, written}
+use Rattle.live_replay.proofs.LastFacts.{written}
 
 -- The write's commit is marked.
 abbrev pub is_marked : List Bool → ItemWrite → Bool

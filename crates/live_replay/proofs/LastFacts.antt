@@ -18,7 +18,7 @@ use Rattle.history_laws.proofs.ConsistencyLemmas.{same_place_decides}
 use Rattle.history_laws.proofs.StaleLemmas.{origin_of}
 use Rattle.live_replay.specs.declared.writes.ItemWrite.{ItemWrite}
 use Rattle.live_replay.specs.Findings.{read_of}
-use Rattle.live_replay.specs.Steps.Commits.{number_at, write_at, writes_from}
+use Rattle.live_replay.specs.Steps.Commits.{count_at, number_at, write_at, writes_from}
 use Rattle.live_replay.proofs.WriteFacts.{before_next, no_places, one_more, split_writes, take_next}
 
 module _ (V : List ℕ) (H : List Event) (i : ℕ) where
@@ -65,10 +65,10 @@ module _ (V : List ℕ) (H : List Event) (i : ℕ) where
           ∙ not_written (table (values_of V) (take n H)) (event_at H n) i e ∙ rest
 
   -- The number of writes before a cycle.
-  abbrev pub count_at : ℕ → ℕ
-  count_at c = length (written (length (front H c)))
+  abbrev counted : ℕ → ℕ
+  counted c = count_at V H i c
 
-  pub count_within : (c : ℕ) → count_at c ≤ length (written (length H))
+  pub count_within : (c : ℕ) → counted c ≤ length (written (length H))
   count_within c =
       let whole : length H ≡ length (front H c) + (length H - length (front H c)) = omega (arith, front_within H c) in
       omega (arith, ap (λ n. length (written n)) whole, ap length (split_writes V H i 0 (length (front H c)) (length H - length (front H c))), length-append (written (length (front H c))) (writes_from V H i (0 + length (front H c)) (length H - length (front H c))))
@@ -80,7 +80,7 @@ module _ (V : List ℕ) (H : List Event) (i : ℕ) where
   value_at c = ap (λ G. table (values_of V) G i) (front_prefix H c) ∙ value_left (length (front H c)) (front_within H c)
 
   -- Where nothing was written, the read has no origin, and the catalog's value.
-  pub none_written : (c : ℕ) → count_at c ≡ 0 → (origin H (read_of i c) ≡ None) × (read_value (values_of V) H (read_of i c) ≡ values_of V i)
+  pub none_written : (c : ℕ) → counted c ≡ 0 → (origin H (read_of i c) ≡ None) × (read_value (values_of V) H (read_of i c) ≡ values_of V i)
   none_written c e = let o = none (writer_before H (length (front H c)) i) refl in (at_origin c ∙ o, value_at c ∙ ap left o)
     where
       none : (o : Option ℕ) → writer_before H (length (front H c)) i ≡ o → writer_before H (length (front H c)) i ≡ None
@@ -88,7 +88,7 @@ module _ (V : List ℕ) (H : List Event) (i : ℕ) where
       none (Some w) f = absurd (let len = length_push (written w) (write_at V H i w) in let same = ap length (ends (length (front H c)) (Some w) f) in omega arith)
 
   -- Else the last write is the origin's, and has left the read's value.
-  pub last_written : (c : ℕ) (d : ItemWrite) → 0 < count_at c → (w : ℕ) × (origin H (read_of i c) ≡ Some w) × (get_or (written (length H)) (count_at c - 1) d ≡ write_at V H i w) × (read_value (values_of V) H (read_of i c) ≡ (write_at V H i w).value)
+  pub last_written : (c : ℕ) (d : ItemWrite) → 0 < counted c → (w : ℕ) × (origin H (read_of i c) ≡ Some w) × (get_or (written (length H)) (counted c - 1) d ≡ write_at V H i w) × (read_value (values_of V) H (read_of i c) ≡ (write_at V H i w).value)
   unfolding write_at
   last_written c d pos = some (writer_before H (length (front H c)) i) refl
     where
@@ -98,15 +98,15 @@ module _ (V : List ℕ) (H : List Event) (i : ℕ) where
       whole : written (length H) ≡ written m ++ writes_from V H i (0 + m) (length H - m)
       whole = let e : length H ≡ m + (length H - m) = omega (arith, front_within H c) in ap written e ∙ split_writes V H i 0 m (length H - m)
 
-      some : (o : Option ℕ) → writer_before H m i ≡ o → (w : ℕ) × (origin H (read_of i c) ≡ Some w) × (get_or (written (length H)) (count_at c - 1) d ≡ write_at V H i w) × (read_value (values_of V) H (read_of i c) ≡ (write_at V H i w).value)
+      some : (o : Option ℕ) → writer_before H m i ≡ o → (w : ℕ) × (origin H (read_of i c) ≡ Some w) × (get_or (written (length H)) (counted c - 1) d ≡ write_at V H i w) × (read_value (values_of V) H (read_of i c) ≡ (write_at V H i w).value)
       some None f = absurd (let same = ap length (ends m None f) in omega arith)
       some (Some w) f =
           let tail = ends m (Some w) f in
-          let len : count_at c ≡ length (written w) + 1 = ap length tail ∙ length_push (written w) (write_at V H i w) in (
+          let len : counted c ≡ length (written w) + 1 = ap length tail ∙ length_push (written w) (write_at V H i w) in (
             w,
             at_origin c ∙ f,
-            ap (λ ws. get_or ws (count_at c - 1) d) whole ∙ get_or_append_left (written m) (writes_from V H i (0 + m) (length H - m)) d (count_at c - 1) (omega arith)
-            ∙ ap (λ ws. get_or ws (count_at c - 1) d) tail ∙ get_or_push (written w) (write_at V H i w) d (count_at c - 1) (omega arith),
+            ap (λ ws. get_or ws (counted c - 1) d) whole ∙ get_or_append_left (written m) (writes_from V H i (0 + m) (length H - m)) d (counted c - 1) (omega arith)
+            ∙ ap (λ ws. get_or ws (counted c - 1) d) tail ∙ get_or_push (written w) (write_at V H i w) d (counted c - 1) (omega arith),
             value_at c ∙ ap left f,
           )
 
@@ -147,8 +147,8 @@ module _ (V : List ℕ) (H : List Event) (i : ℕ) where
   whole_writer c = sym (origin_of H i c) ∙ at_origin c
 
   -- An item has one origin at two cycles exactly if it was written as often before both.
-  pub same_origin_is : (c d : ℕ) → same_origin H i c d ≡ (count_at c == count_at d)
-  same_origin_is c d = same_from_decides {P = count_at c ≡ count_at d} (same_origin H i c d) (count_at c == count_at d) (
+  pub same_origin_is : (c d : ℕ) → same_origin H i c d ≡ (counted c == counted d)
+  same_origin_is c d = same_from_decides {P = counted c ≡ counted d} (same_origin H i c d) (counted c == counted d) (
     λ h. same_ends (length (front H c)) (length (front H d)) (sym (whole_writer c) ∙ (same_place_decides (writer (front H c) i) (writer (front H d) i)).0 h ∙ whole_writer d),
     λ h. (same_place_decides (writer (front H c) i) (writer (front H d) i)).1 (whole_writer c ∙ one_end (length (front H c)) (length (front H d)) h ∙ sym (whole_writer d)),
-  ) (λ h. eqb-true (count_at c) (count_at d) h, λ h. eq-eqb (count_at c) (count_at d) h)
+  ) (λ h. eqb-true (counted c) (counted d) h, λ h. eq-eqb (counted c) (counted d) h)

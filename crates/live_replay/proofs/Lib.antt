@@ -8,3 +8,4 @@ pub mod MarkFacts
 pub mod ClearFacts
 pub mod PassFacts
 pub mod RunFacts
+pub mod ReplayFacts

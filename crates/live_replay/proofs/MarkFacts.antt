@@ -23,7 +23,6 @@ use Rattle.live_replay.specs.Steps.Commits.{MarksAlone, number_at, sources_at, s
 use Rattle.live_replay.proofs.NumberFacts.{number_apart, number_below, number_reached}
 use Rattle.live_replay.proofs.SourceFacts.{read_source, source_read, sources_are}
 use Rattle.live_replay.proofs.WriteFacts.{some_write, split_writes, write_passes}
-use Rattle.live_replay.proofs.LastFacts.{count_at, written}
 
 -- A place that reads from another is a commit of the history, and so is the other.
 pub reads_is_commit : (H : List Event) (p w : ℕ) → ReadsFrom H p w → (w < p) × (is_start (event_at H w) ≡ false)

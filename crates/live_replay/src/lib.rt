@@ -3,6 +3,7 @@
 
 pub mod findings;
 pub mod limits;
+mod replay;
 mod running;
 mod writes;
 

@@ -2,7 +2,7 @@
 use Rattle.std.specs.Prelude.{◌≡◌, ℕ, zero, suc, ◌+◌, ◌<◌, Bool, false, not, cond, List, [], ◌∷◌, ◌++◌, length, get_or, map, take, count_by}
 use Rattle.std.specs.List.{filter_map}
 use Rattle.air_history.specs.declared.histories.Event.{Event}
-use Rattle.air_history.specs.Histories.{is_start, writes, reads, event_at, cycle_at, writer_before}
+use Rattle.air_history.specs.Histories.{is_start, writes, reads, event_at, cycle_at, front, writer_before}
 use Rattle.air_history.specs.Tables.{table, values_of}
 use Rattle.air_history.specs.Reads.{ReadAt}
 use Rattle.air_history.specs.Consistency.{runs_alone}
@@ -38,3 +38,7 @@ writes_from V H i m (suc n) = writes_from V H i m n ++ cond (writes (event_at H 
 pub record MarksAlone (H : List Event) (R : List ReadAt) (marks : List Bool) : Type 0 where
   pub sized : length marks ≡ number_at H (length H)
   pub marked : (p : ℕ) → p < length H → is_start (event_at H p) ≡ false → get_or marks (number_at H p) false ≡ runs_alone H R p
+
+-- How many writes of an item come before a cycle.
+abbrev pub count_at : List ℕ → List Event → ℕ → ℕ → ℕ
+count_at V H i c = length (writes_from V H i 0 (length (front H c)))

@@ -1,0 +1,61 @@
+-- What a replay needs of the deck, and how far its numbers go.
+use Rattle.std.proofs.Common.{◌≡◌, ℕ, zero, suc, ◌+◌, ◌<◌, ◌≤◌, Bool, cond, ◌⊎◌, List, [], ◌∷◌, length, get_or, map, take, count_by, All, refl, sym, ◌∙◌, ap, subst, inl, inr, arith, add-one}
+use Rattle.std.proofs.lemmas.Bool.{cases_lt}
+use Rattle.std.proofs.lemmas.List.{get_or-map, get_or_default, get_or_past, length-map, length-take}
+use Rattle.std.proofs.lemmas.List.Sums.{count_by-le-length}
+use Rattle.air_history.specs.declared.histories.Event.{Event}
+use Rattle.air_history.specs.declared.histories.Event.TheVariants as e
+use Rattle.air_history.specs.Histories.{is_start, event_at, cycle_at}
+use Rattle.air_history.specs.UpdateLists.{UpdateLists}
+use Rattle.air_history.specs.UpdateRules.{UpdateFits}
+use Rattle.air_model.specs.Decks.{Deck, Item, IsDeck, IsUpdate, update_at, updates_by, values_in}
+use Rattle.report_reading.specs.ReportLines.{event_in}
+use Rattle.report_reading.specs.declared.lines.EventLine.{EventLine}
+use Rattle.report_reading.specs.declared.lines.EventLine.TheVariants.{Commit, Start}
+use Rattle.live_replay.specs.declared.running.Running.{Running}
+use Rattle.live_replay.specs.declared.replay.Replay.TheInside.{Inside}
+use Rattle.live_replay.specs.declared.writes.ItemWrite.{ItemWrite}
+use Rattle.live_replay.specs.Steps.Commits.{is_commit, number_at, writes_from}
+use Rattle.live_replay.specs.Steps.Replays.{IsReplay, replayed}
+use Rattle.live_replay.specs.Steps.Runs.{IsRun}
+use Rattle.live_replay.proofs.SourceFacts.{sources_count}
+
+-- A line's updater has updates.
+pub updater_within : (deck : Deck) (by seq : ℕ) → seq < length (updates_by deck by) → by < length deck.updates
+updater_within deck by seq l = elim (cases_lt by (length deck.updates)) as (λ _. by < length deck.updates) [
+  | inl below ↦ below
+  | inr past ↦ absurd (let none = ap length (get_or_past deck.updates by [] past) in omega arith)
+]
+
+-- Each update of the deck fits its items.
+pub update_fits : (deck : Deck) (by seq : ℕ) (d : UpdateLists) → IsDeck deck → seq < length (updates_by deck by) → UpdateFits (length deck.items) (get_or (updates_by deck by) seq d)
+update_fits deck by seq d is l = (is.updates by [] (updater_within deck by seq l) seq d l).fits
+
+pub values_length : (deck : Deck) → length (values_in deck) ≡ length deck.items
+values_length deck = length-map deck.items (λ (i : Item). i.value)
+
+-- The event of a line.
+pub event_of_line : (deck : Deck) (lines : List EventLine) (n : ℕ) (d : EventLine) → n < length lines → event_at (map (event_in deck) lines) n ≡ event_in deck (get_or lines n d)
+event_of_line deck lines n d l = get_or-map (event_in deck) lines n d e.Start l
+
+cycle_few : (H : List Event) (n : ℕ) → cycle_at H n ≤ n
+unfolding cycle_at
+cycle_few H n = omega (arith, count_by-le-length is_start (take n H), length-take n H)
+
+number_few : (H : List Event) (n : ℕ) → number_at H n ≤ n
+unfolding number_at
+number_few H n = omega (arith, count_by-le-length is_commit (take n H), length-take n H)
+
+-- No more starts and commits than events were run.
+pub run_few : (V : List ℕ) (H : List Event) (n : ℕ) (run : Running) → IsRun V H n run → n ≤ length H → (run.starts ≤ n) × (length run.sources.items ≤ n)
+run_few V H n run r l = (
+  omega (arith, r.starts, cycle_few H n),
+  omega (arith, ap length r.sources, sources_count H n l, number_few H n),
+)
+
+-- The writes of an item that a replay keeps.
+pub kept_writes : (r : Inside) → IsReplay r → (i : ℕ) (d : List ItemWrite) → i < length r.deck.now.items →
+    get_or r.writes.items i d ≡ writes_from (values_in r.deck.now) (replayed r).history i 0 (length (replayed r).history)
+kept_writes r is i d l =
+    let within : i < length (values_in r.deck.now) = omega (arith, values_length r.deck.now) in
+    get_or_default r.writes.items i d [] (let s = is.sized in omega arith) ∙ is.writes i within

@@ -1,0 +1,29 @@
+-- For private steps alone. What is replayed, and what is kept of it.
+use Rattle.std.specs.Prelude.{◌≡◌, ◌<◌, ℕ, List, [], length, get_or, map, ⊤}
+use Rattle.air_history.specs.declared.histories.Event.{Event}
+use Rattle.air_model.specs.Decks.{Deck, updates_by, values_in}
+use Rattle.report_reading.specs.ReportLines.{event_in}
+use Rattle.report_reading.specs.declared.lines.EventLine.{EventLine}
+use Rattle.report_reading.specs.declared.lines.EventLine.TheVariants.{Commit, Start}
+use Rattle.live_replay.specs.declared.replay.Replay.TheInside.{Inside}
+use Rattle.live_replay.specs.Steps.Commits.{sources_to, writes_from}
+
+-- A deck, and a history over it.
+pub record Replayed : Type 0 where
+  pub deck : Deck
+  pub history : List Event
+
+-- The lines name the events of the history.
+abbrev pub replayed : Inside → Replayed
+replayed r = record { deck = r.deck.now; history = map (event_in r.deck.now) r.lines.now }
+
+-- What each commit reads from is kept, and the writes of each item.
+pub record IsReplay (r : Inside) : Type 0 where
+  pub sources : r.sources.items ≡ sources_to (replayed r).history (length (replayed r).history)
+  pub sized : length r.writes.items ≡ length (values_in r.deck.now)
+  pub writes : (i : ℕ) → i < length (values_in r.deck.now) → get_or r.writes.items i [] ≡ writes_from (values_in r.deck.now) (replayed r).history i 0 (length (replayed r).history)
+
+-- A line's update is one of the deck's.
+abbrev pub NamesUpdate : Deck → EventLine → Type 0
+NamesUpdate deck (Commit by seq) = seq < length (updates_by deck by)
+NamesUpdate deck Start = ⊤

@@ -1,0 +1,86 @@
+//! The replay of a history over a deck: the origins and the values of reads.
+//!
+//! The history is run once. What an item's writes left, and how many came before a cycle, tells the rest; no control column is made.
+
+ghost use Rattle.std.specs.Prelude.{◌≡◌, ◌<◌, ◌≤◌, length, map, All, IfOk, option_map};
+ghost use Rattle.air_history.specs.Reads.{origin, read_value, same_origin};
+ghost use Rattle.air_history.specs.Tables.{values_of};
+ghost use Rattle.air_model.specs.Decks.{values_in};
+ghost use Rattle.air_model.specs.Reports.{total_at};
+ghost use Rattle.report_reading.specs.ReportLines.{event_in};
+ghost use Rattle.report_reading.specs.declared.limits.TheConstants.{MOST_REPORT_BYTES};
+ghost use Rattle.live_replay.specs.Findings.{place_of, read_of};
+ghost use Rattle.live_replay.specs.Steps.Commits.{count_at, number_at};
+ghost use Rattle.live_replay.specs.Steps.Replays.{NamesUpdate};
+
+use crate::running::Running;
+use crate::writes::{ItemWrites, Sources};
+use air_base::{NoMemory, Policy, ReadOf};
+use item_catalog::Deck;
+use report_reading::EventLine;
+use std::alloc::Global;
+use std::marker::Model;
+
+/// A history over a deck, and what is kept of it.
+#[derive(Drop)]
+pub struct Replay<'a> {
+    deck: &'a Deck,
+    lines: &'a [EventLine],
+    sources: Vec<Sources>,
+    writes: Vec<ItemWrites>,
+}
+
+impl<'a> Model for Replay<'a> {
+    ghost use Rattle.live_replay.specs.Steps.Replays.{IsReplay, Replayed, replayed};
+
+    ghost Value = { Replayed };
+
+    ghost view = { replayed };
+
+    ghost invariant = { IsReplay };
+}
+
+impl<'a> Replay<'a> {
+    /// The replay of the history that the lines name.
+    pub fn new(
+        alloc: Global,
+        deck: &'a Deck,
+        lines: &'a [EventLine],
+    ) -> Result<Replay<'a>, NoMemory>
+        requires named { All (NamesUpdate deck.now) lines.now }
+        requires few { length lines.now ≤ MOST_REPORT_BYTES }
+        ensures { IfOk result (λ r. r ≡ record { deck = deck.now; history = map (event_in deck.now) lines.now }) }
+    {
+        deck.well_made();
+        let mut running = Running::new(alloc, deck)?;
+        for line in lines {
+            match *line {
+                EventLine::Start => running.start(),
+                EventLine::Commit { by, seq } => {
+                    running.commit(alloc, by, seq, &deck.updates(by)[seq as usize])?;
+                }
+            }
+        }
+        Ok(Replay {
+            deck,
+            lines,
+            sources: running.sources,
+            writes: running.writes,
+        })
+    }
+
+    /// The policy of the deck.
+    pub fn policy(&self) -> Policy
+        ensures { result ≡ self.now.deck.settings.policy }
+    {
+        self.deck.settings().policy
+    }
+
+    /// How many writes of an item come before a cycle.
+    fn writes_before(&self, item: u16, cycle: u32) -> usize
+        requires { item < length self.now.deck.items }
+        ensures { result ≡ count_at (values_in self.now.deck) self.now.history item cycle }
+    {
+        self.writes[item as usize].before(cycle)
+    }
+}
