@@ -1,13 +1,19 @@
 -- What a replay needs of the deck, and how far its numbers go.
-use Rattle.std.proofs.Common.{◌≡◌, ℕ, zero, suc, ◌+◌, ◌<◌, ◌≤◌, Bool, cond, ◌⊎◌, List, [], ◌∷◌, length, get_or, map, take, count_by, All, refl, sym, ◌∙◌, ap, subst, inl, inr, arith, add-one}
+use Rattle.std.proofs.Common.{◌≡◌, ℕ, zero, suc, ◌+◌, ◌%◌, ◌^◌, ◌<◌, ◌≤◌, Bool, cond, ◌⊎◌, List, [], ◌∷◌, length, get_or, map, take, count_by, All, refl, sym, ◌∙◌, ap, subst, inl, inr, arith, add-one, zero-add}
+use Rattle.std.specs.List.{sum}
+use Rattle.std.proofs.Math.Nat.{mod-add-mod}
 use Rattle.std.proofs.lemmas.Bool.{cases_lt}
-use Rattle.std.proofs.lemmas.List.{get_or-map, get_or_default, get_or_past, length-map, length-take}
-use Rattle.std.proofs.lemmas.List.Sums.{count_by-le-length}
+use Rattle.std.proofs.lemmas.List.FromFn.{get_or-map-range_with_len, length-map-range_with_len}
+use Rattle.std.proofs.lemmas.List.{get_or-map, get_or_default, get_or_past, length-map, length-take, take_all}
+use Rattle.std.proofs.lemmas.List.Sums.{count_by-le-length, sum_by_more}
 use Rattle.air_history.specs.declared.histories.Event.{Event}
 use Rattle.air_history.specs.declared.histories.Event.TheVariants as e
-use Rattle.air_history.specs.Histories.{is_start, event_at, cycle_at}
+use Rattle.air_history.specs.Histories.{is_start, event_at, cycle_at, front}
 use Rattle.air_history.specs.UpdateLists.{UpdateLists}
 use Rattle.air_history.specs.UpdateRules.{UpdateFits}
+use Rattle.air_history.specs.Reads.{read_value}
+use Rattle.air_history.specs.Tables.{table, table_list, values_of}
+use Rattle.air_model.specs.Reports.{total_at}
 use Rattle.air_model.specs.Decks.{Deck, Item, IsDeck, IsUpdate, update_at, updates_by, values_in}
 use Rattle.report_reading.specs.ReportLines.{event_in}
 use Rattle.report_reading.specs.declared.lines.EventLine.{EventLine}
@@ -15,6 +21,7 @@ use Rattle.report_reading.specs.declared.lines.EventLine.TheVariants.{Commit, St
 use Rattle.live_replay.specs.declared.running.Running.{Running}
 use Rattle.live_replay.specs.declared.replay.Replay.TheInside.{Inside}
 use Rattle.live_replay.specs.declared.writes.ItemWrite.{ItemWrite}
+use Rattle.live_replay.specs.Findings.{read_of}
 use Rattle.live_replay.specs.Steps.Commits.{is_commit, number_at, writes_from}
 use Rattle.live_replay.specs.Steps.Replays.{IsReplay, replayed}
 use Rattle.live_replay.specs.Steps.Runs.{IsRun}
@@ -59,3 +66,18 @@ pub kept_writes : (r : Inside) → IsReplay r → (i : ℕ) (d : List ItemWrite)
 kept_writes r is i d l =
     let within : i < length (values_in r.deck.now) = omega (arith, values_length r.deck.now) in
     get_or_default r.writes.items i d [] (let s = is.sized in omega arith) ∙ is.writes i within
+
+-- The sum of values so far with the next one.
+pub total_next : (V : List ℕ) (H : List Event) (c i total v : ℕ) → i < length V → total ≡ sum (take i (table_list V (front H c))) % 2 ^ 64 → v ≡ read_value (values_of V) H (read_of i c) →
+    (total + v) % 2 ^ 64 ≡ sum (take (i + 1) (table_list V (front H c))) % 2 ^ 64
+total_next V H c i total v l so_far is =
+    let T = table_list V (front H c) in
+    let within : i < length T = omega (arith, length-map-range_with_len (table (values_of V) (front H c)) 0 (length V)) in
+    let here : v ≡ get_or T i 0 = is ∙ sym (get_or-map-range_with_len (table (values_of V) (front H c)) 0 (length V) i i 0 l (zero-add i)) in
+    ap (λ t. (t + v) % 2 ^ 64) so_far ∙ mod-add-mod (sum (take i T)) (2 ^ 64) v
+    ∙ ap (λ n. n % 2 ^ 64) (ap (λ w. sum (take i T) + w) here ∙ sym (sum_by_more (λ n. n) T i 0 within))
+
+pub total_whole : (V : List ℕ) (H : List Event) (c i total : ℕ) → length V ≤ i → total ≡ sum (take i (table_list V (front H c))) % 2 ^ 64 → total ≡ total_at V H c
+unfolding total_at
+total_whole V H c i total l so_far =
+    so_far ∙ ap (λ T. sum T % 2 ^ 64) (take_all i (table_list V (front H c)) (omega (arith, length-map-range_with_len (table (values_of V) (front H c)) 0 (length V))))

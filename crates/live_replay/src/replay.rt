@@ -9,13 +9,13 @@ ghost use Rattle.air_model.specs.Decks.{values_in};
 ghost use Rattle.air_model.specs.Reports.{total_at};
 ghost use Rattle.report_reading.specs.ReportLines.{event_in};
 ghost use Rattle.report_reading.specs.declared.limits.TheConstants.{MOST_REPORT_BYTES};
-ghost use Rattle.live_replay.specs.Findings.{place_of, read_of};
+ghost use Rattle.live_replay.specs.Findings.{read_of};
 ghost use Rattle.live_replay.specs.Steps.Commits.{count_at, number_at};
-ghost use Rattle.live_replay.specs.Steps.Replays.{NamesUpdate};
+ghost use Rattle.live_replay.specs.Steps.Replays.{NamesUpdate, TellsRead};
 
 use crate::running::Running;
-use crate::writes::{ItemWrites, Sources};
-use air_base::{NoMemory, Policy, ReadOf};
+use crate::writes::{ItemWrite, ItemWrites, Sources};
+use air_base::{NoMemory, Policy};
 use item_catalog::Deck;
 use report_reading::EventLine;
 use std::alloc::Global;
@@ -82,5 +82,58 @@ impl<'a> Replay<'a> {
         ensures { result ≡ count_at (values_in self.now.deck) self.now.history item cycle }
     {
         self.writes[item as usize].before(cycle)
+    }
+
+    /// Whether an item has one origin at two cycles.
+    pub fn same_origin(&self, item: u16, c: u32, d: u32) -> bool
+        requires { item < length self.now.deck.items }
+        ensures { result ≡ same_origin self.now.history item c d }
+    {
+        self.writes_before(item, c) == self.writes_before(item, d)
+    }
+
+    /// The last write of an item before a cycle.
+    fn last_write(&self, item: u16, cycle: u32) -> Option<ItemWrite>
+        requires { item < length self.now.deck.items }
+        ensures { TellsRead (values_in self.now.deck) self.now.history item cycle result }
+    {
+        let before = self.writes_before(item, cycle);
+        if before == 0 {
+            return None;
+        }
+        Some(self.writes[item as usize].as_slice()[before - 1])
+    }
+
+    /// The value of an item at a cycle's start.
+    pub fn value(&self, item: u16, cycle: u32) -> u64
+        requires { item < length self.now.deck.items }
+        ensures { result ≡ read_value (values_of (values_in self.now.deck)) self.now.history (read_of item cycle) }
+    {
+        match self.last_write(item, cycle) {
+            None => self.deck.value(item),
+            Some(write) => write.value,
+        }
+    }
+
+    /// The number of the commit that is the origin of a read.
+    pub fn origin(&self, item: u16, cycle: u32) -> Option<u32>
+        requires { item < length self.now.deck.items }
+        ensures { result ≡ option_map (number_at self.now.history) (origin self.now.history (read_of item cycle)) }
+    {
+        match self.last_write(item, cycle) {
+            None => None,
+            Some(write) => Some(write.commit),
+        }
+    }
+
+    /// The sum of all values at a cycle's start, modulo 2^64.
+    pub fn total(&self, cycle: u32) -> u64
+        ensures { result ≡ total_at (values_in self.now.deck) self.now.history cycle }
+    {
+        let mut total = 0_u64;
+        for item in 0..self.deck.items() {
+            total = total.wrapping_add(self.value(item, cycle));
+        }
+        total
     }
 }

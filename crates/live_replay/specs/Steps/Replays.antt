@@ -1,12 +1,16 @@
 -- For private steps alone. What is replayed, and what is kept of it.
-use Rattle.std.specs.Prelude.{◌≡◌, ◌<◌, ℕ, List, [], length, get_or, map, ⊤}
+use Rattle.std.specs.Prelude.{◌≡◌, ◌<◌, ℕ, List, [], length, get_or, map, ⊤, Option, Some, None, option_map}
 use Rattle.air_history.specs.declared.histories.Event.{Event}
+use Rattle.air_history.specs.Reads.{origin, read_value}
+use Rattle.air_history.specs.Tables.{values_of}
 use Rattle.air_model.specs.Decks.{Deck, updates_by, values_in}
 use Rattle.report_reading.specs.ReportLines.{event_in}
 use Rattle.report_reading.specs.declared.lines.EventLine.{EventLine}
 use Rattle.report_reading.specs.declared.lines.EventLine.TheVariants.{Commit, Start}
 use Rattle.live_replay.specs.declared.replay.Replay.TheInside.{Inside}
-use Rattle.live_replay.specs.Steps.Commits.{sources_to, writes_from}
+use Rattle.live_replay.specs.declared.writes.ItemWrite.{ItemWrite}
+use Rattle.live_replay.specs.Findings.{read_of}
+use Rattle.live_replay.specs.Steps.Commits.{number_at, sources_to, writes_from}
 
 -- A deck, and a history over it.
 pub record Replayed : Type 0 where
@@ -27,3 +31,8 @@ pub record IsReplay (r : Inside) : Type 0 where
 abbrev pub NamesUpdate : Deck → EventLine → Type 0
 NamesUpdate deck (Commit by seq) = seq < length (updates_by deck by)
 NamesUpdate deck Start = ⊤
+
+-- What the last write of an item before a cycle tells of a read, or that there is none.
+abbrev pub TellsRead : List ℕ → List Event → ℕ → ℕ → Option ItemWrite → Type 0
+TellsRead V H i c None = (origin H (read_of i c) ≡ None) × (read_value (values_of V) H (read_of i c) ≡ values_of V i)
+TellsRead V H i c (Some w) = (option_map (number_at H) (origin H (read_of i c)) ≡ Some w.commit) × (read_value (values_of V) H (read_of i c) ≡ w.value)
