@@ -19,7 +19,7 @@ use Rattle.air_history.proofs.OriginLemmas.{origin_some, origin_none}
 use Rattle.history_laws.proofs.ConsistencyLemmas.{alone_at, alone_from, same_place_decides}
 use Rattle.live_replay.specs.declared.writes.ItemWrite.{ItemWrite}
 use Rattle.live_replay.specs.Findings.{read_of}
-use Rattle.live_replay.specs.Steps.Commits.{MarksAlone, number_at, sources_at, sources_to, write_at, writes_from}
+use Rattle.live_replay.specs.Steps.Commits.{IsMarked, Marking, MarksAlone, number_at, sources_at, sources_to, write_at, writes_from}
 use Rattle.live_replay.proofs.NumberFacts.{number_apart, number_below, number_reached}
 use Rattle.live_replay.proofs.SourceFacts.{read_source, source_read, sources_are}
 use Rattle.live_replay.proofs.WriteFacts.{some_write, split_writes, write_passes}
@@ -45,22 +45,14 @@ commit_within H p s = elim (cases_lt p (length H)) as (λ _. p < length H) [
 ]
 
 module _ (H : List Event) (R : List ReadAt) where
-  -- The commit at a place is marked.
   abbrev Marked : List Bool → ℕ → Type 0
-  Marked marks p = IsTrue (get_or marks (number_at H p) false)
-
-  -- The origins are marked; what is marked runs alone; and from number `at` on all that a marked commit reads from is marked.
-  pub record Marking (at : ℕ) (marks : List Bool) : Type 0 where
-    pub sized : length marks ≡ number_at H (length H)
-    pub first : (j o : ℕ) (d : ReadAt) → j < length R → origin H (get_or R j d) ≡ Some o → Marked marks o
-    pub sound : (p : ℕ) → p < length H → is_start (event_at H p) ≡ false → Marked marks p → IsTrue (runs_alone H R p)
-    pub closed : (p w : ℕ) → p < length H → is_start (event_at H p) ≡ false → at ≤ number_at H p → Marked marks p → ReadsFrom H p w → Marked marks w
+  Marked = IsMarked H
 
   -- The new marks are the old ones, and those of the sources of a commit.
   abbrev pub MarksSources : ℕ → List Bool → List Bool → Type 0
   MarksSources at old new = (k : ℕ) → get_or new k false ≡ (get_or old k false || list_any (λ s. s == k) (get_or (sources_to H (length H)) at []))
 
-  pub marking_skip : (at : ℕ) (marks : List Bool) → get_or marks at false ≡ false → Marking (at + 1) marks → Marking at marks
+  pub marking_skip : (at : ℕ) (marks : List Bool) → get_or marks at false ≡ false → Marking H R (at + 1) marks → Marking H R at marks
   marking_skip at marks miss m = record {
     sized = m.sized;
     first = m.first;
@@ -79,7 +71,7 @@ module _ (H : List Event) (R : List ReadAt) where
       let v = place_at (origin H (get_or R s.0 d)) (λ o. descends H o p) s.2 in
       alone_from H R w s.0 d s.1 (place_from (origin H (get_or R s.0 d)) (λ o. descends H o w) v.0 v.1 ((closure H v.0).closed p w v.2 r))
 
-  pub marking_more : (at : ℕ) (old new : List Bool) → at < number_at H (length H) → get_or old at false ≡ true → length new ≡ length old → MarksSources at old new → Marking (at + 1) old → Marking at new
+  pub marking_more : (at : ℕ) (old new : List Bool) → at < number_at H (length H) → get_or old at false ≡ true → length new ≡ length old → MarksSources at old new → Marking H R (at + 1) old → Marking H R at new
   marking_more at old new within hit len more m = record {
     sized = len ∙ m.sized;
     first = λ j o d l e. up (number_at H o) (m.first j o d l e);
@@ -115,7 +107,7 @@ module _ (H : List Event) (R : List ReadAt) where
       up k h = more k ∙ or_left _ _ h
 
   -- Where all is closed, the marked commits are those that run alone.
-  pub marking_all : (marks : List Bool) → Marking 0 marks → MarksAlone H R marks
+  pub marking_all : (marks : List Bool) → Marking H R 0 marks → MarksAlone H R marks
   unfolding descends_from
   marking_all marks m = record {
     sized = m.sized;

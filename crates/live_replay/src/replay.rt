@@ -10,7 +10,7 @@ ghost use Rattle.air_model.specs.Reports.{total_at};
 ghost use Rattle.report_reading.specs.ReportLines.{event_in};
 ghost use Rattle.report_reading.specs.declared.limits.TheConstants.{MOST_REPORT_BYTES};
 ghost use Rattle.live_replay.specs.Findings.{read_of};
-ghost use Rattle.live_replay.specs.Steps.Commits.{count_at, number_at};
+ghost use Rattle.live_replay.specs.Steps.Commits.{count_at, number_at, sources_to, writes_from};
 ghost use Rattle.live_replay.specs.Steps.Replays.{NamesUpdate, TellsRead};
 
 use crate::running::Running;
@@ -76,12 +76,27 @@ impl<'a> Replay<'a> {
         self.deck.settings().policy
     }
 
+    /// What each commit reads from.
+    pub fn sources(&self) -> &[Sources]
+        ensures { result.now ≡ sources_to self.now.history (length self.now.history) }
+    {
+        &self.sources
+    }
+
+    /// The writes of an item, in order.
+    pub fn writes(&self, item: u16) -> &ItemWrites
+        requires { item < length self.now.deck.items }
+        ensures { result.now ≡ writes_from (values_in self.now.deck) self.now.history item 0 (length self.now.history) }
+    {
+        &self.writes[item as usize]
+    }
+
     /// How many writes of an item come before a cycle.
-    fn writes_before(&self, item: u16, cycle: u32) -> usize
+    pub fn writes_before(&self, item: u16, cycle: u32) -> usize
         requires { item < length self.now.deck.items }
         ensures { result ≡ count_at (values_in self.now.deck) self.now.history item cycle }
     {
-        self.writes[item as usize].before(cycle)
+        self.writes(item).before(cycle)
     }
 
     /// Whether an item has one origin at two cycles.
@@ -101,7 +116,7 @@ impl<'a> Replay<'a> {
         if before == 0 {
             return None;
         }
-        Some(self.writes[item as usize].as_slice()[before - 1])
+        Some(self.writes(item).as_slice()[before - 1])
     }
 
     /// The value of an item at a cycle's start.

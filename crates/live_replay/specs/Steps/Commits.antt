@@ -1,10 +1,11 @@
 -- For private steps alone. Commits by their numbers, which leave the starts out; what each reads from, and each item's writes.
-use Rattle.std.specs.Prelude.{◌≡◌, ℕ, zero, suc, ◌+◌, ◌<◌, Bool, false, not, cond, List, [], ◌∷◌, ◌++◌, length, get_or, map, take, count_by}
+use Rattle.std.specs.Prelude.{◌≡◌, ℕ, zero, suc, ◌+◌, ◌<◌, ◌≤◌, Bool, false, not, cond, List, [], ◌∷◌, ◌++◌, length, get_or, map, take, count_by, Some, IsTrue}
 use Rattle.std.specs.List.{filter_map}
 use Rattle.air_history.specs.declared.histories.Event.{Event}
 use Rattle.air_history.specs.Histories.{is_start, writes, reads, event_at, cycle_at, front, writer_before}
 use Rattle.air_history.specs.Tables.{table, values_of}
-use Rattle.air_history.specs.Reads.{ReadAt}
+use Rattle.air_history.specs.DescentLaws.{ReadsFrom}
+use Rattle.air_history.specs.Reads.{ReadAt, origin}
 use Rattle.air_history.specs.Consistency.{runs_alone}
 use Rattle.live_replay.specs.declared.writes.ItemWrite.{ItemWrite}
 
@@ -42,3 +43,14 @@ pub record MarksAlone (H : List Event) (R : List ReadAt) (marks : List Bool) : T
 -- How many writes of an item come before a cycle.
 abbrev pub count_at : List ℕ → List Event → ℕ → ℕ → ℕ
 count_at V H i c = length (writes_from V H i 0 (length (front H c)))
+
+-- The commit at a place is marked.
+abbrev pub IsMarked : List Event → List Bool → ℕ → Type 0
+IsMarked H marks p = IsTrue (get_or marks (number_at H p) false)
+
+-- The origins of reads are marked; what is marked runs alone; and from number `at` on all that a marked commit reads from is marked.
+pub record Marking (H : List Event) (R : List ReadAt) (at : ℕ) (marks : List Bool) : Type 0 where
+  pub sized : length marks ≡ number_at H (length H)
+  pub first : (j o : ℕ) (d : ReadAt) → j < length R → origin H (get_or R j d) ≡ Some o → IsMarked H marks o
+  pub sound : (p : ℕ) → p < length H → is_start (event_at H p) ≡ false → IsMarked H marks p → IsTrue (runs_alone H R p)
+  pub closed : (p w : ℕ) → p < length H → is_start (event_at H p) ≡ false → at ≤ number_at H p → IsMarked H marks p → ReadsFrom H p w → IsMarked H marks w

@@ -3,17 +3,12 @@ use Rattle.std.specs.Prelude.{option_map}
 use Rattle.air_model.specs.Decks.{values_in}
 use Rattle.live_replay.specs.declared.writes.ItemWrite.{ItemWrite}
 use Rattle.live_replay.specs.Steps.Commits.{count_at, number_at, write_at, writes_from}
-use Rattle.live_replay.specs.Steps.Replays.{Replayed, replayed}
 use Rattle.live_replay.proofs.LastFacts.{count_within, last_written, none_written}
-use Rattle.live_replay.proofs.ReplayFacts.{kept_writes}
 use Rattle.live_replay.proofs.replay.Replay.last_write.Goals as goal
 use Rattle.live_replay.proofs.replay.Replay.last_write.Goals.{After-as_slice}
 
 its : (c : After-as_slice) → c.as_slice.result.now ≡ writes_from (values_in c.args.self.now.deck) c.args.self.now.history c.args.item 0 (length c.args.self.now.history)
-its c =
-    let P : Replayed → List ItemWrite = λ t. writes_from (values_in t.deck) t.history c.args.item 0 (length t.history) in
-    let within : c.args.item < length c.self.inside.deck.now.items = subst (λ (t : Replayed). c.args.item < length t.deck.items) (sym c.self.view_is) c.requires in
-    c.as_slice.ensures ∙ c.index.ensures ∙ kept_writes c.self.inside c.self.invariant c.args.item c.index.result.now within ∙ ap P c.self.view_is
+its c = c.as_slice.ensures ∙ c.writes.ensures
 
 pub returns-then-before-eq0 : goal.returns-then-before-eq0
 returns-then-before-eq0 c = none_written (values_in c.args.self.now.deck) c.args.self.now.history c.args.item c.args.cycle (sym c.writes_before-before.ensures ∙ c.if-before-eq0.true)
