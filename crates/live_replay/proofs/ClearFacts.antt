@@ -1,15 +1,17 @@
 -- A read is the last that runs alone exactly if no later write of its item is marked.
-use Rattle.std.proofs.Common.{◌≡◌, ℕ, ◌+◌, ◌-◌, ◌<◌, ◌≤◌, Bool, true, false, not, ◌&&◌, ◌⊎◌, Option, Some, None, List, [], length, get_or, drop, refl, sym, ◌∙◌, ap, subst, inl, inr, arith, IsTrue}
-use Rattle.std.specs.List.{list_any}
+use Rattle.std.proofs.Common.{◌≡◌, ℕ, ◌+◌, ◌-◌, ◌<◌, ◌≤◌, Bool, true, false, not, ◌&&◌, ◌⊎◌, Option, Some, None, List, [], ◌∷◌, length, get_or, take, drop, refl, sym, ◌∙◌, ap, subst, inl, inr, arith, IsTrue}
+use Rattle.std.specs.List.{list_all, list_any}
 use Rattle.std.proofs.lemmas.Bool.{cases_lt, both_ways, and_parts, and_from, and_left, and_right, false_from_ne_true, not_from_false, not-true}
 use Rattle.std.proofs.lemmas.Bool.Decides.{same_from_decides}
-use Rattle.std.proofs.lemmas.List.{drop_at}
+use Rattle.std.proofs.lemmas.List.{drop_at, take_all, take_more}
+use Rattle.std.proofs.lemmas.List.Folds.{list_all-append}
+use Rattle.std.proofs.lemmas.List.Sums.{AllPass-from_list_all}
 use Rattle.air_history.specs.declared.histories.Event.{Event}
 use Rattle.air_history.specs.Histories.{is_start, writes, event_at, front}
 use Rattle.air_history.specs.Places.{same_place}
 use Rattle.air_history.specs.Descents.{descends}
 use Rattle.air_history.specs.Reads.{ReadAt, origin}
-use Rattle.air_history.specs.Consistency.{descends_from, runs_alone, last_alone}
+use Rattle.air_history.specs.Consistency.{consistent, descends_from, runs_alone, last_alone}
 use Rattle.air_history.proofs.PlaceLemmas.{IsLast, last_place_is, last_place_from, place_from}
 use Rattle.air_history.proofs.HistoryLemmas.{descends_self, writer_no_start, writes_within, front_within}
 use Rattle.air_history.proofs.OriginLemmas.{origin_some, origin_none}
@@ -90,3 +92,21 @@ module _ (V : List ℕ) (H : List Event) (R : List ReadAt) (marks : List Bool) (
       (λ e. last_clear (origin H r) refl ((same_place_decides (last_alone H R r.item) (origin H r)).0 e), λ c. (same_place_decides (last_alone H R r.item) (origin H r)).1 (clear_last j d l at c (origin H r) refl))
       (unmarked_clear, clear_unmarked)
       ∙ sym (ap (λ ws. not (list_any (is_marked marks) ws)) (writes_since V H r.item r.cycle))
+
+-- ---- each read in turn
+
+module _ (H : List Event) (R : List ReadAt) where
+  -- The read's origin is the last that runs alone and writes its item.
+  abbrev pub is_last : ReadAt → Bool
+  is_last r = same_place (last_alone H R r.item) (origin H r)
+
+  pub last_more : (n : ℕ) (d : ReadAt) → n < length R → list_all is_last (take n R) ≡ true → is_last (get_or R n d) ≡ true → list_all is_last (take (n + 1) R) ≡ true
+  last_more n d l so_far here = ap (list_all is_last) (take_more R n d l) ∙ list_all-append is_last (take n R) (get_or R n d ∷ []) ∙ and_from _ _ so_far (and_from _ _ here refl)
+
+  pub last_fails : (n : ℕ) (d : ReadAt) → n < length R → is_last (get_or R n d) ≡ false → consistent H R ≡ false
+  unfolding consistent
+  last_fails n d l fails = false_from_ne_true _ (λ h. both_ways _ fails (AllPass-from_list_all is_last R h n d l))
+
+  pub all_last : (n : ℕ) → length R ≤ n → list_all is_last (take n R) ≡ true → consistent H R ≡ true
+  unfolding consistent
+  all_last n all h = ap (list_all is_last) (sym (take_all n R all)) ∙ h

@@ -7,5 +7,6 @@ pub mod SourceFacts
 pub mod MarkFacts
 pub mod ClearFacts
 pub mod PassFacts
+pub mod OriginMarks
 pub mod RunFacts
 pub mod ReplayFacts

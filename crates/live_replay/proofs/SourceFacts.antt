@@ -2,14 +2,14 @@
 use Rattle.std.proofs.Common.{◌≡◌, ℕ, zero, suc, ◌+◌, ◌<◌, ◌≤◌, Bool, true, false, cond, ◌||◌, ◌==◌, ◌⊎◌, not, Option, Some, None, List, [], ◌∷◌, ◌++◌, length, get_or, map, All, refl, sym, ◌∙◌, ap, subst, inl, inr, arith, add-one, IsTrue}
 use Rattle.std.specs.List.{list_any, filter_map, cons_option}
 use Rattle.std.proofs.lemmas.Bool.{cases_Bool, cases_lt, or_cases, or_left, or_right, eqb-true, eq-eqb, false≢true, not_from_true, not_from_false, both_ways}
-use Rattle.std.proofs.lemmas.List.{append-nil, length_push, get_or_push, get_or_append_left}
+use Rattle.std.proofs.lemmas.List.{append-nil, get_or_default, length_push, get_or_push, get_or_append_left}
 use Rattle.std.proofs.lemmas.List.Elements.{All-nil, All-cons}
 use Rattle.air_history.specs.declared.histories.Event.{Event}
 use Rattle.air_history.specs.Histories.{is_start, reads, writes, event_at, writer_before}
 use Rattle.air_history.specs.DescentLaws.{ReadsFrom}
 use Rattle.air_history.proofs.HistoryLemmas.{writer_before_some, writer_no_start}
 use Rattle.live_replay.specs.Steps.Commits.{is_commit, number_at, sources_at, sources_to}
-use Rattle.live_replay.proofs.NumberFacts.{number_none, number_start, number_commit, number_below}
+use Rattle.live_replay.proofs.NumberFacts.{number_none, number_start, number_commit, number_below, number_mono, number_reached}
 
 module _ (H : List Event) where
   pub no_sources : sources_to H 0 ≡ []
@@ -100,3 +100,13 @@ module _ (H : List Event) where
   unfolding sources_at
   sources_below p l = each_found (λ k. k < number_at H p) (writer_before H p) (number_at H)
       (λ item w e. let is = writer_before_some H p item w e in number_below H w p is.0 (let lt = is.0 in omega arith) (writer_no_start (event_at H w) item is.1)) (reads (event_at H p))
+
+  -- All sources are numbers of commits.
+  pub all_sources_below : All (All (λ k. k < number_at H (length H))) (sources_to H (length H))
+  all_sources_below k d l =
+      let within : k < number_at H (length H) = omega (arith, sources_count (length H) (omega arith)) in
+      let r = number_reached H (length H) k (omega arith) within in
+      let its : get_or (sources_to H (length H)) k d ≡ sources_at H r.0 =
+      get_or_default (sources_to H (length H)) k d [] l ∙ ap (λ n. get_or (sources_to H (length H)) n []) (sym r.3) ∙ sources_are (length H) r.0 (omega arith) r.1 r.2 in
+      let top : number_at H r.0 ≤ number_at H (length H) = number_mono H r.0 (length H) (let low = r.1 in omega arith) in
+      subst (All (λ k. k < number_at H (length H))) (sym its) (λ j e m. let below = sources_below r.0 (let low = r.1 in omega arith) j e m in omega arith)

@@ -19,6 +19,7 @@ use Rattle.history_laws.proofs.AloneLemmas.{not_written}
 use Rattle.live_replay.specs.declared.writes.ItemWrite.{ItemWrite}
 use Rattle.live_replay.specs.Steps.Commits.{number_at, write_at, writes_from}
 use Rattle.live_replay.proofs.CountFacts.{front_count}
+use Rattle.live_replay.proofs.NumberFacts.{number_below}
 
 pub take_next : (H : List Event) (p : ℕ) → p < length H → take (p + 1) H ≡ take p H ++ event_at H p ∷ []
 take_next H p l = take_more H p Start l
@@ -123,3 +124,8 @@ module _ (V : List ℕ) (H : List Event) (i : ℕ) where
       more : (b : Bool) → IsNonDecreasingBy (λ w. w.cycle) (writes_from V H i 0 n) → IsNonDecreasingBy (λ w. w.cycle) (writes_from V H i 0 n ++ cond b (write_at V H i (0 + n) ∷ []) [])
       more true rest = IsNonDecreasingBy-push (λ (w : ItemWrite). w.cycle) (writes_from V H i 0 n) (write_at V H i (0 + n)) rest (λ d l. earlier (length (writes_from V H i 0 n) - 1) d (omega arith))
       more false rest = subst (IsNonDecreasingBy (λ (w : ItemWrite). w.cycle)) (sym (append-nil (writes_from V H i 0 n))) rest
+
+  -- Their numbers are those of commits.
+  pub writes_numbered : All (λ w. w.commit < number_at H (length H)) (writes_from V H i 0 (length H))
+  unfolding write_at
+  writes_numbered = each_write (λ w. w.commit < number_at H (length H)) 0 (length H) (λ p a b w. let l = writes_within H p i w in number_below H p (length H) l l (writer_no_start (event_at H p) i w))

@@ -1,6 +1,7 @@
 //! The audit: each verdict, glance and look of a report is replayed by the report's own history.
 #![tactic(auto)]
 
+mod alone;
 pub mod findings;
 pub mod limits;
 mod replay;

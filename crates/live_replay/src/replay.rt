@@ -2,7 +2,7 @@
 //!
 //! The history is run once. What an item's writes left, and how many came before a cycle, tells the rest; no control column is made.
 
-ghost use Rattle.std.specs.Prelude.{◌≡◌, ◌<◌, ◌≤◌, length, map, All, IfOk, option_map};
+ghost use Rattle.std.specs.Prelude.{◌≡◌, ◌<◌, ◌≤◌, length, map, All, IfOk, IfSome, option_map};
 ghost use Rattle.air_history.specs.Reads.{origin, read_value, same_origin};
 ghost use Rattle.air_history.specs.Tables.{values_of};
 ghost use Rattle.air_model.specs.Decks.{values_in};
@@ -78,7 +78,9 @@ impl<'a> Replay<'a> {
 
     /// What each commit reads from.
     pub fn sources(&self) -> &[Sources]
-        ensures { result.now ≡ sources_to self.now.history (length self.now.history) }
+        ensures are { result.now ≡ sources_to self.now.history (length self.now.history) }
+        ensures counted { length result.now ≡ number_at self.now.history (length self.now.history) }
+        ensures below { All (All (λ k. k < number_at self.now.history (length self.now.history))) result.now }
     {
         &self.sources
     }
@@ -86,7 +88,8 @@ impl<'a> Replay<'a> {
     /// The writes of an item, in order.
     pub fn writes(&self, item: u16) -> &ItemWrites
         requires { item < length self.now.deck.items }
-        ensures { result.now ≡ writes_from (values_in self.now.deck) self.now.history item 0 (length self.now.history) }
+        ensures are { result.now ≡ writes_from (values_in self.now.deck) self.now.history item 0 (length self.now.history) }
+        ensures numbered { All (λ w. w.commit < number_at self.now.history (length self.now.history)) result.now }
     {
         &self.writes[item as usize]
     }
@@ -94,7 +97,8 @@ impl<'a> Replay<'a> {
     /// How many writes of an item come before a cycle.
     pub fn writes_before(&self, item: u16, cycle: u32) -> usize
         requires { item < length self.now.deck.items }
-        ensures { result ≡ count_at (values_in self.now.deck) self.now.history item cycle }
+        ensures told { result ≡ count_at (values_in self.now.deck) self.now.history item cycle }
+        ensures within { result ≤ length (writes_from (values_in self.now.deck) self.now.history item 0 (length self.now.history)) }
     {
         self.writes(item).before(cycle)
     }
@@ -133,7 +137,8 @@ impl<'a> Replay<'a> {
     /// The number of the commit that is the origin of a read.
     pub fn origin(&self, item: u16, cycle: u32) -> Option<u32>
         requires { item < length self.now.deck.items }
-        ensures { result ≡ option_map (number_at self.now.history) (origin self.now.history (read_of item cycle)) }
+        ensures told { result ≡ option_map (number_at self.now.history) (origin self.now.history (read_of item cycle)) }
+        ensures within { IfSome result (λ commit. commit < number_at self.now.history (length self.now.history)) }
     {
         match self.last_write(item, cycle) {
             None => None,

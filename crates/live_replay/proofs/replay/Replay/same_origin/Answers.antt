@@ -8,4 +8,4 @@ pub returns : goal.returns
 returns c =
     let V = values_in c.args.self.now.deck in
     let H = c.args.self.now.history in
-    ap (λ n. nat_eq n c.writes_before-2.result) c.writes_before.ensures ∙ ap (nat_eq (count_at V H c.args.item c.args.c)) c.writes_before-2.ensures ∙ sym (same_origin_is V H c.args.item c.args.c c.args.d)
+    ap (λ n. nat_eq n c.writes_before-2.result) c.writes_before.ensures.told ∙ ap (nat_eq (count_at V H c.args.item c.args.c)) c.writes_before-2.ensures.told ∙ sym (same_origin_is V H c.args.item c.args.c c.args.d)
