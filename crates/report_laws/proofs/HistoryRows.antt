@@ -16,7 +16,7 @@ use Rattle.air_model.specs.Reports.{Report, counts_row, event_row, kind_row, loo
 use Rattle.air_model.specs.declared.reports.VerdictLine.{VerdictLine}
 use Rattle.air_model.proofs.RowLemmas.{one_rows}
 use Rattle.item_catalog.specs.DeckLimits.{WithinLimits}
-use Rattle.item_catalog.specs.Records.{records_of}
+use Rattle.text_records.specs.Records.{records_of}
 use Rattle.report_laws.proofs.StandingLines.{plain_report}
 use Rattle.report_laws.proofs.WrittenRows.{written_rows}
 
