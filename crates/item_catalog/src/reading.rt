@@ -13,9 +13,9 @@ ghost use Rattle.item_catalog.specs.Grammar.{IsAnswer, Spells};
 use crate::deck::Deck;
 use crate::deck::draft::Draft;
 use crate::faults::DeckError;
-use csv::{ByteRecord, ReaderBuilder};
+use csv::ByteRecord;
 use std::alloc::Global;
-use text_records::Refusal;
+use text_records::{Records, Refusal};
 
 /// The tags of records.
 #[derive(Clone, Copy, Debug, PartialEq, Eq)]
@@ -81,16 +81,11 @@ pub fn read_deck(alloc: Global, bytes: &[u8]) -> Result<Deck, DeckError>
     ensures fault { IfErr result (IsAnswer bytes.now) }
 {
     let mut draft = Draft::new(alloc)?;
-    let mut records = ReaderBuilder::new()
-        .has_headers(false)
-        .flexible(true)
-        .from_reader(alloc, bytes);
+    let mut records = Records::new(alloc, bytes);
     let mut record = ByteRecord::new(alloc);
     for row in 1..u32::MAX {
-        match records.read_byte_record(&mut record) {
-            Ok(true) => {}
-            Ok(false) => return finish(draft, row),
-            Err(_) => return Err(DeckError::NoMemory),
+        if !records.next(&mut record)? {
+            return finish(draft, row);
         }
         match draft.add(alloc, &record) {
             Ok(()) => {}

@@ -4,6 +4,7 @@ ghost use Rattle.std.specs.Prelude.{◌≡◌};
 ghost use Rattle.report_reading.specs.Kinds.{code_of};
 
 use crate::kinds::FaultKind;
+use air_base::NoMemory;
 use std::error::Error;
 use std::fmt;
 
@@ -55,3 +56,14 @@ impl fmt::Display for ReportError {
 }
 
 impl Error for ReportError {}
+
+impl From<NoMemory> for ReportError {
+    ghost use Rattle.std.specs.Prelude.{◌≡◌};
+    ghost use Rattle.report_reading.specs.declared.faults.ReportError.TheVariants.{NoMemory};
+
+    ghost from_gives = { λ _ e. e ≡ NoMemory };
+
+    fn from(_error: NoMemory) -> Self {
+        ReportError::NoMemory
+    }
+}

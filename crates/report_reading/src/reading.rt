@@ -7,10 +7,10 @@ ghost use Rattle.report_reading.specs.ReportGrammar.{IsReportAnswer, SpellsRepor
 use crate::draft::Draft;
 use crate::faults::ReportError;
 use crate::report::ReadReport;
-use csv::{ByteRecord, ReaderBuilder};
+use csv::ByteRecord;
 use item_catalog::Deck;
 use std::alloc::Global;
-use text_records::Refusal;
+use text_records::{Records, Refusal};
 
 /// The report of the deck that a text spells, or the first faulty record of the text with the least kind that applies there.
 pub fn read_report(alloc: Global, deck: &Deck, bytes: &[u8]) -> Result<ReadReport, ReportError>
@@ -19,16 +19,11 @@ pub fn read_report(alloc: Global, deck: &Deck, bytes: &[u8]) -> Result<ReadRepor
     ensures fault { IfErr result (IsReportAnswer deck.now bytes.now) }
 {
     let mut draft = Draft::new(alloc);
-    let mut records = ReaderBuilder::new()
-        .has_headers(false)
-        .flexible(true)
-        .from_reader(alloc, bytes);
+    let mut records = Records::new(alloc, bytes);
     let mut record = ByteRecord::new(alloc);
     for row in 1..u32::MAX {
-        match records.read_byte_record(&mut record) {
-            Ok(true) => {}
-            Ok(false) => return Ok(draft.into_report()),
-            Err(_) => return Err(ReportError::NoMemory),
+        if !records.next(&mut record)? {
+            return Ok(draft.into_report());
         }
         match draft.add(alloc, deck, &record) {
             Ok(()) => {}

@@ -4,5 +4,5 @@ pub mod KindFacts
 pub mod FaultPlaces
 pub mod PlaceFacts
 pub mod RowFacts
-pub mod ReadingFacts
+pub mod RecordsFacts
 pub mod TagFacts

@@ -1,5 +1,5 @@
 -- The kinds at the places of records that are read one by one: those at a place hang on the records up to it alone.
-use Rattle.std.proofs.Common.{◌≡◌, ◌<◌, ◌≤◌, ◌+◌, ◌++◌, ◌∷◌, [], ℕ, zero, suc, List, Option, Some, None, ◌∙◌, refl, sym, ap, subst, arith, get_or, take, length, append_assoc, length-append, inl, inr}
+use Rattle.std.proofs.Common.{◌≡◌, ◌<◌, ◌≤◌, ◌+◌, ◌++◌, ◌∷◌, [], ℕ, zero, suc, List, Option, Some, None, ◌∙◌, refl, sym, ap, subst, arith, get_or, take, length, length-append, inl, inr}
 use Rattle.std.specs.Prelude.{slice_get}
 use Rattle.std.proofs.lemmas.Bool.{cases_lt}
 use Rattle.std.proofs.lemmas.List.{take-append-le, take_all, take_more}
@@ -46,14 +46,12 @@ module _ {R : Type 0} (judge : List R → Option R → List ℕ) where
 
   -- And one to which some kind does, whatever stands behind it.
   pub refused : (rows : List R) (row : R) (rest : List R) (places kind : ℕ) → length rows < places → NoneBefore (kinds_at rows) (length rows) → IsLeast kind (judge rows (Some row))
-      → IsFirstFault places (kinds_at ((rows ++ row ∷ []) ++ rest)) (length rows) kind
-  refused rows row rest places kind within before least =
-      let all : (rows ++ row ∷ []) ++ rest ≡ rows ++ row ∷ rest = append_assoc rows (row ∷ []) rest in
-      rw all (record {
-        within = within;
-        first = λ place below. kinds_before rows (row ∷ rest) place below ∙ before place below;
-        least = rw (kinds_here rows row rest) least;
-      })
+      → IsFirstFault places (kinds_at (rows ++ row ∷ rest)) (length rows) kind
+  refused rows row rest places kind within before least = record {
+    within = within;
+    first = λ place below. kinds_before rows (row ∷ rest) place below ∙ before place below;
+    least = rw (kinds_here rows row rest) least;
+  }
 
   -- What holds of no records, and of one more to which no kind applies, holds of records without fault.
   module _ (P : List R → Type 0) (none : P []) (more : (rows : List R) (row : R) → judge rows (Some row) ≡ [] → P rows → P (rows ++ row ∷ [])) where

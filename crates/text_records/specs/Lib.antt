@@ -1,4 +1,5 @@
 pub mod Records
+pub mod RecordsView
 pub mod Fields
 pub mod Spelled
 pub mod Tags

@@ -2,7 +2,9 @@
 #![tactic(auto)]
 
 pub mod fields;
+pub mod records;
 pub mod refusals;
 
 pub use fields::{four, one, seven, six, three, two};
+pub use records::Records;
 pub use refusals::Refusal;
