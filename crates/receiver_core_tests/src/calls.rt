@@ -24,6 +24,23 @@ pub enum Call<'a> {
     Counts(Counts),
 }
 
+/// The text of a deck, the number of a reader there, and calls of its receiver.
+#[derive(Clone, Copy)]
+pub struct Case<'a> {
+    text: &'a [u8],
+    number: u32,
+    calls: &'a [Call<'a>],
+}
+
+/// The text's receiver of this number has these calls.
+pub fn asked<'a>(text: &'a [u8], number: u32, calls: &'a [Call<'a>]) -> Case<'a> {
+    Case {
+        text,
+        number,
+        calls,
+    }
+}
+
 /// In what a call is answered otherwise than told: what came in its place.
 #[derive(Clone, Copy, Debug, PartialEq, Eq)]
 pub enum Other {
@@ -65,6 +82,21 @@ pub fn verdict(query: u32, attempt: u32, kind: VerdictKind) -> Verdict {
         attempt,
         kind,
     }
+}
+
+/// The query is accepted at its first attempt.
+pub fn accepted(query: u32) -> Step {
+    Step::Verdict(verdict(query, 1, VerdictKind::Accept))
+}
+
+/// So many buckets were opened and dozed through, and so many reads taken from copies.
+pub fn counted(opened: u64, dozed: u64, copied: u64) -> Call<'static> {
+    Call::Counts(Counts {
+        opened,
+        dozed,
+        copied,
+        ..NONE
+    })
 }
 
 /// The text's receiver of a number.
@@ -154,6 +186,19 @@ pub fn first_other(
     for (place, call) in calls.iter().enumerate() {
         if let Some(other) = difference(&mut receiver, call) {
             return Ok(Some((place, other)));
+        }
+    }
+    Ok(None)
+}
+
+/// The place of the first case in which a receiver answers a call otherwise than told, the place of the call, and in what.
+pub fn first_other_case(
+    alloc: Global,
+    cases: &[Case<'_>],
+) -> Result<Option<(usize, usize, Other)>, Fail> {
+    for (place, case) in cases.iter().enumerate() {
+        if let Some((call, other)) = first_other(alloc, case.text, case.number, case.calls)? {
+            return Ok(Some((place, call, other)));
         }
     }
     Ok(None)

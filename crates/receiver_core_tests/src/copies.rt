@@ -1,9 +1,9 @@
-//! Receivers that keep copies: which are used, which are dropped, and which stay where there is room for one. The verdicts and
-//! the counts are those of the decks' scripts, worked by hand from the rules of docs/MODEL.md.
+//! Receivers that keep copies: which are used, which are dropped, and which stay where there is room for one. The decks have no
+//! script: what comes of the buckets is worked by hand from the rules of docs/MODEL.md.
 
 use crate::buckets::{COLDER, HOTTER, with};
-use crate::calls::{Call, NONE, first_other, read, verdict};
-use air_base::{Counts, VerdictKind};
+use crate::calls::{Call, Other, accepted, counted, first_other, read, verdict};
+use air_base::VerdictKind;
 use receiver_core::{Fed, Step};
 use std::alloc::Global;
 use std::test::Fail;
@@ -25,12 +25,9 @@ const TWO_D: &[u8] =
 const TWO_R: &[u8] =
     b"item,0,10,1\nitem,1,20,2\ndisk,2,1\nreader,2,9,1\nquery,0,0\nquery,0,1 0\nset,policy,R\n";
 
-/// A reader that asks for both items three times. A copy is too old in the next cycle.
-const NO_AGE: &[u8] =
-    b"item,0,10,1\nitem,1,20,2\ndisk,2,1\nreader,2,0,1\nquery,0,1 0\nquery,0,0 1\nquery,0,1 0\n";
-
-/// A reader that asks for item 1, and then for both. A copy is too old after one cycle.
-const AGE_1: &[u8] = b"item,0,10,1\nitem,1,20,2\ndisk,2,1\nreader,2,1,1\nquery,0,1\nquery,0,0 1\n";
+/// A reader that asks for item 0 once more at the end.
+const ONCE_MORE: &[u8] =
+    b"item,0,10,1\nitem,1,20,2\ndisk,2,1\nreader,2,9,1\nquery,0,0\nquery,0,1 0\nquery,0,0\n";
 
 /// A reader that asks for item 0, then for both and tries twice, and then for item 1.
 const TRIES: &[u8] =
@@ -59,21 +56,6 @@ fn of_three(item: u8, cycle: u8, value: u8) -> [u8; 36] {
     ]
 }
 
-/// The query is accepted at its first attempt.
-fn accepted(query: u32) -> Step {
-    Step::Verdict(verdict(query, 1, VerdictKind::Accept))
-}
-
-/// So many buckets were opened and dozed through, and so many reads taken from copies.
-fn counted(opened: u64, dozed: u64, copied: u64) -> Call<'static> {
-    Call::Counts(Counts {
-        opened,
-        dozed,
-        copied,
-        ..NONE
-    })
-}
-
 #[test]
 fn a_copy_that_clashes_is_dropped_and_the_air_awaited(rt: HostRuntime) -> Result<(), Fail> {
     let heard = written();
@@ -92,14 +74,15 @@ fn a_copy_that_clashes_is_dropped_and_the_air_awaited(rt: HostRuntime) -> Result
     Ok(())
 }
 
-/// In what a reader of the first deck, with this text, differs where nothing is written and each bucket is of this kind: item 1 in
-/// the second cycle is followed by the copy of item 0, or by a step that waits for its bucket.
+/// A reader of the first deck, with this text, where nothing is written and each bucket is of this kind: item 1 in the second
+/// cycle is followed by the copy of item 0, or by a step that waits for its bucket. The place of the first call that is answered
+/// otherwise, and in what.
 fn other_of_both(
     alloc: Global,
     text: &[u8],
     kind: u8,
     copied: bool,
-) -> Result<Option<usize>, Fail> {
+) -> Result<Option<(usize, Other)>, Fail> {
     let first = with(&HOTTER, &[(3, kind)]);
     let second = with(&COLDER, &[(3, kind)]);
     let third = with(&HOTTER, &[(3, kind), (11, 2)]);
@@ -120,20 +103,33 @@ fn other_of_both(
         Call::Reads(&reads),
         counted(counts.0, counts.1, counts.2),
     ];
-    let other = first_other(alloc, text, 0, &calls)?;
-    Ok(other.map(|(place, _)| place))
+    first_other(alloc, text, 0, &calls)
+}
+
+/// The place of the first row, of a text, a kind of bucket, and whether a copy is used, that comes out otherwise; the place of the
+/// call, and in what.
+fn first_other_of_both(
+    alloc: Global,
+    rows: &[(&[u8], u8, bool)],
+) -> Result<Option<(usize, usize, Other)>, Fail> {
+    for (place, (text, kind, copied)) in rows.iter().enumerate() {
+        if let Some((call, other)) = other_of_both(alloc, text, *kind, *copied)? {
+            return Ok(Some((place, call, other)));
+        }
+    }
+    Ok(None)
 }
 
 #[test]
 fn a_copy_is_used_where_there_is_room_and_it_is_not_late(rt: HostRuntime) -> Result<(), Fail> {
-    let others = (
-        other_of_both(rt.alloc(), TWO, 1, true)?,
-        other_of_both(rt.alloc(), MUCH_ROOM, 1, true)?,
-        other_of_both(rt.alloc(), NO_ROOM, 1, false)?,
-        other_of_both(rt.alloc(), TWO_D, 2, true)?,
-        other_of_both(rt.alloc(), TWO_R, 2, false)?,
-    );
-    assert_eq!(rt; others, (None, None, None, None, None));
+    let rows: &[(&[u8], u8, bool)] = &[
+        (TWO, 1, true),
+        (MUCH_ROOM, 1, true),
+        (NO_ROOM, 1, false),
+        (TWO_D, 2, true),
+        (TWO_R, 2, false),
+    ];
+    assert_eq!(rt; first_other_of_both(rt.alloc(), rows)?, None);
     Ok(())
 }
 
@@ -146,12 +142,15 @@ fn among_equals_the_smaller_item_stays(rt: HostRuntime) -> Result<(), Fail> {
         Call::Hear(&zero[0], Fed::Dozed, Step::Waiting),
         Call::Hear(&one[0], Fed::Dozed, Step::Waiting),
         Call::Hear(&two[0], Fed::Opened, accepted(0)),
+        Call::Reads(&[read(2, 1, 30)]),
         Call::Step(Step::Waiting),
         Call::Hear(&zero[1], Fed::Dozed, Step::Waiting),
         Call::Hear(&one[1], Fed::Opened, accepted(1)),
+        Call::Reads(&[read(1, 2, 20)]),
         Call::Step(Step::Waiting),
         Call::Hear(&two[1], Fed::Dozed, Step::Waiting),
         Call::Hear(&zero[2], Fed::Opened, accepted(2)),
+        Call::Reads(&[read(0, 3, 10)]),
         Call::Step(Step::Waiting),
         Call::Wanted(Some(1)),
         Call::Hear(&one[2], Fed::Opened, accepted(3)),
@@ -162,58 +161,6 @@ fn among_equals_the_smaller_item_stays(rt: HostRuntime) -> Result<(), Fail> {
         counted(4, 5, 2),
     ];
     assert_eq!(rt; first_other(rt.alloc(), THREE, 0, &calls)?, None);
-    Ok(())
-}
-
-#[test]
-fn at_an_age_of_0_copies_are_used_in_their_own_cycle(rt: HostRuntime) -> Result<(), Fail> {
-    let one = with(&HOTTER, &[(11, 2)]);
-    let zero = with(&COLDER, &[(11, 2)]);
-    let calls = [
-        Call::Hear(&HOTTER, Fed::Opened, Step::Waiting),
-        Call::Hear(&COLDER, Fed::Opened, accepted(0)),
-        Call::Step(accepted(1)),
-        Call::Reads(&[read(0, 1, 10), read(1, 1, 20)]),
-        Call::Step(accepted(2)),
-        Call::Reads(&[read(1, 1, 20), read(0, 1, 10)]),
-        Call::Hear(&one, Fed::Dozed, Step::Done),
-        Call::Hear(&zero, Fed::Dozed, Step::Done),
-        counted(2, 2, 4),
-    ];
-    assert_eq!(rt; first_other(rt.alloc(), NO_AGE, 0, &calls)?, None);
-    Ok(())
-}
-
-#[test]
-fn a_copy_may_be_as_old_as_its_age(rt: HostRuntime) -> Result<(), Fail> {
-    let zero = with(&COLDER, &[(11, 2)]);
-    let one = with(&HOTTER, &[(11, 3)]);
-    let calls = [
-        Call::Hear(&HOTTER, Fed::Opened, accepted(0)),
-        Call::Step(Step::Waiting),
-        Call::Hear(&zero, Fed::Opened, accepted(1)),
-        Call::Reads(&[read(0, 2, 10), read(1, 1, 20)]),
-        Call::Hear(&one, Fed::Dozed, Step::Done),
-        counted(2, 1, 1),
-    ];
-    assert_eq!(rt; first_other(rt.alloc(), AGE_1, 0, &calls)?, None);
-    Ok(())
-}
-
-#[test]
-fn a_copy_is_too_old_by_one_cycle(rt: HostRuntime) -> Result<(), Fail> {
-    let zero = with(&COLDER, &[(11, 3)]);
-    let one = with(&HOTTER, &[(11, 3)]);
-    let calls = [
-        Call::Hear(&HOTTER, Fed::Opened, accepted(0)),
-        Call::Step(Step::Waiting),
-        Call::Hear(&zero, Fed::Opened, Step::Waiting),
-        Call::Wanted(Some(1)),
-        Call::Hear(&one, Fed::Opened, accepted(1)),
-        Call::Reads(&[read(0, 3, 10), read(1, 3, 20)]),
-        counted(3, 0, 0),
-    ];
-    assert_eq!(rt; first_other(rt.alloc(), AGE_1, 0, &calls)?, None);
     Ok(())
 }
 
@@ -252,9 +199,14 @@ fn the_end_drops_all_copies(rt: HostRuntime) -> Result<(), Fail> {
         Call::Step(Step::Waiting),
         Call::End(Some(verdict(1, 1, VerdictKind::Unfinished))),
         Call::Reads(&[]),
+        Call::Step(Step::Waiting),
+        Call::Wanted(Some(0)),
+        Call::End(Some(verdict(2, 1, VerdictKind::Unfinished))),
+        Call::Reads(&[]),
         Call::Step(Step::Done),
         Call::End(None),
+        counted(1, 0, 0),
     ];
-    assert_eq!(rt; first_other(rt.alloc(), TWO, 0, &calls)?, None);
+    assert_eq!(rt; first_other(rt.alloc(), ONCE_MORE, 0, &calls)?, None);
     Ok(())
 }

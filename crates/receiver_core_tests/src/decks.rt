@@ -1,31 +1,39 @@
 //! A deck's receivers: each has the queries of its reader, and knows where the program airs the items.
 
 use crate::buckets::{COLDER, HOTTER, HOTTER_DECK, with};
-use crate::calls::{Call, first_other, read, verdict};
-use air_base::VerdictKind;
+use crate::calls::{Call, accepted, asked, first_other, first_other_case};
+use air_base::ReadOf;
 use receiver_core::{Fed, Step};
 use std::test::Fail;
 
+/// No reads, and the read of the hotter item.
+const NO_READS: &[ReadOf] = &[];
+
+const OF_HOTTER: &[ReadOf] = &[ReadOf {
+    item: 1,
+    cycle: 1,
+    value: 20,
+}];
+
 #[test]
 fn a_deck_has_its_receivers(rt: HostRuntime) -> Result<(), Fail> {
-    let accepted = verdict(0, 1, VerdictKind::Accept);
     let first = [
         Call::Wanted(Some(0)),
         Call::Hear(&HOTTER, Fed::Dozed, Step::Waiting),
     ];
     let second = [
         Call::Wanted(Some(1)),
-        Call::Reads(&[]),
-        Call::Hear(&HOTTER, Fed::Opened, Step::Verdict(accepted)),
-        Call::Reads(&[read(1, 1, 20)]),
+        Call::Reads(NO_READS),
+        Call::Hear(&HOTTER, Fed::Opened, accepted(0)),
+        Call::Reads(OF_HOTTER),
         Call::Step(Step::Waiting),
         Call::Hear(&COLDER, Fed::Dozed, Step::Waiting),
     ];
-    let others = (
-        first_other(rt.alloc(), HOTTER_DECK, 0, &first)?,
-        first_other(rt.alloc(), HOTTER_DECK, 1, &second)?,
-    );
-    assert_eq!(rt; others, (None, None));
+    let cases = [
+        asked(HOTTER_DECK, 0, &first),
+        asked(HOTTER_DECK, 1, &second),
+    ];
+    assert_eq!(rt; first_other_case(rt.alloc(), &cases)?, None);
     Ok(())
 }
 

@@ -5,6 +5,8 @@
 #![tactic(auto)]
 
 #[cfg(test)]
+mod ages;
+#[cfg(test)]
 mod buckets;
 #[cfg(test)]
 mod bytes;

@@ -1,7 +1,7 @@
 //! Receivers under the two policies that air write vectors: what fits, what comes late, and what clashes.
 
 use crate::buckets::{D_DECK, DECK, FIRST, R_DECK, SECOND, with};
-use crate::calls::{Call, NONE, first_other, read, verdict};
+use crate::calls::{Call, NONE, Other, asked, first_other, first_other_case, read, verdict};
 use air_base::{Counts, VerdictKind};
 use receiver_core::{Fed, Step};
 use std::alloc::Global;
@@ -16,8 +16,8 @@ struct Pair {
     told: (Fed, Step),
 }
 
-/// In what the pair comes to something else than told: the first of its calls that is answered otherwise.
-fn other_of_pair(alloc: Global, pair: &Pair) -> Result<Option<usize>, Fail> {
+/// The place of the first of a pair's calls that is answered otherwise than told, and in what.
+fn other_of_pair(alloc: Global, pair: &Pair) -> Result<Option<(usize, Other)>, Fail> {
     let (cycle, zero, one) = pair.first;
     let first = with(&FIRST, &[(3, 2), (11, cycle), (27, zero), (31, one)]);
     let (cycle, zero, one) = pair.second;
@@ -26,17 +26,14 @@ fn other_of_pair(alloc: Global, pair: &Pair) -> Result<Option<usize>, Fail> {
         Call::Hear(&first, Fed::Opened, Step::Waiting),
         Call::Hear(&second, pair.told.0, pair.told.1),
     ];
-    let Some((place, _)) = first_other(alloc, pair.deck, 0, &calls)? else {
-        return Ok(None);
-    };
-    Ok(Some(place))
+    first_other(alloc, pair.deck, 0, &calls)
 }
 
-/// The first pair that comes to something else than told, and at which of its calls.
-fn first_other_pair(alloc: Global, pairs: &[Pair]) -> Result<Option<(usize, usize)>, Fail> {
+/// The place of the first pair that comes to something else than told, the place of its call, and in what.
+fn first_other_pair(alloc: Global, pairs: &[Pair]) -> Result<Option<(usize, usize, Other)>, Fail> {
     for (row, pair) in pairs.iter().enumerate() {
-        if let Some(place) = other_of_pair(alloc, pair)? {
-            return Ok(Some((row, place)));
+        if let Some((place, other)) = other_of_pair(alloc, pair)? {
+            return Ok(Some((row, place, other)));
         }
     }
     Ok(None)
@@ -123,11 +120,11 @@ fn each_policy_has_its_kind_of_bucket(rt: HostRuntime) -> Result<(), Fail> {
         Call::Hear(&FIRST, Fed::Foreign, Step::Waiting),
         Call::Hear(&vector, Fed::Opened, Step::Waiting),
     ];
-    let others = (
-        first_other(rt.alloc(), DECK, 0, &columns)?,
-        first_other(rt.alloc(), D_DECK, 0, &vectors)?,
-        first_other(rt.alloc(), R_DECK, 0, &vectors)?,
-    );
-    assert_eq!(rt; others, (None, None, None));
+    let cases = [
+        asked(DECK, 0, &columns),
+        asked(D_DECK, 0, &vectors),
+        asked(R_DECK, 0, &vectors),
+    ];
+    assert_eq!(rt; first_other_case(rt.alloc(), &cases)?, None);
     Ok(())
 }
