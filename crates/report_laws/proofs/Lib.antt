@@ -3,5 +3,6 @@ mod WrittenRows
 mod StandingLines
 mod KeptLines
 mod LegalLines
+mod SameHistories
 mod ReportExamples
 mod HistoryRows

@@ -2,13 +2,14 @@
 //! and a text tells the history that it begins with. No code runs.
 #![tactic(auto)]
 
-ghost use Rattle.std.specs.Prelude.{◌≡◌, ℕ, List};
+ghost use Rattle.std.specs.Prelude.{◌≡◌, ◌↔◌, ℕ, List, [], map};
+ghost use Rattle.air_history.specs.declared.histories.Event.{Event};
 ghost use Rattle.air_model.specs.Decks.{Deck, IsLegal};
 ghost use Rattle.air_model.specs.Reports.{Report, report_text};
 ghost use Rattle.item_catalog.specs.DeckLimits.{WithinLimits};
 ghost use Rattle.report_reading.specs.ReportGrammar.{SpellsReport};
-ghost use Rattle.report_reading.specs.ReportLines.{ReportLines, lines_in, report_in};
-ghost use Rattle.report_laws.specs.ReportRules.{HasWidths, InGrammar};
+ghost use Rattle.report_reading.specs.ReportLines.{ReportLines, event_in, lines_in, named, report_in};
+ghost use Rattle.report_laws.specs.ReportRules.{EachNext, HasWidths, InGrammar};
 
 /// The text of a report whose numbers fit their types and whose lines are in the grammar spells these lines.
 pub fn round_trip_law()
@@ -29,4 +30,16 @@ pub fn legal_report_law()
 /// have one history, whatever else they say.
 pub fn one_history_law()
     ensures { (deck : Deck) (r s : Report) → WithinLimits deck → IsLegal deck r.history → IsLegal deck s.history → report_text r ≡ report_text s → r.history ≡ s.history }
+{}
+
+/// A history is legal for a deck exactly if its lines come each next and stand for the history itself: each names the deck's update.
+pub fn legal_lines_law()
+    ensures { (deck : Deck) (H : List Event) → IsLegal deck H ↔ (EachNext deck [] (map named H) × (map (event_in deck) (map named H) ≡ H)) }
+{}
+
+/// A report whose numbers fit, whose lines are in the grammar and whose history is legal is read back as it is, its updates too: the
+/// lines that its text spells stand for this very report.
+pub fn same_report_law()
+    ensures { (deck : Deck) (report : Report) → HasWidths (lines_in report) → InGrammar deck (lines_in report) → IsLegal deck report.history →
+        (lines : ReportLines) → SpellsReport deck (report_text report) lines → report_in deck lines ≡ report }
 {}
