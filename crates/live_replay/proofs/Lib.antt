@@ -10,3 +10,4 @@ pub mod PassFacts
 pub mod OriginMarks
 pub mod RunFacts
 pub mod ReplayFacts
+pub mod PolicyFacts

@@ -2,3 +2,4 @@
 pub mod Commits
 pub mod Runs
 pub mod Replays
+pub mod Names

@@ -4,6 +4,7 @@
 mod alone;
 pub mod findings;
 pub mod limits;
+mod policies;
 mod replay;
 mod running;
 mod writes;

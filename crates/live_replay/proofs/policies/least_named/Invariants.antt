@@ -1,0 +1,8 @@
+use Rattle.std.proofs.Common.{◌≡◌, drop}
+use Rattle.air_history.specs.Clashes.{named_clash}
+use Rattle.live_replay.specs.Findings.{places_of}
+use Rattle.live_replay.specs.Steps.Names.{named_by}
+use Rattle.live_replay.proofs.policies.least_named.Given as goal
+
+abbrev pub invariant-loop-k : goal.invariant-loop-k
+invariant-loop-k l = l.least ≡ named_clash (named_by l.replay.history l.naming) (drop l.k (places_of l.held))

@@ -1,0 +1,150 @@
+//! Which held read a new one clashes with under each policy, and whether reads pass one after another.
+//!
+//! Everything is asked of the history: origins, and whether reads are consistent.
+
+ghost use Rattle.std.specs.Prelude.{◌≡◌, ◌<◌, length, All, IfOk, Some};
+ghost use Rattle.air_history.specs.Reads.{IsRead, first_cycle, last_cycle, newest_cycle};
+ghost use Rattle.air_history.specs.Clashes.{clash_by_history, is_late, lesser, named_clash};
+ghost use Rattle.air_history.specs.ClashLaws.{passes};
+ghost use Rattle.live_replay.specs.Findings.{all_pass, place_of, places_of};
+ghost use Rattle.live_replay.specs.Steps.Names.{NamesItem, clash_named, named_by};
+
+use crate::alone::is_consistent;
+use crate::replay::Replay;
+use air_base::{Clash, NoMemory, Policy, ReadOf};
+use std::alloc::Global;
+
+/// By what held reads are named.
+#[derive(Clone, Copy, Debug, PartialEq, Eq)]
+pub enum Naming {
+    /// Their items have other origins at this cycle.
+    StaleAt(u32),
+    /// They are of this cycle.
+    OfCycle(u32),
+    /// Each of them with this read isn't consistent.
+    ApartFrom(ReadOf),
+}
+
+/// Whether a held read is named.
+#[tactic(auto, unfolding(air_history::specs::Reads::stale))]
+fn is_named(
+    alloc: Global,
+    replay: &Replay<'_>,
+    naming: Naming,
+    held: &ReadOf,
+) -> Result<bool, NoMemory>
+    requires held { held.now.item < length replay.now.deck.items }
+    requires new { NamesItem (length replay.now.deck.items) naming }
+    ensures { IfOk result (λ named. named ≡ named_by replay.now.history naming (place_of held.now)) }
+{
+    match naming {
+        Naming::StaleAt(cycle) => Ok(!replay.same_origin(held.item, cycle, held.cycle)),
+        Naming::OfCycle(cycle) => Ok(held.cycle == cycle),
+        Naming::ApartFrom(read) => Ok(!is_consistent(alloc, replay, &[*held, read])?),
+    }
+}
+
+/// Of a read and a clash, the one of lesser item number.
+fn lesser(read: &ReadOf, clash: Option<Clash>) -> Clash
+    ensures { Some result ≡ lesser (place_of read.now) clash }
+{
+    match clash {
+        Some(clash) if clash.item < read.item => clash,
+        _ => Clash {
+            item: read.item,
+            cycle: read.cycle,
+        },
+    }
+}
+
+/// The held read of least item number among those that are named.
+#[tactic(auto, using(crate::proofs::PolicyFacts::named_more, crate::proofs::PolicyFacts::named_not, crate::proofs::PolicyFacts::named_none))]
+fn least_named(
+    alloc: Global,
+    replay: &Replay<'_>,
+    naming: Naming,
+    held: &[ReadOf],
+) -> Result<Option<Clash>, NoMemory>
+    requires held { All (λ r. r.item < length replay.now.deck.items) held.now }
+    requires new { NamesItem (length replay.now.deck.items) naming }
+    ensures { IfOk result (λ clash. clash ≡ named_clash (named_by replay.now.history naming) (places_of held.now)) }
+{
+    let mut least = None;
+    for k in (0..held.len()).rev() {
+        if is_named(alloc, replay, naming, &held[k])? {
+            least = Some(lesser(&held[k], least));
+        }
+    }
+    Ok(least)
+}
+
+/// The newest cycle of reads, 0 where there is none.
+fn newest_cycle(reads: &[ReadOf]) -> u32
+    ensures { result ≡ newest_cycle (places_of reads.now) }
+{
+    let mut newest = 0;
+    for read in reads {
+        newest = newest.max(read.cycle);
+    }
+    newest
+}
+
+/// The cycle of the first read, 0 where there is none.
+fn first_cycle(reads: &[ReadOf]) -> u32
+    ensures { result ≡ first_cycle (places_of reads.now) }
+{
+    if reads.is_empty() {
+        return 0;
+    }
+    reads[0].cycle
+}
+
+/// The cycle of the last read, 0 where there is none.
+#[tactic(auto, using(crate::proofs::PolicyFacts::last_is))]
+fn last_cycle(reads: &[ReadOf]) -> u32
+    ensures { result ≡ last_cycle (places_of reads.now) }
+{
+    if reads.is_empty() {
+        return 0;
+    }
+    reads[reads.len() - 1].cycle
+}
+
+/// Whether a read comes too late after held ones.
+#[tactic(auto, unfolding(air_history::specs::Clashes::is_late))]
+pub fn is_late(policy: Policy, held: &[ReadOf], read: &ReadOf) -> bool
+    ensures { result ≡ is_late policy (places_of held.now) (place_of read.now) }
+{
+    match policy {
+        Policy::FMatrix | Policy::Datacycle => false,
+        Policy::RMatrix => read.cycle < last_cycle(held),
+    }
+}
+
+/// By what a new read names held ones, if by anything.
+#[tactic(auto, unfolding(air_history::specs::Clashes::clash_by_history))]
+fn naming_of(replay: &Replay<'_>, held: &[ReadOf], read: &ReadOf) -> Option<Naming>
+    requires { read.now.item < length replay.now.deck.items }
+    ensures { clash_named replay.now.history result (places_of held.now)
+        ≡ clash_by_history replay.now.deck.settings.policy replay.now.history (places_of held.now) (place_of read.now) }
+{
+    match replay.policy() {
+        Policy::FMatrix => Some(Naming::ApartFrom(*read)),
+        Policy::Datacycle => {
+            let newest = newest_cycle(held);
+            if newest <= read.cycle {
+                Some(Naming::StaleAt(read.cycle))
+            } else if replay.same_origin(read.item, newest, read.cycle) {
+                None
+            } else {
+                Some(Naming::OfCycle(newest))
+            }
+        }
+        Policy::RMatrix => {
+            if replay.same_origin(read.item, read.cycle, first_cycle(held)) {
+                return None;
+            }
+            Some(Naming::StaleAt(read.cycle))
+        }
+    }
+}
