@@ -2,9 +2,10 @@
 use Rattle.std.proofs.Common.{◌≡◌, ◌↔◌, ℕ, zero, suc, ◌+◌, ◌<◌, ◌≤◌, true, false, None, List, [], ◌∷◌, ◌++◌, length, get_or, take, map, All, refl, sym, ◌∙◌, ap, subst, arith, add-one, IsTrue}
 use Rattle.std.specs.Prelude.{AllPairs}
 use Rattle.std.specs.List.{list_all, range_with_len}
+use Rattle.std.proofs.lemmas.Bool.{both_ways, false_from_ne_true}
 use Rattle.std.proofs.lemmas.Bool.Decides.{same_from_decides}
 use Rattle.std.proofs.lemmas.List.FromFn.{get_or-range_with_len, length-range_with_len}
-use Rattle.std.proofs.lemmas.List.{get_or-take, length-take-le, take_more, get_or_default}
+use Rattle.std.proofs.lemmas.List.{get_or-take, length-take-le, take_more, take-map, get_or_default, get_or-map}
 use Rattle.std.proofs.lemmas.List.Sums.{AllPass-from_list_all, list_all-from_AllPass}
 use Rattle.air_base.specs.declared.verdicts.Policy.{Policy}
 use Rattle.air_base.specs.declared.verdicts.Policy.TheVariants.{FMatrix}
@@ -16,7 +17,8 @@ use Rattle.air_history.specs.ClashLaws.{Accepts, passes}
 use Rattle.history_laws.proofs.AcceptedLemmas.{accepted, passes_from}
 use Rattle.history_laws.proofs.ConsistencyLemmas.{whole}
 use Rattle.history_laws.proofs.PolicyLemmas.{stays_consistent}
-use Rattle.live_replay.specs.Findings.{all_pass, read_of}
+use Rattle.air_base.specs.declared.verdicts.ReadOf.{ReadOf}
+use Rattle.live_replay.specs.Findings.{all_pass, place_of, places_of, read_of}
 
 -- As a test and as a fact.
 pub pass_accepts : (policy : Policy) (H : List Event) (R : List ReadAt) → all_pass policy H R ≡ true → Accepts policy H R
@@ -63,3 +65,16 @@ pub pass_consistent : (H : List Event) (R : List ReadAt) → All IsRead R → al
 pass_consistent H R are = same_from_decides {P = IsConsistent H R} (all_pass FMatrix H R) (consistent H R)
     (λ h. (accepted FMatrix H R are (pass_accepts FMatrix H R h)).consistent, λ c. accepts_pass FMatrix H R (consistent_accepts H R are c))
     (λ h. h, λ h. h)
+
+-- ---- one read after another
+
+pub passes_all : (policy : Policy) (H : List Event) (R : List ReadAt) → ((k : ℕ) → k < length R → passes policy H (take k R) (get_or R k (read_of 0 0)) ≡ true) → all_pass policy H R ≡ true
+passes_all policy H R h = accepts_pass policy H R (λ k d l. ap (passes policy H (take k R)) (get_or_default R k d (read_of 0 0) l) ∙ h k l)
+
+pub pass_fails : (policy : Policy) (H : List Event) (R : List ReadAt) (k : ℕ) → k < length R → passes policy H (take k R) (get_or R k (read_of 0 0)) ≡ false → all_pass policy H R ≡ false
+pass_fails policy H R k l fails = false_from_ne_true _ (λ h. both_ways _ fails (pass_accepts policy H R h k (read_of 0 0) l))
+
+-- The reads before a place, and the one there.
+pub at_place : (policy : Policy) (H : List Event) (reads : List ReadOf) (k : ℕ) (d : ReadOf) → k < length reads →
+    passes policy H (places_of (take k reads)) (place_of (get_or reads k d)) ≡ passes policy H (take k (places_of reads)) (get_or (places_of reads) k (read_of 0 0))
+at_place policy H reads k d l = ap (λ R. passes policy H R (place_of (get_or reads k d))) (sym (take-map place_of k reads)) ∙ ap (passes policy H (take k (places_of reads))) (sym (get_or-map place_of reads k d (read_of 0 0) l))

@@ -2,7 +2,7 @@
 //!
 //! Everything is asked of the history: origins, and whether reads are consistent.
 
-ghost use Rattle.std.specs.Prelude.{◌≡◌, ◌<◌, length, All, IfOk, Some};
+ghost use Rattle.std.specs.Prelude.{◌≡◌, ◌<◌, length, All, IfOk, IfSome, Some};
 ghost use Rattle.air_history.specs.Reads.{IsRead, first_cycle, last_cycle, newest_cycle};
 ghost use Rattle.air_history.specs.Clashes.{clash_by_history, is_late, lesser, named_clash};
 ghost use Rattle.air_history.specs.ClashLaws.{passes};
@@ -125,7 +125,8 @@ pub fn is_late(policy: Policy, held: &[ReadOf], read: &ReadOf) -> bool
 #[tactic(auto, unfolding(air_history::specs::Clashes::clash_by_history))]
 fn naming_of(replay: &Replay<'_>, held: &[ReadOf], read: &ReadOf) -> Option<Naming>
     requires { read.now.item < length replay.now.deck.items }
-    ensures { clash_named replay.now.history result (places_of held.now)
+    ensures new { IfSome result (NamesItem (length replay.now.deck.items)) }
+    ensures told { clash_named replay.now.history result (places_of held.now)
         ≡ clash_by_history replay.now.deck.settings.policy replay.now.history (places_of held.now) (place_of read.now) }
 {
     match replay.policy() {
@@ -146,5 +147,75 @@ fn naming_of(replay: &Replay<'_>, held: &[ReadOf], read: &ReadOf) -> Option<Nami
             }
             Some(Naming::StaleAt(read.cycle))
         }
+    }
+}
+
+/// The held read with which a new one clashes.
+pub fn clash(
+    alloc: Global,
+    replay: &Replay<'_>,
+    held: &[ReadOf],
+    read: &ReadOf,
+) -> Result<Option<Clash>, NoMemory>
+    requires held { All (λ r. r.item < length replay.now.deck.items) held.now }
+    requires new { read.now.item < length replay.now.deck.items }
+    ensures { IfOk result (λ clash. clash
+        ≡ clash_by_history replay.now.deck.settings.policy replay.now.history (places_of held.now) (place_of read.now)) }
+{
+    match naming_of(replay, held, read) {
+        None => Ok(None),
+        Some(naming) => least_named(alloc, replay, naming, held),
+    }
+}
+
+/// Whether a new read passes after held ones.
+#[tactic(auto, unfolding(air_history::specs::ClashLaws::passes))]
+fn passes(
+    alloc: Global,
+    replay: &Replay<'_>,
+    held: &[ReadOf],
+    read: &ReadOf,
+) -> Result<bool, NoMemory>
+    requires held { All (λ r. r.item < length replay.now.deck.items) held.now }
+    requires new { read.now.item < length replay.now.deck.items }
+    ensures { IfOk result (λ told. told
+        ≡ passes replay.now.deck.settings.policy replay.now.history (places_of held.now) (place_of read.now)) }
+{
+    if is_late(replay.policy(), held, read) {
+        return Ok(false);
+    }
+    Ok(clash(alloc, replay, held, read)?.is_none())
+}
+
+/// Whether each read passes after those before it, one after another.
+fn each_passes(
+    alloc: Global,
+    replay: &Replay<'_>,
+    reads: &[ReadOf],
+) -> Result<bool, NoMemory>
+    requires { All (λ r. r.item < length replay.now.deck.items) reads.now }
+    ensures { IfOk result (λ told. told ≡ all_pass replay.now.deck.settings.policy replay.now.history (places_of reads.now)) }
+{
+    for k in 0..reads.len() {
+        if !passes(alloc, replay, &reads[..k], &reads[k])? {
+            return Ok(false);
+        }
+    }
+    Ok(true)
+}
+
+/// Whether each read passes after those before it. Under F-Matrix it is asked of all reads at once.
+pub fn all_pass(
+    alloc: Global,
+    replay: &Replay<'_>,
+    reads: &[ReadOf],
+) -> Result<bool, NoMemory>
+    requires fits { All (λ r. r.item < length replay.now.deck.items) reads.now }
+    requires begun { All IsRead (places_of reads.now) }
+    ensures { IfOk result (λ told. told ≡ all_pass replay.now.deck.settings.policy replay.now.history (places_of reads.now)) }
+{
+    match replay.policy() {
+        Policy::FMatrix => is_consistent(alloc, replay, reads),
+        Policy::Datacycle | Policy::RMatrix => each_passes(alloc, replay, reads),
     }
 }
