@@ -4,7 +4,6 @@ ghost use Rattle.std.specs.Prelude.{◌≡◌};
 ghost use Rattle.item_catalog.specs.Kinds.{code_of};
 
 use air_base::NoMemory;
-use std::alloc::AllocError;
 use std::error::Error;
 use std::fmt;
 
@@ -123,17 +122,6 @@ impl fmt::Display for DeckError {
 }
 
 impl Error for DeckError {}
-
-impl From<AllocError> for DeckError {
-    ghost use Rattle.std.specs.Prelude.{◌≡◌};
-    ghost use Rattle.item_catalog.specs.declared.faults.DeckError.TheVariants.{NoMemory};
-
-    ghost from_gives = { λ _ e. e ≡ NoMemory };
-
-    fn from(_error: AllocError) -> Self {
-        DeckError::NoMemory
-    }
-}
 
 impl From<NoMemory> for DeckError {
     ghost use Rattle.std.specs.Prelude.{◌≡◌};

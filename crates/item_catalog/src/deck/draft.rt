@@ -29,10 +29,10 @@ use air_base::limits::{
     MOST_AGE, MOST_DELTA, MOST_DISKS, MOST_ITEMS, MOST_RATE, MOST_READERS, MOST_ROOM, MOST_SIZE,
     MOST_TRIES, MOST_UPDATERS,
 };
-use air_base::read_u64;
+use air_base::{NoMemory, read_u64};
 use air_model::deck::ReaderPlan;
 use csv::ByteRecord;
-use std::alloc::{AllocError, Global};
+use std::alloc::Global;
 use std::marker::Model;
 use text_records::{Refusal, three, two};
 use update_texts::{ItemList, WriteList};
@@ -66,7 +66,7 @@ impl Model for Draft {
 }
 
 /// A list for each updater that there can be.
-fn no_updates(alloc: Global) -> Result<Vec<Updates>, AllocError>
+fn no_updates(alloc: Global) -> Result<Vec<Updates>, NoMemory>
     ensures { IfOk result (λ lists. lists.items ≡ replicate MOST_UPDATERS []) }
 {
     let mut lists = Vec::new(alloc);
@@ -77,7 +77,7 @@ fn no_updates(alloc: Global) -> Result<Vec<Updates>, AllocError>
 }
 
 /// A list for each reader that there can be.
-fn no_queries(alloc: Global) -> Result<Vec<Queries>, AllocError>
+fn no_queries(alloc: Global) -> Result<Vec<Queries>, NoMemory>
     ensures { IfOk result (λ lists. lists.items ≡ replicate MOST_READERS []) }
 {
     let mut lists = Vec::new(alloc);
@@ -89,7 +89,7 @@ fn no_queries(alloc: Global) -> Result<Vec<Queries>, AllocError>
 
 impl Draft {
     /// No parts.
-    pub fn new(alloc: Global) -> Result<Draft, AllocError>
+    pub fn new(alloc: Global) -> Result<Draft, NoMemory>
         ensures { IfOk result (λ draft. draft ≡ draft_of []) }
     {
         Ok(Draft {
