@@ -1,2 +1,3 @@
 pub mod Findings
+pub mod Audits
 pub mod Steps

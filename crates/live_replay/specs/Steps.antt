@@ -3,3 +3,4 @@ pub mod Commits
 pub mod Runs
 pub mod Replays
 pub mod Names
+pub mod Lines

@@ -4,6 +4,7 @@
 mod alone;
 pub mod findings;
 pub mod limits;
+mod lines;
 mod policies;
 mod replay;
 mod running;

@@ -1,0 +1,89 @@
+//! The finding of one line.
+
+ghost use Rattle.std.specs.Prelude.{◌≡◌, ◌<◌, length, not, All, IfOk, if◌then◌else◌, Some, None};
+ghost use Rattle.std.specs.List.{list_all};
+ghost use Rattle.air_base.specs.declared.verdicts.VerdictKind.{VerdictKind};
+ghost use Rattle.air_model.specs.Decks.{values_in};
+ghost use Rattle.live_replay.specs.Findings.{has_value, is_clash, is_refused, look_cause, places_of, verdict_cause};
+ghost use Rattle.live_replay.specs.Steps.Lines.{EndFits, LineFits};
+ghost use Rattle.live_replay.specs.declared.findings.Cause.{Cause};
+
+use crate::findings::Cause;
+use crate::policies::{all_pass, clash, is_late};
+use crate::replay::Replay;
+use air_base::{NoMemory, ReadOf, VerdictKind};
+use air_model::reports::{LookLine, VerdictLine};
+use std::alloc::Global;
+
+/// Whether each read has its value.
+fn have_values(replay: &Replay<'_>, reads: &[ReadOf]) -> bool
+    requires { All (λ r. r.item < length replay.now.deck.items) reads.now }
+    ensures { result ≡ list_all (has_value (values_in replay.now.deck) replay.now.history) reads.now }
+{
+    for read in reads {
+        if read.value != replay.value(read.item, read.cycle) {
+            return false;
+        }
+    }
+    true
+}
+
+/// Why the end of an attempt differs whose reads all pass.
+#[tactic(auto, unfolding(crate::specs::Findings::is_refused, crate::specs::Findings::is_clash))]
+fn end_cause(
+    alloc: Global,
+    replay: &Replay<'_>,
+    reads: &[ReadOf],
+    end: VerdictKind,
+) -> Result<Option<Cause>, NoMemory>
+    requires reads { All (λ r. r.item < length replay.now.deck.items) reads.now }
+    requires end { EndFits (length replay.now.deck.items) end }
+    ensures { IfOk result (λ cause. cause ≡
+        (if not (is_refused replay.now.deck.settings.policy replay.now.history (places_of reads.now) end) then Some Cause.Verdict
+        else if not (is_clash replay.now.deck.settings.policy replay.now.history (places_of reads.now) end) then Some Cause.Clash
+        else None)) }
+{
+    let VerdictKind::Abort { item, cycle, clash: told } = end else {
+        return Ok(None);
+    };
+    let named = ReadOf { item, cycle, value: 0 };
+    if is_late(replay.policy(), reads, &named) {
+        return Ok(Some(Cause::Verdict));
+    }
+    match clash(alloc, replay, reads, &named)? {
+        None => Ok(Some(Cause::Verdict)),
+        Some(held) if held.item == told => Ok(None),
+        Some(_) => Ok(Some(Cause::Clash)),
+    }
+}
+
+/// Why the line of a verdict differs, if it does.
+#[tactic(auto, unfolding(crate::specs::Findings::verdict_cause))]
+pub fn verdict_cause(
+    alloc: Global,
+    replay: &Replay<'_>,
+    line: &VerdictLine,
+) -> Result<Option<Cause>, NoMemory>
+    requires { LineFits (length replay.now.deck.items) line.now }
+    ensures { IfOk result (λ cause. cause ≡ verdict_cause replay.now.deck replay.now.history line.now) }
+{
+    let reads = line.reads.as_slice();
+    if !have_values(replay, reads) {
+        return Ok(Some(Cause::Value));
+    }
+    if !all_pass(alloc, replay, reads)? {
+        return Ok(Some(Cause::Verdict));
+    }
+    end_cause(alloc, replay, reads, line.verdict.kind)
+}
+
+/// Why the line of a glance or a look differs, if it does.
+#[tactic(auto, unfolding(crate::specs::Findings::look_cause))]
+pub fn look_cause(replay: &Replay<'_>, line: &LookLine) -> Option<Cause>
+    ensures { result ≡ look_cause replay.now.deck replay.now.history line.now }
+{
+    if line.total == replay.total(line.cycle) {
+        return None;
+    }
+    Some(Cause::Total)
+}
