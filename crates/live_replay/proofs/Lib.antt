@@ -11,3 +11,4 @@ pub mod OriginMarks
 pub mod RunFacts
 pub mod ReplayFacts
 pub mod PolicyFacts
+pub mod GrammarFacts

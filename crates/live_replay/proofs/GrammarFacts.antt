@@ -1,0 +1,93 @@
+-- What lines in the grammar give a replay: the deck's updates, items of the deck, and cycles from 1 on.
+use Rattle.std.proofs.Common.{◌≡◌, ℕ, zero, suc, ◌<◌, ◌≤◌, Bool, true, false, ◌&&◌, ◌==◌, nat_lt, nat_le, Option, Some, None, List, [], ◌∷◌, ◌++◌, length, get_or, map, All, refl, sym, ◌∙◌, ap, subst, inl, inr, arith}
+use Rattle.std.specs.Prelude.{slice_get}
+use Rattle.std.specs.List.{list_all}
+use Rattle.std.specs.Option.{option_map_or}
+use Rattle.std.proofs.lemmas.Bool.{and_parts, cases_lt, eqb-true, ltb-true, leb-true, false≢true}
+use Rattle.std.proofs.lemmas.List.{get_or_past}
+use Rattle.std.proofs.lemmas.List.Elements.{All-cons, All-head, All-map, All-nil, All-tail}
+use Rattle.std.proofs.lemmas.List.Sums.{AllPass-from_list_all}
+use Rattle.std.proofs.lemmas.Option.{get_or_from_slice_get, slice_get_within}
+use Rattle.air_base.specs.declared.verdicts.ReadOf.{ReadOf}
+use Rattle.air_base.specs.declared.verdicts.VerdictKind.{VerdictKind}
+use Rattle.air_base.specs.declared.verdicts.VerdictKind.TheVariants.{Accept, Abort, Unfinished}
+use Rattle.air_history.specs.Reads.{IsRead}
+use Rattle.air_model.specs.Decks.{Deck, IsDeck, IsQuery, updates_by}
+use Rattle.air_model.specs.declared.reports.VerdictLine.{VerdictLine}
+use Rattle.report_reading.specs.ReportFaults.{follow, has_begun, its_item, leads}
+use Rattle.report_reading.specs.ReportLines.{ReportLines, starts_in}
+use Rattle.report_reading.specs.declared.lines.EventLine.{EventLine}
+use Rattle.report_reading.specs.declared.lines.EventLine.TheVariants.{Commit, Start}
+use Rattle.report_reading.specs.declared.lines.Line.TheVariants as l
+use Rattle.report_laws.specs.ReportRules.{EachNext, InGrammar, IsRight}
+use Rattle.live_replay.specs.Findings.{place_of, places_of}
+use Rattle.live_replay.specs.Steps.Lines.{EndFits, LineFits}
+use Rattle.live_replay.specs.Steps.Replays.{NamesUpdate}
+
+-- ---- the history
+
+next_named : (deck : Deck) (before lines : List EventLine) → EachNext deck before lines → All (NamesUpdate deck) lines
+next_named deck before [] each = All-nil (NamesUpdate deck)
+next_named deck before (Commit by seq ∷ lines) each =
+    All-cons (NamesUpdate deck) (Commit by seq) lines (ltb-true seq (length (updates_by deck by)) (and_parts _ _ each.0).1) (next_named deck (before ++ Commit by seq ∷ []) lines each.1)
+next_named deck before (Start ∷ lines) each = All-cons (NamesUpdate deck) Start lines tt (next_named deck (before ++ Start ∷ []) lines each.1)
+
+pub grammar_named : (deck : Deck) (lines : ReportLines) → InGrammar deck lines → All (NamesUpdate deck) lines.events
+grammar_named deck lines g = next_named deck [] lines.events g.events
+
+-- ---- verdicts
+
+told : {X : Type 0} (f : X → Bool) (o : Option X) → option_map_or f o false ≡ true → (x : X) × (o ≡ Some x) × (f x ≡ true)
+told f None h = absurd (false≢true h)
+told f (Some x) h = (x, refl, h)
+
+front_fits : (n : ℕ) (items query : List ℕ) → leads items query ≡ true → All (λ i. i < n) query → All (λ i. i < n) items
+front_fits n [] query h fits = All-nil (λ i. i < n)
+front_fits n (x ∷ items) [] h fits = absurd (false≢true h)
+front_fits n (x ∷ items) (y ∷ query) h fits =
+    let both = and_parts (x == y) (leads items query) h in
+    All-cons (λ i. i < n) x items (subst (λ i. i < n) (sym (eqb-true x y both.0)) (All-head (λ i. i < n) y query fits)) (front_fits n items query both.1 (All-tail (λ i. i < n) y query fits))
+
+follow_leads : (query items : List ℕ) (kind : VerdictKind) → follow query items kind ≡ true → leads items query ≡ true
+follow_leads query items Accept h = (and_parts _ _ h).0
+follow_leads query items (Abort item cycle clash) h = (and_parts _ _ (and_parts _ _ h).0).0
+follow_leads query items Unfinished h = (and_parts _ _ h).0
+
+end_fits : (n : ℕ) (query items : List ℕ) (kind : VerdictKind) → follow query items kind ≡ true → All (λ i. i < n) query → EndFits n kind
+end_fits n query items Accept h fits = tt
+end_fits n query items (Abort item cycle clash) h fits =
+    let next = told (λ next. next == item) (slice_get query (length items)) (and_parts _ _ (and_parts _ _ h).0).1 in
+    let same : next.0 ≡ item = eqb-true next.0 item next.2 in
+    let at : get_or query (length items) 0 ≡ item = get_or_from_slice_get query (length items) next.0 0 next.1 ∙ same in
+    subst (λ i. i < n) at (fits (length items) 0 (slice_get_within query (length items) next.0 next.1))
+end_fits n query items Unfinished h fits = tt
+
+unmapped : (n : ℕ) (reads : List ReadOf) → All (λ i. i < n) (map its_item reads) → All (λ r. r.item < n) reads
+unmapped n [] h = All-nil (λ r. r.item < n)
+unmapped n (r ∷ reads) h = All-cons (λ r. r.item < n) r reads (All-head (λ i. i < n) r.item (map its_item reads) h) (unmapped n reads (All-tail (λ i. i < n) r.item (map its_item reads) h))
+
+begun_reads : (starts : ℕ) (reads : List ReadOf) → list_all (λ read. has_begun starts read.cycle) reads ≡ true → All IsRead (places_of reads)
+begun_reads starts reads h = All-map IsRead place_of reads (λ k d l. leb-true 1 (get_or reads k d).cycle (and_parts _ _ (AllPass-from_list_all (λ read. has_begun starts read.cycle) reads h k d l)).0)
+
+line_fits : (deck : Deck) (starts : ℕ) (line : VerdictLine) → IsDeck deck → IsRight deck starts (l.Verdict line) → LineFits (length deck.items) line
+line_fits deck starts line is right =
+    let n = length deck.items in
+    let queries = get_or deck.queries line.reader [] in
+    let asked = told (λ query. follow query (map its_item line.reads) line.verdict.kind) (slice_get queries line.verdict.query) (and_parts _ _ right.known).1 in
+    let at : get_or queries line.verdict.query [] ≡ asked.0 = get_or_from_slice_get queries line.verdict.query asked.0 [] asked.1 in
+    let some = slice_get_within queries line.verdict.query asked.0 asked.1 in
+    let fits : All (λ i. i < n) asked.0 = (subst (IsQuery n) at (is.queries line.reader [] (reader_within line.reader some) line.verdict.query [] some)).within in
+    record {
+      items = unmapped n line.reads (front_fits n (map its_item line.reads) asked.0 (follow_leads asked.0 (map its_item line.reads) line.verdict.kind asked.2) fits);
+      begun = begun_reads starts line.reads (and_parts _ _ right.begun).0;
+      end = end_fits n asked.0 (map its_item line.reads) line.verdict.kind asked.2 fits;
+    }
+  where
+    reader_within : (r : ℕ) → line.verdict.query < length (get_or deck.queries r []) → r < length deck.queries
+    reader_within r l = elim (cases_lt r (length deck.queries)) as (λ _. r < length deck.queries) [
+      | inl below ↦ below
+      | inr past ↦ absurd (let none = ap length (get_or_past deck.queries r [] past) in omega arith)
+    ]
+
+pub grammar_fits : (deck : Deck) (lines : ReportLines) → IsDeck deck → InGrammar deck lines → All (LineFits (length deck.items)) lines.verdicts
+grammar_fits deck lines is g = λ k d l. line_fits deck (starts_in lines.events) (get_or lines.verdicts k d) is (g.verdicts k d l)
