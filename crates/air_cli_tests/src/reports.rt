@@ -1,6 +1,7 @@
 //! The rows of a report: the history, then the verdicts of all readers, then the counts of all readers.
 //!
-//! No command tells late buckets or copied reads yet; the tests of `air_report` show the row of all six counts.
+//! The table of a report's order shows which buckets are counted as opened, dozed, refused and foreign; late buckets are counted
+//! in a table of `policies` and in one of `ethers`, and reads from copies in that of `copies`.
 
 use crate::cases::{Case, Part, Parts, first_other};
 use crate::first::{FIRST_CASE, FIRST_TAPE, SCRIPT, TUNE};
@@ -17,8 +18,8 @@ const FOREIGN: [u8; 28] = [
     0, 0, 0, 24, 0x41, 0x44, 1, 0, 0, 1, 0, 2, 0, 0, 0, 1, 0, 0, 255, 255, 0, 0, 0, 0, 0, 0, 0, 0,
 ];
 
-/// Eight readers over a tape with all that is counted of a tape.
-const ALL_COUNTS: Case<'static> = Case {
+/// Eight readers over a tape of buckets that are opened, dozed, refused and foreign.
+const FOUR_COUNTS: Case<'static> = Case {
     shows: "1 opened, 2 dozed, 4 refused, 5 foreign",
     words: TUNE,
     deck: &[
@@ -100,7 +101,7 @@ fn a_report_has_the_history_then_all_verdicts_then_all_counts(rt: HostRuntime) {
     let cases = [
         reported("all three", deck, report),
         reported("none of them", nothing, &[]),
-        ALL_COUNTS,
+        FOUR_COUNTS,
     ];
     assert_eq!(rt; first_other(&rt, rt.alloc(), &cases), None);
 }
