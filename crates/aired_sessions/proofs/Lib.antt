@@ -1,0 +1,6 @@
+mod HistoryLemmas
+mod DrillSlots
+mod DrillTapes
+mod CountBounds
+mod DrillCounts
+mod DrillExamples

@@ -1,0 +1,2 @@
+pub mod HistoryTapes
+pub mod DrillLines
