@@ -96,7 +96,7 @@ impl Ether {
         })
     }
 
-    /// Pushes a bucket. It takes constant time.
+    /// Pushes a bucket, where nothing that is due waits, as `new` leaves it, and `next` when it gives none. It takes constant time.
     pub fn push(&mut self, bytes: &[u8])
         requires room { length bytes.now ≤ self.old.most }
         requires quiet { IsQuiet self.old }
@@ -134,7 +134,7 @@ impl Ether {
         Some(self.rooms[room].bytes())
     }
 
-    /// Makes all the rest due.
+    /// Makes all the rest due, where nothing that is due waits.
     pub fn end(&mut self)
         requires { IsQuiet self.old }
         ensures room { self.new.most ≡ self.old.most }

@@ -160,7 +160,7 @@ pub fn size_of(bucket: &Bucket<'_>) -> usize
 }
 
 /// Writes a bucket's bytes to the front of `out` and answers how many there are. That a bucket is in range who makes it has to know:
-/// the law `range_law` of `air_model` says it of every bucket that a history airs. `size_of` tells how much room it takes.
+/// the law `range_law` of `air_model` says it of every bucket of a history that can be aired. `size_of` tells how much room it takes.
 pub fn encode(bucket: &Bucket<'_>, out: &mut [u8]) -> usize
     requires range { IsInRange (bucket_to_air bucket.now) }
     requires room { length (spelling (bucket_to_air bucket.now)) ≤ length out.old }

@@ -68,7 +68,7 @@ impl EtherListener {
         })
     }
 
-    /// Pushes a bucket's bytes, and hears all that is due. It is open from `new` on, and stays so until a call runs out of memory.
+    /// Pushes a bucket's bytes, and hears all that is due. It is open from `new` on, until `end`, or until a call runs out of memory.
     pub fn push(&mut self, alloc: Global, bytes: &[u8]) -> Result<(), NoMemory>
         requires open { IsOpen self.old }
         requires room { length bytes.now ≤ self.old.ether.most }

@@ -38,7 +38,7 @@ impl Model for Listener {
 }
 
 impl Listener {
-    /// The deck's reader of a number, before it hears anything.
+    /// The deck's reader of a number, before it hears anything. `Program::plan` makes the deck's program.
     pub fn new(
         alloc: Global,
         deck: &Deck,
@@ -56,7 +56,7 @@ impl Listener {
         })
     }
 
-    /// Takes the verdicts before the next member, and hears it.
+    /// Takes the verdicts before the next member, and hears it. What `decode` answers is in range.
     pub fn hear(
         &mut self,
         alloc: Global,

@@ -31,7 +31,7 @@ pub struct Sessions {
     pub counts: Vec<CountsLine>,
 }
 
-/// All readers of a deck, before they hear anything.
+/// All readers of a deck, before they hear anything. `Program::plan` makes the deck's program.
 pub fn listeners_of(
     alloc: Global,
     deck: &Deck,
@@ -47,7 +47,7 @@ pub fn listeners_of(
     Ok(listeners)
 }
 
-/// Lets all hear one member.
+/// Lets all hear one member. What `decode` answers is in range.
 pub fn all_hear(
     alloc: Global,
     listeners: &mut [Listener],
@@ -90,7 +90,8 @@ pub fn end_all(alloc: Global, listeners: Vec<Listener>) -> Result<Sessions, NoMe
     Ok(Sessions { verdicts, counts })
 }
 
-/// The sessions of all readers of a deck over the records of a tape. `TapeReader` tells whether a tape is whole.
+/// The sessions of all readers of a deck over the records of a tape. `TapeReader` tells whether a tape is whole, and
+/// `Program::plan` makes the deck's program.
 pub fn tape_sessions(
     alloc: Global,
     deck: &Deck,

@@ -100,8 +100,8 @@ fn is_clear(deck: &Deck) -> bool
     set.loss == 0 && set.again == 0 && set.late == 0
 }
 
-/// The sessions of all readers of a deck, each over its own ether of the records of a tape: one that was aired for the deck, whose
-/// records are of its buckets' sizes.
+/// The sessions of all readers of a deck, each over its own ether of the records of a tape: a whole one, as `TapeReader` tells, whose
+/// records are of the sizes of the deck's buckets, as those are that `run_script` makes. `Program::plan` makes the deck's program.
 pub fn ether_sessions<T: Threads + Sync>(
     threads: &T,
     alloc: Global,

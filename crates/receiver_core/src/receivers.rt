@@ -85,7 +85,7 @@ impl Model for Receiver {
 }
 
 impl Receiver {
-    /// The deck's receiver of a number, at its start. It takes all memory.
+    /// The deck's receiver of a number, at its start. It takes all memory. `Program::plan` makes the deck's program.
     pub fn new(
         alloc: Global,
         deck: &Deck,

@@ -31,7 +31,8 @@ pub struct ScriptRun {
     room: Vec<u8>,
 }
 
-/// Runs the script: its events are the script's history, and its tape has that history's buckets.
+/// Runs the script: its events are the script's history, and its tape has that history's buckets. `Program::plan` makes the deck's
+/// program, and `tape_bytes` tells how long the tape gets.
 pub fn run_script(alloc: Global, deck: &Deck, program: &Program) -> Result<ScriptRun, NoMemory>
     requires { program.now ≡ disks_in deck.now }
     ensures events { IfOk result (λ r. r.events.items ≡ script_history deck.now) }
