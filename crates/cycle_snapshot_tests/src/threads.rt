@@ -17,13 +17,23 @@ fn is_well(watcher: &Watcher, cycle: u32) -> bool {
     !watcher.back && !watcher.torn && !watcher.failed && watcher.monitor.cycle() == cycle
 }
 
-/// How many watchers went well beside a publisher of so many batches.
-fn well<R: Threads + Wait + Sync>(
+/// The place of the first watcher that didn't go well, and whether it went back, saw a torn frame, or a look of it failed.
+fn first_unwell(watchers: &[Watcher], cycle: u32) -> Option<(usize, [bool; 3])> {
+    for (place, watcher) in watchers.iter().enumerate() {
+        if !is_well(watcher, cycle) {
+            return Some((place, [watcher.back, watcher.torn, watcher.failed]));
+        }
+    }
+    None
+}
+
+/// The first of so many watchers that didn't go well beside a publisher of so many batches, and in what.
+fn unwell_beside<R: Threads + Wait + Sync>(
     rt: &R,
     alloc: Global,
     monitors: u32,
     batches: u32,
-) -> Result<usize, NoMemory>
+) -> Result<Option<(usize, [bool; 3])>, NoMemory>
     requires monitors { monitors ≤ 16 }
     requires batches { batches < 2 ^ 32 - 1 }
 {
@@ -38,7 +48,7 @@ fn well<R: Threads + Wait + Sync>(
                 batches,
                 MOST_LOOKS,
             ) {
-                Ok(()) => Ok(watchers.iter().filter(|w| is_well(w, batches)).count()),
+                Ok(()) => Ok(first_unwell(&watchers, batches)),
                 Err(_) => Err(NoMemory),
             }
         }
@@ -50,6 +60,6 @@ fn well<R: Threads + Wait + Sync>(
 
 #[test]
 fn four_monitors_beside_a_thousand_batches(rt: HostRuntime) -> Result<(), Fail> {
-    assert_eq!(rt; well(&rt, rt.alloc(), 4, 1000)?, 4);
+    assert_eq!(rt; unwell_beside(&rt, rt.alloc(), 4, 1000)?, None);
     Ok(())
 }

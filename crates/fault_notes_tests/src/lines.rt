@@ -9,8 +9,11 @@ use std::test::Fail;
 /// A text, the row and the kind of its fault, and the whole note.
 type Case<'a> = (&'a str, u32, u8, &'a str);
 
-/// The place of the first case whose note isn't the wanted one.
-fn first_other(alloc: Global, cases: &[Case<'_>]) -> Result<Option<usize>, NoMemory> {
+/// The place of the first case whose note isn't the wanted one, and its note.
+fn first_other(
+    alloc: Global,
+    cases: &[Case<'_>],
+) -> Result<Option<(usize, String)>, NoMemory> {
     for (place, (text, row, kind, wanted)) in cases.iter().enumerate() {
         let fault = DeckFault {
             row: *row,
@@ -18,7 +21,7 @@ fn first_other(alloc: Global, cases: &[Case<'_>]) -> Result<Option<usize>, NoMem
         };
         let note = deck_note(alloc, "a deck", text.as_bytes(), fault)?;
         if note.as_str() != *wanted {
-            return Ok(Some(place));
+            return Ok(Some((place, note)));
         }
     }
     Ok(None)

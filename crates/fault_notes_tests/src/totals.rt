@@ -6,11 +6,14 @@ use item_catalog::DeckFault;
 use std::alloc::Global;
 use std::test::Fail;
 
-/// A text so many times, then a record, and the note on that.
+/// A text, how many times it stands, the record behind it, the kind of its fault, and the note on it.
+type Case<'a> = (&'a str, u32, &'a str, u8, &'a str);
+
+/// An item on a disk and a reader, then a text so many times, then a record: the note on that.
 fn note_behind(
     alloc: Global,
-    times: u32,
     text: &str,
+    times: u32,
     record: &str,
     kind: u8,
 ) -> Result<String, NoMemory> {
@@ -26,33 +29,59 @@ fn note_behind(
     deck_note(alloc, "d", all.as_bytes(), fault)
 }
 
+/// The place of the first case whose note isn't the wanted one, and its note.
+fn first_other(
+    alloc: Global,
+    cases: &[Case<'_>],
+) -> Result<Option<(usize, String)>, NoMemory> {
+    for (place, (text, times, record, kind, wanted)) in cases.iter().enumerate() {
+        let note = note_behind(alloc, text, *times, record, *kind)?;
+        if note.as_str() != *wanted {
+            return Ok(Some((place, note)));
+        }
+    }
+    Ok(None)
+}
+
 #[test]
 fn totals_count_the_record_itself(rt: HostRuntime) -> Result<(), Fail> {
-    let alloc = rt.alloc();
-    let note = note_behind(alloc, 7, "disk,1,1\n", "disk,1,1\n", 7)?;
-    assert_eq!(rt;
-        note.as_str(),
-        "d:11: record 11: disk 8 makes 9 disks: at most 8"
-    );
-    let note = note_behind(alloc, 63, "reader,0,0,1\n", "reader,0,0,1\n", 7)?;
-    assert_eq!(rt;
-        note.as_str(),
-        "d:67: record 67: reader 64 makes 65 readers: at most 64"
-    );
-    let note = note_behind(alloc, 10_000, "query,0,0\n", "query,0,0\n", 7)?;
-    assert_eq!(rt;
-        note.as_str(),
-        "d:10004: record 10004: the query makes 10001 queries: at most 10000"
-    );
-    let note = note_behind(alloc, 10_000, "script,s\n", "script,s\n", 7)?;
-    assert_eq!(rt;
-        note.as_str(),
-        "d:10004: record 10004: the script makes 10001 starts: at most 10000"
-    );
-    let note = note_behind(alloc, 3, "update,2,,0=1\n", "script,2 2 s 2 2\n", 11)?;
-    assert_eq!(rt;
-        note.as_str(),
-        "d:7: record 7: the updates of updater 2 above are 3, and up to here the script commits 4"
-    );
+    let cases: &[Case<'_>] = &[
+        (
+            "disk,1,1\n",
+            7,
+            "disk,1,1\n",
+            7,
+            "d:11: record 11: disk 8 makes 9 disks: at most 8",
+        ),
+        (
+            "reader,0,0,1\n",
+            63,
+            "reader,0,0,1\n",
+            7,
+            "d:67: record 67: reader 64 makes 65 readers: at most 64",
+        ),
+        (
+            "query,0,0\n",
+            10_000,
+            "query,0,0\n",
+            7,
+            "d:10004: record 10004: the query makes 10001 queries: at most 10000",
+        ),
+        (
+            "script,s\n",
+            10_000,
+            "script,s\n",
+            7,
+            "d:10004: record 10004: the script makes 10001 starts: at most 10000",
+        ),
+        (
+            "update,2,,0=1\n",
+            3,
+            "script,2 2 s 2 2\n",
+            11,
+            "d:7: record 7: the updates of updater 2 above are 3, and up to here the script commits 4",
+        ),
+    ];
+    assert_eq!(rt; first_other(rt.alloc(), cases)?, None);
     Ok(())
 }
