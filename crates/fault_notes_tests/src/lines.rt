@@ -10,10 +10,7 @@ use std::test::Fail;
 type Case<'a> = (&'a str, u32, u8, &'a str);
 
 /// The place of the first case whose note isn't the wanted one, and its note.
-fn first_other(
-    alloc: Global,
-    cases: &[Case<'_>],
-) -> Result<Option<(usize, String)>, NoMemory> {
+fn first_other(alloc: Global, cases: &[Case<'_>]) -> Result<Option<(usize, String)>, NoMemory> {
     for (place, (text, row, kind, wanted)) in cases.iter().enumerate() {
         let fault = DeckFault {
             row: *row,

@@ -13,10 +13,7 @@ const BASE: &str = "item,0,1,1\nitem,1,2,1\ndisk,2,1\nreader,0,0,1\nset,delta,1\
 pub type Row<'a> = (&'a str, u8, &'a str);
 
 /// The place of the first row whose note isn't the wanted one, and its note.
-pub fn first_other(
-    alloc: Global,
-    rows: &[Row<'_>],
-) -> Result<Option<(usize, String)>, NoMemory> {
+pub fn first_other(alloc: Global, rows: &[Row<'_>]) -> Result<Option<(usize, String)>, NoMemory> {
     for (place, (record, kind, wanted)) in rows.iter().enumerate() {
         let text = format!(in alloc; "{BASE}{record}\n")?;
         let fault = DeckFault {

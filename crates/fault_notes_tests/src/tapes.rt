@@ -12,10 +12,7 @@ const TAPE: &[u8] = b"\0\0\0\x02ab\0\0\0\x03cde";
 type Case<'a> = (usize, u64, &'a str);
 
 /// The place of the first case whose note isn't the wanted one, and its note.
-fn first_other(
-    alloc: Global,
-    cases: &[Case<'_>],
-) -> Result<Option<(usize, String)>, NoMemory> {
+fn first_other(alloc: Global, cases: &[Case<'_>]) -> Result<Option<(usize, String)>, NoMemory> {
     for (place, (length, at, wanted)) in cases.iter().enumerate() {
         let note = tape_note(alloc, "a tape", TAPE.get(..*length).unwrap_or(TAPE), *at)?;
         if note.as_str() != *wanted {

@@ -30,10 +30,7 @@ fn note_behind(
 }
 
 /// The place of the first case whose note isn't the wanted one, and its note.
-fn first_other(
-    alloc: Global,
-    cases: &[Case<'_>],
-) -> Result<Option<(usize, String)>, NoMemory> {
+fn first_other(alloc: Global, cases: &[Case<'_>]) -> Result<Option<(usize, String)>, NoMemory> {
     for (place, (text, times, record, kind, wanted)) in cases.iter().enumerate() {
         let note = note_behind(alloc, text, *times, record, *kind)?;
         if note.as_str() != *wanted {

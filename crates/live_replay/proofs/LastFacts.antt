@@ -106,7 +106,7 @@ module _ (V : List ℕ) (H : List Event) (i : ℕ) where
             w,
             at_origin c ∙ f,
             ap (λ ws. get_or ws (counted c - 1) d) whole ∙ get_or_append_left (written m) (writes_from V H i (0 + m) (length H - m)) d (counted c - 1) (omega arith)
-            ∙ ap (λ ws. get_or ws (counted c - 1) d) tail ∙ get_or_push (written w) (write_at V H i w) d (counted c - 1) (omega arith),
+                ∙ ap (λ ws. get_or ws (counted c - 1) d) tail ∙ get_or_push (written w) (write_at V H i w) d (counted c - 1) (omega arith),
             value_at c ∙ ap left f,
           )
 

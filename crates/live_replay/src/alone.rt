@@ -85,11 +85,7 @@ fn are_last(replay: &Replay<'_>, marks: &[bool], reads: &[ReadOf]) -> bool
 }
 
 /// Whether the reads are consistent.
-pub fn is_consistent(
-    alloc: Global,
-    replay: &Replay<'_>,
-    reads: &[ReadOf],
-) -> Result<bool, NoMemory>
+pub fn is_consistent(alloc: Global, replay: &Replay<'_>, reads: &[ReadOf]) -> Result<bool, NoMemory>
     requires { All (λ r. r.item < length replay.now.deck.items) reads.now }
     ensures { IfOk result (λ told. told ≡ consistent replay.now.history (places_of reads.now)) }
 {

@@ -43,10 +43,19 @@ fn end_cause(
         else if not (is_clash replay.now.deck.settings.policy replay.now.history (places_of reads.now) end) then Some Cause.Clash
         else None)) }
 {
-    let VerdictKind::Abort { item, cycle, clash: told } = end else {
+    let VerdictKind::Abort {
+        item,
+        cycle,
+        clash: told,
+    } = end
+    else {
         return Ok(None);
     };
-    let named = ReadOf { item, cycle, value: 0 };
+    let named = ReadOf {
+        item,
+        cycle,
+        value: 0,
+    };
     if is_late(replay.policy(), reads, &named) {
         return Ok(Some(Cause::Verdict));
     }

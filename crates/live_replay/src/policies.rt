@@ -188,11 +188,7 @@ fn passes(
 }
 
 /// Whether each read passes after those before it, one after another.
-fn each_passes(
-    alloc: Global,
-    replay: &Replay<'_>,
-    reads: &[ReadOf],
-) -> Result<bool, NoMemory>
+fn each_passes(alloc: Global, replay: &Replay<'_>, reads: &[ReadOf]) -> Result<bool, NoMemory>
     requires { All (λ r. r.item < length replay.now.deck.items) reads.now }
     ensures { IfOk result (λ told. told ≡ all_pass replay.now.deck.settings.policy replay.now.history (places_of reads.now)) }
 {
@@ -205,11 +201,7 @@ fn each_passes(
 }
 
 /// Whether each read passes after those before it. Under F-Matrix it is asked of all reads at once.
-pub fn all_pass(
-    alloc: Global,
-    replay: &Replay<'_>,
-    reads: &[ReadOf],
-) -> Result<bool, NoMemory>
+pub fn all_pass(alloc: Global, replay: &Replay<'_>, reads: &[ReadOf]) -> Result<bool, NoMemory>
     requires fits { All (λ r. r.item < length replay.now.deck.items) reads.now }
     requires begun { All IsRead (places_of reads.now) }
     ensures { IfOk result (λ told. told ≡ all_pass replay.now.deck.settings.policy replay.now.history (places_of reads.now)) }

@@ -112,7 +112,13 @@ impl Running {
         };
         run_event(&event, &mut self.values);
         let number = self.sources.len() as u32;
-        add_writes(&mut self.writes, number, self.starts, &self.values, update.writes())?;
+        add_writes(
+            &mut self.writes,
+            number,
+            self.starts,
+            &self.values,
+            update.writes(),
+        )?;
         self.sources.push(sources)?;
         Ok(())
     }
