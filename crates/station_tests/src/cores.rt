@@ -2,7 +2,7 @@
 ghost use Rattle.std.specs.Prelude.{◌≡◌, ◌<◌, ◌≤◌, ◌+◌, length};
 
 use crate::rows::Mark::{Commit, Start};
-use crate::rows::{Mark, Put, ReceiptRow, have_marks, says, update_of};
+use crate::rows::{Mark, Other, Put, ReceiptRow, marks_other, receipt_other, update_of};
 use std::alloc::Global;
 use std::test::Fail;
 use update_commit::{Core, Receipt};
@@ -20,7 +20,7 @@ enum Step<'a> {
     Has(u32, [u64; 3]),
 }
 
-/// Makes the commit; whether it is answered as told.
+/// Makes the commit; in what it is answered otherwise than told.
 #[tactic(auto, using(crate::proofs::Counts::few_made))]
 fn commits(
     alloc: Global,
@@ -29,49 +29,62 @@ fn commits(
     reads: &[u16],
     puts: &[Put],
     told: ReceiptRow<'_>,
-) -> Result<bool, Fail>
+) -> Result<Option<Other>, Fail>
     requires core { (core.old.updaters ≡ 2) × (length core.old.values ≡ 3) × (length core.old.events < 1000) }
     ensures core { (core.new.updaters ≡ 2) × (length core.new.values ≡ 3) × (length core.new.events ≤ length core.old.events + 1) }
 {
     let update = update_of(alloc, reads, puts)?;
     if by >= 2 || !update.fits(3) {
-        return Ok(false);
+        return Ok(Some(Other::NotMade));
     }
     let mut receipt = Receipt::room(alloc, &update)?;
     core.reserve(1)?;
     core.commit(by, update, &mut receipt);
-    Ok(says(&receipt, told))
+    Ok(receipt_other(&receipt, told))
 }
 
-/// Makes the call; whether it is answered as told.
+/// In what the core has another number of starts, or other values.
+fn state_other(core: &Core, cycle: u32, told: [u64; 3]) -> Option<Other>
+    requires core { length core.now.values ≡ 3 }
+{
+    if core.cycle() != cycle {
+        return Some(Other::Cycle(core.cycle()));
+    }
+    let values = [core.value(0), core.value(1), core.value(2)];
+    (values != told).then_some(Other::Values(values))
+}
+
+/// Makes the call; in what it is answered otherwise than told.
 #[tactic(auto, using(crate::proofs::Counts::few_starts))]
-fn holds(alloc: Global, core: &mut Core, step: &Step<'_>) -> Result<bool, Fail>
+fn difference(alloc: Global, core: &mut Core, step: &Step<'_>) -> Result<Option<Other>, Fail>
     requires core { (core.old.updaters ≡ 2) × (length core.old.values ≡ 3) × (length core.old.events < 1000) }
     ensures core { (core.new.updaters ≡ 2) × (length core.new.values ≡ 3) × (length core.new.events ≤ length core.old.events + 1) }
 {
     match step {
         Step::Commits(by, reads, puts, told) => commits(alloc, core, *by, reads, puts, *told),
-        Step::Starts(number) => {
+        Step::Starts(told) => {
             core.reserve(1)?;
-            Ok(core.start() == *number)
+            let number = core.start();
+            Ok((number != *told).then_some(Other::Cycle(number)))
         }
         Step::Since(marks) => {
             let mut events = Vec::new(alloc);
             core.since_start(alloc, &mut events)?;
-            Ok(have_marks(&events, marks))
+            Ok(marks_other(&events, marks))
         }
-        Step::Has(cycle, values) => {
-            Ok(core.cycle() == *cycle && [core.value(0), core.value(1), core.value(2)] == *values)
-        }
+        Step::Has(cycle, values) => Ok(state_other(core, *cycle, *values)),
     }
 }
 
-/// The first of the steps that is answered otherwise, or how many events the history then has.
-fn first_other(alloc: Global, steps: &[Step<'_>]) -> Result<Result<u64, usize>, Fail> {
+/// The place of the first of the steps that is answered otherwise than told, and in what; or how many events the history then has.
+fn first_other(alloc: Global, steps: &[Step<'_>]) -> Result<Result<u64, (usize, Other)>, Fail> {
     let mut core = Core::new(alloc, &[10, 20, 30], 2)?;
     for (place, step) in steps.iter().enumerate() {
-        if place >= 1000 || !holds(alloc, &mut core, step)? {
-            return Ok(Err(place));
+        if place >= 1000 {
+            return Ok(Err((place, Other::NotMade)));
+        }
+        if let Some(other) = difference(alloc, &mut core, step)? {
+            return Ok(Err((place, other)));
         }
     }
     Ok(Ok(core.into_history().len()))
@@ -155,6 +168,9 @@ fn another_answer_is_found(rt: HostRuntime) -> Result<(), Fail> {
         first_other(rt.alloc(), &[Step::Starts(1), wrong])?,
         first_other(rt.alloc(), &[Step::Starts(1), Step::Since(&[Start])])?,
     ];
-    assert_eq!(rt; found, [Err(1), Err(1)]);
+    assert_eq!(rt;
+        found,
+        [Err((1, Other::Read(1))), Err((1, Other::Events(0)))]
+    );
     Ok(())
 }

@@ -42,20 +42,52 @@ pub fn mark_of(event: &Event) -> Mark {
     }
 }
 
-/// Whether the events have these rows.
-pub fn have_marks(events: &[Event], marks: &[Mark]) -> bool {
-    events.len() == marks.len()
-        && events
-            .iter()
-            .zip(marks)
-            .all(|(event, mark)| mark_of(event) == *mark)
+/// In what a call is answered otherwise than told: what came in its place.
+#[derive(Clone, Copy, Debug, PartialEq, Eq)]
+pub enum Other {
+    /// There is no room for the call, or the update doesn't fit, or there is none of that number.
+    NotMade,
+    /// A receipt's place in the history.
+    Number(u64),
+    /// The cycle of a receipt, of a start, or of a core.
+    Cycle(u32),
+    /// A receipt has other read values, so many.
+    Read(usize),
+    /// A receipt has other written values, so many.
+    Written(usize),
+    /// At this place of the events stands this one.
+    Event(usize, Mark),
+    /// There are so many events, and no more.
+    Events(usize),
+    /// The present values of a core.
+    Values([u64; 3]),
+    /// So many commits and so many starts were made.
+    Made(u32, u32),
 }
 
-/// Whether the receipt says this.
-pub fn says(receipt: &Receipt, told: ReceiptRow<'_>) -> bool {
+/// In what the events are others than these rows.
+pub fn marks_other(events: &[Event], marks: &[Mark]) -> Option<Other> {
+    for (place, event) in events.iter().enumerate() {
+        let mark = mark_of(event);
+        if marks.get(place) != Some(&mark) {
+            return Some(Other::Event(place, mark));
+        }
+    }
+    (events.len() != marks.len()).then_some(Other::Events(events.len()))
+}
+
+/// In what the receipt says something else.
+pub fn receipt_other(receipt: &Receipt, told: ReceiptRow<'_>) -> Option<Other> {
     let (number, cycle, read, written) = told;
-    receipt.number == number
-        && receipt.cycle == cycle
-        && receipt.read.as_slice() == read
-        && receipt.written.as_slice() == written
+    if receipt.number != number {
+        return Some(Other::Number(receipt.number));
+    }
+    if receipt.cycle != cycle {
+        return Some(Other::Cycle(receipt.cycle));
+    }
+    let (values, after) = (receipt.read.as_slice(), receipt.written.as_slice());
+    if values != read {
+        return Some(Other::Read(values.len()));
+    }
+    (after != written).then_some(Other::Written(after.len()))
 }

@@ -4,7 +4,7 @@ ghost use Rattle.station.specs.PassStates.{PassState, with_seen};
 
 use crate::crews::is_complete;
 use crate::rows::Mark::{Commit, Start};
-use crate::rows::{Mark, ReceiptRow, have_marks, says};
+use crate::rows::{Mark, Other, ReceiptRow, marks_other, receipt_other};
 use air_history::History;
 use item_catalog::{Deck, read_deck};
 use station::{ConductorPass, Station, UpdaterPass};
@@ -27,7 +27,7 @@ enum Call<'a> {
     Made(u32, u32),
 }
 
-/// Makes the commit; whether it is answered as told.
+/// Makes the commit; in what it is answered otherwise than told.
 fn commits<R: Wait>(
     wait: &R,
     alloc: Global,
@@ -36,26 +36,26 @@ fn commits<R: Wait>(
     deck: &Deck,
     number: usize,
     told: ReceiptRow<'_>,
-) -> Result<bool, Fail>
+) -> Result<Option<Other>, Fail>
     requires own { pass.old.station ≡ station.now }
     requires values { length pass.old.values ≡ length deck.now.items }
     ensures pass { pass.new ≡ with_seen pass.old pass.new.seen }
 {
     let by = pass.by();
     if by >= deck.updaters() || pass.made() == u32::MAX {
-        return Ok(false);
+        return Ok(Some(Other::NotMade));
     }
     let Some(update) = deck.updates(by).get(number) else {
-        return Ok(false);
+        return Ok(Some(Other::NotMade));
     };
     if !update.fits(deck.items()) {
-        return Ok(false);
+        return Ok(Some(Other::NotMade));
     }
     let receipt = station.commit(wait, alloc, pass, update)?;
-    Ok(says(&receipt, told))
+    Ok(receipt_other(&receipt, told))
 }
 
-/// Starts the cycle; whether it is answered as told.
+/// Starts the cycle; in what it is answered otherwise than told.
 fn starts<R: Wait>(
     wait: &R,
     alloc: Global,
@@ -63,20 +63,23 @@ fn starts<R: Wait>(
     pass: &mut ConductorPass,
     number: u32,
     marks: &[Mark],
-) -> Result<bool, Fail>
+) -> Result<Option<Other>, Fail>
     requires own { pass.old.station ≡ station.now }
     ensures pass { pass.new ≡ with_seen pass.old pass.new.seen }
 {
     if pass.started() == u32::MAX {
-        return Ok(false);
+        return Ok(Some(Other::NotMade));
     }
     let mut fresh = Vec::new(alloc);
     let cycle = station.start_cycle(wait, alloc, pass, &mut fresh)?;
-    Ok(cycle == number && have_marks(&fresh, marks))
+    if cycle != number {
+        return Ok(Some(Other::Cycle(cycle)));
+    }
+    Ok(marks_other(&fresh, marks))
 }
 
-/// Makes the call; whether it is answered as told.
-fn holds<R: Wait>(
+/// Makes the call; in what it is answered otherwise than told.
+fn difference<R: Wait>(
     wait: &R,
     alloc: Global,
     station: &Station,
@@ -84,7 +87,7 @@ fn holds<R: Wait>(
     conductor: &mut ConductorPass,
     deck: &Deck,
     call: &Call<'_>,
-) -> Result<bool, Fail>
+) -> Result<Option<Other>, Fail>
     requires own { (pass.old.station ≡ station.now) × (conductor.old.station ≡ station.now) }
     requires values { length pass.old.values ≡ length deck.now.items }
     ensures pass { pass.new ≡ with_seen pass.old pass.new.seen }
@@ -94,12 +97,14 @@ fn holds<R: Wait>(
         Call::Commits(number, told) => commits(wait, alloc, station, pass, deck, *number, *told),
         Call::Starts(number, marks) => starts(wait, alloc, station, conductor, *number, marks),
         Call::Made(commits, starts) => {
-            Ok(pass.made() == *commits && conductor.started() == *starts)
+            let (made, started) = (pass.made(), conductor.started());
+            let apart = made != *commits || started != *starts;
+            Ok(apart.then_some(Other::Made(made, started)))
         }
     }
 }
 
-/// The place of the first call that is answered otherwise.
+/// The place of the first call that is answered otherwise than told, and in what.
 fn first_other<R: Wait>(
     wait: &R,
     alloc: Global,
@@ -108,15 +113,15 @@ fn first_other<R: Wait>(
     conductor: &mut ConductorPass,
     deck: &Deck,
     calls: &[Call<'_>],
-) -> Result<Option<usize>, Fail>
+) -> Result<Option<(usize, Other)>, Fail>
     requires own { (pass.old.station ≡ station.now) × (conductor.old.station ≡ station.now) }
     requires values { length pass.old.values ≡ length deck.now.items }
     ensures pass { pass.new ≡ with_seen pass.old pass.new.seen }
     ensures conductor { conductor.new ≡ with_seen conductor.old conductor.new.seen }
 {
     for (place, call) in calls.iter().enumerate() {
-        if !holds(wait, alloc, station, pass, conductor, deck, call)? {
-            return Ok(Some(place));
+        if let Some(other) = difference(wait, alloc, station, pass, conductor, deck, call)? {
+            return Ok(Some((place, other)));
         }
     }
     Ok(None)
@@ -138,12 +143,12 @@ pub fn close_station(
     Some(station.close(passes, conductor))
 }
 
-/// What went otherwise: a call by its place, the station, or its history.
+/// What went otherwise: a call, by its place and in what; the station; or its history, and in what.
 #[derive(Clone, Copy, Debug, PartialEq, Eq)]
-enum Other {
-    Call(usize),
+enum Apart {
+    Call(usize, Other),
     NoPass,
-    History,
+    History(Other),
 }
 
 /// Plays the calls on a station of the deck; what went otherwise than told, last of all the history's events.
@@ -152,11 +157,11 @@ fn play_calls<R: Wait>(
     alloc: Global,
     calls: &[Call<'_>],
     marks: &[Mark],
-) -> Result<Option<Other>, Fail> {
+) -> Result<Option<Apart>, Fail> {
     let deck = read_deck(alloc, DECK)?;
     let (station, mut passes, mut conductor) = Station::new(alloc, &deck)?;
     let Some(mut pass) = passes.pop() else {
-        return Ok(Some(Other::NoPass));
+        return Ok(Some(Apart::NoPass));
     };
     let other = first_other(
         wait,
@@ -167,15 +172,15 @@ fn play_calls<R: Wait>(
         &deck,
         calls,
     )?;
-    if let Some(place) = other {
-        return Ok(Some(Other::Call(place)));
+    if let Some((place, other)) = other {
+        return Ok(Some(Apart::Call(place, other)));
     }
     let mut back = Vec::new(alloc);
     back.push(pass)?;
     let Some(history) = close_station(station, back, conductor, deck.updaters()) else {
-        return Ok(Some(Other::NoPass));
+        return Ok(Some(Apart::NoPass));
     };
-    Ok((!have_marks(history.events(), marks)).then_some(Other::History))
+    Ok(marks_other(history.events(), marks).map(Apart::History))
 }
 
 #[test]
@@ -217,6 +222,10 @@ fn what_is_answered_otherwise_is_found(rt: HostRuntime) -> Result<(), Fail> {
         play_calls(&rt, rt.alloc(), &early, &[])?,
         play_calls(&rt, rt.alloc(), &whole, &[])?,
     ];
-    assert_eq!(rt; found, [Some(Other::Call(1)), Some(Other::History)]);
+    let told = [
+        Some(Apart::Call(1, Other::Event(0, Start))),
+        Some(Apart::History(Other::Event(0, Start))),
+    ];
+    assert_eq!(rt; found, told);
     Ok(())
 }
