@@ -7,6 +7,8 @@
 #[cfg(test)]
 mod altered;
 #[cfg(test)]
+mod fields;
+#[cfg(test)]
 mod forms;
 #[cfg(test)]
 mod kinds;
@@ -18,3 +20,5 @@ mod order;
 mod queries;
 #[cfg(test)]
 mod texts;
+#[cfg(test)]
+mod verdicts;

@@ -1,6 +1,7 @@
-//! The table of texts, and its checker.
+//! The tables of texts, and their checkers.
 //!
-//! A row is a record, or some, and what the text is that has them behind a front: a report, or one with a fault.
+//! A row is a record, or some, and what the text is that has them behind a front, or in the place of a line of a report: a report,
+//! or one with a fault.
 
 use item_catalog::read_deck;
 use report_reading::limits::MOST_REPORT_BYTES;
@@ -13,6 +14,19 @@ pub const DECK: &[u8] =
 
 /// Two starts with a commit of each updater between them.
 pub const FRONT: &[u8] = b"start\ncommit,0,0\ncommit,1,0\nstart\n";
+
+/// The lines of a report of the deck, one of each kind, and a second start.
+const LINES: [&[u8]; 9] = [
+    b"start",
+    b"commit,0,0",
+    b"start",
+    b"accept,0,0,1,0@1=1 1@2=2",
+    b"abort,1,0,1,1@1=2 2@2=3,0@2,1",
+    b"unfinished,0,1,2,",
+    b"counts,0,2,1,0,0,0,0",
+    b"glance,0,1,9",
+    b"look,1,2,7",
+];
 
 /// What a text is.
 #[derive(Clone, Copy, Debug, PartialEq, Eq)]
@@ -51,6 +65,33 @@ pub fn first_other(
     for (place, (records, told)) in rows.iter().enumerate() {
         let mut bytes = Vec::from_slice(alloc, front)?;
         bytes.extend_from_slice(records)?;
+        let text = read(alloc, &bytes);
+        if text != *told {
+            return Ok(Some((place, text)));
+        }
+    }
+    Ok(None)
+}
+
+/// The text of the lines, where another stands in the place of one.
+fn with_other(alloc: Global, line: usize, other: &[u8]) -> Result<Vec<u8>, AllocError> {
+    let mut bytes = Vec::new(alloc);
+    for (place, own) in LINES.iter().enumerate() {
+        let text = if place == line { other } else { own };
+        bytes.extend_from_slice(text)?;
+        bytes.push(b'\n')?;
+    }
+    Ok(bytes)
+}
+
+/// The place of the first row that makes another text than told, where it stands in the place of a line, and what it makes.
+pub fn first_altered(
+    alloc: Global,
+    line: usize,
+    rows: &[(&[u8], Text)],
+) -> Result<Option<(usize, Text)>, AllocError> {
+    for (place, (other, told)) in rows.iter().enumerate() {
+        let bytes = with_other(alloc, line, other)?;
         let text = read(alloc, &bytes);
         if text != *told {
             return Ok(Some((place, text)));
