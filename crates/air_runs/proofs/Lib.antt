@@ -1,0 +1,4 @@
+pub mod StageLemmas
+pub mod EndLemmas
+pub mod SentLemmas
+pub mod SightLemmas

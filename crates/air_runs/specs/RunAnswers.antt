@@ -1,0 +1,41 @@
+-- What a run that a fault ended has sent.
+use Rattle.std.specs.Prelude.{◌≡◌, ℕ, ◌≤◌, List, length, take}
+use Rattle.air_history.specs.declared.histories.Event.{Event}
+use Rattle.air_model.specs.Aired.{air_of}
+use Rattle.air_model.specs.Decks.{Deck, IsWhole, values_in}
+use Rattle.air_devices.specs.Masts.{Changes, Masted, with_buckets}
+use Rattle.air_sender.specs.AirFaults.{FailedAt}
+use Rattle.air_jobs.specs.Sendings.{bytes_aired}
+use Rattle.air_jobs.specs.declared.conductors.ConductFault.{ConductFault}
+use Rattle.air_jobs.specs.declared.conductors.ConductFault.TheVariants as conduct
+use Rattle.air_runs.specs.declared.runs.RunFault.{RunFault}
+use Rattle.air_runs.specs.declared.runs.RunFault.TheVariants as fault
+
+-- The run's fault of a conductor's.
+abbrev pub run_fault : ConductFault → RunFault
+run_fault (conduct.Mast sent) = fault.Mast sent
+run_fault conduct.NoMemory = fault.NoMemory
+
+-- The bytes of the buckets that a history of the deck airs, in order.
+abbrev pub deck_bytes : Deck → List Event → List (List ℕ)
+deck_bytes deck H = bytes_aired (values_in deck) (air_of deck) H
+
+-- After so many buckets of a whole history the mast failed.
+pub record FailsInRun {M : Type 0} (state : M → Masted) (deck : Deck) (sent : ℕ) (before now : M) : Type 0 where
+  pub history : List Event
+  pub whole : IsWhole deck history
+  pub failed : FailedAt state sent (deck_bytes deck history) before now
+
+-- The first buckets of a whole history were sent, maybe none, and no call of the mast failed.
+pub record SendsFirst {M : Type 0} (state : M → Masted) (deck : Deck) (before now : M) : Type 0 where
+  pub history : List Event
+  pub whole : IsWhole deck history
+  pub count : ℕ
+  pub within : count ≤ length (deck_bytes deck history)
+  pub sent : Changes (with_buckets (take count (deck_bytes deck history))) (state before).told (state now).told
+  pub calm : (state now).faults ≡ (state before).faults
+
+-- What the fault of a run says of the mast.
+abbrev pub IsRunAnswer : {M : Type 0} → (M → Masted) → Deck → M → M → RunFault → Type 0
+IsRunAnswer state deck before now (fault.Mast sent) = FailsInRun state deck sent before now
+IsRunAnswer state deck before now fault.NoMemory = SendsFirst state deck before now
