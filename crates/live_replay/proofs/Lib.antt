@@ -12,3 +12,4 @@ pub mod RunFacts
 pub mod ReplayFacts
 pub mod PolicyFacts
 pub mod GrammarFacts
+pub mod FoundFacts

@@ -2,6 +2,7 @@
 #![tactic(auto)]
 
 mod alone;
+mod audits;
 pub mod findings;
 pub mod limits;
 mod lines;
@@ -10,4 +11,5 @@ mod replay;
 mod running;
 mod writes;
 
+pub use audits::audit;
 pub use findings::{AuditError, Cause, Finding};

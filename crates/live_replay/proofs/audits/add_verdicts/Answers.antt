@@ -1,0 +1,20 @@
+use Rattle.std.proofs.Common.{◌≡◌, ◌∷◌, ◌++◌, ◌+◌, List, Option, [], get_or, take, sym, ap, ◌∙◌, append_assoc}
+use Rattle.air_model.specs.declared.reports.VerdictLine.{VerdictLine}
+use Rattle.live_replay.specs.Audits.{found_from}
+use Rattle.live_replay.specs.Findings.{verdict_cause}
+use Rattle.live_replay.specs.declared.findings.Cause.{Cause}
+use Rattle.live_replay.specs.declared.findings.Finding.{Finding}
+use Rattle.live_replay.proofs.FoundFacts.{found_next}
+use Rattle.live_replay.proofs.audits.add_verdicts.Goals as goal
+
+pub loop-place-preserved : goal.loop-place-preserved
+loop-place-preserved c =
+    let cause : VerdictLine → Option Cause = verdict_cause c.args.replay.now.deck c.args.replay.now.history in
+    let lines = c.args.lines.now in
+    let k = c.loop-place.place in
+    let line : VerdictLine = c.index-lines-place.result in
+    let before : List Finding = found_from cause c.args.row (take k lines) in
+    let finding : Option Cause → Finding = λ o. record { row = c.args.row + k; differs = o } in
+    let told : c.in_ok-verdict_cause.field-0 ≡ cause (get_or lines k line) = c.in_ok-verdict_cause.ensures ∙ ap cause c.index-lines-place.is in
+    c.in_ok-push.ensures.items ∙ ap (λ fs. fs ++ finding c.in_ok-verdict_cause.field-0 ∷ []) c.loop-place.invariant ∙ append_assoc c.args.found.now.items before (finding c.in_ok-verdict_cause.field-0 ∷ [])
+    ∙ ap (λ fs. c.args.found.now.items ++ fs) (ap (λ o. before ++ finding o ∷ []) told ∙ sym (found_next cause c.args.row k lines line c.loop-place-test.true))
