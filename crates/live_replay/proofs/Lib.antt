@@ -13,3 +13,4 @@ pub mod ReplayFacts
 pub mod PolicyFacts
 pub mod GrammarFacts
 pub mod FoundFacts
+pub mod FindingFacts

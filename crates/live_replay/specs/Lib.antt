@@ -1,3 +1,4 @@
 pub mod Findings
 pub mod Audits
+pub mod FindingLaws
 pub mod Steps

@@ -1,0 +1,32 @@
+-- The words of the laws of findings: what it means that a replay over a history gives a line.
+use Rattle.std.specs.Prelude.{◌≡◌, ℕ, false, List, All, Option, None, IsSomeAnd, ⊤}
+use Rattle.air_base.specs.declared.verdicts.Policy.{Policy}
+use Rattle.air_base.specs.declared.verdicts.VerdictKind.{VerdictKind}
+use Rattle.air_base.specs.declared.verdicts.VerdictKind.TheVariants.{Accept, Abort, Unfinished}
+use Rattle.air_history.specs.declared.histories.Event.{Event}
+use Rattle.air_history.specs.Tables.{values_of}
+use Rattle.air_history.specs.Reads.{ReadAt, read_value}
+use Rattle.air_history.specs.Clashes.{clash_by_history, is_late}
+use Rattle.air_history.specs.ClashLaws.{Accepts}
+use Rattle.air_model.specs.Decks.{Deck, values_in}
+use Rattle.air_model.specs.Reports.{total_at}
+use Rattle.air_model.specs.declared.reports.LookLine.{LookLine}
+use Rattle.air_model.specs.declared.reports.VerdictLine.{VerdictLine}
+use Rattle.live_replay.specs.Findings.{place_of, places_of, read_of}
+
+-- The named read of an abort comes in time, and it clashes with the held read of the named item.
+abbrev pub EndsSo : Policy → List Event → List ReadAt → VerdictKind → Type 0
+EndsSo policy H R Accept = ⊤
+EndsSo policy H R (Abort item cycle clash) =
+    (is_late policy R (read_of item cycle) ≡ false) × IsSomeAnd (clash_by_history policy H R (read_of item cycle)) (λ held. held.item ≡ clash)
+EndsSo policy H R Unfinished = ⊤
+
+-- The replay over a history gives the values of a line's reads, and its verdict.
+pub record GivesVerdict (deck : Deck) (H : List Event) (line : VerdictLine) : Type 0 where
+  pub values : All (λ r. r.value ≡ read_value (values_of (values_in deck)) H (place_of r)) line.reads
+  pub accepts : Accepts deck.settings.policy H (places_of line.reads)
+  pub end : EndsSo deck.settings.policy H (places_of line.reads) line.verdict.kind
+
+-- The replay over a history gives the total of a look or a glance.
+abbrev pub GivesLook : Deck → List Event → LookLine → Type 0
+GivesLook deck H line = line.total ≡ total_at (values_in deck) H line.cycle
