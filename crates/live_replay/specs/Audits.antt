@@ -36,10 +36,10 @@ abbrev pub IsAuditRefusal : ReportLines → AuditError → Type 0
 IsAuditRefusal lines (TooMuch product) = (product ≡ replayed_in lines) × (MOST_REPLAYED < product)
 IsAuditRefusal lines NoMemory = ⊤
 
--- No section has more lines than a report has bytes at most.
-pub record HasFewLines (lines : ReportLines) : Type 0 where
-  pub events : length lines.events ≤ MOST_REPORT_BYTES
-  pub verdicts : length lines.verdicts ≤ MOST_REPORT_BYTES
-  pub counts : length lines.counts ≤ MOST_REPORT_BYTES
-  pub glances : length lines.glances ≤ MOST_REPORT_BYTES
-  pub looks : length lines.looks ≤ MOST_REPORT_BYTES
+-- The number of a report's lines.
+abbrev pub line_count : ReportLines → ℕ
+line_count lines = length lines.events + length lines.verdicts + length lines.counts + length lines.glances + length lines.looks
+
+-- A report has no more lines than that of any text that is read: of each byte one, and one at its end.
+abbrev pub HasFewLines : ReportLines → Type 0
+HasFewLines lines = line_count lines ≤ MOST_REPORT_BYTES + 1

@@ -3,7 +3,6 @@
 ghost use Rattle.std.specs.Prelude.{◌≡◌, ◌+◌, ◌*◌, ◌<◌, ◌≤◌, ◌^◌, ◌++◌, length, not, count_by, All, IfOk, IfErr, OnOk};
 ghost use Rattle.report_laws.specs.ReportRules.{InGrammar};
 ghost use Rattle.report_reading.specs.ReportLines.{starts_cycle};
-ghost use Rattle.report_reading.specs.declared.limits.TheConstants.{MOST_REPORT_BYTES};
 ghost use Rattle.live_replay.specs.Audits.{HasFewLines, IsAuditRefusal, findings, found_from, replayed_in};
 ghost use Rattle.live_replay.specs.Findings.{look_cause, verdict_cause};
 ghost use Rattle.live_replay.specs.Steps.Lines.{LineFits};
@@ -21,9 +20,9 @@ use std::alloc::Global;
 
 /// The number of commits.
 fn commits_in(lines: &[EventLine]) -> u64
-    requires { length lines.now ≤ MOST_REPORT_BYTES }
+    requires { length lines.now < 2 ^ 32 }
     ensures told { result ≡ count_by (λ line. not (starts_cycle line)) lines.now }
-    ensures few { result ≤ MOST_REPORT_BYTES }
+    ensures few { result ≤ length lines.now }
 {
     let mut commits = 0;
     for line in lines {

@@ -2,13 +2,12 @@
 //!
 //! The history is run once. What an item's writes left, and how many came before a cycle, tells the rest; no control column is made.
 
-ghost use Rattle.std.specs.Prelude.{◌≡◌, ◌<◌, ◌≤◌, length, map, All, IfOk, IfSome, option_map};
+ghost use Rattle.std.specs.Prelude.{◌≡◌, ◌+◌, ◌^◌, ◌<◌, ◌≤◌, length, map, All, IfOk, IfSome, option_map};
 ghost use Rattle.air_history.specs.Reads.{origin, read_value, same_origin};
 ghost use Rattle.air_history.specs.Tables.{values_of};
 ghost use Rattle.air_model.specs.Decks.{values_in};
 ghost use Rattle.air_model.specs.Reports.{total_at};
 ghost use Rattle.report_reading.specs.ReportLines.{event_in};
-ghost use Rattle.report_reading.specs.declared.limits.TheConstants.{MOST_REPORT_BYTES};
 ghost use Rattle.live_replay.specs.Findings.{read_of};
 ghost use Rattle.live_replay.specs.Steps.Commits.{count_at, number_at, sources_to, writes_from};
 ghost use Rattle.live_replay.specs.Steps.Replays.{NamesUpdate, TellsRead};
@@ -48,7 +47,7 @@ impl<'a> Replay<'a> {
         lines: &'a [EventLine],
     ) -> Result<Replay<'a>, NoMemory>
         requires named { All (NamesUpdate deck.now) lines.now }
-        requires few { length lines.now ≤ MOST_REPORT_BYTES }
+        requires few { length lines.now + 1 < 2 ^ 32 }
         ensures { IfOk result (λ r. r ≡ record { deck = deck.now; history = map (event_in deck.now) lines.now }) }
     {
         deck.well_made();
