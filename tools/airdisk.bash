@@ -3,7 +3,7 @@ _airdisk() {
     local word=${COMP_WORDS[COMP_CWORD]} ending
     COMPREPLY=()
     if [ "$COMP_CWORD" -eq 1 ]; then
-        mapfile -t COMPREPLY < <(compgen -W 'plan script tune --help -h --version --build' -- "$word")
+        mapfile -t COMPREPLY < <(compgen -W 'plan script tune drill --help -h --version --build' -- "$word")
         return
     fi
     case ${COMP_WORDS[1]}.$COMP_CWORD in

@@ -10,5 +10,7 @@ pub mod InputFacts
 pub mod PlanFacts
 pub mod ScriptFacts
 pub mod TuneFacts
+pub mod DrillFacts
+pub mod DrillStatuses
 pub mod CommandFacts
 pub mod TopFacts

@@ -6,6 +6,7 @@ pub mod Meanings
 pub mod Plan
 pub mod Script
 pub mod Tune
+pub mod Drill
 pub mod Untouched
 pub mod Truths
 pub mod Steps

@@ -1,7 +1,9 @@
-//! The law of the top call that speaks of two calls; its body is empty.
+//! The laws of the top call: of two calls, and of drills. The bodies are empty.
 
-ghost use Rattle.std.specs.Prelude.{◌≡◌, ℕ, true, List};
+ghost use Rattle.std.specs.Prelude.{◌≡◌, ℕ, true, List, [], ◌∷◌, codes, Contains};
 ghost use Rattle.air_devices.specs.Shelves.{Shelved};
+ghost use Rattle.air_status.specs.Statuses.{code_of};
+ghost use Rattle.air_status.specs.declared.status.Status.{Status};
 ghost use Rattle.air_status.specs.declared.status.Status.TheVariants as status;
 ghost use Rattle.delivery.specs.Deliveries.{IsGiven};
 ghost use Rattle.delivery.specs.Given.{Given};
@@ -20,4 +22,10 @@ pub fn one_output_law()
         QuietAnswers (words_meaning (asked_of words)) other_before other_now status.Ok →
         (given : Given) × IsGiven (words_meaning (asked_of words)).output given before now
         × IsGiven (words_meaning (asked_of words)).output given other_before other_now }
+{}
+
+/// Words that begin with `drill` end with status 0, 1, 4 or 5: no file is read for them, and no deck is refused.
+pub fn drill_statuses_law()
+    ensures { (words : List (List ℕ)) (before now : Shelved) (s : Status) →
+        QuietAnswers (words_meaning (asked_of (codes "drill" ∷ words))) before now s → Contains (0 ∷ 1 ∷ 4 ∷ 5 ∷ []) (code_of s) }
 {}

@@ -4,11 +4,12 @@
 //! definition by cases of the status: its cause, what was printed and written, and what is left.
 
 ghost use Rattle.std.specs.Prelude.{map, string_bytes, IfErr, IfOk};
-ghost use Rattle.air_cli.specs.Words.{asked_of};
+ghost use Rattle.air_cli.specs.Words.{HasSize, asked_of};
 ghost use Rattle.air_cli.specs.Commands.{asked_by, meaning_of, words_meaning};
 ghost use Rattle.air_cli.specs.Steps.Making.{IsMade, IsUnmade, Reads};
 ghost use Rattle.air_cli.specs.Answers.{Completes, Leaves, QuietAnswers};
 
+use crate::drill::drill;
 use crate::plan::plan;
 use crate::script::script;
 use crate::tune::tune;
@@ -19,7 +20,7 @@ use delivery::{Given, deliver, refuse};
 use std::alloc::Global;
 use std::thread::Threads;
 
-/// Runs what the words ask for: `plan DECK`, `script DECK`, `script DECK TAPE` or `tune DECK TAPE`.
+/// Runs what the words ask for: `plan DECK`, `script DECK`, `script DECK TAPE`, `tune DECK TAPE` or `drill SEED SIZE`.
 pub fn air_quiet<T: Threads + Sync, S: Shelf>(
     threads: &T,
     alloc: Global,
@@ -43,6 +44,7 @@ fn run<T: Threads + Sync, S: Shelf>(
     shelf: &mut S,
     command: &Command,
 ) -> Status
+    requires { HasSize (asked_by command.now) }
     ensures answers { QuietAnswers (meaning_of (asked_by command.now)) (S.state shelf.old) (S.state shelf.new) result }
     ensures leaves { Leaves (meaning_of (asked_by command.now)) (S.state shelf.old) (S.state shelf.new) }
 {
@@ -56,13 +58,14 @@ fn run<T: Threads + Sync, S: Shelf>(
 }
 
 /// What a command gives; nothing is printed or written yet.
-#[tactic(auto, using(crate::proofs::ScriptFacts::made_for, crate::proofs::ScriptFacts::unmade_for, crate::proofs::ScriptFacts::reads_for))]
+#[tactic(auto, using(crate::proofs::ScriptFacts::made_for, crate::proofs::ScriptFacts::unmade_for, crate::proofs::ScriptFacts::reads_for, crate::proofs::DrillFacts::made_drill, crate::proofs::DrillFacts::unmade_drill))]
 fn make<T: Threads + Sync, S: Shelf>(
     threads: &T,
     alloc: Global,
     shelf: &mut S,
     command: &Command,
 ) -> Result<Given, Status>
+    requires { HasSize (asked_by command.now) }
     ensures made { IfOk result (IsMade (meaning_of (asked_by command.now)) (S.state shelf.old) (S.state shelf.new)) }
     ensures unmade { IfErr result (IsUnmade (meaning_of (asked_by command.now)) (S.state shelf.old) (S.state shelf.new)) }
     ensures reads { Reads (meaning_of (asked_by command.now)) (S.state shelf.old) (S.state shelf.new) }
@@ -71,5 +74,6 @@ fn make<T: Threads + Sync, S: Shelf>(
         Command::Plan { deck } => plan(alloc, shelf, deck),
         Command::Script { deck, .. } => script(threads, alloc, shelf, deck),
         Command::Tune { deck, tape } => tune(alloc, shelf, deck, tape),
+        Command::Drill { seed, size } => drill(threads, alloc, *seed, *size),
     }
 }

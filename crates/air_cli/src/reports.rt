@@ -1,7 +1,7 @@
 //! The reports of `script` and `tune`, in memory: what a deck's readers made of a tape.
 //!
-//! `script` runs the deck's script and lets each of its readers hear its own ether of the tape of it: over this tape both
-//! judges give one session, so the report is the one that the history judges. `tune` lets them hear a given tape.
+//! `script` runs the deck's script and lets each of its readers hear its own ether of the tape of it. `tune` lets them hear a
+//! given tape.
 
 ghost use Rattle.std.specs.Prelude.{◌≡◌, ◌<◌, ◌≤◌, ◌^◌, [], length, None, IfOk};
 ghost use Rattle.air_history.specs.Histories.{starts};
@@ -16,10 +16,10 @@ use air_base::NoMemory;
 use air_history::{Event, History};
 use air_report::{Report, write_report};
 use air_sender::TapeMast;
+use aired_sessions::air_script;
 use chunk_program::Program;
 use item_catalog::Deck;
-use listeners::{Sessions, ether_sessions, tape_sessions};
-use script_run::run_script;
+use listeners::{Sessions, tape_sessions};
 use std::alloc::Global;
 use std::thread::Threads;
 
@@ -43,13 +43,11 @@ pub(crate) fn script_report<T: Threads + Sync>(
     ensures tape { IfOk result (λ s. tape_of (told_by s.tape).buckets ≡ script_tape deck.now) }
 {
     deck.well_made();
-    let _slots = program.slots();
-    let scripted = run_script(alloc, deck, program)?;
-    let sessions = ether_sessions(threads, alloc, deck, program, scripted.tape.tape())?;
-    let report = report_of(alloc, scripted.events, sessions)?;
+    let aired = air_script(threads, alloc, deck, program)?;
+    let report = report_of(alloc, aired.events, aired.sessions)?;
     Ok(Scripted {
         report,
-        tape: scripted.tape,
+        tape: aired.tape,
     })
 }
 

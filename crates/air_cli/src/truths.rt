@@ -1,14 +1,17 @@
 //! What is true of the sessions that are printed, by the laws of the model. The calls do nothing.
 
-ghost use Rattle.std.specs.Prelude.{ℕ, List};
+ghost use Rattle.std.specs.Prelude.{ℕ, ◌≤◌, List};
+ghost use Rattle.air_model.specs.Drills.{drill_deck};
 ghost use Rattle.deck_files.specs.RunnableDecks.{IsShort};
 ghost use Rattle.air_cli.specs.Truths.{IsTrueScript, IsTrueTape};
+ghost use Rattle.item_catalog.specs.declared.deck.drill.TheConstants.{MOST_DRILL_SIZE};
 
 use air_model::aired::bytes_law;
 use air_model::deck::{events_law, script_law};
 use air_model::ether::heard_was_pushed_law;
 use air_model::sessions::receiver_law;
-use item_catalog::Deck;
+use aired_sessions::laws::drill_slots_law;
+use item_catalog::{Deck, drill_law};
 
 /// The sessions over a script's history are true of it.
 pub(crate) fn script_is_true(deck: &Deck)
@@ -16,6 +19,21 @@ pub(crate) fn script_is_true(deck: &Deck)
     ensures { IsTrueScript deck.now }
 {
     deck.well_made();
+    script_law();
+    events_law();
+    bytes_law();
+    heard_was_pushed_law();
+    receiver_law();
+}
+
+/// So are those of a drill.
+pub(crate) fn drill_is_true(seed: u64, size: u32)
+    requires some { 1 ≤ size }
+    requires few { size ≤ MOST_DRILL_SIZE }
+    ensures { IsTrueScript (drill_deck seed size) }
+{
+    drill_law();
+    drill_slots_law();
     script_law();
     events_law();
     bytes_law();

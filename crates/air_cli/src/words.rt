@@ -1,16 +1,20 @@
 //! The words of a command, and the help on them.
 
-ghost use Rattle.std.specs.Prelude.{◌≡◌, option_map, map, string_bytes};
-ghost use Rattle.air_cli.specs.Words.{asked_of, asked_of_one, asked_of_two};
+ghost use Rattle.std.specs.Prelude.{◌≡◌, option_map, map, string_bytes, IfSome};
+ghost use Rattle.air_cli.specs.Words.{HasSize, asked_drill, asked_of, asked_of_one, asked_of_two};
 ghost use Rattle.air_cli.specs.Commands.{asked_by, meaning_of};
+
+use air_base::read_u64;
+use item_catalog::MOST_DRILL_SIZE;
 
 /// What the program can do, a line a command.
 pub const HELP: &str = "airdisk: data on air, proved
 
   airdisk plan DECK           print the broadcast program of a deck
-  airdisk script DECK         do the script of a deck, and print the report of its readers
+  airdisk script DECK         run the script of a deck, and print the report of its readers
   airdisk script DECK TAPE    the same, and write what was aired to a tape
   airdisk tune DECK TAPE      let the readers of a deck hear a tape, and print their report
+  airdisk drill SEED SIZE     make a deck of this size, run its script, and print what came of it
   airdisk --help, -h          print this text
   airdisk --version           print the version
 
@@ -34,6 +38,11 @@ pub enum Command<'a> {
         deck: &'a str,
         tape: &'a str,
     },
+    /// To run the drill of a seed and a size.
+    Drill {
+        seed: u64,
+        size: u32,
+    },
 }
 
 impl<'a> Command<'a> {
@@ -43,19 +52,20 @@ impl<'a> Command<'a> {
     {
         match self {
             Command::Script { tape, .. } => *tape,
-            Command::Plan { .. } | Command::Tune { .. } => None,
+            Command::Plan { .. } | Command::Tune { .. } | Command::Drill { .. } => None,
         }
     }
 }
 
 /// What the words ask for, and `None` exactly if they are of no form.
 pub fn command_of<'a>(words: &'a [String]) -> Option<Command<'a>>
-    ensures { option_map asked_by result ≡ asked_of (map (λ w. string_bytes w) words.now) }
+    ensures asked { option_map asked_by result ≡ asked_of (map (λ w. string_bytes w) words.now) }
+    ensures sized { IfSome result (λ c. HasSize (asked_by c)) }
 {
     match words {
         [name, deck] if !deck.is_empty() => command_of_one(name, deck),
-        [name, deck, tape] if !deck.is_empty() && !tape.is_empty() => {
-            command_of_two(name, deck, tape)
+        [name, first, second] if !first.is_empty() && !second.is_empty() => {
+            command_of_two(name, first, second)
         }
         _ => None,
     }
@@ -63,7 +73,8 @@ pub fn command_of<'a>(words: &'a [String]) -> Option<Command<'a>>
 
 /// What a command's name and one file ask for.
 fn command_of_one<'a>(name: &str, deck: &'a str) -> Option<Command<'a>>
-    ensures { option_map asked_by result ≡ asked_of_one name.now deck.now }
+    ensures asked { option_map asked_by result ≡ asked_of_one name.now deck.now }
+    ensures sized { IfSome result (λ c. HasSize (asked_by c)) }
 {
     if name == "plan" {
         Some(Command::Plan { deck })
@@ -74,18 +85,40 @@ fn command_of_one<'a>(name: &str, deck: &'a str) -> Option<Command<'a>>
     }
 }
 
-/// What a command's name and two files ask for.
-fn command_of_two<'a>(name: &str, deck: &'a str, tape: &'a str) -> Option<Command<'a>>
-    ensures { option_map asked_by result ≡ asked_of_two name.now deck.now tape.now }
+/// What a command's name and two words more ask for.
+fn command_of_two<'a>(name: &str, first: &'a str, second: &'a str) -> Option<Command<'a>>
+    ensures asked { option_map asked_by result ≡ asked_of_two name.now first.now second.now }
+    ensures sized { IfSome result (λ c. HasSize (asked_by c)) }
 {
     if name == "script" {
         Some(Command::Script {
-            deck,
-            tape: Some(tape),
+            deck: first,
+            tape: Some(second),
         })
     } else if name == "tune" {
-        Some(Command::Tune { deck, tape })
+        Some(Command::Tune {
+            deck: first,
+            tape: second,
+        })
+    } else if name == "drill" {
+        drill_of(read_u64(first.as_bytes()), read_u64(second.as_bytes()))
     } else {
         None
+    }
+}
+
+/// The drill of a seed and a size, where they are numbers and the size is one that a drill may have.
+fn drill_of<'a>(seed: Option<u64>, size: Option<u64>) -> Option<Command<'a>>
+    ensures asked { option_map asked_by result ≡ asked_drill seed size }
+    ensures sized { IfSome result (λ c. HasSize (asked_by c)) }
+{
+    match (seed, size) {
+        (Some(seed), Some(size)) if 1 <= size && size <= u64::from(MOST_DRILL_SIZE) => {
+            Some(Command::Drill {
+                seed,
+                size: size as u32,
+            })
+        }
+        _ => None,
     }
 }

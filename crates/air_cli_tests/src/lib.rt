@@ -9,6 +9,8 @@ mod cases;
 #[cfg(test)]
 mod copies;
 #[cfg(test)]
+mod drills;
+#[cfg(test)]
 mod ethers;
 #[cfg(test)]
 mod first;

@@ -28,7 +28,7 @@ fn first_taken<R: Threads + Sync>(
 
 #[test]
 fn words_of_no_form_are_refused(rt: HostRuntime) {
-    let forms: [&[&str]; 16] = [
+    let forms: [&[&str]; 25] = [
         &[],
         &["fly"],
         &["plan"],
@@ -45,6 +45,15 @@ fn words_of_no_form_are_refused(rt: HostRuntime) {
         &["tune", "deck", ""],
         &["tune", "", "tape"],
         &["script", "deck", "tape", "more"],
+        &["drill"],
+        &["drill", "1"],
+        &["drill", "1", "0"],
+        &["drill", "1", "101"],
+        &["drill", "x", "1"],
+        &["drill", "01", "1"],
+        &["drill", "18446744073709551616", "1"],
+        &["drill", "", "1"],
+        &["drill", "1", "1", "1"],
     ];
     assert_eq!(rt; first_taken(&rt, rt.alloc(), &forms), None);
 }

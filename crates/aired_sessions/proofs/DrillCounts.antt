@@ -24,7 +24,8 @@ use Rattle.air_model.specs.Sessions.{State, reader_of}
 use Rattle.item_catalog.specs.DeckLimits.{WithinLimits}
 use Rattle.item_catalog.proofs.DrillFacts.{drill_made}
 use Rattle.script_run.specs.AiredBytes.{aired_bytes}
-use Rattle.aired_sessions.specs.DrillLines.{SumsFit, sum_of}
+use Rattle.aired_sessions.specs.DrillLines.{sum_of}
+use Rattle.aired_sessions.specs.DrillSums.{SumsFit}
 use Rattle.aired_sessions.proofs.CountBounds.{asked_few, counted, session_counts}
 use Rattle.aired_sessions.proofs.DrillTapes.{drill_buckets}
 

@@ -1,6 +1,6 @@
 -- The line of a drill: what the script of its deck comes to on the air, in numbers. The deck is that of the seed and the size, and
 -- each reader hears its own ether of the tape, as in `script`.
-use Rattle.std.specs.Prelude.{ℕ, ◌<◌, ◌^◌, Bool, true, false, not, List, [], ◌∷◌, codes, count_by, length, map, sum}
+use Rattle.std.specs.Prelude.{ℕ, Bool, true, false, not, List, [], ◌∷◌, codes, count_by, length, map, sum}
 use Rattle.air_base.specs.declared.verdicts.Counts.{Counts}
 use Rattle.air_base.specs.declared.verdicts.VerdictKind.{VerdictKind}
 use Rattle.air_base.specs.declared.verdicts.VerdictKind.TheVariants.{Accept, Abort, Unfinished}
@@ -63,9 +63,3 @@ script_line deck = drill_line (drill_numbers deck (script_history deck) (script_
 -- What `drill` prints.
 unfoldable pub drill_output : ℕ → ℕ → List ℕ
 drill_output seed size = script_line (drill_deck seed size)
-
--- The sums of the line can be told by numbers of 64 bits.
-pub record SumsFit (counts : List CountsLine) : Type 0 where
-  pub opened : sum_of (λ c. c.opened) counts < 2 ^ 64
-  pub dozed : sum_of (λ c. c.dozed) counts < 2 ^ 64
-  pub copied : sum_of (λ c. c.copied) counts < 2 ^ 64

@@ -1,2 +1,3 @@
 pub mod HistoryTapes
 pub mod DrillLines
+pub mod DrillSums

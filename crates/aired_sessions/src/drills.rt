@@ -6,7 +6,8 @@ ghost use Rattle.air_model.specs.Decks.{disks_in};
 ghost use Rattle.air_model.specs.Programs.{program};
 ghost use Rattle.air_model.specs.Tapes.{tape_of};
 ghost use Rattle.air_sender.specs.TapeMasts.{told_by};
-ghost use Rattle.aired_sessions.specs.DrillLines.{SumsFit, drill_line, drill_numbers, drill_output};
+ghost use Rattle.aired_sessions.specs.DrillLines.{drill_line, drill_numbers, drill_output};
+ghost use Rattle.aired_sessions.specs.DrillSums.{SumsFit};
 ghost use Rattle.item_catalog.specs.declared.deck.drill.TheConstants.{MOST_DRILL_SIZE};
 
 mod sums;

@@ -7,7 +7,7 @@ ghost use Rattle.air_model.specs.Drills.{drill_deck, drill_items};
 ghost use Rattle.air_model.specs.Outputs.{script_tape, true_sessions};
 ghost use Rattle.air_model.specs.Programs.{program};
 ghost use Rattle.air_model.specs.Reports.{counts_lines};
-ghost use Rattle.aired_sessions.specs.DrillLines.{SumsFit};
+ghost use Rattle.aired_sessions.specs.DrillSums.{SumsFit};
 ghost use Rattle.item_catalog.specs.declared.deck.drill.TheConstants.{MOST_DRILL_SIZE};
 
 /// The program of a drill's deck has at most two slots for each item.

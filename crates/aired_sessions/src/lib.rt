@@ -1,4 +1,4 @@
-//! What the readers of a deck make of a tape that a history aired: that of the deck's script, or of a drill's.
+//! What the readers of a deck make of the tape of a history that can be aired: that of the deck's script, or of a drill's.
 //!
 //! `history_sessions` lets each reader hear its own ether of such a tape, and tells the sessions that the history judges.
 //! `air_script` does so with the tape of a deck's script. `run_drill` makes the deck of a drill, does the same with it, and tells

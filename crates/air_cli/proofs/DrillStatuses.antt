@@ -1,0 +1,70 @@
+-- Which statuses end words that begin with `drill`.
+use Rattle.std.proofs.Common.{ℕ, Bool, true, false, List, [], ◌∷◌, codes, length, Option, Some, None, refl, arith}
+use Rattle.std.specs.Prelude.{◌==◌, ◌||◌, ◌&&◌, nat_le, if◌then◌else◌, Contains}
+use Rattle.air_base.specs.Numbers.{number_of}
+use Rattle.air_devices.specs.Shelves.{Shelved}
+use Rattle.air_status.specs.Statuses.{code_of}
+use Rattle.air_status.specs.declared.status.Status.{Status}
+use Rattle.air_status.specs.declared.status.Status.TheVariants as status
+use Rattle.item_catalog.specs.declared.deck.drill.TheConstants.{MOST_DRILL_SIZE}
+use Rattle.air_cli.specs.Answers.{QuietAnswers}
+use Rattle.air_cli.specs.Commands.{words_meaning}
+use Rattle.air_cli.specs.Drill.{DrillCause}
+use Rattle.air_cli.specs.Meanings.{Meaning, WordsCause}
+use Rattle.air_cli.specs.Words.{AsksDrill, asked_drill, asked_of, asked_of_one}
+
+-- The status is one of these.
+abbrev IsAmong : Status → Type 0
+IsAmong s = Contains (0 ∷ 1 ∷ 4 ∷ 5 ∷ []) (code_of s)
+
+-- No status but these is a refusal's.
+abbrev RefusesFew : Meaning → Type 0
+RefusesFew command = (before now : Shelved) (s : Status) → command.Refuses before now s → IsAmong s
+
+ends_among : (command : Meaning) → RefusesFew command → (before now : Shelved) (s : Status) → QuietAnswers command before now s → IsAmong s
+unfolding QuietAnswers
+ends_among command few before now status.Ok h = (0, omega arith, refl)
+ends_among command few before now status.WriteFault h = (2, omega arith, refl)
+ends_among command few before now status.NoMemory h = (3, omega arith, refl)
+ends_among command few before now status.ReadFault h = few before now status.ReadFault h.0
+ends_among command few before now s h = few before now s h.0
+
+words_among : (s : Status) → WordsCause s → IsAmong s
+unfolding WordsCause
+words_among status.Words h = (1, omega arith, refl)
+words_among s h = absurd h
+
+drill_among : (s : Status) → DrillCause s → IsAmong s
+unfolding DrillCause
+drill_among status.NoMemory h = (3, omega arith, refl)
+drill_among s h = absurd h
+
+-- Words that ask for nothing, or for a drill.
+none_few : RefusesFew (words_meaning None)
+none_few before now s h = words_among s h
+
+drill_few : (seed size : Option ℕ) → RefusesFew (words_meaning (asked_drill seed size))
+drill_few None size = none_few
+drill_few (Some seed) None = none_few
+drill_few (Some seed) (Some size) = by (nat_le 1 size && nat_le size MOST_DRILL_SIZE)
+  where
+    by : (fits : Bool) → RefusesFew (words_meaning (if fits then Some (AsksDrill seed size) else None))
+    by true = λ before now s h. drill_among s h
+    by false = none_few
+
+words_few : (words : List (List ℕ)) → RefusesFew (words_meaning (asked_of (codes "drill" ∷ words)))
+words_few [] = none_few
+words_few (first ∷ []) = by (length first == 0)
+  where
+    by : (empty : Bool) → RefusesFew (words_meaning (if empty then None else asked_of_one (codes "drill") first))
+    by true = none_few
+    by false = none_few
+words_few (first ∷ second ∷ []) = by (length first == 0 || length second == 0)
+  where
+    by : (empty : Bool) → RefusesFew (words_meaning (if empty then None else asked_drill (number_of first) (number_of second)))
+    by true = none_few
+    by false = drill_few (number_of first) (number_of second)
+words_few (first ∷ second ∷ more ∷ words) = none_few
+
+pub drill_ends : (words : List (List ℕ)) (before now : Shelved) (s : Status) → QuietAnswers (words_meaning (asked_of (codes "drill" ∷ words))) before now s → IsAmong s
+drill_ends words = ends_among (words_meaning (asked_of (codes "drill" ∷ words))) (words_few words)

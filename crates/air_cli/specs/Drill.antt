@@ -1,0 +1,33 @@
+-- The command `drill SEED SIZE`.
+use Rattle.std.specs.Prelude.{◌≡◌, ℕ, true, [], None, ⊤}
+use Rattle.air_model.specs.Drills.{drill_deck}
+use Rattle.air_status.specs.declared.status.Status.{Status}
+use Rattle.air_status.specs.declared.status.Status.TheVariants as status
+use Rattle.aired_sessions.specs.DrillLines.{drill_output}
+use Rattle.air_cli.specs.Meanings.{Meaning}
+use Rattle.air_cli.specs.Truths.{IsTrueScript}
+use Rattle.delivery.specs.Given.{Given}
+
+-- It is refused out of memory alone.
+unfoldable pub DrillCause : Status → Type 0
+DrillCause status.NoMemory = ⊤
+DrillCause other = ⊥
+
+-- The line of the drill, and no tape.
+abbrev pub drill_given : ℕ → ℕ → Given
+drill_given seed size = record { text = drill_output seed size; tape = [] }
+
+-- What it gives: the sessions that the line counts are true, and this is the line.
+unfoldable pub DrillGives : ℕ → ℕ → Given → Type 0
+DrillGives seed size given = IsTrueScript (drill_deck seed size) × (given ≡ drill_given seed size)
+
+-- It reads no file and writes no output, and nothing need be told for it to succeed; seed and size decide the line.
+abbrev pub drill_meaning : ℕ → ℕ → Meaning
+drill_meaning seed size = record {
+  IsInput = λ name. ⊥;
+  output = None;
+  Suits = λ before. ⊤;
+  Refuses = λ before now s. DrillCause s;
+  Gives = λ before given. DrillGives seed size given;
+  decided = true;
+}
