@@ -14,7 +14,7 @@ pub const HELP: &str = "airdisk: data on air, proved
   airdisk script DECK         run the script of a deck, and print the report of its readers
   airdisk script DECK TAPE    the same, and write what was aired to a tape
   airdisk tune DECK TAPE      let the readers of a deck hear a tape, and print their report
-  airdisk drill SEED SIZE     make a deck of this size, run its script, and print what came of it
+  airdisk drill SEED SIZE     make a deck of size 1 to 100, run its script, and print what came of it
   airdisk --help, -h          print this text
   airdisk --version           print the version
 

@@ -96,7 +96,7 @@ impl Ether {
         })
     }
 
-    /// Pushes a bucket, where nothing that is due waits, as `new` leaves it, and `next` when it gives none. It takes constant time.
+    /// Pushes a bucket, where nothing that is due waits, as `new` leaves it, and `next` when it gives none.
     pub fn push(&mut self, bytes: &[u8])
         requires room { length bytes.now ≤ self.old.most }
         requires quiet { IsQuiet self.old }
