@@ -1,6 +1,6 @@
 //! A run of a deck.
 
-ghost use Rattle.std.specs.Prelude.{◌≡◌, IfErr, IfOk};
+ghost use Rattle.std.specs.Prelude.{◌≡◌, IfErr, IfOk, OnOk};
 ghost use Rattle.air_model.specs.Decks.{disks_in};
 ghost use Rattle.air_devices.specs.Masts.{Changes, with_buckets};
 ghost use Rattle.run_laws.specs.Runs.{IsRun};
@@ -83,7 +83,7 @@ pub fn run_threads<R: Threads + Wait + Sync, M: Mast + Send, G: Gate + Sync>(
     requires { program.now ≡ disks_in deck.now }
     ensures run { IfOk result (IsRun deck.now) }
     ensures aired { IfOk result (λ run. Changes (with_buckets (deck_bytes deck.now run.history)) (M.state mast.old).told (M.state mast.new).told) }
-    ensures calm { IfOk result (λ _. (M.state mast.new).faults ≡ (M.state mast.old).faults) }
+    ensures calm { OnOk result ((M.state mast.new).faults ≡ (M.state mast.old).faults) }
     ensures fault { IfErr result (IsRunAnswer M.state deck.now mast.old mast.new) }
     ensures port { (M.state mast.new).port ≡ (M.state mast.old).port }
 {

@@ -1,6 +1,6 @@
 //! A run in which an updater, the conductor and a monitor meet, as no run on one thread can.
 
-use crate::cases::{Case, Tape, first_other};
+use crate::cases::{Case, Events, Tape, Told, first_other};
 use crate::decks::{Aired, MEETING};
 use crate::gates::MeetingGate;
 use std::test::Fail;
@@ -20,9 +20,11 @@ fn a_commit_a_cycle_and_a_look_meet(rt: HostRuntime) -> Result<(), Fail> {
     let case = Case {
         deck: MEETING,
         room: 216,
-        conducted: Ok(()),
-        committed: &[true],
-        glances: &[(2, 2, Some(31))],
+        run: Ok(Told {
+            events: Events::Listed(&[Some((0, 0)), None, None, Some((0, 1)), None]),
+            glances: &[(2, 2, Some(31))],
+            looks: &[(3, 3, Some(27))],
+        }),
         tape: Tape::Buckets(&MEETING_TAPE),
     };
     let gate = MeetingGate::new();

@@ -1,9 +1,9 @@
 //! Runs whose outcome doesn't depend on the schedule.
 
-use crate::cases::{Case, Tape, first_other};
+use crate::cases::{Case, Events, Tape, Told, first_other};
 use crate::decks::{Aired, BUSY, QUIET};
 use air_devices::OpenGate;
-use air_jobs::ConductFault;
+use air_runs::RunFault;
 use std::test::Fail;
 
 /// What a run without updates airs.
@@ -19,9 +19,11 @@ fn without_updates_each_cycle_airs_the_first_values(rt: HostRuntime) -> Result<(
     let case = Case {
         deck: QUIET,
         room: 144,
-        conducted: Ok(()),
-        committed: &[],
-        glances: &[(0, 2, Some(30)), (0, 2, Some(30))],
+        run: Ok(Told {
+            events: Events::Listed(&[None, None]),
+            glances: &[(0, 2, Some(30)), (0, 2, Some(30))],
+            looks: &[(2, 2, Some(30)), (2, 2, Some(30))],
+        }),
         tape: Tape::Buckets(&QUIET_TAPE),
     };
     assert_eq!(rt; first_other(&rt, rt.alloc(), &case, &OpenGate)?, None);
@@ -33,9 +35,11 @@ fn all_updates_are_committed_and_all_cycles_aired(rt: HostRuntime) -> Result<(),
     let case = Case {
         deck: BUSY,
         room: 480,
-        conducted: Ok(()),
-        committed: &[true, true, true],
-        glances: &[(0, 4, None)],
+        run: Ok(Told {
+            events: Events::Counted(4, 4),
+            glances: &[(0, 4, None)],
+            looks: &[(4, 4, None)],
+        }),
         tape: Tape::Bytes(480),
     };
     assert_eq!(rt; first_other(&rt, rt.alloc(), &case, &OpenGate)?, None);
@@ -43,13 +47,11 @@ fn all_updates_are_committed_and_all_cycles_aired(rt: HostRuntime) -> Result<(),
 }
 
 #[test]
-fn where_the_mast_fails_the_others_go_on(rt: HostRuntime) -> Result<(), Fail> {
+fn where_the_mast_fails_the_first_buckets_were_sent(rt: HostRuntime) -> Result<(), Fail> {
     let case = Case {
         deck: QUIET,
         room: 108,
-        conducted: Err(ConductFault::Mast { sent: 3 }),
-        committed: &[],
-        glances: &[(0, 2, Some(30)), (0, 2, Some(30))],
+        run: Err(RunFault::Mast { sent: 3 }),
         tape: Tape::Buckets(&QUIET_TAPE[..3]),
     };
     assert_eq!(rt; first_other(&rt, rt.alloc(), &case, &OpenGate)?, None);
