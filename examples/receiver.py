@@ -7,10 +7,11 @@ usage: examples/receiver.py DECK TAPE      prints what `airdisk tune DECK TAPE` 
 The deck is taken to be without faults. Where the tape is cut, the line of that is printed, and the status is 6.
 """
 import csv
-import math
 import struct
 import sys
 from collections import namedtuple
+from functools import reduce
+from math import gcd
 
 Bucket = namedtuple("Bucket", "kind edition count cycle slot item value entries")
 IDLE, COLUMN, VECTOR = 0, 1, 2
@@ -62,7 +63,7 @@ class Deck:
         step = lambda d: (len(disks) - d) * int(settings.get("delta", 0)) + 1
         frequencies = [step(d) if freq == "-" else int(freq) for d, (_, freq) in enumerate(disks, 1)]
         order = sorted(range(len(rates)), key=lambda item: (-rates[item], item))
-        minors, parts = math.lcm(*frequencies), []
+        minors, parts = reduce(lambda a, b: a * b // gcd(a, b), frequencies), []
         self.slots, self.pix = [], [0] * len(rates)
         for size, frequency in zip((int(size) for size, _ in disks), frequencies):
             chunks = minors // frequency
