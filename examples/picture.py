@@ -9,12 +9,18 @@ cycle, whether it was accepted, and why it was not. Where there are too many to 
 """
 import csv
 import math
+import re
 import sys
 from xml.sax.saxutils import escape
 
 LEFT, ROW, MOST = 150, 26, 400
 INK, FAINT, RULE = "#1b1f24", "#57606a", "#d0d7de"
 COLOURS = {"accept": "#1a7f37", "abort": "#cf222e", "unfinished": "#8c959f"}
+# the lines of a plan and of a report: a tag, so many numbers, and lists
+READS = r"(\d+@\d+=\d+( \d+@\d+=\d+)*)?"
+PLAN = re.compile(r"program(,\d+){3}|disk(,\d+){4}|minor,\d+,(\d+|-)( (\d+|-))*|item(,\d+){6}", re.ASCII)
+REPORT = re.compile(rf"start|commit(,\d+){{2}}|(accept|unfinished)(,\d+){{3}},{READS}|abort(,\d+){{3}},{READS},\d+@\d+,\d+|counts(,\d+){{7}}"
+                    r"|(glance|look)(,\d+){3}", re.ASCII)
 
 
 class Picture:
@@ -165,7 +171,8 @@ def draw_report(picture, rows):
     every = range(min(cycles), max(cycles) + 1)
     columns = {cycle: at for at, cycle in enumerate(every if len(every) <= MOST else sorted(cycles))}
     wide = min(120.0, max(3.0, 1100 / len(columns)))
-    picture.heading("What the readers made of it", "a dot is a read, in the cycle in which it was aired; a cross one that was refused")
+    left_out = f"; {len(every) - len(columns)} cycles in which nothing was read or committed aren't drawn" if len(columns) < len(every) else ""
+    picture.heading("What the readers made of it", f"a dot is a read, in the cycle in which it was aired; a cross one that was refused{left_out}")
     for cycle, at in columns.items():
         if at % math.ceil(24 / wide) == 0:
             picture.text(LEFT + (at + 0.5) * wide, picture.height + 10, f"cycle {cycle}" if wide >= 60 else str(cycle), FAINT, "middle", 10)
@@ -196,16 +203,41 @@ def draw_report(picture, rows):
     picture.height += 16
 
 
+def stop(why):
+    sys.exit(f"picture.py: {why}")
+
+
+def read_rows(name):
+    """The lines of a plan or of a report, and how it is drawn."""
+    try:
+        with open(name, encoding="utf-8", newline="") as file:
+            rows = [row for row in csv.reader(file) if row]
+    except OSError as error:
+        stop(f"{name} can't be read: {error.strerror}")
+    except (UnicodeDecodeError, csv.Error):
+        stop(f"{name} is neither a plan nor a report")
+    if not rows:
+        stop(f"{name} is empty: there is nothing to draw")
+    grammar, draw = (PLAN, draw_plan) if rows[0][0] == "program" else (REPORT, draw_report)
+    for row in rows:
+        if not grammar.fullmatch(",".join(row)):
+            line = ",".join(row)
+            stop(f"{name} is neither a plan nor a report: it has the line {line if len(line) <= 60 else line[:60] + '..'}")
+    if draw == draw_report and {row[1] for row in rows if row[0] in COLOURS} - {row[1] for row in rows if row[0] == "counts"}:
+        stop(f"{name} is cut: a reader in it has no line of counts")
+    return rows, draw
+
+
 def main(names):
     if not names or names[0].startswith("-"):
         sys.exit(__doc__)
     picture = Picture()
     for name in names:
-        with open(name, encoding="utf-8", newline="") as file:
-            rows = [row for row in csv.reader(file) if row]
-        if not rows or rows[0][0] == "fault":
-            sys.exit(f"picture.py: {name} is neither a plan nor a report")
-        (draw_plan if rows[0][0] == "program" else draw_report)(picture, rows)
+        rows, draw = read_rows(name)
+        try:
+            draw(picture, rows)
+        except (LookupError, ValueError, ArithmeticError):
+            stop(f"{name} has lines that don't go together: it isn't as it was printed")
     sys.stdout.write(picture.whole())
 
 
