@@ -1,4 +1,5 @@
 mod FindingExamples
+mod WholeExamples
 pub mod CountFacts
 pub mod NumberFacts
 pub mod WriteFacts
@@ -14,3 +15,6 @@ pub mod PolicyFacts
 pub mod GrammarFacts
 pub mod FoundFacts
 pub mod FindingFacts
+pub mod LineCounts
+pub mod RowFindings
+pub mod TrueReports

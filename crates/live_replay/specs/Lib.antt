@@ -1,4 +1,5 @@
 pub mod Findings
 pub mod Audits
 pub mod FindingLaws
+pub mod ReportFindings
 pub mod Steps

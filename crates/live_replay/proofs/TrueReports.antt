@@ -1,0 +1,68 @@
+-- No line of a report differs that sessions tell which its history judges, and whose glances and looks have their totals.
+use Rattle.std.proofs.Common.{◌≡◌, ℕ, zero, suc, ◌+◌, ◌<◌, ◌≤◌, Option, Some, None, List, [], ◌∷◌, ◌++◌, length, get_or, map, All, refl, sym, ◌∙◌, ap, subst, arith}
+use Rattle.std.specs.List.{enumerate_from, flat_map, range_with_len}
+use Rattle.std.proofs.lemmas.List.Elements.{All-append, All-map, All-nil}
+use Rattle.std.proofs.lemmas.List.FromFn.{get_or-enumerate_from, length-enumerate_from}
+use Rattle.air_history.specs.declared.histories.Event.{Event}
+use Rattle.air_model.specs.Aired.{air_of, scheme_in}
+use Rattle.air_model.specs.Buckets.{Bucket}
+use Rattle.air_model.specs.Decks.{Deck, IsDeck, values_in}
+use Rattle.air_model.specs.Judges.{by_history}
+use Rattle.air_model.specs.ReceiverLaws.{session_of}
+use Rattle.air_model.specs.Reports.{line_by, verdict_lines}
+use Rattle.air_model.specs.Sessions.{Line, State, reader_of}
+use Rattle.air_model.specs.declared.reports.VerdictLine.{VerdictLine}
+use Rattle.air_model.proofs.DeckLemmas.{air}
+use Rattle.report_reading.specs.ReportLines.{ReportLines, report_in}
+use Rattle.live_replay.specs.declared.findings.Cause.{Cause}
+use Rattle.live_replay.specs.declared.findings.Finding.{Finding}
+use Rattle.live_replay.specs.Audits.{findings, found_from}
+use Rattle.live_replay.specs.Findings.{look_cause, verdict_cause}
+use Rattle.live_replay.specs.FindingLaws.{GivesLook, GivesVerdict}
+use Rattle.live_replay.specs.ReportFindings.{sessions_judged}
+use Rattle.live_replay.proofs.FindingFacts.{agrees, look_agrees, session_agrees}
+
+none_differs : {L : Type 0} (cause : L → Option Cause) (row : ℕ) (lines : List L) → All (λ l. cause l ≡ None) lines → All (λ f. f.differs ≡ None) (found_from cause row lines)
+none_differs cause row [] h = All-nil (λ (f : Finding). f.differs ≡ None)
+none_differs cause row (l ∷ lines) h = All-map (λ (f : Finding). f.differs ≡ None) (λ p. record { row = p.0; differs = cause p.1 }) (enumerate_from row (l ∷ lines))
+    (λ k d b.
+    let below : k < length (l ∷ lines) = omega (arith, length-enumerate_from row (l ∷ lines)) in
+    ap (λ p. cause p.1) (get_or-enumerate_from row (l ∷ lines) k d below) ∙ h k d.1 below)
+
+module _ (deck : Deck) (H : List Event) where
+  pub judged_session : (r : ℕ) (heard : List (Option Bucket)) → IsDeck deck →
+      All (λ l. GivesVerdict deck H (line_by r l)) (session_of (by_history (scheme_in deck) (values_in deck) H) deck r heard).lines
+  judged_session r heard is k d b = (agrees deck H (line_by r (get_or lines k d))).0 (session_agrees deck H r (reader_of deck r) heard ((air deck is).1 r) k d b)
+    where
+      lines : List Line
+      lines = (session_of (by_history (scheme_in deck) (values_in deck) H) deck r heard).lines
+
+  abbrev Given : VerdictLine → Type 0
+  Given line = GivesVerdict deck H line
+
+  module _ (heard : ℕ → List (Option Bucket)) (is : IsDeck deck) where
+    abbrev its_session : ℕ → State
+    its_session r = session_of (by_history (scheme_in deck) (values_in deck) H) deck r (heard r)
+
+    lines_given : (a n : ℕ) → All Given (flat_map (λ p. map (line_by p.0) p.1.lines) (enumerate_from a (map its_session (range_with_len a n))))
+    lines_given a zero = All-nil Given
+    lines_given a (suc n) =
+        All-append Given (map (line_by a) (its_session a).lines) (flat_map (λ p. map (line_by p.0) p.1.lines) (enumerate_from (a + 1) (map its_session (range_with_len (a + 1) n))))
+        (All-map Given (line_by a) (its_session a).lines (judged_session a (heard a) is))
+        (lines_given (a + 1) n)
+
+    pub judged_lines : All Given (verdict_lines (sessions_judged deck H heard))
+    judged_lines = lines_given 0 (length deck.readers)
+
+pub none_differ : (deck : Deck) (lines : ReportLines) → All (GivesVerdict deck (report_in deck lines).history) lines.verdicts →
+    All (GivesLook deck (report_in deck lines).history) lines.glances → All (GivesLook deck (report_in deck lines).history) lines.looks → All (λ f. f.differs ≡ None) (findings deck lines)
+unfolding findings
+none_differ deck lines verdicts glances looks =
+    let H = (report_in deck lines).history in
+    let n = 1 + length lines.events in let g = n + length lines.verdicts + length lines.counts in let k = g + length lines.glances in
+    let V = found_from (verdict_cause deck H) n lines.verdicts in let G = found_from (look_cause deck H) g lines.glances in let K = found_from (look_cause deck H) k lines.looks in
+    let P : Finding → Type 0 = λ f. f.differs ≡ None in
+    All-append P (V ++ G) K
+    (All-append P V G (none_differs (verdict_cause deck H) n lines.verdicts (λ i d b. (agrees deck H (get_or lines.verdicts i d)).1 (verdicts i d b)))
+    (none_differs (look_cause deck H) g lines.glances (λ i d b. (look_agrees deck H (get_or lines.glances i d)).1 (glances i d b))))
+    (none_differs (look_cause deck H) k lines.looks (λ i d b. (look_agrees deck H (get_or lines.looks i d)).1 (looks i d b)))
