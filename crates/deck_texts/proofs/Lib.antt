@@ -1,0 +1,7 @@
+mod EntryTexts
+mod WrittenRows
+mod DraftSteps
+mod DeckDrafts
+mod DeckTests
+mod SpelledDecks
+mod DrillTexts

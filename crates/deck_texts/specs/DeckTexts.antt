@@ -1,0 +1,128 @@
+-- The text of a deck: one record for each of its parts.
+--
+-- The records are those of the grammar (`DeckEntries`), each part's in the order in which the deck has them: the items, the disks,
+-- the updates of each updater, the readers, the queries of each reader, one record for the script, and one for each setting but
+-- delta, since each disk's frequency is said.
+use Rattle.std.specs.Prelude.{◌≡◌, ◌+◌, ◌<◌, ◌++◌, ℕ, List, [], ◌∷◌, Bool, true, false, Option, Some, None, length, map, codes}
+use Rattle.std.specs.List.{enumerate_from, flat_map}
+use Rattle.air_base.specs.Numbers.{number_text}
+use Rattle.air_base.specs.NumberLists.{list_text}
+use Rattle.air_base.specs.declared.verdicts.Policy.{Policy}
+use Rattle.air_base.specs.declared.verdicts.Policy.TheVariants.{FMatrix, Datacycle, RMatrix}
+use Rattle.air_history.specs.declared.updates.Write.{Write}
+use Rattle.air_history.specs.UpdateLists.{UpdateLists}
+use Rattle.air_model.specs.declared.deck.ReaderPlan.{ReaderPlan}
+use Rattle.air_model.specs.declared.deck.Settings.{Settings}
+use Rattle.air_model.specs.Disks.{DiskSpec}
+use Rattle.air_model.specs.Decks.{Deck, Item, updates_by}
+use Rattle.air_model.specs.Rows.{rows_text}
+use Rattle.item_catalog.specs.DeckEntries.{Entry}
+use Rattle.item_catalog.specs.DeckEntries as e
+use Rattle.item_catalog.specs.declared.deck.draft.settings.Name.{Name}
+use Rattle.item_catalog.specs.declared.deck.draft.settings.Name.TheVariants as n
+use Rattle.item_catalog.specs.declared.deck.draft.settings.Setting.{Setting}
+use Rattle.item_catalog.specs.declared.deck.draft.settings.Setting.TheVariants as setting
+
+-- ---- the fields of a record
+
+-- A frequency: `-`, or its number.
+abbrev pub freq_text : Option ℕ → List ℕ
+freq_text None = codes "-"
+freq_text (Some freq) = number_text freq
+
+-- An event of the script: `s`, or the number of an updater.
+abbrev pub event_text : Option ℕ → List ℕ
+event_text None = codes "s"
+event_text (Some by) = number_text by
+
+-- The value of a write: an amount, a base and an amount more, or a base less an amount.
+abbrev pub value_text : Bool → Option ℕ → ℕ → List ℕ
+value_text minus None amount = number_text amount
+value_text true (Some base) amount = number_text base ++ (codes "-" ++ number_text amount)
+value_text false (Some base) amount = number_text base ++ (codes "+" ++ number_text amount)
+
+-- A write: the item, `=`, and the value.
+abbrev pub write_text : Write → List ℕ
+write_text w = number_text w.item ++ (codes "=" ++ value_text w.minus w.base w.amount)
+
+-- The name of a setting that is a number.
+abbrev pub name_text : Name → List ℕ
+name_text n.Delta = codes "delta"
+name_text n.Cycles = codes "cycles"
+name_text n.Seed = codes "seed"
+name_text n.Loss = codes "loss"
+name_text n.Again = codes "again"
+name_text n.Late = codes "late"
+name_text n.Monitors = codes "monitors"
+name_text n.Hears = codes "hears"
+
+-- The letter of a policy.
+abbrev pub policy_text : Policy → List ℕ
+policy_text FMatrix = codes "F"
+policy_text Datacycle = codes "D"
+policy_text RMatrix = codes "R"
+
+-- ---- records
+
+-- The record of a setting.
+abbrev pub set_row : Setting → List (List ℕ)
+set_row (setting.Policy policy) = codes "set" ∷ codes "policy" ∷ policy_text policy ∷ []
+set_row (setting.Number name value) = codes "set" ∷ name_text name ∷ number_text value ∷ []
+
+-- The record of an entry: its tag, and what it says.
+abbrev pub entry_row : Entry → List (List ℕ)
+entry_row (e.Item id value rate) = codes "item" ∷ number_text id ∷ number_text value ∷ number_text rate ∷ []
+entry_row (e.Disk size freq) = codes "disk" ∷ number_text size ∷ freq_text freq ∷ []
+entry_row (e.Update by reads writes) = codes "update" ∷ number_text by ∷ list_text (map number_text reads) ∷ list_text (map write_text writes) ∷ []
+entry_row (e.Reader room age tries) = codes "reader" ∷ number_text room ∷ number_text age ∷ number_text tries ∷ []
+entry_row (e.Query reader items) = codes "query" ∷ number_text reader ∷ list_text (map number_text items) ∷ []
+entry_row (e.Script events) = codes "script" ∷ list_text (map event_text events) ∷ []
+entry_row (e.Set s) = set_row s
+
+-- ---- the entries of a deck
+
+-- An item with its place.
+abbrev pub item_entry : ℕ × Item → Entry
+item_entry item = e.Item item.0 item.1.value item.1.rate
+
+-- A disk with its frequency.
+abbrev pub disk_entry : DiskSpec → Entry
+disk_entry disk = e.Disk disk.size (Some disk.freq)
+
+-- An update of an updater.
+abbrev pub update_entry : ℕ → UpdateLists → Entry
+update_entry by update = e.Update by update.reads update.writes
+
+-- The updates of updaters, the first of which has this number.
+abbrev pub update_entries : ℕ → List (List UpdateLists) → List Entry
+update_entries from updates = flat_map (λ (own : ℕ × List UpdateLists). map (update_entry own.0) own.1) (enumerate_from from updates)
+
+-- A reader.
+abbrev pub reader_entry : ReaderPlan → Entry
+reader_entry reader = e.Reader reader.room reader.age reader.tries
+
+-- The queries of readers, the first of which has this number.
+abbrev pub query_entries : ℕ → List (List (List ℕ)) → List Entry
+query_entries from queries = flat_map (λ (own : ℕ × List (List ℕ)). map (e.Query own.0) own.1) (enumerate_from from queries)
+
+-- All settings but delta.
+abbrev pub all_set : Settings → List Setting
+all_set s =
+    setting.Policy s.policy ∷ setting.Number n.Cycles s.cycles ∷ setting.Number n.Seed s.seed ∷ setting.Number n.Loss s.loss ∷ setting.Number n.Again s.again ∷
+    setting.Number n.Late s.late ∷ setting.Number n.Monitors s.monitors ∷ setting.Number n.Hears s.hears ∷ []
+
+-- What a deck declares.
+abbrev pub deck_entries : Deck → List Entry
+deck_entries deck =
+    map item_entry (enumerate_from 0 deck.items)
+    ++ (map disk_entry deck.disks ++ (update_entries 0 deck.updates ++ (map reader_entry deck.readers ++ (query_entries 0 deck.queries ++ (e.Script deck.script ∷ map e.Set (all_set deck.settings))))))
+
+-- The text of a deck.
+unfoldable pub deck_text : Deck → List ℕ
+deck_text deck = rows_text (map entry_row (deck_entries deck))
+
+-- ---- what has a text
+
+-- The last updater has an update: the number of updaters is told by their updates alone.
+abbrev pub LastUpdates : Deck → Type 0
+LastUpdates deck = (last : ℕ) → length deck.updates ≡ last + 1 → 0 < length (updates_by deck last)
