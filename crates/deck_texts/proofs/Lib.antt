@@ -2,6 +2,10 @@ mod EntryTexts
 mod WrittenRows
 mod DraftSteps
 mod DeckDrafts
+mod TestFacts
+mod UpdateTests
+mod ScriptTests
 mod DeckTests
 mod SpelledDecks
 mod DrillTexts
+mod TextExamples
