@@ -89,7 +89,8 @@ pub writer_before_none : (G : List Event) (item : ℕ) → writer_before G 0 ite
 unfolding writer_before last_place
 writer_before_none G item = refl
 
-before_more : (G : List Event) (item p : ℕ) (b : Bool) → writes (event_at G p) item ≡ b → writer_before G (p + 1) item ≡ cond b (Some p) (writer_before G p item)
+-- One more place.
+pub before_more : (G : List Event) (item p : ℕ) (b : Bool) → writes (event_at G p) item ≡ b → writer_before G (p + 1) item ≡ cond b (Some p) (writer_before G p item)
 unfolding writer_before
 before_more G item p b e = ap (λ m. last_place m (λ q. writes (event_at G q) item)) (add-one p) ∙ last_place_suc p _ ∙ ap (λ t. cond t (Some p) (last_place p (λ q. writes (event_at G q) item))) e
 

@@ -2,18 +2,20 @@
 //!
 //! Each is proved to be its definition for every history. Faster bodies are compared with them.
 
-ghost use Rattle.std.specs.Prelude.{◌≡◌, ◌⊎◌, ◌==◌, ◌<◌, ◌≤◌, ◌^◌, ℕ, false, ◌&&◌, cond, All, length, map, get_or, IfOk, OnOk, OnErr, slice_index_or, IsTrue};
+ghost use Rattle.std.specs.Prelude.{◌≡◌, ◌==◌, ◌<◌, ◌≤◌, ◌^◌, ℕ, false, not, ◌&&◌, ◌||◌, cond, All, length, map, get_or, IfOk, OnOk, OnErr, slice_index_or};
 ghost use Rattle.std.specs.List.{list_any, range_with_len};
 ghost use Rattle.air_history.specs.Places.{greatest};
-ghost use Rattle.air_history.specs.Histories.{writes, event_at, cycle_at, writer_before, writer, front, starts, ItemsFit};
+ghost use Rattle.air_history.specs.Histories.{writes, event_at, cycle_at, writer, front, starts, ItemsFit};
 ghost use Rattle.air_history.specs.Columns.{column};
 ghost use Rattle.air_history.specs.Descents.{descends};
-ghost use Rattle.air_history.specs.DescentLaws.{ReadsFrom};
 
 use crate::histories::{Event, History};
 use crate::updates::Write;
 use air_base::NoMemory;
 use std::alloc::Global;
+
+/// An item's number is below this one.
+const ITEM_NUMBERS: usize = 65_536;
 
 /// The last place before the cycle's start whose commit writes the item, and `None` exactly if there is none.
 /// Cycle 0 has an empty front.
@@ -33,38 +35,53 @@ pub fn writer_at(h: &History, cycle: u32, item: u16) -> Option<u64>
     last
 }
 
-/// The last place before `before` whose commit writes the item.
-#[tactic(auto, using(crate::proofs::ScanLemmas::writer_before_none, crate::proofs::ScanLemmas::writer_before_here, crate::proofs::ScanLemmas::writer_before_other))]
-fn last_writer(events: &[Event], before: usize, item: u16) -> Option<usize>
-    requires { before ≤ length events.now }
-    ensures { result ≡ writer_before events.now before item }
+/// Room for so many items, none of which is looked for.
+fn none_sought(alloc: Global, count: usize) -> Result<Vec<bool>, NoMemory>
+    ensures sized { IfOk result (λ sought. length sought.items ≡ count) }
+    ensures clear { IfOk result (λ sought. (i : ℕ) → get_or sought.items i false ≡ false) }
 {
-    let mut last = None;
-    for place in 0..before {
-        if events[place].writes_item(item) {
-            last = Some(place);
-        }
-    }
-    last
+    Ok(vec![in alloc; false; count]?)
 }
 
-/// Marks each place from which the commit at `place` reads.
-fn mark_reads(events: &[Event], place: usize, marks: &mut [bool])
-    requires within { place < length events.now }
-    requires sized { length marks.old ≡ length events.now }
-    ensures kept { (k : ℕ) → IsTrue (get_or marks.old k false) → IsTrue (get_or marks.new k false) }
-    ensures added { (w : ℕ) → ReadsFrom events.now place w → IsTrue (get_or marks.new w false) }
-    ensures just { (k : ℕ) → IsTrue (get_or marks.new k false) →
-        IsTrue (get_or marks.old k false) ⊎ ReadsFrom events.now place k }
+/// Whether a write is of an item that is looked for.
+fn writes_sought(writes: &[Write], sought: &[bool]) -> bool
+    requires { 2 ^ 16 ≤ length sought.now }
+    ensures { result ≡ list_any (λ w. get_or sought.now w.item false) writes.now }
 {
-    for item in events[place].reads() {
-        if let Some(writer) = last_writer(events, place, *item) {
-            marks[writer] = true;
+    for write in writes {
+        if sought[write.item as usize] {
+            return true;
         }
+    }
+    false
+}
+
+/// The items that are written are looked for no longer.
+fn forget_written(writes: &[Write], sought: &mut [bool])
+    requires { 2 ^ 16 ≤ length sought.old }
+    ensures { (i : ℕ) → get_or sought.new i false ≡
+        (get_or sought.old i false && not (list_any (λ w. w.item == i) writes.now)) }
+{
+    for write in writes {
+        sought[write.item as usize] = false;
+    }
+}
+
+/// The items that are read are looked for too.
+fn seek_read(reads: &[u16], sought: &mut [bool])
+    requires { 2 ^ 16 ≤ length sought.old }
+    ensures { (i : ℕ) → get_or sought.new i false ≡
+        (get_or sought.old i false || list_any (λ r. r == i) reads.now) }
+{
+    for item in reads {
+        sought[*item as usize] = true;
     }
 }
 
 /// Marks the places from which the commit at `place` descends, itself included.
+///
+/// One pass backwards: a commit that writes an item looked for is marked; what it writes is found, and what it reads is
+/// looked for before it.
 pub fn descends(alloc: Global, h: &History, place: u64) -> Result<Vec<bool>, NoMemory>
     requires { place < length h.now }
     ensures { IfOk result (λ marks. marks.items ≡ map (descends h.now place) (range_with_len 0 (length h.now))) }
@@ -72,10 +89,14 @@ pub fn descends(alloc: Global, h: &History, place: u64) -> Result<Vec<bool>, NoM
     let events = h.events();
     let place = place as usize;
     let mut marks = vec![in alloc; false; events.len()]?;
+    let mut sought = none_sought(alloc, ITEM_NUMBERS)?;
     marks[place] = true;
-    for at in (0..place + 1).rev() {
-        if marks[at] {
-            mark_reads(events, at, &mut marks);
+    seek_read(events[place].reads(), &mut sought);
+    for at in (0..place).rev() {
+        if writes_sought(events[at].writes(), &sought) {
+            marks[at] = true;
+            forget_written(events[at].writes(), &mut sought);
+            seek_read(events[at].reads(), &mut sought);
         }
     }
     Ok(marks)

@@ -199,3 +199,39 @@ fn a_chain_of_two_updates_is_scanned(rt: HostRuntime) -> Result<(), Fail> {
     assert_eq!(rt; first_other(&rt, rt.alloc(), &CHAIN, &asks)?, None);
     Ok(())
 }
+
+/// A commit that reads and writes the last item of all, one whose writes nobody reads, and one that reads the last item.
+const OWN: [Row<'static>; 6] = [
+    Row::Start,
+    Row::Commit(&[], &[(65_535, None, 5)]),
+    Row::Commit(&[65_535], &[(65_535, Some(65_535), 1), (3, None, 1)]),
+    Row::Commit(&[65_535], &[(0, Some(65_535), 1)]),
+    Row::Commit(&[65_535, 4], &[(1, Some(65_535), 2), (3, None, 2)]),
+    Row::Start,
+];
+
+#[test]
+fn an_item_that_a_commit_reads_and_writes_has_the_writer_before_it(
+    rt: HostRuntime,
+) -> Result<(), Fail> {
+    let asks = [
+        Ask::Descends {
+            place: 4,
+            told: &[false, true, true, false, true, false],
+        },
+        Ask::Descends {
+            place: 2,
+            told: &[false, true, true, false, false, false],
+        },
+        Ask::Descends {
+            place: 1,
+            told: &[false, true, false, false, false, false],
+        },
+        Ask::Descends {
+            place: 5,
+            told: &[false, false, false, false, false, true],
+        },
+    ];
+    assert_eq!(rt; first_other(&rt, rt.alloc(), &OWN, &asks)?, None);
+    Ok(())
+}

@@ -2,7 +2,8 @@
 //!
 //! A case is a row of a table: the events of a history as data, and what is asked of it with the answer. The checker
 //! of a table walks its rows and gives the place of the first that is answered otherwise, and in what. The board and the held
-//! reads are also compared with plain programs, at lengths around a block of eight and at larger ones.
+//! reads are also compared with plain programs, at lengths around a block of eight and at larger ones, and the marks of descent
+//! with one that looks for each last writer from the first event again.
 #![tactic(auto)]
 
 #[cfg(test)]
@@ -11,6 +12,8 @@ mod attempts;
 mod board_lengths;
 #[cfg(test)]
 mod boards;
+#[cfg(test)]
+mod descents;
 #[cfg(test)]
 mod generated;
 #[cfg(test)]

@@ -1,0 +1,78 @@
+//! Marks of descent beside a plain program that looks for each item's last writer from the first event again.
+
+use crate::generated::random_history;
+use air_history::{Event, History, descends};
+use std::alloc::Global;
+use std::process::Abort;
+use std::test::Fail;
+
+/// How many histories there are of each length.
+const SEEDS: u64 = 12;
+
+/// The last place before `before` whose commit writes the item.
+fn last_writer(events: &[Event], before: usize, item: u16) -> Option<usize> {
+    let mut last = None;
+    for (place, event) in events.iter().enumerate() {
+        if place < before && event.writes_item(item) {
+            last = Some(place);
+        }
+    }
+    last
+}
+
+/// Marks each place from which the commit at `place` reads.
+fn mark_reads(events: &[Event], place: usize, marks: &mut [bool]) {
+    let Some(event) = events.get(place) else {
+        return;
+    };
+    for item in event.reads() {
+        if let Some(writer) = last_writer(events, place, *item) {
+            if writer < marks.len() {
+                marks[writer] = true;
+            }
+        }
+    }
+}
+
+/// The marks of the places from which the commit at `place` descends, itself included.
+fn plain(alloc: Global, events: &[Event], place: usize) -> Result<Vec<bool>, Fail> {
+    let mut marks = vec![in alloc; false; events.len()]?;
+    for at in (0..events.len()).rev() {
+        if at == place || (at < place && at < marks.len() && marks[at]) {
+            if at < marks.len() {
+                marks[at] = true;
+            }
+            mark_reads(events, at, &mut marks);
+        }
+    }
+    Ok(marks)
+}
+
+/// The first place whose marks differ from the plain program's, and how many places were compared.
+fn first_other(alloc: Global, history: &History) -> Result<Option<u64>, Fail> {
+    for place in 0..history.len() {
+        let marks = descends(alloc, history, place)?;
+        if marks.as_slice() != plain(alloc, history.events(), place as usize)?.as_slice() {
+            return Ok(Some(place));
+        }
+    }
+    Ok(None)
+}
+
+/// The seed of the first history of that many events that has another place, and that place.
+fn first_seed(rt: &impl Abort, alloc: Global, length: u64) -> Result<Option<(u64, u64)>, Fail> {
+    for seed in 0..SEEDS {
+        if let Some(place) = first_other(alloc, &random_history(rt, alloc, seed, length)?)? {
+            return Ok(Some((seed, place)));
+        }
+    }
+    Ok(None)
+}
+
+#[test]
+fn a_pass_backwards_marks_what_the_plain_program_marks(rt: HostRuntime) -> Result<(), Fail> {
+    for length in [0, 1, 2, 7, 40] {
+        assert_eq!(rt; first_seed(&rt, rt.alloc(), length)?, None);
+    }
+    Ok(())
+}
