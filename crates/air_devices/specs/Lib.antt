@@ -14,3 +14,5 @@ pub mod Ears
 pub mod MemoryEars
 pub mod FileFailures
 pub mod ReadFiles
+pub mod NetFailures
+pub mod Untold

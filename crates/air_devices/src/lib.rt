@@ -3,8 +3,10 @@
 //! `shelves` has the trait of a device with files and outputs, and the one refusal; `masts` that of a device that sends
 //! buckets, `ears` of one that hears them. A call that fails says which count rose, so that a caller can name the cause of its own
 //! answer. `memory_shelf`, `memory_mast` and `memory_ear` are forms in memory, which tell all that they hold and fail where they
-//! are told to (`calls`); `file_shelf` is a shelf over real files and standard output. `reading` reads a whole file through any
-//! shelf. `tape_room` is a tape that grows in memory that was taken at once. `gates` has what is called round what jobs do.
+//! are told to (`calls`); `file_shelf` is a shelf over real files and standard output, `udp_mast` and `udp_ear` are a mast and an ear
+//! over UDP on this machine alone, and each keeps what the system said of its last failure (`file_failures`, `net_failures`).
+//! `reading` reads a whole file through any shelf. `tape_room` is a tape that grows in memory that was taken at once. `gates` has
+//! what is called round what jobs do.
 #![tactic(auto)]
 
 mod calls;
@@ -17,10 +19,13 @@ pub mod masts;
 pub mod memory_ear;
 pub mod memory_mast;
 pub mod memory_shelf;
+pub mod net_failures;
 mod read_files;
 pub mod reading;
 pub mod shelves;
 pub mod tape_room;
+pub mod udp_ear;
+pub mod udp_mast;
 
 pub use ears::{Ear, Heard};
 pub use file_failures::{FileCall, FileFailure};
@@ -30,6 +35,9 @@ pub use masts::Mast;
 pub use memory_ear::MemEar;
 pub use memory_mast::MemMast;
 pub use memory_shelf::MemShelf;
+pub use net_failures::{NetCall, NetFailure};
 pub use reading::{ReadFileError, read_file};
 pub use shelves::{Failed, Shelf};
 pub use tape_room::TapeRoom;
+pub use udp_ear::UdpEar;
+pub use udp_mast::UdpMast;
