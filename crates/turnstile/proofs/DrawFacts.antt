@@ -5,7 +5,7 @@ use Rattle.std.proofs.lemmas.Option.{none-some, same_Some}
 use Rattle.std.proofs.Math.Nat.{mod-add-mod}
 use mathlib.Core.Option.{some, none}
 use lib.ListN.{get_elem?}
-use Rattle.atomic_table.specs.Table.{State, Me, step, keeps, Allows}
+use Rattle.atomic_table.specs.Table.{Me, step, keeps, Allows}
 use Rattle.turnstile.specs.declared.views.View.{View}
 use Rattle.turnstile.specs.Steps.SeatViews.{times, counted, waits, share}
 use Rattle.turnstile.specs.Steps.TurnstileRule.{total, Knows, Kept}
@@ -19,17 +19,11 @@ module _ {K E B : Type 0} (entries : K → List (ℕ × E)) (base : K → B) whe
   abbrev V : Type 0
   V = View E B
 
-  abbrev St : Type 0
-  St = State (Option K) V
-
   abbrev M : Type 0
   M = Me (Option K) V
 
-  abbrev Rule : St → Type 0
-  Rule = Kept entries base
-
   pub draws : (slots id : ℕ) (me : M) → me.0.ticket ≡ None → 0 < length me.0.sight.numbers → me.0.old ≡ [] → me.0.noted ≡ None
-      → Allows Rule slots id me 0 (λ n. (n + 1) % 18446744073709551616) (drew entries base (step slots 0 1 0 none) me)
+      → Allows (Kept entries base) slots id me 0 (λ n. (n + 1) % 18446744073709551616) (drew entries base (step slots 0 1 0 none) me)
   draws slots id me free live calm rests s r wide at small =
       let M64 : ℕ = 18446744073709551616 in
       let n : ℕ = get_or s.words 0 0 in

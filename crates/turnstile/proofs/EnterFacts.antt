@@ -3,7 +3,7 @@ use Rattle.std.proofs.Common.{◌≡◌, ℕ, List, [], ◌∷◌, sym, ap, ◌�
 use Rattle.std.specs.Prelude.{Option, Some, None}
 use Rattle.std.proofs.lemmas.Option.{none-some, same_Some}
 use mathlib.Core.Option.{none}
-use Rattle.atomic_table.specs.Table.{State, Me, step, rest}
+use Rattle.atomic_table.specs.Table.{Me, step, rest}
 use Rattle.turnstile.specs.declared.views.View.{View}
 use Rattle.turnstile.specs.PassEntries.{Continues}
 use Rattle.turnstile.specs.Steps.SeatSteps.{served}
@@ -11,9 +11,6 @@ use Rattle.turnstile.specs.Steps.SeatSteps.{served}
 module _ {K E B : Type 0} (entries : K → List (ℕ × E)) (base : K → B) where
   abbrev V : Type 0
   V = View E B
-
-  abbrev St : Type 0
-  St = State (Option K) V
 
   abbrev M : Type 0
   M = Me (Option K) V

@@ -24,16 +24,10 @@ module _ {K E B : Type 0} (entries : K → List (ℕ × E)) (base : K → B) whe
   abbrev V : Type 0
   V = View E B
 
-  abbrev St : Type 0
-  St = State (Option K) V
-
   abbrev M : Type 0
   M = Me (Option K) V
 
-  abbrev Rule : St → Type 0
-  Rule = Kept entries base
-
-  olds_of : (s : St) (r : Rule s) (id : ℕ) (v : V) (other : ℕ) (w : V) → get_elem? s.views id ≡ some v → get_elem? s.views other ≡ some w → (k : ℕ) (o : Sight E) → get_elem? (v.sight ∷ w.sight ∷ []) k ≡ some o
+  olds_of : (s : State (Option K) V) (r : Kept entries base s) (id : ℕ) (v : V) (other : ℕ) (w : V) → get_elem? s.views id ≡ some v → get_elem? s.views other ≡ some w → (k : ℕ) (o : Sight E) → get_elem? (v.sight ∷ w.sight ∷ []) k ≡ some o
       → Continues o.numbers o.entries r.now × ((n : ℕ) → Contains o.numbers n → Contains (v.sight.numbers ++ w.sight.numbers) n)
   olds_of s r id v other w at here zero o e = subst (λ (o : Sight E). Continues o.numbers o.entries r.now × ((n : ℕ) → Contains o.numbers n → Contains (v.sight.numbers ++ w.sight.numbers) n)) (some-injective v.sight o e)
       ((r.each_seat id v at).sees, λ n h. Contains-append_left v.sight.numbers w.sight.numbers n h)
@@ -42,7 +36,7 @@ module _ {K E B : Type 0} (entries : K → List (ℕ × E)) (base : K → B) whe
   olds_of s r id v other w at here (suc (suc k)) o e = absurd (some-ne-none o (sym e))
 
   -- a pass takes in another
-  pub joins : (id : ℕ) (v : V) (other : ℕ) (w : V) → v.ticket ≡ None → v.noted ≡ None → 0 < length v.sight.numbers → w.ticket ≡ None → w.noted ≡ None → Joins Rule id v other w (united v w) spent
+  pub joins : (id : ℕ) (v : V) (other : ℕ) (w : V) → v.ticket ≡ None → v.noted ≡ None → 0 < length v.sight.numbers → w.ticket ≡ None → w.noted ≡ None → Joins (Kept entries base) id v other w (united v w) spent
   joins id v other w free rests live free' rests' s r at differs there =
       let u : V = united v w in
       let vs : List V = set s.views id u in
@@ -91,7 +85,7 @@ module _ {K E B : Type 0} (entries : K → List (ℕ × E)) (base : K → B) whe
       }
 
   -- a load tells how the old lists stand to one another
-  pub compares : (slots id : ℕ) (me : M) → me.0.noted ≡ None → Allows Rule slots id me 0 (λ n. n) (compared entries base (step slots 0 0 0 none) me)
+  pub compares : (slots id : ℕ) (me : M) → me.0.noted ≡ None → Allows (Kept entries base) slots id me 0 (λ n. n) (compared entries base (step slots 0 0 0 none) me)
   compares slots id me rests s r wide at small =
       let w : V = record me.0 { old = [] } in
       let known = r.each_seat id me.0 at in

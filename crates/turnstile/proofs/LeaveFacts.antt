@@ -3,7 +3,7 @@ use Rattle.std.proofs.Common.{◌≡◌, ℕ, suc, ◌+◌, ◌%◌, List, [], �
 use Rattle.std.specs.Prelude.{Option, Some, None}
 use Rattle.std.proofs.lemmas.Option.{none-some, same_Some}
 use mathlib.Core.Option.{some, none}
-use Rattle.atomic_table.specs.Table.{State, Me, step, gives, Allows, rest}
+use Rattle.atomic_table.specs.Table.{Me, step, gives, Allows, rest}
 use Rattle.turnstile.specs.declared.views.View.{View}
 use Rattle.turnstile.specs.PassEntries.{Own, Below}
 use Rattle.turnstile.specs.Steps.SeatViews.{times, counted, waits, share, gone}
@@ -19,14 +19,8 @@ module _ {K E B : Type 0} (entries : K → List (ℕ × E)) (base : K → B) whe
   abbrev V : Type 0
   V = View E B
 
-  abbrev St : Type 0
-  St = State (Option K) V
-
   abbrev M : Type 0
   M = Me (Option K) V
-
-  abbrev Rule : St → Type 0
-  Rule = Kept entries base
 
   abbrev of_slot : Option K → List (ℕ × E)
   of_slot None = []
@@ -37,7 +31,7 @@ module _ {K E B : Type 0} (entries : K → List (ℕ × E)) (base : K → B) whe
   carried (y ∷ ys) = of_slot y.1
 
   leaves_at : (slots id : ℕ) (v : V) (x : K) (l more : List (ℕ × E)) → v.noted ≡ Some l → entries x ≡ l ++ more → Own v.sight.numbers more → v.base ≡ Some (base x)
-      → Allows Rule slots id (v, (0, Some x) ∷ []) 1 (λ n. (n + 1) % 18446744073709551616) (left entries base (step slots 1 1 0 none) (v, (0, Some x) ∷ []))
+      → Allows (Kept entries base) slots id (v, (0, Some x) ∷ []) 1 (λ n. (n + 1) % 18446744073709551616) (left entries base (step slots 1 1 0 none) (v, (0, Some x) ∷ []))
   leaves_at slots id v x l more notes adds own based s r wide at small =
       let n : ℕ = get_or s.words 1 0 in
       let is : n ≡ r.front = ap (λ l. get_or l 1 0) r.words_are in
@@ -94,7 +88,7 @@ module _ {K E B : Type 0} (entries : K → List (ℕ × E)) (base : K → B) whe
 
   -- the same for a seat whose slot was filled by an exchange
   pub leaves_filled : (slots id : ℕ) (me me' : M) (x : K) (l more : List (ℕ × E)) → me' ≡ (me.0, (0, Some x) ∷ rest me.1) → me.1 ≡ (0, None) ∷ [] → me.0.noted ≡ Some l → entries x ≡ l ++ more → Own me.0.sight.numbers more → me.0.base ≡ Some (base x)
-      → Allows Rule slots id me' 1 (λ n. (n + 1) % 18446744073709551616) (left entries base (step slots 1 1 0 none) me')
+      → Allows (Kept entries base) slots id me' 1 (λ n. (n + 1) % 18446744073709551616) (left entries base (step slots 1 1 0 none) me')
   leaves_filled slots id me me' x l more is empty notes adds own based =
       let full : me' ≡ (me.0, (0, Some x) ∷ []) = is ∙ ap (λ c. (me.0, (0, Some x) ∷ rest c)) empty in
-      subst (λ (m : M). Allows Rule slots id m 1 (λ n. (n + 1) % 18446744073709551616) (left entries base (step slots 1 1 0 none) m)) (sym full) (leaves_at slots id me.0 x l more notes adds own based)
+      subst (λ (m : M). Allows (Kept entries base) slots id m 1 (λ n. (n + 1) % 18446744073709551616) (left entries base (step slots 1 1 0 none) m)) (sym full) (leaves_at slots id me.0 x l more notes adds own based)

@@ -21,18 +21,12 @@ module _ {K E B : Type 0} (entries : K → List (ℕ × E)) (base : K → B) whe
   abbrev V : Type 0
   V = View E B
 
-  abbrev St : Type 0
-  St = State (Option K) V
-
   abbrev M : Type 0
   M = Me (Option K) V
 
-  abbrev Rule : St → Type 0
-  Rule = Kept entries base
-
   -- the pass whose turn it is finds the slot at home
-  opens : (s : St) (r : Rule s) (id : ℕ) (v : V) → get_elem? s.views id ≡ some v → v.noted ≡ None → v.ticket ≡ Some r.front → (ph : Phase) → r.phase ≡ ph → InPhase entries base s.homes s.views r.now r.based ph
-      → (w : V) × (x : K) × (get_elem? s.homes 0 ≡ some (some (Some x))) × Rule (stepped s 1 (get_or s.words 1 0) id [] w (takes 0 (Some x))) × Opens entries base (v, []) (w, (0, Some x) ∷ [])
+  opens : (s : State (Option K) V) (r : Kept entries base s) (id : ℕ) (v : V) → get_elem? s.views id ≡ some v → v.noted ≡ None → v.ticket ≡ Some r.front → (ph : Phase) → r.phase ≡ ph → InPhase entries base s.homes s.views r.now r.based ph
+      → (w : V) × (x : K) × (get_elem? s.homes 0 ≡ some (some (Some x))) × Kept entries base (stepped s 1 (get_or s.words 1 0) id [] w (takes 0 (Some x))) × Opens entries base (v, []) (w, (0, Some x) ∷ [])
   opens s r id v at rests mine (out j) is p = absurd (let u = p.1.0 in let t = (r.each_seat j u p.1.1).turns r.now p.1.2 in let same = r.apart j id u v r.front p.1.1 at t.2 mine in
       none-some r.now (sym rests ∙ (ap (λ (z : V). z.noted) (some-injective v u (sym at ∙ (ap (get_elem? s.views) (sym same) ∙ p.1.1))) ∙ p.1.2)))
   opens s r id v at rests mine home is p =
@@ -82,12 +76,12 @@ module _ {K E B : Type 0} (entries : K → List (ℕ × E)) (base : K → B) whe
       )
 
   -- a load of the word that is served
-  serves_at : (slots id : ℕ) (v : V) → v.noted ≡ None → (tk : Option ℕ) → v.ticket ≡ tk → Allows Rule slots id (v, []) 1 (λ n. n) (served entries base (step slots 1 0 0 none) (v, []))
+  serves_at : (slots id : ℕ) (v : V) → v.noted ≡ None → (tk : Option ℕ) → v.ticket ≡ tk → Allows (Kept entries base) slots id (v, []) 1 (λ n. n) (served entries base (step slots 1 0 0 none) (v, []))
   serves_at slots id v rests None is s r wide at small = (v, keeps, tt, stays entries base s 1 id [] v r at, λ t e. absurd (none-some t (sym is ∙ e)))
   serves_at slots id v rests (Some t) is s r wide at small = let n : ℕ = get_or s.words 1 0 in let front : n ≡ r.front = ap (λ l. get_or l 1 0) r.words_are in dite (ℕ_discrete n t)
       (λ hit. let o = opens s r id v at rests (is ∙ ap Some (sym hit ∙ front)) r.phase refl r.in_phase in
       (o.0, takes 0 (Some o.1), o.2, o.3, λ u e. ((λ _. o.4), λ miss. absurd (miss (hit ∙ same_Some t u (sym is ∙ e))))))
       (λ miss. (v, keeps, tt, stays entries base s 1 id [] v r at, λ u e. ((λ hit. absurd (miss (hit ∙ sym (same_Some t u (sym is ∙ e))))), λ _. refl)))
 
-  pub serves : (slots id : ℕ) (me : M) → me.1 ≡ [] → me.0.noted ≡ None → Allows Rule slots id me 1 (λ n. n) (served entries base (step slots 1 0 0 none) me)
-  serves slots id me empty rests = subst (λ c. Allows Rule slots id (me.0, c) 1 (λ n. n) (served entries base (step slots 1 0 0 none) (me.0, c))) (sym empty) (serves_at slots id me.0 rests me.0.ticket refl)
+  pub serves : (slots id : ℕ) (me : M) → me.1 ≡ [] → me.0.noted ≡ None → Allows (Kept entries base) slots id me 1 (λ n. n) (served entries base (step slots 1 0 0 none) me)
+  serves slots id me empty rests = subst (λ c. Allows (Kept entries base) slots id (me.0, c) 1 (λ n. n) (served entries base (step slots 1 0 0 none) (me.0, c))) (sym empty) (serves_at slots id me.0 rests me.0.ticket refl)

@@ -2,7 +2,7 @@
 use Rattle.std.proofs.Common.{◌≡◌, ℕ, ◌+◌, ◌%◌, ◌<◌, List, [], ◌∷◌, ◌++◌, length, set, sym, ap, ◌∙◌, subst, ⊎_elim, arith, take, drop}
 use Rattle.std.specs.Prelude.{Option, None, Contains}
 use Rattle.std.proofs.lemmas.Option.{none-some}
-use Rattle.atomic_table.specs.Table.{State, Splits}
+use Rattle.atomic_table.specs.Table.{Splits}
 use Rattle.atomic_table.proofs.Lists.{at_snoc}
 use Rattle.turnstile.specs.declared.views.View.{View}
 use Rattle.turnstile.specs.Steps.SeatViews.{times, counted, waits, share, without, with_one, numbered}
@@ -17,14 +17,8 @@ module _ {K E B : Type 0} (entries : K → List (ℕ × E)) (base : K → B) whe
   abbrev V : Type 0
   V = View E B
 
-  abbrev St : Type 0
-  St = State (Option K) V
-
-  abbrev Rule : St → Type 0
-  Rule = Kept entries base
-
   -- a pass gives up its first number
-  pub splits : (id : ℕ) (v : V) → v.ticket ≡ None → v.noted ≡ None → v.old ≡ [] → 1 < length v.sight.numbers → Splits Rule id v (without v) (with_one v)
+  pub splits : (id : ℕ) (v : V) → v.ticket ≡ None → v.noted ≡ None → v.old ≡ [] → 1 < length v.sight.numbers → Splits (Kept entries base) id v (without v) (with_one v)
   splits id v free rests calm two s r at =
       let known = r.each_seat id v at in
       let ns : List ℕ = v.sight.numbers in

@@ -3,7 +3,7 @@ use Rattle.std.proofs.Common.{ℕ, ◌<◌, List, [], ◌∷◌, sym, refl, ap, 
 use Rattle.std.specs.Prelude.{Option, Some}
 use Rattle.std.proofs.lemmas.Option.{none-some}
 use mathlib.Core.Option.{some-ne-none}
-use Rattle.atomic_table.specs.Table.{State, opening}
+use Rattle.atomic_table.specs.Table.{opening}
 use Rattle.turnstile.specs.declared.views.View.{View}
 use Rattle.turnstile.specs.PassEntries.{Below}
 use Rattle.turnstile.specs.Steps.SeatViews.{numbers_from, first}
@@ -16,14 +16,8 @@ module _ {K E B : Type 0} (entries : K → List (ℕ × E)) (base : K → B) whe
   abbrev V : Type 0
   V = View E B
 
-  abbrev St : Type 0
-  St = State (Option K) V
-
-  abbrev Rule : St → Type 0
-  Rule = Kept entries base
-
   -- the rule at the start
-  pub starts : (x : K) (n : ℕ) → 0 < n → n < 4294967296 → Below n (entries x) → Rule (opening (0 ∷ 0 ∷ []) (Some x ∷ []) (first (entries x) (base x) n))
+  pub starts : (x : K) (n : ℕ) → 0 < n → n < 4294967296 → Below n (entries x) → Kept entries base (opening (0 ∷ 0 ∷ []) (Some x ∷ []) (first (entries x) (base x) n))
   starts x n some_pass few low =
       let all : V = first (entries x) (base x) n in
       record {
