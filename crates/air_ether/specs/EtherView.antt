@@ -3,6 +3,7 @@ use Rattle.std.specs.Prelude.{◌≡◌, ◌≤◌, ◌-◌, ◌^◌, length, ma
 use Rattle.air_model.specs.Ethers as model
 use Rattle.air_ether.specs.declared.odds.Odds.{Odds}
 use Rattle.air_ether.specs.declared.waiting.TheConstants.{KEPT}
+use Rattle.air_ether.specs.declared.ether.TheConstants.{MOST_PUSHES}
 use Rattle.air_ether.specs.declared.ether.Ether.TheInside.{Inside}
 use Rattle.air_ether.specs.HeardPositions.{InWindow}
 use Rattle.air_ether.specs.HeardSoFar.{Ether, limit_of}
@@ -30,5 +31,5 @@ pub record IsEther (e : Inside) : Type 0 where
   pub sized : All (λ w. length w.room.items ≡ e.most) e.rooms.items
   pub short : All (λ w. w.len ≤ e.most) e.rooms.items
   pub twice : All (λ w. w.times ≤ 2) e.rooms.items
-  pub few : e.pushes ≤ 2 ^ 64 - 16
+  pub few : e.pushes ≤ MOST_PUSHES
   pub within : InWindow e.pushes (limit_of e.ended e.pushes) (map push_of e.rooms.items) e.cursor

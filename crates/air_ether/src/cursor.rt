@@ -1,6 +1,7 @@
 //! The place in the heard list: due number by due number, at each the places in order, at each its copies.
 
 ghost use Rattle.std.specs.Prelude.{◌≡◌, ◌≤◌, ◌<◌, ◌+◌, ◌-◌, ◌%◌, ◌^◌, ◌↔◌, ℕ, length, map, true, false, IsTrue, get_or};
+ghost use Rattle.air_ether.specs.declared.ether.TheConstants.{MOST_PUSHES};
 ghost use Rattle.air_ether.specs.HeardPositions.{InWindow, copies_at, left_at, position};
 ghost use Rattle.air_ether.specs.KeptPushes.{Waits, push_of};
 
@@ -18,7 +19,7 @@ pub struct Cursor {
 /// places are looked at for each number.
 pub fn seek(cursor: &mut Cursor, rooms: &[Waiting], pushes: u64, limit: u64) -> bool
     requires count { length rooms.now ≡ KEPT }
-    requires fits { pushes ≤ 2 ^ 64 - 16 }
+    requires fits { pushes ≤ MOST_PUSHES }
     requires far { limit ≤ pushes + 8 }
     requires within { InWindow pushes limit (map push_of rooms.now) cursor.old }
     ensures within { InWindow pushes limit (map push_of rooms.now) cursor.new }

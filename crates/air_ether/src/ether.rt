@@ -27,7 +27,7 @@ pub const MOST_DUE: u64 = 269;
 
 /// Due numbers below this are due: after the end, all of them.
 fn limit_of(ended: bool, pushes: u64) -> u64
-    requires { pushes ≤ 2 ^ 64 - 16 }
+    requires { pushes ≤ MOST_PUSHES }
     ensures { result ≡ limit_of ended pushes }
 {
     if ended { pushes + 8 } else { pushes }

@@ -2,6 +2,7 @@
 
 ghost use Rattle.std.specs.Prelude.{◌≡◌, ◌-◌, ◌<◌, ◌≤◌, ◌^◌};
 ghost use Rattle.rand_pcg.specs.Pcg.{pcg32};
+ghost use Rattle.air_ether.specs.declared.ether.TheConstants.{MOST_PUSHES};
 ghost use Rattle.air_ether.specs.PushWords.{due_by, left_by, times_by, word_after};
 
 use rand_core::utils::NextWord;
@@ -25,7 +26,7 @@ pub struct Hearing {
 impl Odds {
     /// Draws the three words of the push at a place, and tells what becomes of it.
     pub fn draw(&self, generator: &mut Lcg64Xsh32, place: u64) -> Hearing
-        requires { place < 2 ^ 64 - 16 }
+        requires { place < MOST_PUSHES }
         ensures after { generator.new ≡ left_by pcg32 3 generator.old }
         ensures due { result.due ≡ due_by self.now.late place (word_after generator.old 2) }
         ensures times { result.times ≡ times_by self.now.loss self.now.again (word_after generator.old 0) (word_after generator.old 1) }
@@ -56,7 +57,7 @@ impl Odds {
 
     /// The due number of the push at a place, by its third word.
     fn due_number(&self, place: u64, third: u32) -> u64
-        requires { place < 2 ^ 64 - 16 }
+        requires { place < MOST_PUSHES }
         ensures { result ≡ due_by self.now.late place third }
     {
         if third % 100 < self.late {
