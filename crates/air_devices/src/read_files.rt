@@ -10,6 +10,9 @@ use std::fs::OpenFile;
 use std::io;
 use std::os::unix::fs::MetadataExt;
 
+/// The most files.
+const MOST_FILES: usize = 16;
+
 /// Which file it is.
 #[derive(Clone, Copy, Default)]
 pub(crate) struct FileId {
@@ -31,7 +34,7 @@ impl FileId {
 /// The files that were read.
 #[derive(Drop)]
 pub(crate) struct ReadFiles {
-    ids: ArrayVec<FileId, 16>,
+    ids: ArrayVec<FileId, MOST_FILES>,
 }
 
 impl ReadFiles {
