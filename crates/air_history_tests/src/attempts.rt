@@ -3,7 +3,7 @@
 //! `held_reads` calls an attempt by hand; `held_lengths` plays it beside a plain program.
 
 ghost use Rattle.std.specs.Prelude.{◌↔◌, ◌≢◌, ◌<◌, All, IsTrue};
-ghost use Rattle.column_check.specs.HeardReads.{heard};
+ghost use Rattle.held_entries.specs.HeardReads.{heard};
 ghost use Rattle.air_history.specs.HeldReads.{IsNew};
 
 use air_base::{Clash, NoMemory};

@@ -1,3 +1,2 @@
-pub mod HeardReads
 pub mod Searches
 pub mod Steps

@@ -10,7 +10,7 @@ ghost use Rattle.air_history.specs.ClashLaws.{IsHeard};
 ghost use Rattle.air_history.specs.Columns.{scheme_of};
 ghost use Rattle.air_history.specs.HeldReads.{IsNew};
 ghost use Rattle.air_history.specs.Reads.{last_cycle};
-ghost use Rattle.column_check.specs.HeardReads.{heard};
+ghost use Rattle.held_entries.specs.HeardReads.{heard};
 ghost use Rattle.receiver_core.specs.Steps.PolicyReads.{held_of, policy_of};
 
 use air_base::{Clash, NoMemory, Policy};

@@ -12,7 +12,7 @@ ghost use Rattle.air_history.specs.Clashes.{read_at, clash_by_history, clash_by_
 ghost use Rattle.air_history.specs.ClashLaws.{IsHeard};
 ghost use Rattle.air_history.specs.Columns.{scheme_of};
 ghost use Rattle.air_history.specs.HeldReads.{IsNew};
-ghost use Rattle.vector_policies.specs.HeardReads.{heard};
+ghost use Rattle.held_entries.specs.HeardReads.{heard};
 ghost use Rattle.held_entries.specs.HeldCycles.{cycles_of};
 
 use air_base::{Clash, NoMemory};

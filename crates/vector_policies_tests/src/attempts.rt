@@ -6,7 +6,7 @@ ghost use Rattle.std.specs.Prelude.{◌↔◌, ◌≢◌, ◌<◌, ◌≤◌, ma
 ghost use Rattle.air_history.specs.HeldReads.{IsNew};
 ghost use Rattle.air_history.specs.Clashes.{read_at};
 ghost use Rattle.air_history.specs.Reads.{last_cycle};
-ghost use Rattle.vector_policies.specs.HeardReads.{heard};
+ghost use Rattle.held_entries.specs.HeardReads.{heard};
 
 use air_base::{Clash, NoMemory};
 use std::alloc::Global;

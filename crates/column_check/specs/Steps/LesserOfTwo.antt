@@ -1,4 +1,4 @@
--- The choice between what two searches answer.
+-- For private steps alone. The choice between what two searches answer.
 use Rattle.std.specs.Prelude.{Option, Some, None}
 use Rattle.air_base.specs.declared.verdicts.Clash.{Clash}
 use Rattle.held_entries.specs.Searches.{lesser_of}

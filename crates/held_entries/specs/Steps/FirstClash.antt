@@ -1,4 +1,4 @@
--- The answer of one search of the array of held cycles.
+-- For private steps alone. The answer of one search of the array of held cycles.
 use Rattle.std.specs.Prelude.{◌≡◌, ◌<◌, ℕ, List, Option, MatchOption, EachIndex, slice_index}
 use Rattle.air_base.specs.declared.verdicts.Clash.{Clash}
 use Rattle.air_lanes.specs.Kernels.{IsFirstNotBelow}

@@ -1,4 +1,4 @@
-use Rattle.column_check.specs.HeardReads.{heard}
+use Rattle.held_entries.specs.HeardReads.{heard}
 use Rattle.receiver_core.proofs.PolicyLemmas.{in_order}
 use Rattle.receiver_core.proofs.policy_held.PolicyHeld.hold.Goals as goal
 
