@@ -10,8 +10,8 @@ mod rounds;
 mod workers;
 
 pub use pairs::Pairs;
-pub use rounds::{finish, hire, pass_all, play, work_all};
-pub use workers::{Worker, add, fill, go_through};
+pub use rounds::{finish, hire, play, work_all};
+pub use workers::{Turns, Worker, add, fill, go_through};
 
 #[cfg(test)]
 mod tests;

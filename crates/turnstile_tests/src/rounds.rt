@@ -6,7 +6,7 @@ ghost use Rattle.std.specs.Thread.{IsSync};
 ghost use Rattle.turnstile_tests.specs.Workers.{IsReady, InOrder};
 
 use crate::pairs::Pairs;
-use crate::workers::Worker;
+use crate::workers::{Turns, Worker};
 use std::alloc::Global;
 use std::sync::Wait;
 use std::thread;
@@ -45,7 +45,7 @@ pub fn work_all<R: Threads + Wait + Sync>(
     mark: u64,
     workers: &mut [Worker],
     threads: usize,
-    turns: u64,
+    turns: Turns,
 )
     requires some { 0 < threads }
     requires ready { All (λ w. IsReady gate.now passes mark w) workers.old }
@@ -57,29 +57,6 @@ pub fn work_all<R: Threads + Wait + Sync>(
         workers,
         threads,
         &|_, w| { w.work(rt, gate, passes, mark, turns) },
-    );
-}
-
-/// Lets each worker go through so many times and add nothing, by so many threads.
-pub fn pass_all<R: Threads + Wait + Sync>(
-    rt: &R,
-    gate: &Turnstile<Pairs>,
-    passes: u32,
-    mark: u64,
-    workers: &mut [Worker],
-    threads: usize,
-    turns: u64,
-)
-    requires some { 0 < threads }
-    requires ready { All (λ w. IsReady gate.now passes mark w) workers.old }
-    ensures ready { All (λ w. IsReady gate.now passes mark w) workers.new }
-    ensures same { (k : ℕ) (d : _) → k < length workers.old → (slice_index_or workers.new k d).by ≡ (slice_index_or workers.old k d).by }
-{
-    thread::for_each_mut(
-        rt,
-        workers,
-        threads,
-        &|_, w| { w.pass_by(rt, gate, passes, mark, turns) },
     );
 }
 
@@ -132,7 +109,7 @@ pub fn play<R: Threads + Wait + Sync>(
         mark,
         workers.as_mut_slice(),
         threads,
-        turns,
+        Turns::Adding(turns),
     );
     if !all_done(&workers) {
         return Err(NoMemory);

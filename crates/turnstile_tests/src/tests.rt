@@ -3,8 +3,8 @@ ghost use Rattle.std.specs.Prelude.{◌≡◌, ◌<◌, ℕ, length, slice_index
 ghost use Rattle.turnstile_tests.specs.Workers.{IsReady};
 
 use crate::pairs::Pairs;
-use crate::rounds::{finish, hire, pass_all, play, work_all};
-use crate::workers::Worker;
+use crate::rounds::{finish, hire, play, work_all};
+use crate::workers::{Turns, Worker};
 use std::alloc::Global;
 use std::sync::Wait;
 use std::test::Fail;
@@ -99,9 +99,9 @@ fn go_and_work<R: Threads + Wait + Sync>(
     ensures ready { All (λ w. IsReady gate.now passes 6 w) workers.new }
     ensures same { (k : ℕ) (d : _) → k < length workers.old → (slice_index_or workers.new k d).by ≡ (slice_index_or workers.old k d).by }
 {
-    pass_all(rt, gate, passes, 6, workers, threads, 50);
-    work_all(rt, gate, passes, 6, workers, threads, turns);
-    pass_all(rt, gate, passes, 6, workers, threads, 50);
+    work_all(rt, gate, passes, 6, workers, threads, Turns::Idle(50));
+    work_all(rt, gate, passes, 6, workers, threads, Turns::Adding(turns));
+    work_all(rt, gate, passes, 6, workers, threads, Turns::Idle(50));
 }
 
 /// A turnstile round an empty list, through which each pass goes beside its turns: the mark at the end, and what `read`

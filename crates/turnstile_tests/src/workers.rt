@@ -15,6 +15,13 @@ pub struct Worker {
     pub done: bool,
 }
 
+/// How many turns a worker makes, and whether each adds a pair or nothing.
+#[derive(Clone, Copy)]
+pub enum Turns {
+    Adding(u64),
+    Idle(u64),
+}
+
 /// One turn: the list gets the pair of this number and the value, and the pass has seen it.
 pub fn add<R: Wait>(
     wait: &R,
@@ -75,28 +82,17 @@ impl Worker {
         gate: &Turnstile<Pairs>,
         passes: u32,
         mark: u64,
-        turns: u64,
+        turns: Turns,
     )
         requires ready { IsReady gate.now passes mark self.old }
         ensures ready { IsReady gate.now passes mark self.new }
         ensures by { self.new.by ≡ self.old.by }
     {
-        self.done = fill(wait, gate, &mut self.pass, self.by, turns).is_ok();
-    }
-
-    /// Goes through so many times, and adds nothing.
-    pub fn pass_by<R: Wait>(
-        &mut self,
-        wait: &R,
-        gate: &Turnstile<Pairs>,
-        passes: u32,
-        mark: u64,
-        turns: u64,
-    )
-        requires ready { IsReady gate.now passes mark self.old }
-        ensures ready { IsReady gate.now passes mark self.new }
-        ensures by { self.new.by ≡ self.old.by }
-    {
-        go_through(wait, gate, &mut self.pass, turns);
+        match turns {
+            Turns::Adding(turns) => {
+                self.done = fill(wait, gate, &mut self.pass, self.by, turns).is_ok();
+            }
+            Turns::Idle(turns) => go_through(wait, gate, &mut self.pass, turns),
+        }
     }
 }
