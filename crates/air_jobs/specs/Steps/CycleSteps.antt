@@ -1,4 +1,4 @@
--- One cycle of a conductor.
+-- For private steps alone. One cycle of a conductor.
 use Rattle.std.specs.Prelude.{◌≡◌, ℕ, ◌+◌, ◌≤◌, ◌<◌, List, length, Option, Result, IfErr, MatchResult, OnErr, OnOk, ⊤}
 use Rattle.air_history.specs.declared.histories.Event.{Event}
 use Rattle.air_history.specs.Histories.{starts}
