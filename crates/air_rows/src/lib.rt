@@ -30,10 +30,7 @@ pub fn put_row<'a>(wtr: &mut Writer<Vec<u8>>, fields: &[&'a [u8]]) -> Result<(),
     ensures text { OnOk result
         (written wtr.new ≡ written wtr.old ++ row_text row_writer (map (λ f. f.now) fields.now)) }
 {
-    match wtr.write_fields(fields) {
-        Ok(()) => Ok(()),
-        Err(_) => Err(NoMemory),
-    }
+    wtr.write_fields(fields).map_err(|_| NoMemory)
 }
 
 /// Adds the row of a tag and numbers.
@@ -63,10 +60,7 @@ pub fn put_numbers(
 pub fn finish(wtr: Writer<Vec<u8>>) -> Result<Vec<u8>, NoMemory>
     ensures { IfOk result (λ text. text.items ≡ written wtr) }
 {
-    match wtr.into_inner() {
-        Ok(text) => Ok(text),
-        Err(_) => Err(NoMemory),
-    }
+    wtr.into_inner().map_err(|_| NoMemory)
 }
 
 /// Adds a field to the row that is begun. Between two rows one of no fields is.
@@ -86,8 +80,5 @@ pub fn end_row(wtr: &mut Writer<Vec<u8>>) -> Result<(), NoMemory>
     ensures text { OnOk result ((before : List ℕ) (fields : List (List ℕ)) → IsBegun before fields wtr.old
         → written wtr.new ≡ before ++ row_text row_writer fields) }
 {
-    match wtr.end_record() {
-        Ok(()) => Ok(()),
-        Err(_) => Err(NoMemory),
-    }
+    wtr.end_record().map_err(|_| NoMemory)
 }
