@@ -12,5 +12,6 @@ pub mod TurnLemmas
 pub mod StepLemmas
 pub mod FeedLemmas
 pub mod HeldLemmas
+pub mod HeldCalls
 pub mod WantedLemmas
 pub mod StepExamples

@@ -10,7 +10,7 @@ ghost use Rattle.air_model.specs.Judges.{by_entries};
 ghost use Rattle.air_model.specs.Sessions.{end_query, hear, wanted};
 ghost use Rattle.receiver_core.specs.LinesGiven.{StepTells, lines_given, lines_of};
 ghost use Rattle.receiver_core.specs.FeedAnswers.{ChangesItsCountAlone, counted, fed_of};
-ghost use Rattle.receiver_core.specs.HeldTruths.{first_unheld};
+ghost use Rattle.receiver_core.specs.HeldTruths.{HearsTruly, StaysTrue, first_unheld};
 ghost use Rattle.receiver_core.specs.LastReads.{last_reads};
 ghost use Rattle.receiver_core.specs.Receivers.{IsSettled, heard_count, receiver_of, stepped};
 
@@ -145,6 +145,7 @@ impl Receiver {
         ensures refused { (fault : BucketFault) → (result ≡ Fed.Refused fault) ↔ (reading bytes.now ≡ Err fault) }
         ensures counted { self.new.state.counts ≡ counted result self.old.state.counts }
         ensures alone { ChangesItsCountAlone result self.old self.new }
+        ensures held { HearsTruly (bucket_in bytes.now) self.old self.new }
     {
         self.hear(&decode(bytes))
     }
@@ -165,6 +166,7 @@ impl Receiver {
         ensures refused { (fault : BucketFault) → (result ≡ Fed.Refused fault) ↔ (heard.now ≡ Err fault) }
         ensures counted { self.new.state.counts ≡ counted result self.old.state.counts }
         ensures alone { ChangesItsCountAlone result self.old self.new }
+        ensures held { HearsTruly (result_ok heard.now) self.old self.new }
     {
         match heard {
             Err(fault) => {
@@ -184,6 +186,7 @@ impl Receiver {
         ensures reader { self.new.reader ≡ self.old.reader }
         ensures last { self.new.last ≡ last_reads (lines_given result self.new.last) self.old.last }
         ensures heard { heard_count self.new.state.counts ≡ heard_count self.old.state.counts }
+        ensures held { StaysTrue self.old self.new }
     {
         if let Some(verdict) = self.waiting.take() {
             return Step::Verdict(verdict);
@@ -206,6 +209,7 @@ impl Receiver {
         ensures air { self.new.air ≡ self.old.air }
         ensures reader { self.new.reader ≡ self.old.reader }
         ensures last { self.new.last ≡ last_reads (lines_of result self.new.last) self.old.last }
+        ensures held { StaysTrue self.old self.new }
     {
         drop_all(&mut self.copies, self.air.items());
         if !self.reader.has(self.query) {

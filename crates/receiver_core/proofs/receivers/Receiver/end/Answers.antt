@@ -8,6 +8,7 @@ use Rattle.receiver_core.specs.Receivers.{Receiver}
 use Rattle.receiver_core.specs.ReceiverView.{receiver_in}
 use Rattle.receiver_core.proofs.StateLemmas.{still_left}
 use Rattle.receiver_core.proofs.StepLemmas.{bare_settled, bared, ended, ended_copies, ended_left, ended_past, ended_waits, given_bare, last_ended, past}
+use Rattle.receiver_core.proofs.HeldCalls.{ends}
 use Rattle.receiver_core.proofs.receivers.Receiver.end.Goals as goal
 
 pub drop_all-requires-clause-numbers : goal.drop_all-requires-clause-numbers
@@ -68,3 +69,15 @@ returns-clause-last c =
     let given = given_bare c.self.inside old c.give.new.self c.drop_all.new.copies c.self.view_is c.drop_all.ensures c.give.ensures in
     last_ended c.take.result c.self-2.inside.last old.last
     (λ none. absurd (ended_waits (bared old) c.self-2.inside (c.self-2.view_is ∙ ended (bared old) c.give.new.self c.next_query.new.self given c.next_query.ensures) (sym c.take.ensures.value ∙ none)))
+
+pub returns-then-not-has-clause-held : goal.returns-then-not-has-clause-held
+returns-then-not-has-clause-held c =
+    ends c.args.self.now _ _ (returns-then-not-has-clause-state c) (ap (λ (t : Receiver). t.air) c.self.view_is) (ap (λ (t : Receiver). t.reader) c.self.view_is)
+
+pub returns-clause-held : goal.returns-clause-held
+returns-clause-held c =
+    let old = c.args.self.now in
+    let v = receiver_in c.self-2.inside in
+    let given = given_bare c.self.inside old c.give.new.self c.drop_all.new.copies c.self.view_is c.drop_all.ensures c.give.ensures in
+    let is = c.self-2.view_is ∙ ended (bared old) c.give.new.self c.next_query.new.self given c.next_query.ensures in
+    ends old _ _ (returns-clause-state c) (ap (λ (t : Receiver). t.air) is) (ap (λ (t : Receiver). t.reader) is)

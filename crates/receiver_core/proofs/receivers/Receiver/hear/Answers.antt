@@ -6,6 +6,7 @@ use Rattle.receiver_core.specs.FeedAnswers.{ChangesItsCountAlone, counted, fed_o
 use Rattle.receiver_core.specs.LastReads.{last_reads}
 use Rattle.receiver_core.specs.Receivers.{Receiver}
 use Rattle.receiver_core.proofs.FeedLemmas.{alone, hear_counts, refused_is}
+use Rattle.receiver_core.proofs.HeldCalls.{hears}
 use Rattle.receiver_core.proofs.receivers.Receiver.hear.Goals as goal
 
 pub returns-in-Err-clause-state : goal.returns-in-Err-clause-state
@@ -45,3 +46,14 @@ returns-in-Ok-clause-alone c =
     let old = c.args.self.now in
     subst (λ f. ChangesItsCountAlone f old c.hear_bucket.new.self) (sym c.hear_bucket.ensures.fed)
     (subst (ChangesItsCountAlone (fed_of old (Ok c.in-Ok.bucket)) old) (sym c.hear_bucket.ensures.heard) (alone (by_entries old.air.scheme) old (Ok c.in-Ok.bucket) c.requires.settled.given))
+
+pub returns-in-Err-clause-held : goal.returns-in-Err-clause-held
+returns-in-Err-clause-held c =
+    hears (result_ok c.args.heard.now) c.args.self.now _ (returns-in-Err-clause-state c) (ap (λ (t : Receiver). t.air) c.self.view_is) (ap (λ (t : Receiver). t.reader) c.self.view_is)
+
+pub returns-in-Ok-clause-held : goal.returns-in-Ok-clause-held
+returns-in-Ok-clause-held c =
+    let old = c.args.self.now in
+    hears (result_ok c.args.heard.now) old c.hear_bucket.new.self
+    (ap (λ (t : Receiver). t.state) c.hear_bucket.ensures.heard ∙ ap (λ o. hear (by_entries old.air.scheme) old.air old.reader o old.state) (sym (ap result_ok c.in-Ok.is)))
+    (ap (λ (t : Receiver). t.air) c.hear_bucket.ensures.heard) (ap (λ (t : Receiver). t.reader) c.hear_bucket.ensures.heard)

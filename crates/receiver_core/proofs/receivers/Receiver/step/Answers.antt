@@ -6,6 +6,7 @@ use Rattle.receiver_core.specs.LinesGiven.{StepTells, lines_given, lines_of}
 use Rattle.receiver_core.specs.Receivers.{Receiver, steps_left}
 use Rattle.receiver_core.specs.ReceiverView.{receiver_in}
 use Rattle.receiver_core.proofs.StepLemmas.{came, fewer_left, last_given, last_stepped, no_more_left, none_waits_now, one_waits_now, past, same_heard, settled_now, stepped_given, stepped_waits}
+use Rattle.receiver_core.proofs.HeldCalls.{steps}
 use Rattle.receiver_core.proofs.receivers.Receiver.step.Goals as goal
 use Rattle.receiver_core.proofs.receivers.Receiver.step.Goals.{in-Some-take, in-None, in-None-2}
 
@@ -78,3 +79,14 @@ returns-clause-heard c =
     let free = sym (ap (λ (t : Receiver). t.state.lines) c.self.view_is) ∙ none_waits_now c.self.inside none in
     let is = c.self-2.view_is ∙ came c.self.inside c.take.new.self old c.settle_to_line.new.self c.self.view_is c.take.ensures.after none c.settle_to_line.ensures in
     same_heard old r free is
+
+pub returns-in-Some-clause-held : goal.returns-in-Some-clause-held
+returns-in-Some-clause-held c =
+    steps c.args.self.now _ _ (returns-in-Some-clause-state c) (ap (λ (t : Receiver). t.air) c.self.view_is) (ap (λ (t : Receiver). t.reader) c.self.view_is)
+
+pub returns-clause-held : goal.returns-clause-held
+returns-clause-held c =
+    let old = c.args.self.now in
+    let none = sym c.take.ensures.value ∙ c.in_default.is in
+    let is = c.self-2.view_is ∙ came c.self.inside c.take.new.self old c.settle_to_line.new.self c.self.view_is c.take.ensures.after none c.settle_to_line.ensures in
+    steps old _ _ (returns-clause-state c) (ap (λ (t : Receiver). t.air) is) (ap (λ (t : Receiver). t.reader) is)
