@@ -1,5 +1,5 @@
 -- A pass takes in another, and the load that follows tells how the two lists stand to one another.
-use Rattle.std.proofs.Common.{◌≡◌, ℕ, zero, suc, ◌+◌, ◌%◌, ◌<◌, List, [], ◌∷◌, ◌++◌, length, set, sym, refl, ap, ◌∙◌, subst, arith, length-append}
+use Rattle.std.proofs.Common.{◌≡◌, ℕ, zero, suc, ◌+◌, ◌%◌, ◌<◌, List, [], ◌∷◌, ◌++◌, length, get_or, set, sym, refl, ap, ◌∙◌, subst, arith, length-append}
 use Rattle.std.specs.Prelude.{Option, None, Contains}
 use Rattle.std.proofs.lemmas.List.{set-get_or}
 use Rattle.std.proofs.lemmas.List.Elements.{Contains-append_left, Contains-append_right}
@@ -18,7 +18,7 @@ use Rattle.turnstile.proofs.Totals.{total_set}
 use Rattle.turnstile.proofs.Numbers.{times_append}
 use Rattle.turnstile.proofs.EntryLists.{foreign_none, longer_goes_on}
 use Rattle.turnstile.proofs.ViewSteps.{seats, apart_set}
-use Rattle.turnstile.proofs.RuleFacts.{phase_set}
+use Rattle.turnstile.proofs.RuleFacts.{phase_set, reseated}
 
 module _ {K E B : Type 0} (entries : K → List (ℕ × E)) (base : K → B) where
   abbrev V : Type 0
@@ -47,42 +47,30 @@ module _ {K E B : Type 0} (entries : K → List (ℕ × E)) (base : K → B) whe
       let nothing : V = spent in
       let q : total waits (set vs other nothing) ≡ total waits s.views = let a = total_set waits s.views id v u at in let b = total_set waits vs other w nothing there in let z : waits w ≡ 0 = ap counted free' in omega arith in
       let F : ℕ → V → Type 0 = Knows entries base r.now r.based r.passes r.front (total waits s.views) r.phase in
+      reseated entries base s r s.words s.homes (set vs other nothing) r.phase refl q
+      (let a = total_set share s.views id v u at in let b = total_set share vs other w nothing there in let d = r.dealt in let p = length-append v.sight.numbers w.sight.numbers in omega arith)
+      (λ m. let f : V → ℕ = λ z. times m z.sight.numbers in let a = total_set f s.views id v u at in let b = total_set f vs other w nothing there in let d = r.once m in let p = times_append m v.sight.numbers w.sight.numbers in omega arith)
+      (seats F vs other nothing
       record {
-        next = r.next;
-        front = r.front;
-        now = r.now;
-        based = r.based;
-        passes = r.passes;
-        phase = r.phase;
-        words_are = r.words_are;
-        front_fits = r.front_fits;
-        next_is = r.next_is ∙ ap (λ k. (r.front + k) % 18446744073709551616) (sym q);
-        few = r.few;
-        dealt = let a = total_set share s.views id v u at in let b = total_set share vs other w nothing there in let d = r.dealt in let p = length-append v.sight.numbers w.sight.numbers in omega arith;
-        once = λ m. let f : V → ℕ = λ z. times m z.sight.numbers in let a = total_set f s.views id v u at in let b = total_set f vs other w nothing there in let d = r.once m in let p = times_append m v.sight.numbers w.sight.numbers in omega arith;
-        numbered = r.numbered;
-        each_seat = subst (λ k. (j : ℕ) (x : V) → get_elem? (set vs other nothing) j ≡ some x → Knows entries base r.now r.based r.passes r.front k r.phase j x) (sym q) (seats F vs other nothing
-            record {
-              sees = (r.now, refl, foreign_none r.now);
-              live = λ h. absurd (omega arith);
-              queues = λ t e. absurd (none-some t e);
-              turns = λ k e. absurd (none-some k e);
-              olds = λ k p e. absurd (some-ne-none p (sym e));
-              old_rests = λ _. refl;
-            }
-            (λ j x _. seats F s.views id u
-            record {
-              sees = seen.2;
-              live = λ _. known.live live;
-              queues = λ t e. absurd (none-some t (sym free ∙ e));
-              turns = λ k e. absurd (none-some k (sym rests ∙ e));
-              olds = olds_of s r id v other w at here;
-              old_rests = λ _. free;
-            }
-            (λ i y _ e. r.each_seat i y e) j x));
-        apart = apart_set vs other nothing (apart_set s.views id u r.apart (λ j x t _ e k same. none-some t (sym free ∙ same))) (λ j x t _ e k same. none-some t same);
-        in_phase = phase_set entries base s.homes vs r.now r.based r.phase other w nothing there rests' (phase_set entries base s.homes s.views r.now r.based r.phase id v u at rests r.in_phase);
+        sees = (r.now, refl, foreign_none r.now);
+        live = λ h. absurd (omega arith);
+        queues = λ t e. absurd (none-some t e);
+        turns = λ k e. absurd (none-some k e);
+        olds = λ k p e. absurd (some-ne-none p (sym e));
+        old_rests = λ _. refl;
       }
+      (λ j x _. seats F s.views id u
+      record {
+        sees = seen.2;
+        live = λ _. known.live live;
+        queues = λ t e. absurd (none-some t (sym free ∙ e));
+        turns = λ k e. absurd (none-some k (sym rests ∙ e));
+        olds = olds_of s r id v other w at here;
+        old_rests = λ _. free;
+      }
+      (λ i y _ e. r.each_seat i y e) j x))
+      (apart_set vs other nothing (apart_set s.views id u r.apart (λ j x t _ e k same. none-some t (sym free ∙ same))) (λ j x t _ e k same. none-some t same))
+      (phase_set entries base s.homes vs r.now r.based r.phase other w nothing there rests' (phase_set entries base s.homes s.views r.now r.based r.phase id v u at rests r.in_phase))
 
   -- a load tells how the old lists stand to one another
   pub compares : (slots id : ℕ) (me : M) → me.0.noted ≡ None → Allows (Kept entries base) slots id me 0 (λ n. n) (compared entries base (step slots 0 0 0 none) me)
@@ -94,32 +82,20 @@ module _ {K E B : Type 0} (entries : K → List (ℕ × E)) (base : K → B) whe
         w,
         keeps,
         tt,
-        record {
-          next = r.next;
-          front = r.front;
-          now = r.now;
-          based = r.based;
-          passes = r.passes;
-          phase = r.phase;
-          words_are = set-get_or s.words 0 0 ∙ r.words_are;
-          front_fits = r.front_fits;
-          next_is = r.next_is ∙ ap (λ k. (r.front + k) % 18446744073709551616) (sym q);
-          few = r.few;
-          dealt = let a = total_set share s.views id me.0 w at in let d = r.dealt in omega arith;
-          once = λ m. let a = total_set (λ (z : V). times m z.sight.numbers) s.views id me.0 w at in let d = r.once m in omega arith;
-          numbered = r.numbered;
-          each_seat = subst (λ k. (j : ℕ) (x : V) → get_elem? (set s.views id w) j ≡ some x → Knows entries base r.now r.based r.passes r.front k r.phase j x) (sym q) (seats F s.views id w
-              record {
-                sees = known.sees;
-                live = known.live;
-                queues = known.queues;
-                turns = known.turns;
-                olds = λ k p e. absurd (some-ne-none p (sym e));
-                old_rests = λ h. absurd (omega arith);
-              }
-              (λ j u other e. r.each_seat j u e));
-          apart = apart_set s.views id w r.apart (λ j u t other e k same. other (r.apart j id u me.0 t e at k same));
-          in_phase = phase_set entries base s.homes s.views r.now r.based r.phase id me.0 w at rests r.in_phase;
-        },
+        reseated entries base s r (set s.words 0 (get_or s.words 0 0)) s.homes (set s.views id w) r.phase (set-get_or s.words 0 0) q
+            (let a = total_set share s.views id me.0 w at in let d = r.dealt in omega arith)
+            (λ m. let a = total_set (λ (z : V). times m z.sight.numbers) s.views id me.0 w at in let d = r.once m in omega arith)
+            (seats F s.views id w
+            record {
+              sees = known.sees;
+              live = known.live;
+              queues = known.queues;
+              turns = known.turns;
+              olds = λ k p e. absurd (some-ne-none p (sym e));
+              old_rests = λ h. absurd (omega arith);
+            }
+            (λ j u other e. r.each_seat j u e))
+            (apart_set s.views id w r.apart (λ j u t other e k same. other (r.apart j id u me.0 t e at k same)))
+            (phase_set entries base s.homes s.views r.now r.based r.phase id me.0 w at rests r.in_phase),
         (refl, (r.now, λ k o e. (known.olds k o e).0)),
       )

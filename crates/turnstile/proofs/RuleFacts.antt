@@ -1,5 +1,5 @@
 -- What the rule says between two steps, and that a step which changes neither word, slot nor view keeps it.
-use Rattle.std.proofs.Common.{◌≡◌, ℕ, suc, ◌<◌, ◌≤◌, ◌≢◌, List, [], ◌∷◌, ◌++◌, length, get_or, set, sym, ap, ◌∙◌, subst, arith}
+use Rattle.std.proofs.Common.{◌≡◌, ℕ, suc, ◌+◌, ◌%◌, ◌<◌, ◌≤◌, ◌≢◌, List, [], ◌∷◌, ◌++◌, length, get_or, set, sym, ap, ◌∙◌, subst, arith}
 use Rattle.std.specs.Prelude.{Option, None, Contains}
 use Rattle.std.proofs.lemmas.List.{set-get_or}
 use Rattle.std.proofs.lemmas.Option.{none-some}
@@ -9,7 +9,7 @@ use Rattle.atomic_table.specs.Table.{State, keeps, stepped}
 use Rattle.atomic_table.proofs.Lists.{at_longer, set_else, set_again}
 use Rattle.turnstile.specs.declared.views.View.{View}
 use Rattle.turnstile.specs.Steps.SeatViews.{times, waits, share}
-use Rattle.turnstile.specs.Steps.TurnstileRule.{total, Phase, home, out, InPhase, Kept}
+use Rattle.turnstile.specs.Steps.TurnstileRule.{total, once_below, Apart, Phase, home, out, InPhase, Knows, Kept}
 use Rattle.turnstile.proofs.Totals.{total_at, total_two, total_le}
 use Rattle.turnstile.proofs.Numbers.{times_in, once_low, once_in}
 use Rattle.turnstile.proofs.Tickets.{counted_le}
@@ -51,3 +51,28 @@ module _ {K E B : Type 0} (entries : K → List (ℕ × E)) (base : K → B) whe
 
   pub out_of : (s : State (Option K) V) (r : Kept entries base s) (id : ℕ) → r.phase ≡ out id → s.homes ≡ none ∷ []
   out_of s r id is = (subst (InPhase entries base s.homes s.views r.now r.based) is r.in_phase).0
+
+  -- The rule stays where seats change and as many tickets are out: the words are as they were, each number is in one
+  -- seat, and each seat knows what it has to.
+  pub reseated : (s : State (Option K) V) (r : Kept entries base s) (words : List ℕ) (homes : List (maybe.Option (Option K))) (vs : List V) (ph : Phase)
+      → words ≡ s.words → total waits vs ≡ total waits s.views → total share vs ≡ r.passes → ((m : ℕ) → total (λ v. times m v.sight.numbers) vs ≡ once_below m r.passes)
+      → ((j : ℕ) (u : V) → get_elem? vs j ≡ some u → Knows entries base r.now r.based r.passes r.front (total waits s.views) ph j u) → Apart vs
+      → InPhase entries base homes vs r.now r.based ph → Kept entries base record { words = words; homes = homes; views = vs }
+  reseated s r words homes vs ph same many dealt once knows apart placed = record {
+    next = r.next;
+    front = r.front;
+    now = r.now;
+    based = r.based;
+    passes = r.passes;
+    phase = ph;
+    words_are = same ∙ r.words_are;
+    front_fits = r.front_fits;
+    next_is = r.next_is ∙ ap (λ k. (r.front + k) % 18446744073709551616) (sym many);
+    few = r.few;
+    dealt = dealt;
+    once = once;
+    numbered = r.numbered;
+    each_seat = subst (λ k. (j : ℕ) (u : V) → get_elem? vs j ≡ some u → Knows entries base r.now r.based r.passes r.front k ph j u) (sym many) knows;
+    apart = apart;
+    in_phase = placed;
+  }

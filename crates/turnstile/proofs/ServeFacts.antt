@@ -15,7 +15,7 @@ use Rattle.turnstile.specs.Steps.TurnstileRule.{total, Phase, home, out, Knows, 
 use Rattle.turnstile.specs.Steps.SeatSteps.{Opens, served}
 use Rattle.turnstile.proofs.Totals.{total_set, set_at}
 use Rattle.turnstile.proofs.ViewSteps.{seats, apart_set}
-use Rattle.turnstile.proofs.RuleFacts.{stays, seat_of}
+use Rattle.turnstile.proofs.RuleFacts.{stays, seat_of, reseated}
 
 module _ {K E B : Type 0} (entries : K → List (ℕ × E)) (base : K → B) where
   abbrev V : Type 0
@@ -38,40 +38,28 @@ module _ {K E B : Type 0} (entries : K → List (ℕ × E)) (base : K → B) whe
         w,
         x,
         ap (λ h. get_elem? h 0) p.1,
-        record {
-          next = r.next;
-          front = r.front;
-          now = r.now;
-          based = r.based;
-          passes = r.passes;
-          phase = out id;
-          words_are = set-get_or s.words 1 0 ∙ r.words_are;
-          front_fits = r.front_fits;
-          next_is = r.next_is ∙ ap (λ k. (r.front + k) % 18446744073709551616) (sym q);
-          few = r.few;
-          dealt = let h = total_set share s.views id v w at in let d = r.dealt in omega arith;
-          once = λ m. let h = total_set (λ (z : V). times m z.sight.numbers) s.views id v w at in let d = r.once m in omega arith;
-          numbered = r.numbered;
-          each_seat = subst (λ k. (j : ℕ) (u : V) → get_elem? (set s.views id w) j ≡ some u → Knows entries base r.now r.based r.passes r.front k (out id) j u) (sym q) (seats (Knows entries base r.now r.based r.passes r.front (total waits s.views) (out id)) s.views id w
-              record {
-                sees = known.sees;
-                live = known.live;
-                queues = known.queues;
-                turns = λ l e. (refl, sym (same_Some (entries x) l e) ∙ p.2, mine);
-                olds = known.olds;
-                old_rests = known.old_rests;
-              }
-              (λ j u other e. let k = r.each_seat j u e in record {
-                sees = k.sees;
-                live = k.live;
-                queues = k.queues;
-                turns = λ l e. absurd (let h : 0 ≡ suc j = ap seat_of (sym is ∙ (k.turns l e).0) in omega arith);
-                olds = k.olds;
-                old_rests = k.old_rests;
-              }));
-          apart = apart_set s.views id w r.apart (λ j u t other e k same. other (r.apart j id u v t e at k same));
-          in_phase = (ap (λ h. set h 0 none) p.1, (w, set_at s.views id v w at, ap Some p.2));
-        },
+        reseated entries base s r (set s.words 1 (get_or s.words 1 0)) (set s.homes 0 none) (set s.views id w) (out id) (set-get_or s.words 1 0) q
+            (let h = total_set share s.views id v w at in let d = r.dealt in omega arith)
+            (λ m. let h = total_set (λ (z : V). times m z.sight.numbers) s.views id v w at in let d = r.once m in omega arith)
+            (seats (Knows entries base r.now r.based r.passes r.front (total waits s.views) (out id)) s.views id w
+            record {
+              sees = known.sees;
+              live = known.live;
+              queues = known.queues;
+              turns = λ l e. (refl, sym (same_Some (entries x) l e) ∙ p.2, mine);
+              olds = known.olds;
+              old_rests = known.old_rests;
+            }
+            (λ j u other e. let k = r.each_seat j u e in record {
+              sees = k.sees;
+              live = k.live;
+              queues = k.queues;
+              turns = λ l e. absurd (let h : 0 ≡ suc j = ap seat_of (sym is ∙ (k.turns l e).0) in omega arith);
+              olds = k.olds;
+              old_rests = k.old_rests;
+            }))
+            (apart_set s.views id w r.apart (λ j u t other e k same. other (r.apart j id u v t e at k same)))
+            (ap (λ h. set h 0 none) p.1, (w, set_at s.views id v w at, ap Some p.2)),
         (x, refl, (known.live live).0 ∙ ap Some (sym p.3), subst (Continues v.sight.numbers v.sight.entries) (sym p.2) known.sees),
       )
 

@@ -1,5 +1,5 @@
 -- A pass gives up its first number to a new one.
-use Rattle.std.proofs.Common.{◌≡◌, ℕ, ◌+◌, ◌%◌, ◌<◌, List, [], ◌∷◌, ◌++◌, length, set, sym, ap, ◌∙◌, subst, ⊎_elim, arith, take, drop}
+use Rattle.std.proofs.Common.{◌≡◌, ℕ, ◌+◌, ◌%◌, ◌<◌, List, [], ◌∷◌, ◌++◌, length, set, sym, refl, ap, ◌∙◌, subst, ⊎_elim, arith, take, drop}
 use Rattle.std.specs.Prelude.{Option, None, Contains}
 use Rattle.std.proofs.lemmas.Option.{none-some}
 use Rattle.atomic_table.specs.Table.{Splits}
@@ -11,7 +11,7 @@ use Rattle.turnstile.proofs.Totals.{total_set, total_snoc, none_in}
 use Rattle.turnstile.proofs.Numbers.{part_times, part_length, taken_numbers, dropped_numbers}
 use Rattle.turnstile.proofs.EntryLists.{foreign_part}
 use Rattle.turnstile.proofs.ViewSteps.{seats, apart_set, apart_snoc}
-use Rattle.turnstile.proofs.RuleFacts.{phase_set, phase_snoc}
+use Rattle.turnstile.proofs.RuleFacts.{phase_set, phase_snoc, reseated}
 
 module _ {K E B : Type 0} (entries : K → List (ℕ × E)) (base : K → B) where
   abbrev V : Type 0
@@ -35,24 +35,12 @@ module _ {K E B : Type 0} (entries : K → List (ℕ × E)) (base : K → B) whe
         olds = λ k p e. absurd (let a = none_in v.old k p e in let b : length v.old ≡ 0 = ap length calm in omega arith);
         old_rests = λ _. free;
       } in
-      record {
-        next = r.next;
-        front = r.front;
-        now = r.now;
-        based = r.based;
-        passes = r.passes;
-        phase = r.phase;
-        words_are = r.words_are;
-        front_fits = r.front_fits;
-        next_is = r.next_is ∙ ap (λ k. (r.front + k) % 18446744073709551616) (sym q);
-        few = r.few;
-        dealt = let a = total_set share s.views id v l at in let b = total_snoc share vs o in let d = r.dealt in let p = part_length ns in omega arith;
-        once = λ m. let f : V → ℕ = λ z. times m z.sight.numbers in let a = total_set f s.views id v l at in let b = total_snoc f vs o in let d = r.once m in let p = part_times m ns in omega arith;
-        numbered = r.numbered;
-        each_seat = λ j u e. subst (λ k. Knows entries base r.now r.based r.passes r.front k r.phase j u) (sym q) (⊎_elim
-            (seats (Knows entries base r.now r.based r.passes r.front (total waits s.views) r.phase) s.views id l (part (drop 1 ns) (dropped_numbers ns) (λ _. live) id) (λ i x _ y. r.each_seat i x y) j u)
-            (λ (same : o ≡ u). subst (Knows entries base r.now r.based r.passes r.front (total waits s.views) r.phase j) same (part (take 1 ns) (taken_numbers ns) (λ _. live) j))
-            (at_snoc vs o u j e));
-        apart = apart_snoc vs o (apart_set s.views id l r.apart (λ j x t other e k same. none-some t (sym free ∙ same))) free;
-        in_phase = phase_snoc entries base s.homes vs r.now r.based r.phase o (phase_set entries base s.homes s.views r.now r.based r.phase id v l at rests r.in_phase);
-      }
+      reseated entries base s r s.words s.homes (vs ++ o ∷ []) r.phase refl q
+      (let a = total_set share s.views id v l at in let b = total_snoc share vs o in let d = r.dealt in let p = part_length ns in omega arith)
+      (λ m. let f : V → ℕ = λ z. times m z.sight.numbers in let a = total_set f s.views id v l at in let b = total_snoc f vs o in let d = r.once m in let p = part_times m ns in omega arith)
+      (λ j u e. ⊎_elim
+      (seats (Knows entries base r.now r.based r.passes r.front (total waits s.views) r.phase) s.views id l (part (drop 1 ns) (dropped_numbers ns) (λ _. live) id) (λ i x _ y. r.each_seat i x y) j u)
+      (λ (same : o ≡ u). subst (Knows entries base r.now r.based r.passes r.front (total waits s.views) r.phase j) same (part (take 1 ns) (taken_numbers ns) (λ _. live) j))
+      (at_snoc vs o u j e))
+      (apart_snoc vs o (apart_set s.views id l r.apart (λ j x t other e k same. none-some t (sym free ∙ same))) free)
+      (phase_snoc entries base s.homes vs r.now r.based r.phase o (phase_set entries base s.homes s.views r.now r.based r.phase id v l at rests r.in_phase))
