@@ -41,14 +41,14 @@ const STEPS: [Step; 4] = [
 ];
 
 /// The mast that gathers a tape, or the one in memory, whose listed calls fail.
-#[derive(Drop)]
+#[derive(Clone, Copy)]
 enum On<'a> {
     Tape,
     Memory(&'a [u64]),
 }
 
 /// A board, how and on which mast it is aired, with room for so many bytes, the answer, and what was sent.
-#[derive(Drop)]
+#[derive(Clone, Copy)]
 struct Case<'a> {
     deck: &'a str,
     steps: &'a [Step],
@@ -58,6 +58,17 @@ struct Case<'a> {
     answer: Result<(), AirFault>,
     sent: &'a [u8],
 }
+
+/// The sparse deck's cycle 2 on a tape, of which policy and bytes are left to say.
+const STEPPED: Case<'static> = Case {
+    deck: SPARSE,
+    steps: &STEPS,
+    policy: Policy::FMatrix,
+    on: On::Tape,
+    room: 296,
+    answer: Ok(()),
+    sent: &[],
+};
 
 /// In what a case went otherwise than told.
 #[derive(Clone, Copy, Debug, PartialEq, Eq)]
@@ -190,59 +201,43 @@ fn a_cycle_airs_each_slot_in_order(rt: HostRuntime) -> Result<(), Fail> {
     Ok(())
 }
 
+/// The slots of the sparse deck's cycle 2, with these entries beside each item's value.
+fn sparse_slots<'a>(zero: &'a [u8], one: &'a [u8], two: &'a [u8]) -> [Slot<'a>; 8] {
+    [
+        Slot::Item(0, 11, zero),
+        Slot::Item(1, 13, one),
+        Slot::Item(0, 11, zero),
+        Slot::Item(2, 12, two),
+        Slot::Item(0, 11, zero),
+        Slot::Idle,
+        Slot::Item(0, 11, zero),
+        Slot::Idle,
+    ]
+}
+
 #[test]
 fn buckets_have_the_value_and_the_column_under_f_matrix(rt: HostRuntime) -> Result<(), Fail> {
-    let alloc = rt.alloc();
-    let (zero, one, two) = ([1, 0, 0], [1, 1, 1], [1, 0, 1]);
-    let slots = [
-        Slot::Item(0, 11, &zero),
-        Slot::Item(1, 13, &one),
-        Slot::Item(0, 11, &zero),
-        Slot::Item(2, 12, &two),
-        Slot::Item(0, 11, &zero),
-        Slot::Idle,
-        Slot::Item(0, 11, &zero),
-        Slot::Idle,
-    ];
-    let tape = cycle_tape(alloc, 1, 3, 2, &slots)?;
+    let slots = sparse_slots(&[1, 0, 0], &[1, 1, 1], &[1, 0, 1]);
+    let tape = cycle_tape(rt.alloc(), 1, 3, 2, &slots)?;
     let case = Case {
-        deck: SPARSE,
-        steps: &STEPS,
         policy: Policy::FMatrix,
-        on: On::Tape,
-        room: 296,
-        answer: Ok(()),
         sent: &tape,
+        ..STEPPED
     };
-    assert_eq!(rt; other_in(&rt, alloc, &case)?, None);
+    assert_eq!(rt; other_in(&rt, rt.alloc(), &case)?, None);
     Ok(())
 }
 
 #[test]
 fn buckets_have_the_value_and_the_vector_under_datacycle(rt: HostRuntime) -> Result<(), Fail> {
-    let alloc = rt.alloc();
-    let vector = [1, 1, 1];
-    let slots = [
-        Slot::Item(0, 11, &vector),
-        Slot::Item(1, 13, &vector),
-        Slot::Item(0, 11, &vector),
-        Slot::Item(2, 12, &vector),
-        Slot::Item(0, 11, &vector),
-        Slot::Idle,
-        Slot::Item(0, 11, &vector),
-        Slot::Idle,
-    ];
-    let tape = cycle_tape(alloc, 2, 3, 2, &slots)?;
+    let slots = sparse_slots(&[1, 1, 1], &[1, 1, 1], &[1, 1, 1]);
+    let tape = cycle_tape(rt.alloc(), 2, 3, 2, &slots)?;
     let case = Case {
-        deck: SPARSE,
-        steps: &STEPS,
         policy: Policy::Datacycle,
-        on: On::Tape,
-        room: 296,
-        answer: Ok(()),
         sent: &tape,
+        ..STEPPED
     };
-    assert_eq!(rt; other_in(&rt, alloc, &case)?, None);
+    assert_eq!(rt; other_in(&rt, rt.alloc(), &case)?, None);
     Ok(())
 }
 
@@ -261,12 +256,10 @@ fn buckets_have_the_value_and_the_vector_under_r_matrix(rt: HostRuntime) -> Resu
     let tape = cycle_tape(alloc, 2, 3, 2, &slots)?;
     let case = Case {
         deck: THREE,
-        steps: &STEPS,
         policy: Policy::RMatrix,
-        on: On::Tape,
         room: 240,
-        answer: Ok(()),
         sent: &tape,
+        ..STEPPED
     };
     assert_eq!(rt; other_in(&rt, alloc, &case)?, None);
     Ok(())
