@@ -4,6 +4,7 @@
 
 ghost use Rattle.std.specs.Prelude.{◌≤◌, length, All, IfOk};
 
+use crate::played::{Played, first_other_case};
 use air_devices::{Ear, Failed, Heard, MemEar};
 use std::alloc::Global;
 use std::test::Fail;
@@ -58,32 +59,25 @@ fn is_told(answer: &Result<Heard, Failed>, buf: &[u8], told: &Told<'_>) -> bool 
     }
 }
 
-/// Plays a case, and tells in what it went otherwise.
-fn other_in(alloc: Global, case: &Case<'_>) -> Result<Option<Other>, Fail> {
-    let heard = copies(alloc, case.heard)?;
-    let mut ear = MemEar::new(heard, Vec::from_slice(alloc, case.fail)?);
-    let tuned = ear.tune_in(4000);
-    if tuned != case.tuned {
-        return Ok(Some(Other::Tuned(tuned)));
-    }
-    for (place, told) in case.hears.iter().enumerate() {
-        let mut buf = [0; 3];
-        let answer = ear.hear(&mut buf);
-        if !is_told(&answer, &buf, told) {
-            return Ok(Some(Other::Heard(place, answer)));
-        }
-    }
-    Ok(None)
-}
+impl Played for Case<'_> {
+    type Other = Other;
 
-/// The place of the first case that goes otherwise than told, and in what.
-fn first_other_case(alloc: Global, cases: &[Case<'_>]) -> Result<Option<(usize, Other)>, Fail> {
-    for (place, case) in cases.iter().enumerate() {
-        if let Some(other) = other_in(alloc, case)? {
-            return Ok(Some((place, other)));
+    fn other_in(&self, alloc: Global) -> Result<Option<Other>, Fail> {
+        let heard = copies(alloc, self.heard)?;
+        let mut ear = MemEar::new(heard, Vec::from_slice(alloc, self.fail)?);
+        let tuned = ear.tune_in(4000);
+        if tuned != self.tuned {
+            return Ok(Some(Other::Tuned(tuned)));
         }
+        for (place, told) in self.hears.iter().enumerate() {
+            let mut buf = [0; 3];
+            let answer = ear.hear(&mut buf);
+            if !is_told(&answer, &buf, told) {
+                return Ok(Some(Other::Heard(place, answer)));
+            }
+        }
+        Ok(None)
     }
-    Ok(None)
 }
 
 #[test]
@@ -124,6 +118,6 @@ fn listed_calls_of_an_ear_fail(rt: HostRuntime) -> Result<(), Fail> {
             Told::End,
         ],
     };
-    assert_eq!(rt; other_in(rt.alloc(), &case)?, None);
+    assert_eq!(rt; case.other_in(rt.alloc())?, None);
     Ok(())
 }

@@ -2,7 +2,8 @@
 //!
 //! `shelves` has the calls of a shelf and their checker; `shelf_tests` plays them on the shelf in memory, `file_tests` and
 //! `room_tests` on the one over files, `failure_tests` also where each call fails (`broken`). `mast_tests` plays calls on
-//! the mast in memory, and adds to a tape, `ear_tests` on the ear; `refusal_tests` prints refusals.
+//! the mast in memory, and adds to a tape, `ear_tests` on the ear; `refusal_tests` prints refusals. `played`
+//! walks over their cases.
 #![tactic(auto)]
 
 #[cfg(test)]
@@ -15,6 +16,8 @@ mod failure_tests;
 mod file_tests;
 #[cfg(test)]
 mod mast_tests;
+#[cfg(test)]
+mod played;
 #[cfg(test)]
 mod refusal_tests;
 #[cfg(test)]

@@ -2,6 +2,7 @@
 //!
 //! A bucket takes its own bytes and four more: two buckets of two bytes and one take eleven.
 
+use crate::played::{Played, first_other_case};
 use air_devices::{Failed, Mast, MemMast, TapeRoom};
 use std::alloc::Global;
 use std::test::Fail;
@@ -56,34 +57,27 @@ fn first_other<M: Mast>(mast: &mut M, calls: &[Call<'_>]) -> Option<Other> {
     None
 }
 
-/// Plays a case, and tells in what it went otherwise.
-fn other_in(alloc: Global, case: &Case<'_>) -> Result<Option<Other>, Fail> {
-    let fail = Vec::from_slice(alloc, case.fail)?;
-    let mut mast = MemMast::new(alloc, case.room, fail)?;
-    if let Some(told) = case.aim {
-        let answer = mast.aim(4000);
-        if answer != told {
-            return Ok(Some(Other::Aim(answer)));
-        }
-    }
-    let other = first_other(&mut mast, case.calls);
-    if other.is_some() {
-        return Ok(other);
-    }
-    if mast.sent() != case.sent {
-        return Ok(Some(Other::Sent));
-    }
-    Ok((mast.ended() != case.ended).then_some(Other::Ended(mast.ended())))
-}
+impl Played for Case<'_> {
+    type Other = Other;
 
-/// The place of the first case that goes otherwise than told, and in what.
-fn first_other_case(alloc: Global, cases: &[Case<'_>]) -> Result<Option<(usize, Other)>, Fail> {
-    for (place, case) in cases.iter().enumerate() {
-        if let Some(other) = other_in(alloc, case)? {
-            return Ok(Some((place, other)));
+    fn other_in(&self, alloc: Global) -> Result<Option<Other>, Fail> {
+        let fail = Vec::from_slice(alloc, self.fail)?;
+        let mut mast = MemMast::new(alloc, self.room, fail)?;
+        if let Some(told) = self.aim {
+            let answer = mast.aim(4000);
+            if answer != told {
+                return Ok(Some(Other::Aim(answer)));
+            }
         }
+        let other = first_other(&mut mast, self.calls);
+        if other.is_some() {
+            return Ok(other);
+        }
+        if mast.sent() != self.sent {
+            return Ok(Some(Other::Sent));
+        }
+        Ok((mast.ended() != self.ended).then_some(Other::Ended(mast.ended())))
     }
-    Ok(None)
 }
 
 #[test]
@@ -134,7 +128,7 @@ fn a_mast_that_was_not_aimed_sends_too(rt: HostRuntime) -> Result<(), Fail> {
         sent: b"\0\0\0\x02ab\0\0\0\x01c",
         ended: true,
     };
-    assert_eq!(rt; other_in(rt.alloc(), &case)?, None);
+    assert_eq!(rt; case.other_in(rt.alloc())?, None);
     Ok(())
 }
 

@@ -2,13 +2,14 @@
 //!
 //! The shelf has the file `deck` of seven bytes, and the outputs `tape` and `report`.
 
+use crate::played::{Played, first_other_case};
 use crate::shelves::{Answer, Call, first_other};
 use air_devices::{Failed, MemShelf, ReadFileError};
 use std::alloc::Global;
 use std::test::Fail;
 
 /// What a shelf in memory is made with, the calls, and what it holds after them.
-#[derive(Drop)]
+#[derive(Clone, Copy)]
 struct Case<'a> {
     room: usize,
     fail: &'a [u64],
@@ -17,6 +18,16 @@ struct Case<'a> {
     report: &'a [u8],
     printed: &'a [u8],
 }
+
+/// No room, no failure and no call; nothing is held.
+const NOTHING: Case<'static> = Case {
+    room: 0,
+    fail: &[],
+    calls: &[],
+    tape: b"",
+    report: b"",
+    printed: b"",
+};
 
 /// In what a case went otherwise than told.
 #[derive(Clone, Copy, Debug, PartialEq, Eq)]
@@ -47,42 +58,33 @@ fn holds(shelf: &MemShelf, name: &str, bytes: &[u8]) -> bool {
     shelf.output(name).is_some_and(|output| output == bytes)
 }
 
-/// Plays a case, and tells in what it went otherwise.
-fn other_in(alloc: Global, case: &Case<'_>) -> Result<Option<Other>, Fail> {
-    let mut shelf = shelf(alloc, case.room, case.fail)?;
-    if let Some((place, answer)) = first_other(alloc, &mut shelf, case.calls) {
-        return Ok(Some(Other::Call(place, answer)));
-    }
-    if !holds(&shelf, "tape", case.tape) {
-        return Ok(Some(Other::Tape));
-    }
-    if !holds(&shelf, "report", case.report) {
-        return Ok(Some(Other::Report));
-    }
-    if shelf.printed() != case.printed {
-        return Ok(Some(Other::Printed));
-    }
-    if shelf.output("deck").is_some() {
-        return Ok(Some(Other::OutputForFile));
-    }
-    Ok(None)
-}
+impl Played for Case<'_> {
+    type Other = Other;
 
-/// The place of the first case that goes otherwise than told, and in what.
-fn first_other_case(alloc: Global, cases: &[Case<'_>]) -> Result<Option<(usize, Other)>, Fail> {
-    for (place, case) in cases.iter().enumerate() {
-        if let Some(other) = other_in(alloc, case)? {
-            return Ok(Some((place, other)));
+    fn other_in(&self, alloc: Global) -> Result<Option<Other>, Fail> {
+        let mut shelf = shelf(alloc, self.room, self.fail)?;
+        if let Some((place, answer)) = first_other(alloc, &mut shelf, self.calls) {
+            return Ok(Some(Other::Call(place, answer)));
         }
+        if !holds(&shelf, "tape", self.tape) {
+            return Ok(Some(Other::Tape));
+        }
+        if !holds(&shelf, "report", self.report) {
+            return Ok(Some(Other::Report));
+        }
+        if shelf.printed() != self.printed {
+            return Ok(Some(Other::Printed));
+        }
+        if shelf.output("deck").is_some() {
+            return Ok(Some(Other::OutputForFile));
+        }
+        Ok(None)
     }
-    Ok(None)
 }
 
 #[test]
 fn a_picked_file_is_read_to_its_end(rt: HostRuntime) -> Result<(), Fail> {
     let case = Case {
-        room: 0,
-        fail: &[],
         calls: &[
             Call::Read("deck", Ok(b"")),
             Call::Pick("deck", Ok(())),
@@ -92,11 +94,9 @@ fn a_picked_file_is_read_to_its_end(rt: HostRuntime) -> Result<(), Fail> {
             Call::Pick("deck", Ok(())),
             Call::Read("deck", Ok(b"item")),
         ],
-        tape: b"",
-        report: b"",
-        printed: b"",
+        ..NOTHING
     };
-    assert_eq!(rt; other_in(rt.alloc(), &case)?, None);
+    assert_eq!(rt; case.other_in(rt.alloc())?, None);
     Ok(())
 }
 
@@ -104,7 +104,6 @@ fn a_picked_file_is_read_to_its_end(rt: HostRuntime) -> Result<(), Fail> {
 fn an_output_has_what_was_appended_and_a_created_one_nothing(rt: HostRuntime) -> Result<(), Fail> {
     let appended = Case {
         room: 10,
-        fail: &[],
         calls: &[
             Call::Append("tape", b"ab", Ok(())),
             Call::Append("tape", b"c", Ok(())),
@@ -112,20 +111,18 @@ fn an_output_has_what_was_appended_and_a_created_one_nothing(rt: HostRuntime) ->
         ],
         tape: b"abc",
         report: b"d",
-        printed: b"",
+        ..NOTHING
     };
     let created = Case {
         room: 10,
-        fail: &[],
         calls: &[
             Call::Append("tape", b"ab", Ok(())),
             Call::Append("tape", b"c", Ok(())),
             Call::Append("report", b"d", Ok(())),
             Call::Create("tape", Ok(())),
         ],
-        tape: b"",
         report: b"d",
-        printed: b"",
+        ..NOTHING
     };
     assert_eq!(rt; first_other_case(rt.alloc(), &[appended, created])?, None);
     Ok(())
@@ -135,15 +132,12 @@ fn an_output_has_what_was_appended_and_a_created_one_nothing(rt: HostRuntime) ->
 fn what_fits_is_written_and_the_rest_fails(rt: HostRuntime) -> Result<(), Fail> {
     let all_fits = Case {
         room: 10,
-        fail: &[],
         calls: &[Call::Print(b"ab", Ok(())), Call::Print(b"c", Ok(()))],
-        tape: b"",
-        report: b"",
         printed: b"abc",
+        ..NOTHING
     };
     let three_fit = Case {
         room: 3,
-        fail: &[],
         calls: &[
             Call::Append("tape", b"ab", Ok(())),
             Call::Append("tape", b"cd", Err(Failed)),
@@ -153,6 +147,7 @@ fn what_fits_is_written_and_the_rest_fails(rt: HostRuntime) -> Result<(), Fail> 
         tape: b"abc",
         report: b"abc",
         printed: b"abc",
+        ..NOTHING
     };
     assert_eq!(rt; first_other_case(rt.alloc(), &[all_fits, three_fit])?, None);
     Ok(())
@@ -175,21 +170,18 @@ fn listed_calls_and_those_of_other_names_fail(rt: HostRuntime) -> Result<(), Fai
             Call::Print(b"e", Err(Failed)),
         ],
         tape: b"c",
-        report: b"",
         printed: b"d",
+        ..NOTHING
     };
     let named_otherwise = Case {
         room: 3,
-        fail: &[],
         calls: &[
             Call::Pick("tape", Err(Failed)),
             Call::Read("tape", Ok(b"")),
             Call::Create("deck", Err(Failed)),
             Call::Append("deck", b"a", Err(Failed)),
         ],
-        tape: b"",
-        report: b"",
-        printed: b"",
+        ..NOTHING
     };
     assert_eq!(rt;
         first_other_case(rt.alloc(), &[listed, named_otherwise])?,
@@ -202,7 +194,6 @@ fn listed_calls_and_those_of_other_names_fail(rt: HostRuntime) -> Result<(), Fai
 fn a_whole_file_is_read_up_to_the_limit(rt: HostRuntime) -> Result<(), Fail> {
     let copied = Case {
         room: 7,
-        fail: &[],
         calls: &[
             Call::ReadWhole("deck", 100, b"item,0\n"),
             Call::Create("tape", Ok(())),
@@ -212,18 +203,16 @@ fn a_whole_file_is_read_up_to_the_limit(rt: HostRuntime) -> Result<(), Fail> {
             Call::Read("deck", Ok(b"item")),
         ],
         tape: b"item,0\n",
-        report: b"",
         printed: b"item,0\n",
+        ..NOTHING
     };
-    assert_eq!(rt; other_in(rt.alloc(), &copied)?, None);
+    assert_eq!(rt; copied.other_in(rt.alloc())?, None);
     Ok(())
 }
 
 #[test]
 fn a_file_past_the_limit_or_torn_is_refused(rt: HostRuntime) -> Result<(), Fail> {
     let limited = Case {
-        room: 0,
-        fail: &[],
         calls: &[
             Call::ReadWhole("deck", 7, b"item,0\n"),
             Call::RefuseWhole("deck", 6, ReadFileError::TooLarge),
@@ -232,17 +221,12 @@ fn a_file_past_the_limit_or_torn_is_refused(rt: HostRuntime) -> Result<(), Fail>
             Call::Read("deck", Ok(b"m,0\n")),
             Call::RefuseWhole("desk", 7, ReadFileError::Failed),
         ],
-        tape: b"",
-        report: b"",
-        printed: b"",
+        ..NOTHING
     };
     let torn = Case {
-        room: 0,
         fail: &[2],
         calls: &[Call::RefuseWhole("deck", 7, ReadFileError::Failed)],
-        tape: b"",
-        report: b"",
-        printed: b"",
+        ..NOTHING
     };
     assert_eq!(rt; first_other_case(rt.alloc(), &[limited, torn])?, None);
     Ok(())
@@ -251,17 +235,14 @@ fn a_file_past_the_limit_or_torn_is_refused(rt: HostRuntime) -> Result<(), Fail>
 #[test]
 fn a_failing_pick_leaves_what_was_left(rt: HostRuntime) -> Result<(), Fail> {
     let case = Case {
-        room: 0,
         fail: &[3],
         calls: &[
             Call::RefuseWhole("deck", 2, ReadFileError::TooLarge),
             Call::Pick("deck", Err(Failed)),
             Call::Read("deck", Ok(b"m,0\n")),
         ],
-        tape: b"",
-        report: b"",
-        printed: b"",
+        ..NOTHING
     };
-    assert_eq!(rt; other_in(rt.alloc(), &case)?, None);
+    assert_eq!(rt; case.other_in(rt.alloc())?, None);
     Ok(())
 }
