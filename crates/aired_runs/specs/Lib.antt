@@ -1,0 +1,3 @@
+pub mod RunTapes
+pub mod RunTruths
+pub mod GivenRuns
