@@ -20,7 +20,8 @@ use listeners::{Sessions, ether_sessions};
 use std::alloc::Global;
 use std::thread::Threads;
 
-/// The sessions of all readers of a deck, each over its own ether of the tape of a history: those that the history judges.
+/// The sessions of all readers of a deck, each over its own ether of the tape of a history: those that the history judges. `run_script`
+/// tells of its tape that it is one (`events`, `tape`).
 pub fn history_sessions<T: Threads + Sync>(
     threads: &T,
     alloc: Global,
