@@ -1,0 +1,3 @@
+pub mod FindingTexts
+pub mod TrueAudits
+pub mod AuditAnswers

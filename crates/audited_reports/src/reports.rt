@@ -1,0 +1,74 @@
+//! The audit of a report's bytes, or the status that refuses them.
+
+ghost use Rattle.std.specs.Prelude.{ℕ, ◌≤◌, List, IfErr, IfOk, length};
+ghost use Rattle.report_reading.specs.declared.limits.TheConstants.{MOST_REPORT_BYTES};
+ghost use Rattle.report_reading.specs.ReportGrammar.{SpellsReport};
+ghost use Rattle.report_reading.specs.ReportLines.{ReportLines};
+ghost use Rattle.audited_reports.specs.AuditAnswers.{HasAudit, UnauditedCause};
+ghost use Rattle.audited_reports.specs.TrueAudits.{IsTrueAudit};
+
+use crate::texts::{differing, findings_text};
+use air_status::Status;
+use item_catalog::Deck;
+use live_replay::{AuditError, agrees_law, audit, few_lines_law, rows_law, true_report_law};
+use report_laws::kept_law;
+use report_reading::{ReadReport, ReportError, read_report};
+use std::alloc::Global;
+
+/// An audit: the text of its findings, and whether some line differs.
+#[derive(Debug, Drop)]
+pub struct Audited {
+    pub text: Vec<u8>,
+    pub differs: bool,
+}
+
+/// The audit of a report of a deck.
+#[tactic(auto, unfolding(crate::specs::AuditAnswers::UnauditedCause))]
+pub fn audit_report(alloc: Global, deck: &Deck, bytes: &[u8]) -> Result<Audited, Status>
+    requires { length bytes.now ≤ MOST_REPORT_BYTES }
+    ensures audit { IfOk result (HasAudit deck.now bytes.now) }
+    ensures refused { IfErr result (UnauditedCause deck.now bytes.now) }
+{
+    match read_report(alloc, deck, bytes) {
+        Ok(report) => audit_read(alloc, deck, bytes, &report),
+        Err(ReportError::Fault { row, kind }) => Err(Status::Report { row, kind }),
+        Err(ReportError::NoMemory) => Err(Status::NoMemory),
+    }
+}
+
+/// The audit of the report that was read of these bytes.
+#[tactic(auto, using(crate::proofs::AuditFacts::too_much), unfolding(crate::specs::AuditAnswers::UnauditedCause))]
+fn audit_read(
+    alloc: Global,
+    deck: &Deck,
+    bytes: &[u8],
+    report: &ReadReport,
+) -> Result<Audited, Status>
+    requires size { length bytes.now ≤ MOST_REPORT_BYTES }
+    requires read { SpellsReport deck.now bytes.now report.now }
+    ensures audit { IfOk result (HasAudit deck.now bytes.now) }
+    ensures refused { IfErr result (UnauditedCause deck.now bytes.now) }
+{
+    kept_law();
+    few_lines_law();
+    audits_are_true(deck);
+    match audit(alloc, deck, report) {
+        Ok(found) => {
+            let text = findings_text(alloc, &found)?;
+            let differs = differing(&found) > 0;
+            Ok(Audited { text, differs })
+        }
+        Err(AuditError::TooMuch { product }) => Err(Status::TooMuch { product }),
+        Err(AuditError::NoMemory) => Err(Status::NoMemory),
+    }
+}
+
+/// Audits are true, by the laws of replays. The calls do nothing.
+fn audits_are_true(deck: &Deck)
+    ensures { (text : List ℕ) (lines : ReportLines) → SpellsReport deck.now text lines → IsTrueAudit deck.now text lines }
+{
+    deck.well_made();
+    agrees_law();
+    rows_law();
+    true_report_law();
+}
