@@ -1,22 +1,22 @@
 -- From what a command gave to what its status says.
-use Rattle.std.proofs.Common.{◌≡◌, ℕ, List, [], Option, Some, None, take, sym, ◌∙◌, subst, inl, inr}
+use Rattle.std.proofs.Common.{◌≡◌, ℕ, false, List, [], Option, Some, None, take, ap, sym, ◌∙◌, subst, inl, inr}
 use Rattle.std.specs.Io.KnownBytes.{Appends, IsAtEnd}
-use Rattle.air_devices.specs.Counts.{Rose}
+use Rattle.air_devices.specs.Counts.{KeepsCounts, Rose}
 use Rattle.air_devices.specs.Told.{AppendsPart, Becomes}
 use Rattle.air_devices.specs.Shelves.{Shelved}
 use Rattle.air_status.specs.declared.status.Status.{Status}
 use Rattle.air_status.specs.declared.status.Status.TheVariants as status
 use Rattle.air_cli.specs.Meanings.{Meaning}
 use Rattle.air_cli.specs.Steps.Making.{IsMade, Reads}
-use Rattle.delivery.specs.Given.{Given}
+use Rattle.delivery.specs.Given.{Given, given_status}
 use Rattle.delivery.specs.Outputs.{OutputHolds, OutputHoldsPart}
-use Rattle.delivery.specs.Deliveries.{KeepsButDelivered, Delivers}
-use Rattle.air_cli.specs.Answers.{QuietAnswers}
+use Rattle.delivery.specs.Deliveries.{KeepsButDelivered, Delivers, IsGiven}
+use Rattle.air_cli.specs.Answers.{IsDone, QuietAnswers}
 use Rattle.delivery.proofs.CountFacts.{kept_twice}
 
 -- What a command with this text alone gives.
 abbrev pub only_text : List ℕ → Given
-only_text text = record { text = text; tape = [] }
+only_text text = record { text = text; tape = []; differs = false }
 
 -- ---- what was delivered since an earlier moment
 
@@ -31,22 +31,31 @@ holds_part_since name bytes before mid now same (inr (n, part)) = inr (n, subst 
 
 -- ---- statuses
 
+-- A command that was made, and whose text and tape all went out.
+is_done : (command : Meaning) (work : Given) (before mid now : Shelved) (s : Status) → s ≡ given_status work.differs → IsMade command before mid work → Reads command before mid
+    → IsGiven command.output work mid now → KeepsCounts mid.faults now.faults → KeepsButDelivered command.output mid.told now.told → IsDone command before now s
+is_done command work before mid now s ends made reads given calm keeps = record {
+  gives = (
+    work,
+    made.gives,
+    ends,
+    record {
+      written = holds_since command.output work.tape before mid now reads.outputs given.written;
+      printed = subst (λ o. Appends o now.told.printed work.text) reads.printed given.printed;
+    },
+  );
+  read = λ name input. subst IsAtEnd (sym (keeps.left name)) (made.read name input);
+  calm = kept_twice before.faults mid.faults now.faults made.calm calm;
+}
+
 -- A command that was made and delivered.
 pub answers_made : (command : Meaning) (work : Given) (before mid now : Shelved) (s : Status) → IsMade command before mid work → Reads command before mid
     → Delivers command.output work mid now s → KeepsButDelivered command.output mid.told now.told → QuietAnswers command before now s
 unfolding QuietAnswers Delivers
-answers_made command work before mid now status.Ok made reads delivers keeps = record {
-  gives = (
-    work,
-    made.gives,
-    record {
-      written = holds_since command.output work.tape before mid now reads.outputs delivers.0.written;
-      printed = subst (λ o. Appends o now.told.printed work.text) reads.printed delivers.0.printed;
-    },
-  );
-  read = λ name input. subst IsAtEnd (sym (keeps.left name)) (made.read name input);
-  calm = kept_twice before.faults mid.faults now.faults made.calm delivers.1;
-}
+answers_made command work before mid now status.Ok made reads delivers keeps =
+    is_done command work before mid now status.Ok (sym (ap given_status delivers.0)) made reads delivers.1 delivers.2 keeps
+answers_made command work before mid now status.Differs made reads delivers keeps =
+    is_done command work before mid now status.Differs (sym (ap given_status delivers.0)) made reads delivers.1 delivers.2 keeps
 answers_made command work before mid now status.WriteFault made reads (inl (fails, printed)) keeps = inl (record {
   name = fails.name;
   named = fails.named;

@@ -21,6 +21,7 @@ unfolding DrillCause
 drill_sound seed size = record {
   still = λ before mid now s rest counts h. h;
   not_done = λ before now h. h;
+  not_different = λ before now h. h;
   not_failed = λ before now h. h;
   input = λ before now h. absurd h;
 }

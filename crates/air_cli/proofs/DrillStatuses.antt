@@ -1,5 +1,5 @@
 -- Which statuses end words that begin with `drill`.
-use Rattle.std.proofs.Common.{ℕ, Bool, true, false, List, [], ◌∷◌, codes, length, Option, Some, None, refl, arith}
+use Rattle.std.proofs.Common.{◌≡◌, ap, ◌∙◌, ℕ, Bool, true, false, List, [], ◌∷◌, codes, length, Option, Some, None, refl, arith}
 use Rattle.std.specs.Prelude.{◌==◌, ◌||◌, ◌&&◌, nat_le, if◌then◌else◌, Contains}
 use Rattle.air_base.specs.Numbers.{number_of}
 use Rattle.air_devices.specs.Shelves.{Shelved}
@@ -9,7 +9,8 @@ use Rattle.air_status.specs.declared.status.Status.TheVariants as status
 use Rattle.item_catalog.specs.declared.deck.drill.TheConstants.{MOST_DRILL_SIZE}
 use Rattle.air_cli.specs.Answers.{QuietAnswers}
 use Rattle.air_cli.specs.Commands.{words_meaning}
-use Rattle.air_cli.specs.Drill.{DrillCause}
+use Rattle.delivery.specs.Given.{Given, given_status}
+use Rattle.air_cli.specs.Drill.{DrillCause, DrillGives}
 use Rattle.air_cli.specs.Meanings.{Meaning, WordsCause}
 use Rattle.air_cli.specs.Words.{AsksDrill, asked_drill, asked_of, asked_of_one}
 
@@ -17,17 +18,19 @@ use Rattle.air_cli.specs.Words.{AsksDrill, asked_drill, asked_of, asked_of_one}
 abbrev IsAmong : Status → Type 0
 IsAmong s = Contains (0 ∷ 1 ∷ 4 ∷ 5 ∷ []) (code_of s)
 
--- No status but these is a refusal's.
-abbrev RefusesFew : Meaning → Type 0
-RefusesFew command = (before now : Shelved) (s : Status) → command.Refuses before now s → IsAmong s
+-- No status but these is a refusal's, and nothing that is given differs.
+record RefusesFew (command : Meaning) : Type 0 where
+  refuses : (before now : Shelved) (s : Status) → command.Refuses before now s → IsAmong s
+  same : (before : Shelved) (given : Given) → command.Gives before given → given.differs ≡ false
 
 ends_among : (command : Meaning) → RefusesFew command → (before now : Shelved) (s : Status) → QuietAnswers command before now s → IsAmong s
 unfolding QuietAnswers
 ends_among command few before now status.Ok h = (0, omega arith, refl)
+ends_among command few before now status.Differs h = absurd (cc (h.gives.2 ∙ ap given_status (few.same before h.gives.0 h.gives.1)))
 ends_among command few before now status.WriteFault h = (2, omega arith, refl)
 ends_among command few before now status.NoMemory h = (3, omega arith, refl)
-ends_among command few before now status.ReadFault h = few before now status.ReadFault h.0
-ends_among command few before now s h = few before now s h.0
+ends_among command few before now status.ReadFault h = few.refuses before now status.ReadFault h.0
+ends_among command few before now s h = few.refuses before now s h.0
 
 words_among : (s : Status) → WordsCause s → IsAmong s
 unfolding WordsCause
@@ -39,9 +42,13 @@ unfolding DrillCause
 drill_among status.NoMemory h = (3, omega arith, refl)
 drill_among s h = absurd h
 
+drill_same : (seed size : ℕ) (given : Given) → DrillGives seed size given → given.differs ≡ false
+unfolding DrillGives
+drill_same seed size given h = ap (λ given. given.differs) h.1
+
 -- Words that ask for nothing, or for a drill.
 none_few : RefusesFew (words_meaning None)
-none_few before now s h = words_among s h
+none_few = record { refuses = λ before now s h. words_among s h; same = λ before given h. absurd h }
 
 drill_few : (seed size : Option ℕ) → RefusesFew (words_meaning (asked_drill seed size))
 drill_few None size = none_few
@@ -49,7 +56,7 @@ drill_few (Some seed) None = none_few
 drill_few (Some seed) (Some size) = by (nat_le 1 size && nat_le size MOST_DRILL_SIZE)
   where
     by : (fits : Bool) → RefusesFew (words_meaning (if fits then Some (AsksDrill seed size) else None))
-    by true = λ before now s h. drill_among s h
+    by true = record { refuses = λ before now s h. drill_among s h; same = λ before given h. drill_same seed size given h }
     by false = none_few
 
 words_few : (words : List (List ℕ)) → RefusesFew (words_meaning (asked_of (codes "drill" ∷ words)))

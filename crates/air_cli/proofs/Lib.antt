@@ -11,6 +11,7 @@ pub mod PlanFacts
 pub mod ScriptFacts
 pub mod TuneFacts
 pub mod DrillFacts
+pub mod AuditFacts
 pub mod DrillStatuses
 pub mod CommandFacts
 pub mod TopFacts

@@ -49,6 +49,7 @@ unfolding PlanCause DeckCause UnreadCause
 plan_sound deck = record {
   still = plan_still deck;
   not_done = λ before now h. h;
+  not_different = λ before now h. h;
   not_failed = λ before now h. h;
   input = λ before now h. record { name = deck; named = refl; rose = h };
 }
@@ -68,8 +69,8 @@ plan_one : (deck : List ℕ) (before other : Shelved) (a b : Given) → TellSame
 unfolding PlanGives
 plan_one deck before other a b same first second =
     let told = same deck refl in
-    let x = deck_told deck before told.0 (λ d. IsShort d × (a ≡ plan_given d)) told.1 first in
-    let y = deck_told deck other told.0 (λ d. IsShort d × (b ≡ plan_given d)) told.2 second in
+    let x = deck_told deck before told.0 (λ d. IsShort d × (a ≡ plan_given d)) told.1 first.1 in
+    let y = deck_told deck other told.0 (λ d. IsShort d × (b ≡ plan_given d)) told.2 second.1 in
     x.1.2.1 ∙ ap plan_given (one_deck told.0 x.1.0 y.1.0 x.1.1 y.1.1) ∙ sym y.1.2.1
 
 pub plan_facts : (deck : List ℕ) → CommandFacts (plan_meaning deck)

@@ -56,12 +56,13 @@ unrunnable_still name before mid now s rest counts h = deck_still name before mi
 
 -- ---- what makes a command's refusals sound
 
--- A cause that was found stays one while a line is printed, neither success nor a failed write is a refusal, and where reading
--- failed, it was that of a named input.
+-- A cause that was found stays one while a line is printed, neither success nor a difference nor a failed write is a refusal,
+-- and where reading failed, it was that of a named input.
 pub record IsSound (command : Meaning) : Type 0 where
   pub still : (before mid now : Shelved) (s : Status) → KeepsButPrinted mid.told now.told → NoCountFalls mid.faults now.faults
       → command.Refuses before mid s → command.Refuses before now s
   pub not_done : (before now : Shelved) → command.Refuses before now status.Ok → ⊥
+  pub not_different : (before now : Shelved) → command.Refuses before now status.Differs → ⊥
   pub not_failed : (before now : Shelved) → command.Refuses before now status.WriteFault → ⊥
   pub input : (before now : Shelved) → command.Refuses before now status.ReadFault → InputFailed command before now
 
@@ -70,6 +71,7 @@ unfolding WordsCause
 no_form_sound = record {
   still = λ before mid now s rest counts h. h;
   not_done = λ before now h. h;
+  not_different = λ before now h. h;
   not_failed = λ before now h. h;
   input = λ before now h. absurd h;
 }
@@ -81,6 +83,7 @@ refusal_says : (command : Meaning) → IsSound command → (before now : Shelved
     → (s ≢ status.ReadFault → IsSteady before now) → QuietAnswers command before now s
 unfolding QuietAnswers
 refusal_says command sound before now status.Ok some h line steady = absurd (sound.not_done before now h)
+refusal_says command sound before now status.Differs some h line steady = absurd (sound.not_different before now h)
 refusal_says command sound before now status.WriteFault some h line steady = absurd (sound.not_failed before now h)
 refusal_says command sound before now status.NoMemory some h line steady = absurd (some refl)
 refusal_says command sound before now status.ReadFault some h line steady = (h, line)

@@ -45,6 +45,7 @@ unfolding ScriptCause UnrunnableCause DeckCause UnreadCause
 script_sound deck tape = record {
   still = script_still deck;
   not_done = λ before now h. h;
+  not_different = λ before now h. h;
   not_failed = λ before now h. h;
   input = λ before now h. record { name = deck; named = refl; rose = h };
 }
@@ -84,8 +85,8 @@ script_one : (deck : List ℕ) (tape : Option (List ℕ)) (before other : Shelve
 unfolding ScriptGives
 script_one deck tape before other a b same first second =
     let told = same deck refl in
-    let x = deck_told deck before told.0 (λ d. IsShort d × (length (script_tape d) ≤ tape_limit) × IsTrueScript d × (a ≡ script_given d)) told.1 first in
-    let y = deck_told deck other told.0 (λ d. IsShort d × (length (script_tape d) ≤ tape_limit) × IsTrueScript d × (b ≡ script_given d)) told.2 second in
+    let x = deck_told deck before told.0 (λ d. IsShort d × (length (script_tape d) ≤ tape_limit) × IsTrueScript d × (a ≡ script_given d)) told.1 first.1 in
+    let y = deck_told deck other told.0 (λ d. IsShort d × (length (script_tape d) ≤ tape_limit) × IsTrueScript d × (b ≡ script_given d)) told.2 second.1 in
     x.1.2.3 ∙ ap script_given (one_deck told.0 x.1.0 y.1.0 x.1.1 y.1.1) ∙ sym y.1.2.3
 
 pub script_facts : (deck : List ℕ) (tape : Option (List ℕ)) → CommandFacts (script_meaning deck tape)

@@ -1,15 +1,15 @@
 -- What the top call answers, by the facts of the command that the words ask for.
-use Rattle.std.proofs.Common.{◌≡◌, ℕ, true, List, Option, Some, None, refl, sym, subst, inl, inr}
+use Rattle.std.proofs.Common.{◌≡◌, ℕ, true, List, Option, Some, None, refl, ap, sym, ◌∙◌, subst, inl, inr}
 use Rattle.air_devices.specs.Shelves.{Shelved}
 use Rattle.air_status.specs.declared.status.Status.{Status}
 use Rattle.air_status.specs.declared.status.Status.TheVariants as status
-use Rattle.delivery.specs.Given.{Given}
+use Rattle.delivery.specs.Given.{Given, given_status}
 use Rattle.delivery.specs.Deliveries.{IsGiven}
 use Rattle.air_cli.specs.Words.{Asked}
 use Rattle.air_cli.specs.Meanings.{Meaning}
 use Rattle.air_cli.specs.Commands.{words_meaning}
 use Rattle.air_cli.specs.ToldInputs.{TellSameInputs}
-use Rattle.air_cli.specs.Answers.{Completes, QuietAnswers}
+use Rattle.air_cli.specs.Answers.{Completes, IsDone, IsSuccess, QuietAnswers}
 use Rattle.air_cli.proofs.InputFacts.{GoesByInputs}
 use Rattle.air_cli.proofs.CommandFacts.{facts_of}
 
@@ -20,7 +20,8 @@ words_inputs (Some asked) = (facts_of asked).inputs
 -- An answer that is no refusal, or one that can't be given.
 completes : (command : Meaning) → GoesByInputs command → (before now : Shelved) (s : Status) → QuietAnswers command before now s → Completes command before now s
 unfolding QuietAnswers
-completes command by before now status.Ok h told suits calm = inl refl
+completes command by before now status.Ok h told suits calm = inl (h.gives.0, h.gives.1, h.gives.2)
+completes command by before now status.Differs h told suits calm = inl (h.gives.0, h.gives.1, h.gives.2)
 completes command by before now status.NoMemory h told suits calm = inr refl
 completes command by before now status.WriteFault (inl failed) told suits calm = absurd (calm.writing failed.name failed.rose)
 completes command by before now status.WriteFault (inr failed) told suits calm = absurd (calm.printing failed.rose)
@@ -29,14 +30,21 @@ completes command by before now s h told suits calm = inr (by.fits before now s 
 pub words_complete : (asked : Option Asked) (before now : Shelved) (s : Status) → QuietAnswers (words_meaning asked) before now s → Completes (words_meaning asked) before now s
 words_complete asked = completes (words_meaning asked) (words_inputs asked)
 
--- Two calls with status 0 gave one text and tape.
-pub one_given : (asked : Option Asked) (before now before2 now2 : Shelved) → (words_meaning asked).decided ≡ true → TellSameInputs (words_meaning asked) before before2
-    → QuietAnswers (words_meaning asked) before now status.Ok → QuietAnswers (words_meaning asked) before2 now2 status.Ok
-    → (given : Given) × IsGiven (words_meaning asked).output given before now × IsGiven (words_meaning asked).output given before2 now2
+-- What a call that succeeded says, with either status.
+done : (command : Meaning) (before now : Shelved) (s : Status) → IsSuccess s → QuietAnswers command before now s → IsDone command before now s
 unfolding QuietAnswers
-one_given asked before now before2 now2 decided same first second =
+done command before now s (inl good) h = subst (λ s. QuietAnswers command before now s → IsDone command before now s) (sym good) (λ h. h) h
+done command before now s (inr good) h = subst (λ s. QuietAnswers command before now s → IsDone command before now s) (sym good) (λ h. h) h
+
+-- Two calls that succeeded gave one text and tape, with one status.
+pub one_given : (asked : Option Asked) (before now before2 now2 : Shelved) (s s2 : Status) → (words_meaning asked).decided ≡ true → TellSameInputs (words_meaning asked) before before2
+    → IsSuccess s → IsSuccess s2 → QuietAnswers (words_meaning asked) before now s → QuietAnswers (words_meaning asked) before2 now2 s2
+    → (s ≡ s2) × ((given : Given) × IsGiven (words_meaning asked).output given before now × IsGiven (words_meaning asked).output given before2 now2)
+one_given asked before now before2 now2 s s2 decided same good good2 first second =
     let command = words_meaning asked in
-    let a = first.gives in
-    let b = second.gives in
-    let e : a.0 ≡ b.0 = (words_inputs asked).one decided before before2 a.0 b.0 same a.1 b.1 in
-    (a.0, a.2, subst (λ given. IsGiven command.output given before2 now2) (sym e) b.2)
+    let a = (done command before now s good first).gives in
+    let b = (done command before2 now2 s2 good2 second).gives in
+    let e : a.0 ≡ b.0 = (words_inputs asked).one decided before before2 a.0 b.0 same a.1 b.1 in (
+      a.2 ∙ ap (λ given. given_status given.differs) e ∙ sym b.2,
+      (a.0, a.3, subst (λ given. IsGiven command.output given before2 now2) (sym e) b.3),
+    )

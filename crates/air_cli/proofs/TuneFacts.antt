@@ -69,6 +69,11 @@ unfolding TuneCause UnrunnableCause DeckCause UnreadCause
 tune_not_done deck tape before now (inl h) = h
 tune_not_done deck tape before now (inr h) = h.1
 
+tune_not_different : (deck tape : List ℕ) (before now : Shelved) → TuneCause deck tape before now status.Differs → ⊥
+unfolding TuneCause UnrunnableCause DeckCause UnreadCause
+tune_not_different deck tape before now (inl h) = h
+tune_not_different deck tape before now (inr h) = h.1
+
 tune_not_failed : (deck tape : List ℕ) (before now : Shelved) → TuneCause deck tape before now status.WriteFault → ⊥
 unfolding TuneCause UnrunnableCause DeckCause UnreadCause
 tune_not_failed deck tape before now (inl h) = h
@@ -78,6 +83,7 @@ tune_sound : (deck tape : List ℕ) → IsSound (tune_meaning deck tape)
 tune_sound deck tape = record {
   still = tune_still deck tape;
   not_done = tune_not_done deck tape;
+  not_different = tune_not_different deck tape;
   not_failed = tune_not_failed deck tape;
   input = tune_input deck tape;
 }
@@ -104,8 +110,8 @@ tune_one : (deck tape : List ℕ) (before other : Shelved) (a b : Given) → Tel
 unfolding TuneGives
 tune_one deck tape before other a b same first second =
     let told = same deck (inl refl) in
-    let x = deck_told deck before told.0 (λ d. IsShort d × OfTape tape before (λ records. IsTrueTape d records × (a ≡ tune_given d records))) told.1 first in
-    let y = deck_told deck other told.0 (λ d. IsShort d × OfTape tape other (λ records. IsTrueTape d records × (b ≡ tune_given d records))) told.2 second in
+    let x = deck_told deck before told.0 (λ d. IsShort d × OfTape tape before (λ records. IsTrueTape d records × (a ≡ tune_given d records))) told.1 first.1 in
+    let y = deck_told deck other told.0 (λ d. IsShort d × OfTape tape other (λ records. IsTrueTape d records × (b ≡ tune_given d records))) told.2 second.1 in
     let heard = same tape (inr refl) in
     let v = of_told (before.told.file tape) heard.0
     (λ bytes. (length bytes ≤ tape_limit) × ((tape_read bytes).cut ≡ None) × (IsTrueTape x.1.0 (tape_read bytes).records × (a ≡ tune_given x.1.0 (tape_read bytes).records))) heard.1 x.1.2.1 in

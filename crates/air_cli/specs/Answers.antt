@@ -11,15 +11,16 @@ use Rattle.air_status.specs.declared.status.Status.{Status}
 use Rattle.air_status.specs.declared.status.Status.TheVariants as status
 use Rattle.air_cli.specs.Meanings.{Meaning}
 use Rattle.air_cli.specs.ToldInputs.{TellsInputs}
-use Rattle.delivery.specs.Given.{Given}
+use Rattle.delivery.specs.Given.{Given, given_status}
 use Rattle.delivery.specs.Deliveries.{IsGiven, IsGivenInPart}
 use Rattle.air_cli.specs.Untouched.{IsRefusal, IsUntouched}
 use Rattle.delivery.specs.Refusals.{IsSteady}
 use Rattle.delivery.specs.Outputs.{OutputHoldsPart}
 
--- The command succeeded: what it gives was written and printed, its inputs were read to their ends, and no call failed.
-pub record IsDone (command : Meaning) (before now : Shelved) : Type 0 where
-  pub gives : (given : Given) × command.Gives before given × IsGiven command.output given before now
+-- The command succeeded: what it gives was written and printed, and this is its status; its inputs were read to their ends,
+-- and no call failed.
+pub record IsDone (command : Meaning) (before now : Shelved) (s : Status) : Type 0 where
+  pub gives : (given : Given) × command.Gives before given × (s ≡ given_status given.differs) × IsGiven command.output given before now
   pub read : (name : List ℕ) → command.IsInput name → IsAtEnd (now.told.left name)
   pub calm : KeepsCounts before.faults now.faults
 
@@ -47,14 +48,20 @@ pub record IsWanting (command : Meaning) (before now : Shelved) : Type 0 where
   pub untouched : IsUntouched before now
   pub counts : KeepsCounts before.faults now.faults ⊎ InputFailed command before now
 
--- What each status says. A refusal has its cause and printed its line alone; with another status than that of a failed
--- read, every count is as it was, or that of prints rose.
+-- What each status says. Where a command succeeded, its status tells whether something differs by what it gave. A refusal has
+-- its cause and printed its line alone; with another status than that of a failed read, every count is as it was, or that of
+-- prints rose.
 unfoldable pub QuietAnswers : Meaning → Shelved → Shelved → Status → Type 0
-QuietAnswers command before now status.Ok = IsDone command before now
+QuietAnswers command before now status.Ok = IsDone command before now status.Ok
+QuietAnswers command before now status.Differs = IsDone command before now status.Differs
 QuietAnswers command before now status.WriteFault = OutputFailed command before now ⊎ PrintFailed command before now
 QuietAnswers command before now status.NoMemory = IsWanting command before now
 QuietAnswers command before now status.ReadFault = command.Refuses before now status.ReadFault × IsRefusal status.ReadFault before now
 QuietAnswers command before now s = command.Refuses before now s × IsRefusal s before now × IsSteady before now
+
+-- A status with which a command succeeds: nothing that it gave differs, or something does.
+abbrev pub IsSuccess : Status → Type 0
+IsSuccess s = (s ≡ status.Ok) ⊎ (s ≡ status.Differs)
 
 -- No count of faults rose.
 pub record NoCountRose (before now : Faults) : Type 0 where
@@ -62,10 +69,14 @@ pub record NoCountRose (before now : Faults) : Type 0 where
   pub writing : (name : List ℕ) → Rose (before.writing name) (now.writing name) → ⊥
   pub printing : Rose before.printing now.printing → ⊥
 
+-- The command ends with the status of what it gives.
+abbrev pub Succeeds : Meaning → Shelved → Status → Type 0
+Succeeds command before s = (given : Given) × command.Gives before given × (s ≡ given_status given.differs)
+
 -- Where each named input is told, they suit the command, and no count of faults rose, it succeeded or memory ran out.
 abbrev pub Completes : Meaning → Shelved → Shelved → Status → Type 0
 Completes command before now s =
-    TellsInputs command before → command.Suits before → NoCountRose before.faults now.faults → (s ≡ status.Ok) ⊎ (s ≡ status.NoMemory)
+    TellsInputs command before → command.Suits before → NoCountRose before.faults now.faults → Succeeds command before s ⊎ (s ≡ status.NoMemory)
 
 -- Whatever the status: all files are as they were, all that is left of those that are no named input, and all outputs but
 -- the named one; no count of faults falls.

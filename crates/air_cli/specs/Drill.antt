@@ -1,5 +1,5 @@
 -- The command `drill SEED SIZE`.
-use Rattle.std.specs.Prelude.{◌≡◌, ℕ, true, [], None, ⊤}
+use Rattle.std.specs.Prelude.{◌≡◌, ℕ, true, false, [], None, ⊤}
 use Rattle.air_model.specs.Drills.{drill_deck}
 use Rattle.air_status.specs.declared.status.Status.{Status}
 use Rattle.air_status.specs.declared.status.Status.TheVariants as status
@@ -15,7 +15,7 @@ DrillCause other = ⊥
 
 -- The line of the drill, and no tape.
 abbrev pub drill_given : ℕ → ℕ → Given
-drill_given seed size = record { text = drill_output seed size; tape = [] }
+drill_given seed size = record { text = drill_output seed size; tape = []; differs = false }
 
 -- What it gives: the sessions that the line counts are true, and this is the line.
 unfoldable pub DrillGives : ℕ → ℕ → Given → Type 0

@@ -7,6 +7,7 @@ pub mod Plan
 pub mod Script
 pub mod Tune
 pub mod Drill
+pub mod Audit
 pub mod Untouched
 pub mod Truths
 pub mod Steps

@@ -1,5 +1,5 @@
 -- The command `plan DECK`.
-use Rattle.std.specs.Prelude.{◌≡◌, ℕ, true, List, [], None}
+use Rattle.std.specs.Prelude.{◌≡◌, ℕ, true, false, List, [], None}
 use Rattle.chunk_program.specs.Plans.{IsTooLong}
 use Rattle.air_devices.specs.Shelves.{Shelved}
 use Rattle.air_model.specs.Decks.{Deck, disks_in}
@@ -18,11 +18,11 @@ PlanCause deck before now s = DeckCause deck before now s
 
 -- The text of the deck's plan, and no tape.
 abbrev pub plan_given : Deck → Given
-plan_given d = record { text = plan_output d; tape = [] }
+plan_given d = record { text = plan_output d; tape = []; differs = false }
 
--- What it gives: its deck's program is short enough, and this is the plan.
+-- What it gives: its deck's program is short enough, and this is the plan. Nothing in it differs.
 unfoldable pub PlanGives : List ℕ → Shelved → Given → Type 0
-PlanGives deck before given = OfDeck deck before (λ d. IsShort d × (given ≡ plan_given d))
+PlanGives deck before given = (given.differs ≡ false) × OfDeck deck before (λ d. IsShort d × (given ≡ plan_given d))
 
 -- It reads its deck, whose program must be short enough, and writes no output; the deck decides the plan.
 abbrev pub plan_meaning : List ℕ → Meaning

@@ -1,5 +1,5 @@
 -- The commands `script DECK` and `script DECK TAPE`.
-use Rattle.std.specs.Prelude.{◌≡◌, ◌≤◌, ◌<◌, ℕ, true, List, length, Option}
+use Rattle.std.specs.Prelude.{◌≡◌, ◌≤◌, ◌<◌, ℕ, true, false, List, length, Option}
 use Rattle.air_devices.specs.Shelves.{Shelved}
 use Rattle.air_model.specs.Decks.{Deck}
 use Rattle.air_model.specs.Outputs.{script_output, script_tape}
@@ -25,12 +25,13 @@ ScriptCause deck before now s = UnrunnableCause deck before now s
 
 -- The report of the deck's script, and its tape.
 abbrev pub script_given : Deck → Given
-script_given d = record { text = script_output d; tape = script_tape d }
+script_given d = record { text = script_output d; tape = script_tape d; differs = false }
 
--- What it gives: its deck can be run, the tape is short enough, the sessions in the report are true, and this is report and tape.
+-- What it gives: its deck can be run, the tape is short enough, the sessions in the report are true, and this is report and tape. Nothing in it
+-- differs.
 unfoldable pub ScriptGives : List ℕ → Shelved → Given → Type 0
 ScriptGives deck before given =
-    OfDeck deck before (λ d. IsShort d × (length (script_tape d) ≤ tape_limit) × IsTrueScript d × (given ≡ script_given d))
+    (given.differs ≡ false) × OfDeck deck before (λ d. IsShort d × (length (script_tape d) ≤ tape_limit) × IsTrueScript d × (given ≡ script_given d))
 
 -- It reads its deck, which must be one that can be run and have a tape that is short enough, and writes the tape where one is
 -- named; the deck decides report and tape.

@@ -1,5 +1,5 @@
 -- The command `tune DECK TAPE`.
-use Rattle.std.specs.Prelude.{◌≡◌, ◌⊎◌, ◌≤◌, ℕ, true, List, [], length, Some, None, ⊤}
+use Rattle.std.specs.Prelude.{◌≡◌, ◌⊎◌, ◌≤◌, ℕ, true, false, List, [], length, Some, None, ⊤}
 use Rattle.air_devices.specs.Told.{WhereTold}
 use Rattle.air_devices.specs.Shelves.{Shelved}
 use Rattle.air_model.specs.Decks.{Deck}
@@ -30,12 +30,13 @@ OfTape name before P = WhereTold (before.told.file name) (λ bytes. (length byte
 
 -- The report of the deck's readers over these records, and no tape.
 abbrev pub tune_given : Deck → List (List ℕ) → Given
-tune_given d records = record { text = tune_output d records; tape = [] }
+tune_given d records = record { text = tune_output d records; tape = []; differs = false }
 
--- What it gives: its deck can be run, its tape is whole, the sessions in the report are true, and this is the report.
+-- What it gives: its deck can be run, its tape is whole, the sessions in the report are true, and this is the report. Nothing in it
+-- differs.
 unfoldable pub TuneGives : List ℕ → List ℕ → Shelved → Given → Type 0
 TuneGives deck tape before given =
-    OfDeck deck before (λ d. IsShort d × OfTape tape before (λ records. IsTrueTape d records × (given ≡ tune_given d records)))
+    (given.differs ≡ false) × OfDeck deck before (λ d. IsShort d × OfTape tape before (λ records. IsTrueTape d records × (given ≡ tune_given d records)))
 
 -- It reads its deck, which must be one that can be run, and the tape, which must be whole, and writes no output; the two decide
 -- the report.

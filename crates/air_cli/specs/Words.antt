@@ -6,12 +6,13 @@ use Rattle.air_base.specs.Numbers.{number_of}
 use Rattle.item_catalog.specs.declared.deck.drill.TheConstants.{MOST_DRILL_SIZE}
 
 -- What is asked for: to plan a deck; to run a deck's script, and to write its tape where one is named; to let a deck's
--- readers hear a tape; to run the drill of a seed and a size.
+-- readers hear a tape; to run the drill of a seed and a size; to audit a report by a deck.
 pub data Asked : Type 0 where
   AsksPlan : List ℕ → Asked
   AsksScript : List ℕ → Option (List ℕ) → Asked
   AsksTune : List ℕ → List ℕ → Asked
   AsksDrill : ℕ → ℕ → Asked
+  AsksAudit : List ℕ → List ℕ → Asked
 
 -- The size of a drill that is asked for is one that a drill may have.
 abbrev pub HasSize : Asked → Type 0
@@ -36,6 +37,7 @@ asked_of_two name first second =
     if pointwise nat_eq name (codes "script") then Some (AsksScript first (Some second))
     else if pointwise nat_eq name (codes "tune") then Some (AsksTune first second)
     else if pointwise nat_eq name (codes "drill") then asked_drill (number_of first) (number_of second)
+    else if pointwise nat_eq name (codes "audit") then Some (AsksAudit first second)
     else None
 
 -- What the words ask for; None where they are of no form.

@@ -26,5 +26,9 @@ pub(crate) fn drill<T: Threads + Sync>(
 {
     drill_is_true(seed, size);
     let text = run_drill(threads, alloc, seed, size)?;
-    Ok(Given { text, tape: None })
+    Ok(Given {
+        text,
+        tape: None,
+        differs: false,
+    })
 }

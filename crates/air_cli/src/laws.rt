@@ -4,24 +4,24 @@ ghost use Rattle.std.specs.Prelude.{◌≡◌, ℕ, true, List, [], ◌∷◌, c
 ghost use Rattle.air_devices.specs.Shelves.{Shelved};
 ghost use Rattle.air_status.specs.Statuses.{code_of};
 ghost use Rattle.air_status.specs.declared.status.Status.{Status};
-ghost use Rattle.air_status.specs.declared.status.Status.TheVariants as status;
 ghost use Rattle.delivery.specs.Deliveries.{IsGiven};
 ghost use Rattle.delivery.specs.Given.{Given};
 ghost use Rattle.air_cli.specs.Words.{asked_of};
 ghost use Rattle.air_cli.specs.Commands.{words_meaning};
 ghost use Rattle.air_cli.specs.ToldInputs.{TellSameInputs};
-ghost use Rattle.air_cli.specs.Answers.{QuietAnswers};
+ghost use Rattle.air_cli.specs.Answers.{IsSuccess, QuietAnswers};
 
 /// Two calls of a command that its inputs decide, on the same words and over shelves that tell the same inputs, print one
-/// text and write one tape where both end with status 0.
+/// text and write one tape where both succeed, and end with one status.
 pub fn one_output_law()
-    ensures { (words : List (List ℕ)) (before now other_before other_now : Shelved) →
+    ensures { (words : List (List ℕ)) (before now other_before other_now : Shelved) (s other : Status) →
         (words_meaning (asked_of words)).decided ≡ true →
         TellSameInputs (words_meaning (asked_of words)) before other_before →
-        QuietAnswers (words_meaning (asked_of words)) before now status.Ok →
-        QuietAnswers (words_meaning (asked_of words)) other_before other_now status.Ok →
-        (given : Given) × IsGiven (words_meaning (asked_of words)).output given before now
-        × IsGiven (words_meaning (asked_of words)).output given other_before other_now }
+        IsSuccess s → IsSuccess other →
+        QuietAnswers (words_meaning (asked_of words)) before now s →
+        QuietAnswers (words_meaning (asked_of words)) other_before other_now other →
+        (s ≡ other) × ((given : Given) × IsGiven (words_meaning (asked_of words)).output given before now
+        × IsGiven (words_meaning (asked_of words)).output given other_before other_now) }
 {}
 
 /// Words that begin with `drill` end with status 0, 1, 4 or 5: no file is read for them, and no deck is refused.

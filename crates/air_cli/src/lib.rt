@@ -3,6 +3,7 @@
 //! `air_quiet` is the top call.
 #![tactic(auto)]
 
+mod audit;
 mod drill;
 pub mod laws;
 mod plan;

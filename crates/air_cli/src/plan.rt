@@ -22,5 +22,9 @@ pub(crate) fn plan<S: Shelf>(alloc: Global, shelf: &mut S, name: &str) -> Result
     let deck = read_deck_file(alloc, shelf, name)?;
     let (cut, program) = plan_deck(alloc, &deck)?;
     let text = plan_text(alloc, &deck, &cut, &program)?;
-    Ok(Given { text, tape: None })
+    Ok(Given {
+        text,
+        tape: None,
+        differs: false,
+    })
 }

@@ -9,6 +9,7 @@ ghost use Rattle.air_cli.specs.Commands.{asked_by, meaning_of, words_meaning};
 ghost use Rattle.air_cli.specs.Steps.Making.{IsMade, IsUnmade, Reads};
 ghost use Rattle.air_cli.specs.Answers.{Completes, Leaves, QuietAnswers};
 
+use crate::audit::audit;
 use crate::drill::drill;
 use crate::plan::plan;
 use crate::script::script;
@@ -20,7 +21,8 @@ use delivery::{Given, deliver, refuse};
 use std::alloc::Global;
 use std::thread::Threads;
 
-/// Runs what the words ask for: `plan DECK`, `script DECK`, `script DECK TAPE`, `tune DECK TAPE` or `drill SEED SIZE`.
+/// Runs what the words ask for: `plan DECK`, `script DECK`, `script DECK TAPE`, `tune DECK TAPE`, `drill SEED SIZE`
+/// or `audit DECK REPORT`.
 pub fn air_quiet<T: Threads + Sync, S: Shelf>(
     threads: &T,
     alloc: Global,
@@ -75,5 +77,6 @@ fn make<T: Threads + Sync, S: Shelf>(
         Command::Script { deck, .. } => script(threads, alloc, shelf, deck),
         Command::Tune { deck, tape } => tune(alloc, shelf, deck, tape),
         Command::Drill { seed, size } => drill(threads, alloc, *seed, *size),
+        Command::Audit { deck, report } => audit(alloc, shelf, deck, report),
     }
 }

@@ -41,6 +41,7 @@ pub(crate) fn script<T: Threads + Sync, S: Shelf>(
     Ok(Given {
         text: scripted.report,
         tape: Some(scripted.tape),
+        differs: false,
     })
 }
 

@@ -34,7 +34,11 @@ pub(crate) fn tune<S: Shelf>(
         Some(at) => Err(Status::TapeCut { at }),
         None => {
             let text = tune_report(alloc, &deck, &program, bytes)?;
-            Ok(Given { text, tape: None })
+            Ok(Given {
+                text,
+                tape: None,
+                differs: false,
+            })
         }
     }
 }

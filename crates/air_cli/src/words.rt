@@ -15,6 +15,7 @@ pub const HELP: &str = "airdisk: data on air, proved
   airdisk script DECK TAPE    the same, and write what was aired to a tape
   airdisk tune DECK TAPE      let the readers of a deck hear a tape, and print their report
   airdisk drill SEED SIZE     make a deck of size 1 to 100, run its script, and print what came of it
+  airdisk audit DECK REPORT   replay a report by its own history, and print which of its lines agree
   airdisk --help, -h          print this text
   airdisk --version           print the version
 
@@ -43,6 +44,11 @@ pub enum Command<'a> {
         seed: u64,
         size: u32,
     },
+    /// To audit a report by a deck.
+    Audit {
+        deck: &'a str,
+        report: &'a str,
+    },
 }
 
 impl<'a> Command<'a> {
@@ -52,7 +58,10 @@ impl<'a> Command<'a> {
     {
         match self {
             Command::Script { tape, .. } => *tape,
-            Command::Plan { .. } | Command::Tune { .. } | Command::Drill { .. } => None,
+            Command::Plan { .. }
+            | Command::Tune { .. }
+            | Command::Drill { .. }
+            | Command::Audit { .. } => None,
         }
     }
 }
@@ -102,6 +111,11 @@ fn command_of_two<'a>(name: &str, first: &'a str, second: &'a str) -> Option<Com
         })
     } else if name == "drill" {
         drill_of(read_u64(first.as_bytes()), read_u64(second.as_bytes()))
+    } else if name == "audit" {
+        Some(Command::Audit {
+            deck: first,
+            report: second,
+        })
     } else {
         None
     }

@@ -1,14 +1,15 @@
 -- From what a call wrote, and what it then printed, to what was delivered.
-use Rattle.std.proofs.Common.{◌≡◌, ℕ, ◌≤◌, List, Option, Some, None, sym, subst, inl, inr}
+use Rattle.std.proofs.Common.{◌≡◌, ℕ, ◌≤◌, Bool, true, false, List, Option, Some, None, refl, sym, subst, inl, inr}
 use Rattle.std.specs.Prelude.{Result, Ok, Err, OnErr, OnOk}
 use Rattle.std.specs.Io.KnownBytes.{Appends}
 use Rattle.air_devices.specs.Counts.{KeepsCounts, Rose}
 use Rattle.air_devices.specs.Shelves.{Shelved}
 use Rattle.air_devices.specs.Told.{AppendsPart, Becomes}
+use Rattle.air_status.specs.declared.status.Status.{Status}
 use Rattle.air_status.specs.declared.status.Status.TheVariants as status
-use Rattle.delivery.specs.Given.{Given}
+use Rattle.delivery.specs.Given.{Given, given_status}
 use Rattle.delivery.specs.Outputs.{OutputFails, OutputHolds}
-use Rattle.delivery.specs.Deliveries.{Delivers}
+use Rattle.delivery.specs.Deliveries.{Delivers, IsGiven}
 use Rattle.delivery.specs.Refusals.{IsSteady}
 use Rattle.delivery.proofs.CountFacts.{kept_twice, rose_since}
 
@@ -18,17 +19,24 @@ holds_still None bytes before mid now same h = tt
 holds_still (Some name) bytes before mid now same h = subst (λ o. Becomes (before.told.output name) o bytes) (sym (same name)) h
 
 -- The tape was written, then the text was printed.
-pub delivers_all : (output : Option (List ℕ)) (given : Given) (tape text : List ℕ) (before mid now : Shelved) → tape ≡ given.tape → text ≡ given.text
+pub delivers_all : (output : Option (List ℕ)) (given : Given) (tape text : List ℕ) (before mid now : Shelved) (s : Status) → tape ≡ given.tape → text ≡ given.text → s ≡ given_status given.differs
     → OutputHolds output tape before mid → KeepsCounts before.faults mid.faults → mid.told.printed ≡ before.told.printed
-    → ((name : List ℕ) → now.told.output name ≡ mid.told.output name) → Appends mid.told.printed now.told.printed text → KeepsCounts mid.faults now.faults → Delivers output given before now status.Ok
+    → ((name : List ℕ) → now.told.output name ≡ mid.told.output name) → Appends mid.told.printed now.told.printed text → KeepsCounts mid.faults now.faults → Delivers output given before now s
 unfolding Delivers
-delivers_all output given tape text before mid now is_tape is_text holds calm same kept printed later = (
-  record {
-    written = subst (λ bytes. OutputHolds output bytes before now) is_tape (holds_still output tape before mid now kept holds);
-    printed = subst (λ o. Appends o now.told.printed given.text) same (subst (Appends mid.told.printed now.told.printed) is_text printed);
-  },
-  kept_twice before.faults mid.faults now.faults calm later,
-)
+delivers_all output given tape text before mid now s is_tape is_text is_status holds calm same kept printed later = subst (Delivers output given before now) (sym is_status) (by given.differs refl)
+  where
+    all : IsGiven output given before now
+    all = record {
+      written = subst (λ bytes. OutputHolds output bytes before now) is_tape (holds_still output tape before mid now kept holds);
+      printed = subst (λ o. Appends o now.told.printed given.text) same (subst (Appends mid.told.printed now.told.printed) is_text printed);
+    }
+
+    steady : KeepsCounts before.faults now.faults
+    steady = kept_twice before.faults mid.faults now.faults calm later
+
+    by : (differs : Bool) → given.differs ≡ differs → Delivers output given before now (given_status differs)
+    by false e = (e, all, steady)
+    by true e = (e, all, steady)
 
 -- The tape was written, then the print failed.
 pub delivers_part : (output : Option (List ℕ)) (given : Given) (tape text : List ℕ) (before mid now : Shelved) → tape ≡ given.tape → text ≡ given.text

@@ -1,5 +1,5 @@
 -- What of a command's text and tape went out, for each status that a delivery answers.
-use Rattle.std.specs.Prelude.{◌≡◌, ◌≢◌, ◌⊎◌, ℕ, List, Option, Some}
+use Rattle.std.specs.Prelude.{◌≡◌, ◌≢◌, ◌⊎◌, ℕ, true, false, List, Option, Some}
 use Rattle.std.specs.Io.KnownBytes.{Appends}
 use Rattle.air_devices.specs.Contents.{Contents}
 use Rattle.air_devices.specs.Counts.{KeepsCounts, Rose}
@@ -20,9 +20,11 @@ pub record IsGivenInPart (output : Option (List ℕ)) (given : Given) (before no
   pub written : OutputHolds output given.tape before now
   pub printed : AppendsPart before.told.printed now.told.printed given.text
 
--- All was given; or the output failed, and nothing was printed; or the print failed.
+-- All was given, and the status tells whether the text says that something differs; or the output failed, and nothing was
+-- printed; or the print failed.
 unfoldable pub Delivers : Option (List ℕ) → Given → Shelved → Shelved → Status → Type 0
-Delivers output given before now status.Ok = IsGiven output given before now × KeepsCounts before.faults now.faults
+Delivers output given before now status.Ok = (given.differs ≡ false) × IsGiven output given before now × KeepsCounts before.faults now.faults
+Delivers output given before now status.Differs = (given.differs ≡ true) × IsGiven output given before now × KeepsCounts before.faults now.faults
 Delivers output given before now status.WriteFault =
     (OutputFails output given.tape before now × (now.told.printed ≡ before.told.printed))
     ⊎ (Rose before.faults.printing now.faults.printing × IsGivenInPart output given before now)

@@ -1,15 +1,19 @@
 //! What a command gives, before it is printed and written.
 
 ghost use Rattle.std.specs.Prelude.{◌≡◌};
+ghost use Rattle.delivery.specs.Given.{given_status};
 
 use air_sender::TapeMast;
+use air_status::Status;
 use std::marker::Model;
 
-/// The text that a command prints, and the tape that it writes where the words name an output.
+/// The text that a command prints, the tape that it writes where the words name an output, and whether the text says that
+/// something differs.
 #[derive(Drop)]
 pub struct Given {
     pub text: Vec<u8>,
     pub tape: Option<TapeMast>,
+    pub differs: bool,
 }
 
 impl Model for Given {
@@ -18,7 +22,7 @@ impl Model for Given {
 
     ghost Value = { Given };
 
-    ghost view = { λ g. record { text = g.text.items; tape = tape_sent g.tape } };
+    ghost view = { λ g. record { text = g.text.items; tape = tape_sent g.tape; differs = g.differs } };
 }
 
 impl Given {
@@ -36,6 +40,17 @@ impl Given {
         match &self.tape {
             Some(mast) => mast.tape(),
             None => &[],
+        }
+    }
+
+    /// The status with which the command ends where all of it is given.
+    pub fn status(&self) -> Status
+        ensures { result ≡ given_status self.now.differs }
+    {
+        if self.differs {
+            Status::Differs
+        } else {
+            Status::Ok
         }
     }
 }

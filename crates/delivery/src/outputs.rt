@@ -11,7 +11,8 @@ use crate::given::Given;
 use air_devices::{Failed, Shelf};
 use air_status::Status;
 
-/// Writes the tape to the output of this name, if one is named, and then prints the text.
+/// Writes the tape to the output of this name, if one is named, and then prints the text. Where both went out, the status tells
+/// whether the text says that something differs.
 pub fn deliver<S: Shelf>(shelf: &mut S, output: Option<&str>, given: &Given) -> Status
     ensures gives { Delivers (option_map (λ name. name.now) output.entry) given.now (S.state shelf.old) (S.state shelf.new) result }
     ensures rest { KeepsButDelivered (option_map (λ name. name.now) output.entry) (S.state shelf.old).told (S.state shelf.new).told }
@@ -19,7 +20,7 @@ pub fn deliver<S: Shelf>(shelf: &mut S, output: Option<&str>, given: &Given) -> 
 {
     match write_tape(shelf, output, given.tape()) {
         Ok(()) => match shelf.print(given.text()) {
-            Ok(()) => Status::Ok,
+            Ok(()) => given.status(),
             Err(_) => Status::WriteFault,
         },
         Err(_) => Status::WriteFault,

@@ -1,4 +1,4 @@
-use Rattle.std.proofs.Common.{◌≡◌, ap, subst, sym, rules}
+use Rattle.std.proofs.Common.{◌≡◌, refl, ap, subst, sym, rules}
 use Rattle.air_status.specs.declared.status.Status.TheVariants as status
 use Rattle.std.specs.Io.KnownBytes.{IsAtEnd}
 use Rattle.delivery.specs.Given.{Given}
@@ -52,7 +52,7 @@ returns-clause-made g c =
     let now = S.state c.read_deck_file.new.shelf in
     let work : Given = only_text c.in_ok-text.text.items in
     let h : IsMade (plan_meaning name) before now work = record {
-      gives = of_deck name before c.in_ok-deck.deck (λ d. IsShort d × (work ≡ plan_given d)) c.in_ok-deck.ensures.deck (c.in_ok-cut.ensures.short, ap only_text c.in_ok-text.ensures);
+      gives = (refl, of_deck name before c.in_ok-deck.deck (λ d. IsShort d × (work ≡ plan_given d)) c.in_ok-deck.ensures.deck (c.in_ok-cut.ensures.short, ap only_text c.in_ok-text.ensures));
       read = λ other same. subst (λ input. IsAtEnd (now.told.left input)) (sym same) c.in_ok-deck.ensures.reads.end;
       calm = c.in_ok-deck.ensures.reads.calm;
     } in

@@ -1,4 +1,4 @@
-use Rattle.std.proofs.Common.{◌≡◌, ◌≤◌, None, Some, ap₂, length, subst, sym, rules, arith}
+use Rattle.std.proofs.Common.{◌≡◌, ◌≤◌, false, refl, None, Some, ap₂, length, subst, sym, rules, arith}
 use Rattle.std.specs.Io.KnownBytes.{IsAtEnd}
 use Rattle.air_model.specs.Outputs.{script_tape}
 use Rattle.air_status.specs.declared.status.Status.TheVariants as status
@@ -54,13 +54,16 @@ returns-clause-made g c =
     let before = S.state c.args.shelf.now in
     let now = S.state c.read_runnable_deck.new.shelf in
     let d = c.in_ok-deck.deck in
-    let work : Given = record { text = c.in_ok-scripted.scripted.report.items; tape = tape_sent (Some c.in_ok-scripted.scripted.tape) } in
+    let work : Given = record { text = c.in_ok-scripted.scripted.report.items; tape = tape_sent (Some c.in_ok-scripted.scripted.tape); differs = false } in
     record {
-      gives = of_deck name before d (λ d. IsShort d × (length (script_tape d) ≤ tape_limit) × IsTrueScript d × (work ≡ script_given d)) c.in_ok-deck.ensures.deck (
-        c.in_ok-deck.ensures.runnable,
-        omega (arith, c.if-bytes.false, c.tape_len-bytes.ensures),
-        record { legal = c.script_is_true.ensures.legal; bases = c.script_is_true.ensures.bases; sessions = c.script_is_true.ensures.sessions },
-        ap₂ (λ text tape. record { text = text; tape = tape }) c.in_ok-scripted.ensures.report c.in_ok-scripted.ensures.tape,
+      gives = (
+        refl,
+        of_deck name before d (λ d. IsShort d × (length (script_tape d) ≤ tape_limit) × IsTrueScript d × (work ≡ script_given d)) c.in_ok-deck.ensures.deck (
+          c.in_ok-deck.ensures.runnable,
+          omega (arith, c.if-bytes.false, c.tape_len-bytes.ensures),
+          record { legal = c.script_is_true.ensures.legal; bases = c.script_is_true.ensures.bases; sessions = c.script_is_true.ensures.sessions },
+          ap₂ (λ text tape. record { text = text; tape = tape; differs = false }) c.in_ok-scripted.ensures.report c.in_ok-scripted.ensures.tape,
+        ),
       );
       read = λ other same. subst (λ input. IsAtEnd (now.told.left input)) (sym same) c.in_ok-deck.ensures.reads.end;
       calm = c.in_ok-deck.ensures.reads.calm;

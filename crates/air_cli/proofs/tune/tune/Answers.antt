@@ -1,4 +1,4 @@
-use Rattle.std.proofs.Common.{◌≡◌, ◌≢◌, ℕ, List, ap, inl, inr, subst, sym, rules}
+use Rattle.std.proofs.Common.{◌≡◌, ◌≢◌, ℕ, List, refl, ap, inl, inr, subst, sym, rules}
 use Rattle.std.specs.Io.KnownBytes.{IsAtEnd}
 use Rattle.air_devices.specs.Counts.{KeepsCounts}
 use Rattle.air_model.specs.Tapes.{tape_read}
@@ -83,10 +83,13 @@ returns-clause-made g c =
     let work : Given = only_text c.in_ok-text-in-None.text.items in
     let deck_end = end_still c.args.name.now tape mid now c.read_bytes.ensures.reads.rest c.in_ok-deck.ensures.reads.end c.in_ok-bytes.ensures.reads.end in
     record {
-      gives = of_deck c.args.name.now before deck (λ d. IsShort d × OfTape tape before (λ records. IsTrueTape d records × (work ≡ tune_given d records))) c.in_ok-deck.ensures.deck (
-        c.in_ok-deck.ensures.runnable,
-        of_tape tape before mid c.in_ok-bytes.bytes.items read (λ records. IsTrueTape deck records × (work ≡ tune_given deck records)) c.in_ok-bytes.ensures.bytes (c.read_runnable_deck.ensures.reads.rest.files tape) c.deref-bytes.ensures.value
-            c.in_ok-bytes.ensures.fits (sym c.in-None.ensures) (c.tapes_are_true.ensures (tape_read read).records, ap only_text c.in_ok-text-in-None.ensures),
+      gives = (
+        refl,
+        of_deck c.args.name.now before deck (λ d. IsShort d × OfTape tape before (λ records. IsTrueTape d records × (work ≡ tune_given d records))) c.in_ok-deck.ensures.deck (
+          c.in_ok-deck.ensures.runnable,
+          of_tape tape before mid c.in_ok-bytes.bytes.items read (λ records. IsTrueTape deck records × (work ≡ tune_given deck records)) c.in_ok-bytes.ensures.bytes (c.read_runnable_deck.ensures.reads.rest.files tape) c.deref-bytes.ensures.value
+              c.in_ok-bytes.ensures.fits (sym c.in-None.ensures) (c.tapes_are_true.ensures (tape_read read).records, ap only_text c.in_ok-text-in-None.ensures),
+        ),
       );
       read = λ name input. elim input [
         | inl same ↦ subst (λ input. IsAtEnd (now.told.left input)) (sym same) deck_end

@@ -11,7 +11,7 @@ returns-in-Ok-print-clause-gives g c =
     let mid = S.state c.write_tape.new.shelf in
     let now = S.state c.print.new.self in
     let output : Option (List ℕ) = option_map (λ (name : Bor (List ℕ)). name.now) c.args.output in
-    delivers_all output c.args.given.now c.tape.result.now c.text.result.now before mid now c.tape.ensures c.text.ensures
+    delivers_all output c.args.given.now c.tape.result.now c.text.result.now before mid now c.status.result c.tape.ensures c.text.ensures c.status.ensures
     c.in-Ok.ensures.whole c.in-Ok.ensures.calm c.write_tape.ensures.printed c.print.ensures.rest.outputs c.in-Ok-print.ensures.all c.in-Ok-print.ensures.cause.calm
 
 pub returns-in-Err-print-clause-gives : goal.returns-in-Err-print-clause-gives

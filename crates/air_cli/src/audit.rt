@@ -1,0 +1,35 @@
+//! The command `audit`: what the replay of a named report finds, by a named deck.
+
+ghost use Rattle.std.specs.Prelude.{IfErr, IfOk};
+ghost use Rattle.air_cli.specs.Steps.Making.{IsMade, IsUnmade, Reads};
+ghost use Rattle.air_cli.specs.Audit.{audit_meaning};
+
+use air_devices::Shelf;
+use air_status::Status;
+use audited_reports::audit_report;
+use deck_files::{read_bytes, read_deck_file};
+use delivery::Given;
+use report_reading::limits::MOST_REPORT_BYTES;
+use std::alloc::Global;
+
+/// The findings of the named report, by the named deck.
+pub(crate) fn audit<S: Shelf>(
+    alloc: Global,
+    shelf: &mut S,
+    name: &str,
+    report: &str,
+) -> Result<Given, Status>
+    ensures made { IfOk result (IsMade (audit_meaning name.now report.now) (S.state shelf.old) (S.state shelf.new)) }
+    ensures unmade { IfErr result (IsUnmade (audit_meaning name.now report.now) (S.state shelf.old) (S.state shelf.new)) }
+    ensures reads { Reads (audit_meaning name.now report.now) (S.state shelf.old) (S.state shelf.new) }
+{
+    let deck = read_deck_file(alloc, shelf, name)?;
+    let bytes = read_bytes(alloc, shelf, report, MOST_REPORT_BYTES)?;
+    let bytes: &[u8] = &bytes;
+    let audited = audit_report(alloc, &deck, bytes)?;
+    Ok(Given {
+        text: audited.text,
+        tape: None,
+        differs: audited.differs,
+    })
+}
