@@ -28,7 +28,7 @@ fn first_taken<R: Threads + Sync>(
 
 #[test]
 fn words_of_no_form_are_refused(rt: HostRuntime) {
-    let forms: [&[&str]; 25] = [
+    let forms: [&[&str]; 30] = [
         &[],
         &["fly"],
         &["plan"],
@@ -54,6 +54,11 @@ fn words_of_no_form_are_refused(rt: HostRuntime) {
         &["drill", "18446744073709551616", "1"],
         &["drill", "", "1"],
         &["drill", "1", "1", "1"],
+        &["audit"],
+        &["audit", "deck"],
+        &["audit", "", "tape"],
+        &["audit", "deck", ""],
+        &["audit", "deck", "tape", "more"],
     ];
     assert_eq!(rt; first_taken(&rt, rt.alloc(), &forms), None);
 }
