@@ -3,7 +3,7 @@
 use crate::records::Record;
 use crate::seen::Seen;
 use crate::tags::Tag;
-use crate::texts::{Shown, why_no_number};
+use crate::texts::{Shown, has_outer_space, why_no_number};
 use crate::writes::Write;
 use air_base::{NoMemory, read_u64};
 use std::alloc::Global;
@@ -37,9 +37,15 @@ impl Parts {
 
 /// The tag is none.
 pub fn tag_note(alloc: Global, record: &Record) -> Result<String, NoMemory> {
-    let tag = Shown::field(record.field(0));
+    let text = record.field(0);
+    let tag = Shown::field(text);
+    let space = if has_outer_space(text) {
+        "it has a space, and is "
+    } else {
+        ""
+    };
     Ok(format!(in alloc;
-        "the tag is {tag}: none of item, disk, update, reader, query, script and set"
+        "the tag is {tag}: {space}none of item, disk, update, reader, query, script and set"
     )?)
 }
 
@@ -123,7 +129,7 @@ fn disk_note(alloc: Global, seen: &Seen, record: &Record) -> Result<String, NoMe
     }
     let why = why_no_number(record.field(2));
     let shown = Shown::field(record.field(2));
-    Ok(format!(in alloc; "{subject} has the frequency {shown}: {why}, nor a single -")?)
+    Ok(format!(in alloc; "{subject} has the frequency {shown}: no single -, and {why}")?)
 }
 
 /// A reader's record.

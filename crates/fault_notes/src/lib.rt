@@ -18,11 +18,11 @@ mod texts;
 mod writes;
 
 use crate::records::{Found, find};
-use crate::texts::Shown;
 use air_base::NoMemory;
 use item_catalog::DeckFault;
 use std::alloc::Global;
 pub use tapes::tape_note;
+pub use texts::Shown;
 
 /// What is wrong with a deck: the file's name and the line at which the faulty record begins, its row, and the fault.
 pub fn deck_note(

@@ -230,6 +230,15 @@ pub fn limit_note(
     }
 }
 
+/// How many updates of an updater stand above a record.
+fn updates_above(alloc: Global, count: u64) -> Result<String, NoMemory> {
+    match count {
+        0 => Ok(format!(in alloc; "none stands above")?),
+        1 => Ok(format!(in alloc; "only 1 stands above")?),
+        _ => Ok(format!(in alloc; "only {count} stand above")?),
+    }
+}
+
 /// An updater commits more updates than stand before the record.
 pub fn overdrawn_note(alloc: Global, seen: &Seen, record: &Record) -> Result<String, NoMemory> {
     let mut all = *seen;
@@ -238,8 +247,10 @@ pub fn overdrawn_note(alloc: Global, seen: &Seen, record: &Record) -> Result<Str
         let committed = all.commits_by[by];
         let there = all.updates_by[by];
         if there < committed {
+            let updates = if committed == 1 { "update" } else { "updates" };
+            let above = updates_above(alloc, there)?;
             return Ok(format!(in alloc;
-                "the updates of updater {by} above are {there}, and up to here the script commits {committed}"
+                "up to here the script commits {committed} {updates} of updater {by}, and {above}"
             )?);
         }
     }

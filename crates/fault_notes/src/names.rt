@@ -23,9 +23,10 @@ fn above(alloc: Global, what: &str, count: u64) -> Result<String, NoMemory> {
     match count {
         0 => Ok(format!(in alloc; "no {what} stands above it")?),
         1 => Ok(format!(in alloc; "only {what} 0 stands above it")?),
+        2 => Ok(format!(in alloc; "only {what}s 0 and 1 stand above it")?),
         _ => {
             let last = count - 1;
-            Ok(format!(in alloc; "{what}s 0 to {last} stand above it")?)
+            Ok(format!(in alloc; "only {what}s 0 to {last} stand above it")?)
         }
     }
 }

@@ -4,7 +4,7 @@ ghost use Rattle.std.specs.Prelude.{◌<◌, IfSome};
 
 use crate::records::Record;
 use crate::seen::Seen;
-use crate::texts::{Range, Shown, why_no_number};
+use crate::texts::{Range, Shown, has_outer_space, why_no_number};
 use air_base::limits::{MOST_CYCLES, MOST_DELTA, MOST_HEARS, MOST_MONITORS, MOST_SHARE};
 use air_base::{NoMemory, read_u64};
 use std::alloc::Global;
@@ -34,6 +34,15 @@ pub fn setting_place(name: &str) -> Option<usize>
     None
 }
 
+/// That a text has a space at one of its ends; nothing where it has none.
+fn space_of(text: &str) -> &'static str {
+    if has_outer_space(text) {
+        "it has a space, and "
+    } else {
+        ""
+    }
+}
+
 /// A setting's value isn't one that it can have; nothing where it is.
 fn value_note(
     alloc: Global,
@@ -47,7 +56,10 @@ fn value_note(
         if value == "F" || value == "D" || value == "R" {
             return Ok(String::new(alloc));
         }
-        return Ok(format!(in alloc; "the setting policy has the value {shown}: F, D or R")?);
+        let space = space_of(value);
+        return Ok(format!(in alloc;
+            "the setting policy has the value {shown}: {space}F, D and R are the values"
+        )?);
     }
     match read_u64(value.as_bytes()) {
         Some(number) if least <= number && number <= most => Ok(String::new(alloc)),
@@ -67,8 +79,9 @@ pub fn setting_note(alloc: Global, seen: &Seen, record: &Record) -> Result<Strin
     let name = record.field(1);
     let Some(place) = setting_place(name) else {
         let shown = Shown::field(name);
+        let space = space_of(name);
         return Ok(format!(in alloc;
-            "there is no setting {shown}: policy, delta, cycles, seed, loss, again, late, monitors and hears are the settings"
+            "there is no setting {shown}: {space}policy, delta, cycles, seed, loss, again, late, monitors and hears are the settings"
         )?);
     };
     let (_, least, most) = SETTINGS[place];

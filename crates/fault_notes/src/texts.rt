@@ -39,6 +39,11 @@ impl fmt::Display for Shown<'_> {
     }
 }
 
+/// Whether a text has a space at one of its ends, which a note would hide.
+pub fn has_outer_space(text: &str) -> bool {
+    text.trim().len() != text.len()
+}
+
 /// The numbers that there may be, as a note says them.
 #[derive(Clone, Copy)]
 pub struct Range {
@@ -74,7 +79,7 @@ pub fn why_no_number(text: &str) -> &'static str {
     {
         return "not a number: it has a sign";
     }
-    if is_digits(text.trim()) {
+    if has_outer_space(text) {
         return "not a number: it has a space";
     }
     match text.split_once('.') {

@@ -82,7 +82,12 @@ fn a_field_that_is_no_number_is_told_with_why(rt: HostRuntime) -> Result<(), Fai
         (
             "disk,1,--",
             2,
-            "disk 1 has the frequency --: not a number, nor a single -",
+            "disk 1 has the frequency --: no single -, and not a number",
+        ),
+        (
+            "disk,1, -",
+            2,
+            "disk 1 has the frequency  -: no single -, and not a number: it has a space",
         ),
         (
             "reader,0,0,many",

@@ -1,7 +1,7 @@
 //! Where a note says that a record stands, and decks that have a fault at their end.
 
 use air_base::NoMemory;
-use fault_notes::deck_note;
+use fault_notes::{deck_note, tape_note};
 use item_catalog::DeckFault;
 use std::alloc::Global;
 use std::test::Fail;
@@ -74,5 +74,33 @@ fn a_fault_at_the_end_is_told_as_that(rt: HostRuntime) -> Result<(), Fail> {
         ),
     ];
     assert_eq!(rt; first_other(rt.alloc(), cases)?, None);
+    Ok(())
+}
+
+#[test]
+fn a_note_is_one_line_whatever_the_name_is(rt: HostRuntime) -> Result<(), Fail> {
+    let name = "a\ndeck\r\u{7f}.csv";
+    let cases = [
+        (
+            1,
+            9,
+            "a?deck??.csv:1: record 1: the tag is a?b: none of item, disk, update, reader, query, script and set",
+        ),
+        (
+            2,
+            7,
+            "a?deck??.csv: the end, record 2: there is no item and no disk",
+        ),
+        (3, 9, "a?deck??.csv: record 3: its tag is unknown"),
+    ];
+    for (row, kind, wanted) in cases {
+        let note = deck_note(rt.alloc(), name, b"\"a\nb\"\n", DeckFault { row, kind })?;
+        assert_eq!(rt; note.as_str(), wanted);
+    }
+    let note = tape_note(rt.alloc(), name, b"\0\0\0\x02a", 0)?;
+    assert_eq!(rt;
+        note.as_str(),
+        "a?deck??.csv: record 1, which begins at byte 0, is cut: of its 2 bytes 1 are there"
+    );
     Ok(())
 }

@@ -14,7 +14,7 @@ fn names_out_of_turn_undeclared_or_twice_are_told(rt: HostRuntime) -> Result<(),
         (
             "query,0,0 2",
             4,
-            "the query has item 2 among its items, and items 0 to 1 stand above it",
+            "the query has item 2 among its items, and only items 0 and 1 stand above it",
         ),
         (
             "query,1,0",
@@ -24,17 +24,17 @@ fn names_out_of_turn_undeclared_or_twice_are_told(rt: HostRuntime) -> Result<(),
         (
             "update,0,5,0=1",
             4,
-            "the update has item 5 among its reads, and items 0 to 1 stand above it",
+            "the update has item 5 among its reads, and only items 0 and 1 stand above it",
         ),
         (
             "update,0,,2=1",
             4,
-            "the update has item 2 among its writes, and items 0 to 1 stand above it",
+            "the update has item 2 among its writes, and only items 0 and 1 stand above it",
         ),
         (
             "update,0,,1=7+1",
             4,
-            "the update has item 7 among its bases, and items 0 to 1 stand above it",
+            "the update has item 7 among its bases, and only items 0 and 1 stand above it",
         ),
         ("query,0,0 1 1", 5, "the query has item 1 twice"),
         (
@@ -107,7 +107,7 @@ fn unknown_tags_and_settings_are_told(rt: HostRuntime) -> Result<(), Fail> {
         (
             " item,2,3,1",
             9,
-            "the tag is  item: none of item, disk, update, reader, query, script and set",
+            "the tag is  item: it has a space, and is none of item, disk, update, reader, query, script and set",
         ),
         (
             "set,colour,1",
@@ -127,7 +127,22 @@ fn unknown_tags_and_settings_are_told(rt: HostRuntime) -> Result<(), Fail> {
         (
             "set,policy,f",
             10,
-            "the setting policy has the value f: F, D or R",
+            "the setting policy has the value f: F, D and R are the values",
+        ),
+        (
+            "set,policy,F ",
+            10,
+            "the setting policy has the value F : it has a space, and F, D and R are the values",
+        ),
+        (
+            "set, loss,5",
+            10,
+            "there is no setting  loss: it has a space, and policy, delta, cycles, seed, loss, again, late, monitors and hears are the settings",
+        ),
+        (
+            "set,loss, 5",
+            10,
+            "the setting loss has the value  5: not a number: it has a space",
         ),
         ("set,delta,2", 10, "the setting delta was set above"),
         (
@@ -138,7 +153,7 @@ fn unknown_tags_and_settings_are_told(rt: HostRuntime) -> Result<(), Fail> {
         (
             "script,s 0",
             11,
-            "the updates of updater 0 above are 0, and up to here the script commits 1",
+            "up to here the script commits 1 update of updater 0, and none stands above",
         ),
     ];
     assert_eq!(rt; first_other(rt.alloc(), rows)?, None);

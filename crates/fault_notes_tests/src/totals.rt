@@ -76,7 +76,7 @@ fn totals_count_the_record_itself(rt: HostRuntime) -> Result<(), Fail> {
             3,
             "script,2 2 s 2 2\n",
             11,
-            "d:7: record 7: the updates of updater 2 above are 3, and up to here the script commits 4",
+            "d:7: record 7: up to here the script commits 4 updates of updater 2, and only 3 stand above",
         ),
     ];
     assert_eq!(rt; first_other(rt.alloc(), cases)?, None);
