@@ -9,6 +9,8 @@ mod fault_texts;
 #[cfg(test)]
 mod faults;
 #[cfg(test)]
+mod fronts;
+#[cfg(test)]
 mod ranges;
 #[cfg(test)]
 mod reading;

@@ -2,6 +2,7 @@
 //!
 //! Each is written into a slice of just its size, and to the front of a longer one, whose further bytes stay as they are.
 
+use crate::fronts::{UNWRITTEN, other_bytes};
 use crate::ranges::in_range;
 use crate::worked::{FIRST, IDLE, VECTOR};
 use bucket_codec::{Body, Bucket, encode, size_of};
@@ -22,18 +23,11 @@ fn difference(
     if !in_range(bucket) || size != told.len() {
         return Ok(Some("the size"));
     }
-    let mut out = vec![in alloc; 0xee; told.len() + behind as usize]?;
+    let mut out = vec![in alloc; UNWRITTEN; told.len() + behind as usize]?;
     if size > out.len() || encode(bucket, &mut out) != size {
         return Ok(Some("the number of bytes written"));
     }
-    let found = if out.get(..size) != Some(told) {
-        Some("the bytes")
-    } else if out.iter().skip(size).any(|byte| *byte != 0xee) {
-        Some("the bytes behind")
-    } else {
-        None
-    };
-    Ok(found)
+    Ok(other_bytes(&out, told))
 }
 
 /// Returns the place of the first bucket that is written otherwise than told, and in what.
