@@ -12,6 +12,7 @@ pub mod ScriptFacts
 pub mod TuneFacts
 pub mod DrillFacts
 pub mod AuditFacts
+pub mod RunFacts
 pub mod DrillStatuses
 pub mod CommandFacts
 pub mod TopFacts

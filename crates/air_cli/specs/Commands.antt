@@ -7,9 +7,10 @@ use Rattle.air_cli.specs.Audit.{audit_meaning}
 use Rattle.air_cli.specs.Drill.{drill_meaning}
 use Rattle.air_cli.specs.Meanings.{Meaning, no_form}
 use Rattle.air_cli.specs.Plan.{plan_meaning}
+use Rattle.air_cli.specs.Run.{run_meaning}
 use Rattle.air_cli.specs.Script.{script_meaning}
 use Rattle.air_cli.specs.Tune.{tune_meaning}
-use Rattle.air_cli.specs.Words.{Asked, AsksAudit, AsksDrill, AsksPlan, AsksScript, AsksTune}
+use Rattle.air_cli.specs.Words.{Asked, AsksAudit, AsksDrill, AsksPlan, AsksRun, AsksScript, AsksTune}
 
 -- The same, each file by the bytes of its name.
 abbrev pub asked_by : Command → Asked
@@ -26,6 +27,7 @@ meaning_of (AsksScript deck tape) = script_meaning deck tape
 meaning_of (AsksTune deck tape) = tune_meaning deck tape
 meaning_of (AsksDrill seed size) = drill_meaning seed size
 meaning_of (AsksAudit deck report) = audit_meaning deck report
+meaning_of (AsksRun deck tape) = run_meaning deck tape
 
 -- What words mean that ask for this, or for nothing.
 abbrev pub words_meaning : Option Asked → Meaning

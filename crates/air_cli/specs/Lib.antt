@@ -8,6 +8,8 @@ pub mod Script
 pub mod Tune
 pub mod Drill
 pub mod Audit
+pub mod MainWords
+pub mod Run
 pub mod Untouched
 pub mod Truths
 pub mod Steps

@@ -6,13 +6,15 @@ use Rattle.air_base.specs.Numbers.{number_of}
 use Rattle.item_catalog.specs.declared.deck.drill.TheConstants.{MOST_DRILL_SIZE}
 
 -- What is asked for: to plan a deck; to run a deck's script, and to write its tape where one is named; to let a deck's
--- readers hear a tape; to run the drill of a seed and a size; to audit a report by a deck.
+-- readers hear a tape; to run the drill of a seed and a size; to audit a report by a deck; to run a deck on threads, and to
+-- write its tape, which `MainWords` has.
 pub data Asked : Type 0 where
   AsksPlan : List ℕ → Asked
   AsksScript : List ℕ → Option (List ℕ) → Asked
   AsksTune : List ℕ → List ℕ → Asked
   AsksDrill : ℕ → ℕ → Asked
   AsksAudit : List ℕ → List ℕ → Asked
+  AsksRun : List ℕ → List ℕ → Asked
 
 -- The size of a drill that is asked for is one that a drill may have.
 abbrev pub HasSize : Asked → Type 0

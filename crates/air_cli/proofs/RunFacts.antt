@@ -1,0 +1,71 @@
+-- What the proofs of `run` need of its definitions.
+use Rattle.std.proofs.Common.{◌≡◌, ℕ, ◌≤◌, List, length, false, true, refl, arith}
+use Rattle.air_devices.specs.Counts.{NoCountFalls}
+use Rattle.air_devices.specs.Unchanged.{KeepsButPrinted}
+use Rattle.air_devices.specs.Shelves.{Shelved}
+use Rattle.air_status.specs.declared.status.Status.{Status}
+use Rattle.air_status.specs.declared.status.Status.TheVariants as status
+use Rattle.air_model.specs.Decks.{Deck}
+use Rattle.deck_files.specs.FileLimits.{tape_limit}
+use Rattle.deck_files.specs.NamedDecks.{DeckCause, OfDeck, SpellsDeck}
+use Rattle.deck_files.specs.NamedFiles.{UnreadCause}
+use Rattle.deck_files.specs.RunnableDecks.{IsShort, UnrunnableCause}
+use Rattle.deck_files.proofs.CauseFacts.{of_deck, where_so}
+use Rattle.aired_runs.specs.GivenRuns.{IsRunRefusal}
+use Rattle.aired_runs.specs.RunTapes.{IsLongRun, run_tape_len}
+use Rattle.air_cli.specs.Answers.{NoCountRose}
+use Rattle.air_cli.specs.Run.{RunCause, run_meaning}
+use Rattle.air_cli.specs.ToldInputs.{TellsInputs}
+use Rattle.air_cli.proofs.InputFacts.{CommandFacts, both, runs_fits}
+use Rattle.air_cli.proofs.RefusalFacts.{IsSound, unrunnable_still}
+
+-- A deck that can't be run has no run.
+pub unrunnable_run : (name : List ℕ) (before now : Shelved) (s : Status) → UnrunnableCause name before now s → RunCause name before now s
+unfolding RunCause UnrunnableCause DeckCause UnreadCause
+unrunnable_run name before now (status.TooLong bytes) h = absurd h
+unrunnable_run name before now s h = h
+
+-- Nor has a deck whose tape would be too long.
+pub long_run_cause : (name : List ℕ) (before now : Shelved) (d : Deck) (s : Status) → SpellsDeck name before d → IsShort d → IsRunRefusal d s → RunCause name before now s
+unfolding RunCause UnrunnableCause DeckCause UnreadCause IsRunRefusal
+long_run_cause name before now d (status.TooLong bytes) spells short h = of_deck name before d (λ d. IsShort d × IsLongRun d bytes) spells (short, h)
+long_run_cause name before now d status.NoMemory spells short h = tt
+long_run_cause name before now d s spells short h = absurd h
+
+run_still : (name : List ℕ) (before mid now : Shelved) (s : Status) → KeepsButPrinted mid.told now.told → NoCountFalls mid.faults now.faults → RunCause name before mid s → RunCause name before now s
+unfolding RunCause
+run_still name before mid now (status.TooLong bytes) rest counts h = h
+run_still name before mid now s rest counts h = unrunnable_still name before mid now s rest counts h
+
+pub run_sound : (deck tape : List ℕ) → IsSound (run_meaning deck tape)
+unfolding RunCause UnrunnableCause DeckCause UnreadCause
+run_sound deck tape = record {
+  still = run_still deck;
+  not_done = λ before now h. h;
+  not_failed = λ before now h. h;
+  input = λ before now h. record { name = deck; named = refl; rose = h };
+}
+
+-- ---- what its input decides
+
+-- A run's tape isn't both short enough and too long.
+not_both : (d : Deck) (bytes : ℕ) → run_tape_len d ≤ tape_limit → IsLongRun d bytes → ⊥
+not_both d bytes few long = let same = long.counted in let above = long.above in omega arith
+
+can_run : (deck : List ℕ) (before : Shelved) → OfDeck deck before (λ d. IsShort d × (run_tape_len d ≤ tape_limit)) → OfDeck deck before IsShort
+can_run deck before suits = where_so (before.told.file deck) _ _ (λ bytes h. (h.0, (h.1.0, h.1.1, h.1.2.0))) suits
+
+run_fits : (deck tape : List ℕ) (before now : Shelved) (s : Status) → TellsInputs (run_meaning deck tape) before → OfDeck deck before (λ d. IsShort d × (run_tape_len d ≤ tape_limit))
+    → NoCountRose before.faults now.faults → RunCause deck before now s → s ≡ status.NoMemory
+unfolding RunCause
+run_fits deck tape before now (status.TooLong bytes) told suits calm h =
+    let known = told deck refl in
+    let two = both deck before known.0 (λ d. IsShort d × (run_tape_len d ≤ tape_limit)) (λ d. IsShort d × IsLongRun d bytes) known.1 suits h in
+    absurd (not_both two.0 bytes two.1.1 two.2.1)
+run_fits deck tape before now s told suits calm h =
+    let known = told deck refl in
+    runs_fits deck before now s known.0 known.1 (can_run deck before suits) calm h
+
+-- Its inputs don't decide what it gives.
+pub run_facts : (deck tape : List ℕ) → CommandFacts (run_meaning deck tape)
+run_facts deck tape = record { sound = run_sound deck tape; inputs = record { fits = run_fits deck tape; one = λ decided before other a b same first second. cc } }
