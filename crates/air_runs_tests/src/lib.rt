@@ -1,15 +1,12 @@
 //! Tests of runs: small decks on threads, whatever the schedule, and one in which a gate lets three threads meet.
 //!
-//! `decks` has what is run, `plays` runs it, `cases` tells in what a run left something else (`runs`, `meetings`); `gates` has the gate of
-//! the meeting.
+//! `decks` has what is run, `plays` runs it, `cases` tells in what a run left something else (`runs`, `meetings`).
 #![tactic(auto)]
 
 #[cfg(test)]
 mod cases;
 #[cfg(test)]
 mod decks;
-#[cfg(test)]
-mod gates;
 #[cfg(test)]
 mod meetings;
 #[cfg(test)]

@@ -2,7 +2,7 @@
 
 use crate::cases::{Case, Events, Tape, Told, first_other};
 use crate::decks::{Aired, MEETING};
-use crate::gates::MeetingGate;
+use meeting_gate::MeetingGate;
 use std::test::Fail;
 
 /// The first commit stands before all cycles, the second in the second one: then item 1 has 16, by way of item 0.

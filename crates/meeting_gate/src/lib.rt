@@ -1,7 +1,8 @@
-//! A gate at which an updater's second commit, the third cycle and a monitor's hundredth look meet.
+//! A gate for tests, at which an updater's second commit, the third cycle and a monitor's hundredth look meet.
 //!
 //! The first cycle waits for the first commit. The second commit and the hundredth look wait until the third cycle is about to start, and
 //! that cycle waits for both. So the history is a commit, two starts, the second commit, and a start; and the last look shows cycle 2.
+#![tactic(auto)]
 
 use air_devices::Gate;
 use std::sync::atomic::{AtomicU64, Ordering};
