@@ -4,9 +4,10 @@
 //! a shelf in memory, and names the first that leaves something else than is wanted, and in what.
 
 use air_base::{NoMemory, write_u64};
-use air_cli::{Status, air_quiet};
-use air_devices::MemShelf;
+use air_cli::{Status, air_main, air_quiet};
+use air_devices::{Gate, MemEar, MemMast, MemShelf, OpenGate};
 use std::alloc::Global;
+use std::sync::Wait;
 use std::thread::Threads;
 
 /// A part of a file.
@@ -134,7 +135,7 @@ fn add_file(
 }
 
 /// These words.
-fn words_of(alloc: Global, words: &[&str]) -> Result<Vec<String>, NoMemory> {
+pub fn words_of(alloc: Global, words: &[&str]) -> Result<Vec<String>, NoMemory> {
     let mut all = Vec::new(alloc);
     for word in words {
         let word = String::from_str(alloc, word)?;
@@ -146,7 +147,7 @@ fn words_of(alloc: Global, words: &[&str]) -> Result<Vec<String>, NoMemory> {
 }
 
 /// The shelf of a case.
-fn shelf_of(alloc: Global, case: &Case<'_>) -> Result<MemShelf, NoMemory> {
+pub fn shelf_of(alloc: Global, case: &Case<'_>) -> Result<MemShelf, NoMemory> {
     let mut files = Vec::new(alloc);
     add_file(alloc, &mut files, "deck", case.deck)?;
     add_file(alloc, &mut files, "tape", case.tape)?;
@@ -199,6 +200,62 @@ pub fn first_other<'a, R: Threads + Sync>(
 ) -> Option<(&'a str, Other)> {
     for case in cases {
         if let Some(other) = difference(rt, alloc, case) {
+            return Some((case.shows, other));
+        }
+    }
+    None
+}
+
+/// The status of these words over a shelf through `air_main`, with a mast and an ear that have just been made.
+pub fn main_status<R: Threads + Wait + Sync, G: Gate + Sync>(
+    rt: &R,
+    alloc: Global,
+    words: &[&str],
+    shelf: &mut MemShelf,
+    gate: &G,
+) -> Result<Status, NoMemory> {
+    let words = words_of(alloc, words)?;
+    let mut mast = MemMast::new(alloc, 0, Vec::new(alloc))?;
+    let mut ear = MemEar::new(Vec::new(alloc), Vec::new(alloc));
+    Ok(air_main(rt, alloc, &words, shelf, &mut mast, &mut ear, gate))
+}
+
+/// In what a case through `air_main`, with this gate, differs from what is wanted, if it does.
+fn main_played<R: Threads + Wait + Sync, G: Gate + Sync>(
+    rt: &R,
+    alloc: Global,
+    case: &Case<'_>,
+    gate: &G,
+) -> Result<Option<Other>, NoMemory> {
+    let mut shelf = shelf_of(alloc, case)?;
+    let status = main_status(rt, alloc, case.words, &mut shelf, gate)?;
+    if status != case.status {
+        return Ok(Some(Other::Status(status)));
+    }
+    left_other(alloc, &shelf, case)
+}
+
+/// The same; also where it isn't played.
+pub fn main_difference<R: Threads + Wait + Sync, G: Gate + Sync>(
+    rt: &R,
+    alloc: Global,
+    case: &Case<'_>,
+    gate: &G,
+) -> Option<Other> {
+    match main_played(rt, alloc, case, gate) {
+        Ok(other) => other,
+        Err(NoMemory) => Some(Other::Unplayed),
+    }
+}
+
+/// The first case through `air_main` that leaves something else than is wanted: what it shows, and in what it differs.
+pub fn main_other<'a, R: Threads + Wait + Sync>(
+    rt: &R,
+    alloc: Global,
+    cases: &[Case<'a>],
+) -> Option<(&'a str, Other)> {
+    for case in cases {
+        if let Some(other) = main_difference(rt, alloc, case, &OpenGate) {
             return Some((case.shows, other));
         }
     }

@@ -25,6 +25,9 @@ pub const SCRIPT: &[&str] = &["script", "deck"];
 /// To run it, and to write the tape.
 pub const SCRIPT_TAPE: &[&str] = &["script", "deck", "tape"];
 
+/// To run the deck on threads, and to write the tape.
+pub const RUN: &[&str] = &["run", "deck", "tape"];
+
 /// To let the deck's reader hear the tape.
 pub const TUNE: &[&str] = &["tune", "deck", "tape"];
 

@@ -1,6 +1,6 @@
 //! The commands of airdisk over a shelf in memory: words, a deck and a tape in; a status, a text and an output out.
 //!
-//! All goes through `air_quiet`. A test is a table of one behaviour. `cases` has the form of a case and plays it,
+//! Runs go through `air_main`, all else through `air_quiet`. A test is a table of one behaviour. `cases` has the form of a case and plays it,
 //! `first` has the deck that most of them begin with, its tape, and the words of each command.
 #![tactic(auto)]
 
@@ -17,6 +17,8 @@ mod ethers;
 #[cfg(test)]
 mod first;
 #[cfg(test)]
+mod meetings;
+#[cfg(test)]
 mod orders;
 #[cfg(test)]
 mod outside;
@@ -25,7 +27,11 @@ mod plans;
 #[cfg(test)]
 mod policies;
 #[cfg(test)]
+mod realistic;
+#[cfg(test)]
 mod reports;
+#[cfg(test)]
+mod runs;
 #[cfg(test)]
 mod scripts;
 #[cfg(test)]

@@ -1,0 +1,45 @@
+//! The command `run` where an updater, the conductor and a monitor meet, as no run on one thread can.
+
+use crate::cases::{Case, Part, Parts, main_difference};
+use crate::first::{FIRST_CASE, RUN};
+use meeting_gate::MeetingGate;
+
+/// Two items on one disk of two slots; an updater that puts 11 into item 0, and then item 0's value and 5 more into item 1; three
+/// cycles, and one monitor.
+const MEETING: Parts<'static> = &[Part::Text(
+    "item,0,10,2\nitem,1,20,1\ndisk,2,1\nreader,0,0,1\nquery,0,0 1\n\
+    update,0,,0=11\nupdate,0,0,1=0+5\nset,cycles,3\nset,monitors,1\n",
+)];
+
+/// The report of the history that the gate forces: the first commit stands before all cycles, the second in the second one.
+const MEETING_REPORT: Parts<'static> = &[Part::Text(
+    "commit,0,0\nstart\nstart\ncommit,0,1\nstart\naccept,0,0,1,0@1=11 1@1=20\ncounts,0,2,4,0,0,0,0\n\
+    glance,0,2,31\nlook,0,3,27\n",
+)];
+
+/// The buckets of both items in a cycle, in which item 1 has this value, written in this cycle from item 0's.
+const fn cycle(number: u8, value: u8, written: u8) -> [u8; 72] {
+    [
+        0, 0, 0, 32, 0x41, 0x44, 1, 1, 0, 0, 0, 2, 0, 0, 0, number, 0, 0, 0, 0, 0, 0, 0, 0, 0, 0,
+        0, 11, 0, 0, 0, 0, 0, 0, 0, 0, 0, 0, 0, 32, 0x41, 0x44, 1, 1, 0, 0, 0, 2, 0, 0, 0, number,
+        0, 1, 0, 1, 0, 0, 0, 0, 0, 0, 0, value, 0, 0, 0, 0, 0, 0, 0, written,
+    ]
+}
+
+#[test]
+fn a_commit_a_cycle_and_a_look_meet(rt: HostRuntime) {
+    let gate = MeetingGate::new();
+    let case = Case {
+        words: RUN,
+        deck: MEETING,
+        printed: MEETING_REPORT,
+        output: &[
+            Part::Bytes(&cycle(1, 20, 0)),
+            Part::Bytes(&cycle(2, 20, 0)),
+            Part::Bytes(&cycle(3, 16, 2)),
+        ],
+        ..FIRST_CASE
+    };
+    let other = main_difference(&rt, rt.alloc(), &case, &gate);
+    assert_eq!(rt; (gate.counts(), other), ([1, 1, 1, 1, 1, 1, 1, 0], None));
+}
