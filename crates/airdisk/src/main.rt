@@ -1,15 +1,16 @@
 //! The program: words in, a status out.
 //!
-//! It hands its words and a shelf over files and standard output to the top call, says on standard error what went wrong where
-//! something did (`notes`), and ends with the status's number. `--help`, `-h` and `--version`, each as the only word, are answered here.
+//! It hands its words and a shelf over files and standard output to the top call, with a gate that is open, and a mast and an ear in
+//! memory, which no command uses yet. It says on standard error what went wrong where something did (`notes`), and ends with the
+//! status's number. `--help`, `-h` and `--version`, each as the only word, are answered here.
 #![tactic(auto)]
 
 mod notes;
 
 use crate::notes::explain;
 use air_cli::words::HELP;
-use air_cli::{Status, air_quiet};
-use air_devices::FileShelf;
+use air_cli::{Status, air_main};
+use air_devices::{FileShelf, MemEar, MemMast, OpenGate};
 use std::alloc::Global;
 use std::env::{self, Env};
 use std::io::{self, Write};
@@ -32,8 +33,14 @@ fn main(rt: HostRuntime) -> ExitCode {
             let Ok(handle) = rt.clone() else {
                 return ExitCode::from(Status::NoMemory.code());
             };
+            let Ok(mut mast) = MemMast::new(alloc, 0, Vec::new(alloc)) else {
+                return ExitCode::from(Status::NoMemory.code());
+            };
             let mut shelf = FileShelf::new(handle);
-            let status = air_quiet(&rt, alloc, words, &mut shelf);
+            let mut ear = MemEar::new(Vec::new(alloc), Vec::new(alloc));
+            let status = air_main(
+                &rt, alloc, words, &mut shelf, &mut mast, &mut ear, &OpenGate,
+            );
             explain(&rt, alloc, words, &mut shelf, status);
             ExitCode::from(status.code())
         }
