@@ -42,6 +42,7 @@ unfolding RunCause UnrunnableCause DeckCause UnreadCause
 run_sound deck tape = record {
   still = run_still deck;
   not_done = λ before now h. h;
+  not_different = λ before now h. h;
   not_failed = λ before now h. h;
   input = λ before now h. record { name = deck; named = refl; rose = h };
 }

@@ -19,9 +19,10 @@ RunCause deck before now (status.TooLong bytes) = OfDeck deck before (λ d. IsSh
 RunCause deck before now s = UnrunnableCause deck before now s
 
 -- What it gives: its deck can be run, the tape is short enough, and this is report and tape of a run of the deck, of which all is true
--- that is true of one.
+-- that is true of one. Nothing in it differs.
 unfoldable pub RunGives : List ℕ → Shelved → Given → Type 0
-RunGives deck before given = OfDeck deck before (λ d. IsShort d × (run_tape_len d ≤ tape_limit) × ((run : Run) × IsGivenRun d given run))
+RunGives deck before given =
+    (given.differs ≡ false) × OfDeck deck before (λ d. IsShort d × (run_tape_len d ≤ tape_limit) × ((run : Run) × IsGivenRun d given run))
 
 -- It reads its deck, which must be one that can be run and have a tape that is short enough, and writes the tape. The deck alone
 -- doesn't decide what it gives: the threads make one of many histories.

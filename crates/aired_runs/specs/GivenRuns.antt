@@ -1,5 +1,5 @@
 -- What a run of a deck gives: its report, with what its monitors saw, and its tape; and why a deck isn't run.
-use Rattle.std.specs.Prelude.{◌≡◌, ⊤}
+use Rattle.std.specs.Prelude.{◌≡◌, false, ⊤}
 use Rattle.air_model.specs.Decks.{Deck}
 use Rattle.air_model.specs.Outputs.{run_output, run_tape}
 use Rattle.air_status.specs.declared.status.Status.{Status}
@@ -9,9 +9,9 @@ use Rattle.run_laws.specs.Runs.{IsRun, Run}
 use Rattle.aired_runs.specs.RunTapes.{IsLongRun}
 use Rattle.aired_runs.specs.RunTruths.{IsTrueRun}
 
--- The report of a run, and its tape.
+-- The report of a run, and its tape. Nothing in it differs.
 abbrev pub run_given : Deck → Run → Given
-run_given deck run = record { text = run_output deck run.history run.glances run.looks; tape = run_tape deck run.history }
+run_given deck run = record { text = run_output deck run.history run.glances run.looks; tape = run_tape deck run.history; differs = false }
 
 -- This is report and tape of a run of the deck, and all that is true of one is true of it.
 pub record IsGivenRun (deck : Deck) (given : Given) (run : Run) : Type 0 where

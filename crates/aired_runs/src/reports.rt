@@ -51,5 +51,6 @@ pub(crate) fn make_run<R: Threads + Wait + Sync, G: Gate + Sync>(
     Ok(Given {
         text,
         tape: Some(tape),
+        differs: false,
     })
 }

@@ -1,8 +1,9 @@
-use Rattle.std.proofs.Common.{◌≡◌, ◌≤◌, subst, sym, rules}
+use Rattle.std.proofs.Common.{◌≡◌, ◌≤◌, ap, subst, sym, rules}
 use Rattle.std.specs.Io.KnownBytes.{IsAtEnd}
 use Rattle.deck_files.specs.FileLimits.{tape_limit}
 use Rattle.deck_files.specs.RunnableDecks.{IsShort}
 use Rattle.deck_files.proofs.CauseFacts.{of_deck}
+use Rattle.delivery.specs.Given.{Given}
 use Rattle.run_laws.specs.Runs.{Run}
 use Rattle.aired_runs.specs.GivenRuns.{IsGivenRun}
 use Rattle.aired_runs.specs.RunTapes.{run_tape_len}
@@ -44,8 +45,11 @@ returns-clause-made g c = λ tape.
     let d = c.in_ok-deck.deck in
     let given = c.in_ok-given.given in
     record {
-      gives = of_deck name before d (λ d. IsShort d × (run_tape_len d ≤ tape_limit) × ((run : Run) × IsGivenRun d given run)) c.in_ok-deck.ensures.deck
-          (c.in_ok-deck.ensures.runnable, c.in_ok-given.ensures.short, c.in_ok-given.ensures.gives);
+      gives = (
+        ap (λ (g : Given). g.differs) c.in_ok-given.ensures.gives.1.given_is,
+        of_deck name before d (λ d. IsShort d × (run_tape_len d ≤ tape_limit) × ((run : Run) × IsGivenRun d given run)) c.in_ok-deck.ensures.deck
+            (c.in_ok-deck.ensures.runnable, c.in_ok-given.ensures.short, c.in_ok-given.ensures.gives),
+      );
       read = λ other same. subst (λ input. IsAtEnd (now.told.left input)) (sym same) c.in_ok-deck.ensures.reads.end;
       calm = c.in_ok-deck.ensures.reads.calm;
     }
