@@ -3,12 +3,13 @@ _airdisk() {
     local word=${COMP_WORDS[COMP_CWORD]} ending
     COMPREPLY=()
     if [ "$COMP_CWORD" -eq 1 ]; then
-        mapfile -t COMPREPLY < <(compgen -W 'plan script tune drill run --help -h --version --build' -- "$word")
+        mapfile -t COMPREPLY < <(compgen -W 'plan script tune drill audit run --help -h --version --build' -- "$word")
         return
     fi
     case ${COMP_WORDS[1]}.$COMP_CWORD in
-    plan.2 | script.2 | tune.2 | run.2) ending=csv ;;
+    plan.2 | script.2 | tune.2 | audit.2 | run.2) ending=csv ;;
     script.3 | tune.3 | run.3) ending=tape ;;
+    audit.3) ending= ;;
     *) return ;;
     esac
     compopt -o filenames 2>/dev/null
