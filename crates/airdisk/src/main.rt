@@ -7,7 +7,8 @@
 
 mod notes;
 
-use crate::notes::explain;
+use crate::notes::{explain, explain_no_memory};
+use air_base::NoMemory;
 use air_cli::words::HELP;
 use air_cli::{Status, air_main};
 use air_devices::{FileShelf, MemEar, MemMast, OpenGate};
@@ -22,16 +23,15 @@ const VERSION: &str = "airdisk 0.1.0\n";
 
 fn main(rt: HostRuntime) -> ExitCode {
     let alloc = rt.alloc();
-    let words = match words_of(&rt, alloc) {
-        Ok(words) => words,
-        Err(status) => return ExitCode::from(status.code()),
+    let Ok(words) = words_of(&rt, alloc) else {
+        return end_without_memory(&rt);
     };
     match words.as_slice() {
         [word] if word.as_str() == "--help" || word.as_str() == "-h" => print_text(&rt, HELP),
         [word] if word.as_str() == "--version" => print_text(&rt, VERSION),
         words => {
             let Ok(handle) = rt.clone() else {
-                return ExitCode::from(Status::NoMemory.code());
+                return end_without_memory(&rt);
             };
             let Ok(mut mast) = MemMast::new(alloc, 0, Vec::new(alloc)) else {
                 return ExitCode::from(Status::NoMemory.code());
@@ -47,28 +47,37 @@ fn main(rt: HostRuntime) -> ExitCode {
     }
 }
 
+/// Says that there was no memory, and answers the status of that.
+fn end_without_memory<R: Eprint>(rt: &R) -> ExitCode {
+    explain_no_memory(rt);
+    ExitCode::from(Status::NoMemory.code())
+}
+
 /// The words of the command line without the program's own name. Where one isn't text there are none, so that
 /// they are of no form.
-fn words_of<R: Env + Alloc<A = Global>>(rt: &R, alloc: Global) -> Result<Vec<String>, Status> {
+fn words_of<R: Env + Alloc<A = Global>>(rt: &R, alloc: Global) -> Result<Vec<String>, NoMemory> {
     let mut words = Vec::new(alloc);
     match env::args(rt) {
         Ok(args) => {
             for word in args.skip(1) {
                 if words.push(word).is_err() {
-                    return Err(Status::NoMemory);
+                    return Err(NoMemory);
                 }
             }
             Ok(words)
         }
-        Err(error) if error.kind() == io::ErrorKind::OutOfMemory => Err(Status::NoMemory),
+        Err(error) if error.kind() == io::ErrorKind::OutOfMemory => Err(NoMemory),
         Err(_) => Ok(words),
     }
 }
 
-/// Prints a text, and answers the status of that.
-fn print_text<R: Print>(rt: &R, text: &str) -> ExitCode {
+/// Prints a text, says on standard error where that failed, and answers the status of that.
+fn print_text<R: Print + Eprint>(rt: &R, text: &str) -> ExitCode {
     match io::writer(rt).write_all(text.as_bytes()) {
         Ok(()) => ExitCode::from(Status::Ok.code()),
-        Err(_) => ExitCode::from(Status::WriteFault.code()),
+        Err(error) => {
+            let _ = eprintln!(rt; "airdisk: printing: {error}");
+            ExitCode::from(Status::WriteFault.code())
+        }
     }
 }

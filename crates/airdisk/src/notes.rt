@@ -7,7 +7,7 @@ use air_base::NoMemory;
 use air_base::limits::{MOST_DECK_BYTES, MOST_SLOTS, MOST_TAPE_BYTES};
 use air_cli::Status;
 use air_devices::{FileShelf, read_file};
-use fault_notes::{deck_note, tape_note};
+use fault_notes::{Shown, deck_note, tape_note};
 use item_catalog::DeckFault;
 use std::alloc::Global;
 use std::fs;
@@ -35,7 +35,11 @@ fn failure_note<R: Files + Print + Drop>(
     shelf: &FileShelf<R>,
 ) -> Result<Option<String>, NoMemory> {
     match shelf.last_failure() {
-        Some(failure) => Ok(Some(format!(in alloc; "airdisk: {failure}")?)),
+        Some(failure) => {
+            let said = format!(in alloc; "{failure}")?;
+            let said = Shown::whole(said.as_str());
+            Ok(Some(format!(in alloc; "airdisk: {said}")?))
+        }
         None => Ok(None),
     }
 }
@@ -54,7 +58,10 @@ fn fault_note<R: Files + Print + Drop>(
     };
     match again {
         Some(bytes) => Ok(Some(deck_note(alloc, name, &bytes, fault)?)),
-        None => Ok(Some(format!(in alloc; "{name}: {fault}")?)),
+        None => {
+            let name = Shown::whole(name);
+            Ok(Some(format!(in alloc; "{name}: {fault}")?))
+        }
     }
 }
 
@@ -72,7 +79,10 @@ fn cut_note<R: Files + Print + Drop>(
     };
     match again {
         Some(tape) => Ok(Some(tape_note(alloc, name, &tape, at)?)),
-        None => Ok(Some(format!(in alloc; "{name}: the record that begins at byte {at} is cut")?)),
+        None => {
+            let name = Shown::whole(name);
+            Ok(Some(format!(in alloc; "{name}: the record that begins at byte {at} is cut")?))
+        }
     }
 }
 
@@ -88,7 +98,9 @@ fn size_note<R: Files>(
     } else {
         (word(words, 2), "tape")
     };
-    match plain_size(rt, name) {
+    let size = plain_size(rt, name);
+    let name = Shown::whole(name);
+    match size {
         Some(size) => Ok(Some(format!(in alloc;
             "{name}: it has {size} bytes, and a {what} may have {limit}"
         )?)),
@@ -106,10 +118,10 @@ fn text_of<R: Files + Print + Drop>(
     shelf: &mut FileShelf<R>,
     status: Status,
 ) -> Result<Option<String>, NoMemory> {
-    let deck = word(words, 1);
+    let deck = Shown::whole(word(words, 1));
     match status {
         Status::Deck { row, kind } => {
-            fault_note(rt, alloc, shelf, deck, DeckFault { row, kind })
+            fault_note(rt, alloc, shelf, word(words, 1), DeckFault { row, kind })
         }
         Status::ReadFault | Status::WriteFault => failure_note(alloc, shelf),
         Status::TapeCut { at } => cut_note(rt, alloc, shelf, word(words, 2), at),
@@ -124,6 +136,11 @@ fn text_of<R: Files + Print + Drop>(
     }
 }
 
+/// Says that there was no memory.
+pub fn explain_no_memory<R: Eprint>(rt: &R) {
+    let _ = eprintln!(rt; "airdisk: out of memory");
+}
+
 /// Says a line on standard error where a command ended with a status from 2 on; nothing where that fails.
 pub fn explain<R: Files + Print + Eprint + Drop>(
     rt: &R,
@@ -133,7 +150,7 @@ pub fn explain<R: Files + Print + Eprint + Drop>(
     status: Status,
 ) {
     if status == Status::NoMemory {
-        let _ = eprintln!(rt; "airdisk: out of memory");
+        explain_no_memory(rt);
         return;
     }
     if let Ok(Some(text)) = text_of(rt, alloc, words, shelf, status) {
