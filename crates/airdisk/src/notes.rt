@@ -7,8 +7,12 @@ use air_base::NoMemory;
 use air_base::limits::{MOST_DECK_BYTES, MOST_SLOTS, MOST_TAPE_BYTES};
 use air_cli::Status;
 use air_devices::{FileShelf, read_file};
-use fault_notes::{Shown, deck_note, tape_note};
+use audited_reports::audit_report;
+use deck_files::read_deck_file;
+use fault_notes::{Shown, deck_note, report_note, tape_note};
 use item_catalog::DeckFault;
+use live_replay::limits::MOST_REPLAYED;
+use report_reading::limits::MOST_REPORT_BYTES;
 use std::alloc::Global;
 use std::fs;
 use std::rt::Files;
@@ -95,6 +99,8 @@ fn size_note<R: Files>(
 ) -> Result<Option<String>, NoMemory> {
     let (name, what) = if limit == MOST_DECK_BYTES as u64 {
         (word(words, 1), "deck")
+    } else if limit == MOST_REPORT_BYTES as u64 {
+        (word(words, 2), "report")
     } else {
         (word(words, 2), "tape")
     };
@@ -108,6 +114,68 @@ fn size_note<R: Files>(
             "{name}: it has more than the {limit} bytes that a {what} may have"
         )?)),
     }
+}
+
+/// What is wrong with a report.
+fn refused_report_note<R: Files + Print + Drop>(
+    rt: &R,
+    alloc: Global,
+    shelf: &mut FileShelf<R>,
+    name: &str,
+    row: u32,
+    kind: u8,
+) -> Result<Option<String>, NoMemory> {
+    let again = match plain_size(rt, name) {
+        Some(_) => read_file(alloc, shelf, name, MOST_REPORT_BYTES).ok(),
+        None => None,
+    };
+    match again {
+        Some(bytes) => Ok(Some(report_note(alloc, name, &bytes, row, kind)?)),
+        None => Ok(Some(report_note(alloc, name, &[], row, kind)?)),
+    }
+}
+
+/// How many lines of a report differ from their replays; none where it can't be read again.
+fn count_differing<R: Files + Print + Drop>(
+    rt: &R,
+    alloc: Global,
+    shelf: &mut FileShelf<R>,
+    deck: &str,
+    report: &str,
+) -> Option<u64> {
+    let _deck = plain_size(rt, deck)?;
+    let _report = plain_size(rt, report)?;
+    let deck = read_deck_file(alloc, shelf, deck).ok()?;
+    let bytes = read_file(alloc, shelf, report, MOST_REPORT_BYTES).ok()?;
+    if MOST_REPORT_BYTES < bytes.len() {
+        return None;
+    }
+    let audited = audit_report(alloc, &deck, &bytes).ok()?;
+    let mut count = 0_u64;
+    for line in audited.text.split(|byte| *byte == b'\n') {
+        if line.starts_with(b"differs,") {
+            count = count.saturating_add(1);
+        }
+    }
+    Some(count)
+}
+
+/// That lines of a report differ from their replays.
+fn difference_note<R: Files + Print + Drop>(
+    rt: &R,
+    alloc: Global,
+    shelf: &mut FileShelf<R>,
+    words: &[String],
+) -> Result<Option<String>, NoMemory> {
+    let report = word(words, 2);
+    let count = count_differing(rt, alloc, shelf, word(words, 1), report);
+    let name = Shown::whole(report);
+    let said = match count {
+        Some(1) => format!(in alloc; "{name}: 1 line differs from its replay")?,
+        Some(count) => format!(in alloc; "{name}: {count} lines differ from their replays")?,
+        None => format!(in alloc; "{name}: lines differ from their replays")?,
+    };
+    Ok(Some(said))
 }
 
 /// What is said of a status; none where nothing is.
@@ -132,6 +200,16 @@ fn text_of<R: Files + Print + Drop>(
         Status::PlanTooLong { slots } => Ok(Some(format!(in alloc;
             "{deck}: its program would have {slots} slots, and a program may have {MOST_SLOTS}"
         )?)),
+        Status::Report { row, kind } => {
+            refused_report_note(rt, alloc, shelf, word(words, 2), row, kind)
+        }
+        Status::Differs => difference_note(rt, alloc, shelf, words),
+        Status::TooMuch { product } => {
+            let report = Shown::whole(word(words, 2));
+            Ok(Some(format!(in alloc;
+                "{report}: its audit would take {product} steps, which are its commits times its other lines, and an audit may take {MOST_REPLAYED}"
+            )?))
+        }
         _ => Ok(None),
     }
 }

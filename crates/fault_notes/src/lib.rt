@@ -1,8 +1,8 @@
-//! What is wrong with a deck or a tape that was refused, said in one line for a person: where it stands, and what would be right.
+//! What is wrong with a deck, a tape or a report that was refused, said in one line for a person: where it stands, and what would be right.
 //!
 //! The status of a refusal and its printed line come from the contracts of the commands; nothing here changes them. `records` finds
 //! the faulty record and its line, and `seen` what the records before it declare; `forms`, `names`, `limits`, `settings` and `ends`
-//! say what is wrong, by the kind of the fault; `tapes` says where a tape is cut. No clause says what a note has: they are tested.
+//! say what is wrong, by the kind of the fault; `tapes` says where a tape is cut, and `reports` what is wrong with a report. No clause says what a note has: they are tested.
 #![tactic(auto)]
 
 mod ends;
@@ -10,6 +10,7 @@ mod forms;
 mod limits;
 mod names;
 mod records;
+mod reports;
 mod seen;
 mod settings;
 mod tags;
@@ -20,6 +21,7 @@ mod writes;
 use crate::records::{Found, find};
 use air_base::NoMemory;
 use item_catalog::DeckFault;
+pub use reports::report_note;
 use std::alloc::Global;
 pub use tapes::tape_note;
 pub use texts::Shown;

@@ -49,6 +49,18 @@ impl Record {
         }
     }
 
+    /// The fields with commas between them.
+    pub fn text(&self, alloc: Global) -> Result<String, NoMemory> {
+        let mut text = String::new(alloc);
+        for (place, field) in self.fields.iter().enumerate() {
+            if place > 0 {
+                text.push_str(",")?;
+            }
+            text.push_str(field.as_str())?;
+        }
+        Ok(text)
+    }
+
     /// What is wrong with the record, by the kind of its fault; nothing where that isn't found.
     pub fn note(&self, alloc: Global, seen: &Seen, kind: u8) -> Result<String, NoMemory> {
         let Some(tag) = Tag::of(self.field(0)) else {

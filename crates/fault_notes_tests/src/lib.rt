@@ -1,4 +1,4 @@
-//! The notes on refused decks and tapes: for each fault a text written by hand, as a person should read it.
+//! The notes on refused decks, tapes and reports: for each fault a text written by hand, as a person should read it.
 #![tactic(auto)]
 
 #[cfg(test)]
@@ -7,6 +7,8 @@ mod fields;
 mod lines;
 #[cfg(test)]
 mod names;
+#[cfg(test)]
+mod reports;
 #[cfg(test)]
 mod rows;
 #[cfg(test)]
