@@ -34,7 +34,7 @@ fn main(rt: HostRuntime) -> ExitCode {
                 return end_without_memory(&rt);
             };
             let Ok(mut mast) = MemMast::new(alloc, 0, Vec::new(alloc)) else {
-                return ExitCode::from(Status::NoMemory.code());
+                return end_without_memory(&rt);
             };
             let mut shelf = FileShelf::new(handle);
             let mut ear = MemEar::new(Vec::new(alloc), Vec::new(alloc));

@@ -207,7 +207,7 @@ fn text_of<R: Files + Print + Drop>(
         Status::TooMuch { product } => {
             let report = Shown::whole(word(words, 2));
             Ok(Some(format!(in alloc;
-                "{report}: its audit would take {product} steps, which are its commits times its other lines, and an audit may take {MOST_REPLAYED}"
+                "{report}: its audit would take {product} steps, which are its commits times its verdict, glance and look lines, and an audit may take {MOST_REPLAYED}"
             )?))
         }
         _ => Ok(None),
