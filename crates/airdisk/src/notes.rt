@@ -178,6 +178,29 @@ fn difference_note<R: Files + Print + Drop>(
     Ok(Some(said))
 }
 
+/// What is said of an audit that was refused, or by which lines differ; none of another status.
+fn audit_note<R: Files + Print + Drop>(
+    rt: &R,
+    alloc: Global,
+    words: &[String],
+    shelf: &mut FileShelf<R>,
+    status: Status,
+) -> Result<Option<String>, NoMemory> {
+    match status {
+        Status::Report { row, kind } => {
+            refused_report_note(rt, alloc, shelf, word(words, 2), row, kind)
+        }
+        Status::Differs => difference_note(rt, alloc, shelf, words),
+        Status::TooMuch { product } => {
+            let report = Shown::whole(word(words, 2));
+            Ok(Some(format!(in alloc;
+                "{report}: its audit would take {product} steps, which are its commits times its verdict, glance and look lines, and an audit may take {MOST_REPLAYED}"
+            )?))
+        }
+        _ => Ok(None),
+    }
+}
+
 /// What is said of a status; none where nothing is.
 fn text_of<R: Files + Print + Drop>(
     rt: &R,
@@ -200,17 +223,7 @@ fn text_of<R: Files + Print + Drop>(
         Status::PlanTooLong { slots } => Ok(Some(format!(in alloc;
             "{deck}: its program would have {slots} slots, and a program may have {MOST_SLOTS}"
         )?)),
-        Status::Report { row, kind } => {
-            refused_report_note(rt, alloc, shelf, word(words, 2), row, kind)
-        }
-        Status::Differs => difference_note(rt, alloc, shelf, words),
-        Status::TooMuch { product } => {
-            let report = Shown::whole(word(words, 2));
-            Ok(Some(format!(in alloc;
-                "{report}: its audit would take {product} steps, which are its commits times its verdict, glance and look lines, and an audit may take {MOST_REPLAYED}"
-            )?))
-        }
-        _ => Ok(None),
+        _ => audit_note(rt, alloc, words, shelf, status),
     }
 }
 
