@@ -1,6 +1,6 @@
 #!/usr/bin/env bash
 # How long `audit` takes over real files: 20,000 commits with 2,422 lines of verdicts, and 300 commits with 160,000, under each
-# policy. Each update adds nothing to what it reads, so all values are right and every line is judged to its end.
+# policy. Each update adds nothing to what it reads, so all values are right, and a line is judged up to the first read that doesn't pass.
 # Usage: bench/audit.sh [RUNS]. Prints a row for each policy and report, with the median and the least of the runs.
 set -u
 cd "$(dirname "$0")/.." || exit 1

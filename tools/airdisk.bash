@@ -13,7 +13,7 @@ _airdisk() {
     *) return ;;
     esac
     compopt -o filenames 2>/dev/null
-    mapfile -t COMPREPLY < <(compgen -f -X "!*.$ending" -- "$word"; compgen -d -- "$word")
+    mapfile -t COMPREPLY < <(compgen -f -X "${ending:+!*.$ending}" -- "$word"; compgen -d -- "$word")
     [ "${#COMPREPLY[@]}" -gt 0 ] || mapfile -t COMPREPLY < <(compgen -f -- "$word")
 }
 complete -F _airdisk airdisk
