@@ -26,20 +26,27 @@ const fn cycle(number: u8, value: u8, written: u8) -> [u8; 72] {
     ]
 }
 
-#[test]
-fn a_commit_a_cycle_and_a_look_meet(rt: HostRuntime) {
-    let gate = MeetingGate::new();
-    let case = Case {
+/// The case of the meeting: its tape is the one that is wanted.
+fn meeting<'a>(output: Parts<'a>) -> Case<'a> {
+    Case {
         words: RUN,
         deck: MEETING,
         printed: MEETING_REPORT,
-        output: &[
-            Part::Bytes(&cycle(1, 20, 0)),
-            Part::Bytes(&cycle(2, 20, 0)),
-            Part::Bytes(&cycle(3, 16, 2)),
-        ],
+        output,
         ..FIRST_CASE
-    };
+    }
+}
+
+#[test]
+fn a_commit_a_cycle_and_a_look_meet(rt: HostRuntime) {
+    let gate = MeetingGate::new();
+    let (first, second, third) = (cycle(1, 20, 0), cycle(2, 20, 0), cycle(3, 16, 2));
+    let output: Parts<'_> = &[
+        Part::Bytes(&first),
+        Part::Bytes(&second),
+        Part::Bytes(&third),
+    ];
+    let case = meeting(output);
     let other = main_difference(&rt, rt.alloc(), &case, &gate);
     assert_eq!(rt; (gate.counts(), other), ([1, 1, 1, 1, 1, 1, 1, 0], None));
 }

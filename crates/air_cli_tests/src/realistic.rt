@@ -1,6 +1,6 @@
 //! The command `run` on a deck of forty items, four updaters and eight readers: what of its outcome no schedule changes.
 
-use crate::cases::{Case, Part, main_status, shelf_of};
+use crate::cases::{Case, Part, Parts, main_status, shelf_of};
 use crate::first::{FIRST_CASE, RUN};
 use air_base::{NoMemory, write_u64};
 use air_cli::Status;
@@ -100,6 +100,15 @@ fn count_lines(text: &[u8], front: &str) -> usize {
         .count()
 }
 
+/// A case of this deck, with room for its report and its tape.
+fn realistic<'a>(deck: Parts<'a>) -> Case<'a> {
+    Case {
+        deck,
+        room: 300_000,
+        ..FIRST_CASE
+    }
+}
+
 /// The status of the run, how many bytes its tape has, and how many of its lines begin with each of these.
 fn told<R: Threads + Wait + Sync>(
     rt: &R,
@@ -108,11 +117,8 @@ fn told<R: Threads + Wait + Sync>(
     fronts: [&str; 6],
 ) -> Result<(Status, Option<usize>, [usize; 6]), NoMemory> {
     let deck = deck_of(alloc, monitors)?;
-    let case = Case {
-        deck: &[Part::Bytes(&deck)],
-        room: 300_000,
-        ..FIRST_CASE
-    };
+    let parts: Parts<'_> = &[Part::Bytes(&deck)];
+    let case = realistic(parts);
     let mut shelf = shelf_of(alloc, &case)?;
     let status = main_status(rt, alloc, RUN, &mut shelf, &OpenGate)?;
     let printed = shelf.printed();
