@@ -5,11 +5,7 @@
 set -u
 cd "$(dirname "$0")/.." || exit 1
 runs=${1:-5}
-program=$PWD/crates/airdisk/out/airdisk
-scratch=$(mktemp -d) || exit 1
-trap 'rm -rf "$scratch"' EXIT
-(cd crates/airdisk && rt run -- --version) >/dev/null 2>&1
-[ -x "$program" ] || exit 1
+source bench/program.sh
 
 # deck POLICY COMMITS: 64 items, an updater with so many updates of four reads and two writes, eight readers with four queries each
 deck() {
@@ -44,17 +40,6 @@ report() {
             printf "%d@%d=%d %d@%d=%d %d@%d=%d\n", a, c, a * 1000003, b, c + 1, b * 1000003, d, c + 2, d * 1000003
         }
     }'
-}
-
-# the times of an audit in hundredths of a millisecond, from the shell: the median and the least; it ends with 0 or 9
-times() {
-    for _ in $(seq "$runs"); do
-        local began=$EPOCHREALTIME
-        "$@" >/dev/null
-        case $? in 0 | 9) ;; *) exit 1 ;; esac
-        local ended=$EPOCHREALTIME
-        echo $(((${ended/./} - ${began/./}) / 10))
-    done | sort -n | awk -v n="$runs" '{ t[NR] = $1 } END { printf "%.2f %.2f\n", t[int((n + 1) / 2)] / 100, t[1] / 100 }'
 }
 
 printf '%-8s %8s %8s %20s %12s\n' policy commits lines median-milliseconds least

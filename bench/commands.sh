@@ -5,42 +5,7 @@
 set -u
 cd "$(dirname "$0")/.." || exit 1
 runs=${1:-5}
-program=$PWD/crates/airdisk/out/airdisk
-scratch=$(mktemp -d) || exit 1
-trap 'rm -rf "$scratch"' EXIT
-(cd crates/airdisk && rt run -- --version) >/dev/null 2>&1
-[ -x "$program" ] || exit 1
-
-# flat ITEMS UPDATES STARTS READERS: a deck of one flat disk; the script starts a cycle after each equal part of the updates
-flat() {
-    awk -v n="$1" -v u="$2" -v s="$3" -v r="$4" 'BEGIN {
-        for (i = 0; i < n; i++) printf "item,%d,%d,%d\n", i, i * 1000003, n - i
-        printf "disk,%d,1\n", n
-        for (k = 0; k < u; k++) {
-            a = (k * 7) % n; b = (a + 1 + k % 5) % n; c = (a + 11) % n; d = (a + 23) % n
-            printf "update,%d,%d %d %d %d,%d=%d+%d %d=%d\n", k % 4, a, b, c, d, a, b, k, c, k
-        }
-        for (q = 0; q < r; q++) {
-            printf "reader,0,0,3\n"
-            for (k = 0; k < 4; k++) printf "query,%d,%d %d %d\n", q, (q * 5 + k) % n, (q * 5 + k + 9) % n, (q * 5 + k + 30) % n
-        }
-        printf "script,"; done = 0
-        for (k = 0; k < s; k++) {
-            while (done < int(u * (k + 1) / s)) { printf "%d ", done % 4; done++ }
-            printf "s%s", (k < s - 1 ? " " : "\n")
-        }
-    }'
-}
-
-# the times of a command in hundredths of a millisecond, from the shell: the median
-median() {
-    for _ in $(seq "$runs"); do
-        local began=$EPOCHREALTIME
-        "$@" >/dev/null || exit 1
-        local ended=$EPOCHREALTIME
-        echo $(((${ended/./} - ${began/./}) / 10))
-    done | sort -n | sed -n "$(((runs + 1) / 2))p"
-}
+source bench/program.sh
 
 # row NAME BYTES COMMAND..: a row of the table; with bytes above 0 also their speed
 row() {

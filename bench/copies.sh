@@ -4,11 +4,7 @@
 # Usage: bench/copies.sh. Prints a row a room: opened, dozed, late and copied of all readers, and verdicts by kind.
 set -u
 cd "$(dirname "$0")/.." || exit 1
-program=$PWD/crates/airdisk/out/airdisk
-scratch=$(mktemp -d) || exit 1
-trap 'rm -rf "$scratch"' EXIT
-(cd crates/airdisk && rt run -- --version) >/dev/null 2>&1
-[ -x "$program" ] || exit 1
+source bench/program.sh
 
 # deck ROOM: the deck above, with room for so many copies
 deck() {

@@ -5,11 +5,7 @@
 set -u
 cd "$(dirname "$0")/.." || exit 1
 runs=${1:-9}
-program=$PWD/crates/airdisk/out/airdisk
-scratch=$(mktemp -d) || exit 1
-trap 'rm -rf "$scratch"' EXIT
-(cd crates/airdisk && rt run -- --version) >/dev/null 2>&1
-[ -x "$program" ] || exit 1
+source bench/program.sh
 
 # deck POLICY: the deck above, judged by the policy
 deck() {
@@ -32,12 +28,7 @@ printf '%-8s %8s %8s %10s %10s %14s\n' policy accept abort unfinished bytes mill
 for policy in F D R; do
     deck "$policy" >"$scratch/deck.csv"
     "$program" script "$scratch/deck.csv" "$scratch/tape" >"$scratch/report" || exit 1
-    time=$(for _ in $(seq "$runs"); do
-        began=$EPOCHREALTIME
-        "$program" script "$scratch/deck.csv" "$scratch/tape" >/dev/null || exit 1
-        ended=$EPOCHREALTIME
-        echo $(((${ended/./} - ${began/./}) / 10))
-    done | sort -n | sed -n "$(((runs + 1) / 2))p")
+    time=$(median "$program" script "$scratch/deck.csv" "$scratch/tape")
     printf '%-8s %8s %8s %10s %10s %11s.%02d\n' "$policy" "$(grep -c '^accept' "$scratch/report")" "$(grep -c '^abort' "$scratch/report")" \
         "$(grep -c '^unfinished' "$scratch/report")" "$(wc -c <"$scratch/tape")" $((time / 100)) $((time % 100))
 done

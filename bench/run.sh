@@ -6,11 +6,7 @@
 set -u
 cd "$(dirname "$0")/.." || exit 1
 runs=${1:-9}
-program=$PWD/crates/airdisk/out/airdisk
-scratch=$(mktemp -d) || exit 1
-trap 'rm -rf "$scratch"' EXIT
-(cd crates/airdisk && rt run -- --version) >/dev/null 2>&1
-[ -x "$program" ] || exit 1
+source bench/program.sh
 
 # deck ITEMS UPDATES CYCLES MONITORS: UPDATES updates of each of four updaters, eight readers of ten queries; three disks where
 # there are 40 items, else one
@@ -26,16 +22,6 @@ deck() {
         for (r = 0; r < 8; r++) for (q = 0; q < 10; q++) printf "query,%d,%d %d %d\n", r, (r + q) % n, (r + q + 13) % n, (r + q + 26) % n
         printf "set,cycles,%d\nset,monitors,%d\nset,seed,7\nset,loss,5\nset,again,3\nset,late,10\n", cycles, monitors
     }'
-}
-
-# the times of a command in hundredths of a millisecond, from the shell: the median
-median() {
-    for _ in $(seq "$runs"); do
-        local began=$EPOCHREALTIME
-        "$@" >/dev/null || exit 1
-        local ended=$EPOCHREALTIME
-        echo $(((${ended/./} - ${began/./}) / 10))
-    done | sort -n | sed -n "$(((runs + 1) / 2))p"
 }
 
 # row NAME COMMITS COMMAND..: a row of the table
