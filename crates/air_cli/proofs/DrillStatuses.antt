@@ -12,7 +12,8 @@ use Rattle.air_cli.specs.Commands.{words_meaning}
 use Rattle.delivery.specs.Given.{Given, given_status}
 use Rattle.air_cli.specs.Drill.{DrillCause, DrillGives}
 use Rattle.air_cli.specs.Meanings.{Meaning, WordsCause}
-use Rattle.air_cli.specs.Words.{AsksDrill, asked_drill, asked_of, asked_of_one}
+use Rattle.air_cli.specs.MainWords.{main_asked_of}
+use Rattle.air_cli.specs.Words.{AsksDrill, asked_drill, asked_of_one}
 
 -- The status is one of these.
 abbrev IsAmong : Status → Type 0
@@ -59,7 +60,7 @@ drill_few (Some seed) (Some size) = by (nat_le 1 size && nat_le size MOST_DRILL_
     by true = record { refuses = λ before now s h. drill_among s h; same = λ before given h. drill_same seed size given h }
     by false = none_few
 
-words_few : (words : List (List ℕ)) → RefusesFew (words_meaning (asked_of (codes "drill" ∷ words)))
+words_few : (words : List (List ℕ)) → RefusesFew (words_meaning (main_asked_of (codes "drill" ∷ words)))
 words_few [] = none_few
 words_few (first ∷ []) = by (length first == 0)
   where
@@ -73,5 +74,5 @@ words_few (first ∷ second ∷ []) = by (length first == 0 || length second == 
     by false = drill_few (number_of first) (number_of second)
 words_few (first ∷ second ∷ more ∷ words) = none_few
 
-pub drill_ends : (words : List (List ℕ)) (before now : Shelved) (s : Status) → QuietAnswers (words_meaning (asked_of (codes "drill" ∷ words))) before now s → IsAmong s
-drill_ends words = ends_among (words_meaning (asked_of (codes "drill" ∷ words))) (words_few words)
+pub drill_ends : (words : List (List ℕ)) (before now : Shelved) (s : Status) → QuietAnswers (words_meaning (main_asked_of (codes "drill" ∷ words))) before now s → IsAmong s
+drill_ends words = ends_among (words_meaning (main_asked_of (codes "drill" ∷ words))) (words_few words)

@@ -1,8 +1,8 @@
--- What `air_quiet` answers: for every status when it comes, what was printed and written, and what is left; and
--- when a command must succeed.
+-- What the top call answers: for every status when it comes, what was printed and written, and what is left; and when a
+-- command must succeed.
 --
--- All of it is said by what the command means: its refusals, and what it gives, are functions of the deck that the named
--- file spells and of the bytes of the named tape.
+-- All of it is said by what the command means: its refusals, and what it gives, are said of the deck that the named file
+-- spells, and of the bytes of its other input; what `run` gives is that of some run of the deck.
 use Rattle.std.specs.Prelude.{◌≡◌, ◌⊎◌, ℕ, List, Some}
 use Rattle.std.specs.Io.KnownBytes.{IsAtEnd}
 use Rattle.air_devices.specs.Counts.{Faults, KeepsCounts, NoCountFalls, Rose}

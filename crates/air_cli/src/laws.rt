@@ -6,8 +6,8 @@ ghost use Rattle.air_status.specs.Statuses.{code_of};
 ghost use Rattle.air_status.specs.declared.status.Status.{Status};
 ghost use Rattle.delivery.specs.Deliveries.{IsGiven};
 ghost use Rattle.delivery.specs.Given.{Given};
-ghost use Rattle.air_cli.specs.Words.{asked_of};
 ghost use Rattle.air_cli.specs.Commands.{words_meaning};
+ghost use Rattle.air_cli.specs.MainWords.{main_asked_of};
 ghost use Rattle.air_cli.specs.ToldInputs.{TellSameInputs};
 ghost use Rattle.air_cli.specs.Answers.{IsSuccess, QuietAnswers};
 
@@ -15,17 +15,17 @@ ghost use Rattle.air_cli.specs.Answers.{IsSuccess, QuietAnswers};
 /// text and write one tape where both succeed, and end with one status.
 pub fn one_output_law()
     ensures { (words : List (List ℕ)) (before now other_before other_now : Shelved) (s other : Status) →
-        (words_meaning (asked_of words)).decided ≡ true →
-        TellSameInputs (words_meaning (asked_of words)) before other_before →
+        (words_meaning (main_asked_of words)).decided ≡ true →
+        TellSameInputs (words_meaning (main_asked_of words)) before other_before →
         IsSuccess s → IsSuccess other →
-        QuietAnswers (words_meaning (asked_of words)) before now s →
-        QuietAnswers (words_meaning (asked_of words)) other_before other_now other →
-        (s ≡ other) × ((given : Given) × IsGiven (words_meaning (asked_of words)).output given before now
-        × IsGiven (words_meaning (asked_of words)).output given other_before other_now) }
+        QuietAnswers (words_meaning (main_asked_of words)) before now s →
+        QuietAnswers (words_meaning (main_asked_of words)) other_before other_now other →
+        (s ≡ other) × ((given : Given) × IsGiven (words_meaning (main_asked_of words)).output given before now
+        × IsGiven (words_meaning (main_asked_of words)).output given other_before other_now) }
 {}
 
 /// Words that begin with `drill` end with status 0, 1, 4 or 5: no file is read for them, and no deck is refused.
 pub fn drill_statuses_law()
     ensures { (words : List (List ℕ)) (before now : Shelved) (s : Status) →
-        QuietAnswers (words_meaning (asked_of (codes "drill" ∷ words))) before now s → Contains (0 ∷ 1 ∷ 4 ∷ 5 ∷ []) (code_of s) }
+        QuietAnswers (words_meaning (main_asked_of (codes "drill" ∷ words))) before now s → Contains (0 ∷ 1 ∷ 4 ∷ 5 ∷ []) (code_of s) }
 {}
