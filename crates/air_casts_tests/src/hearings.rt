@@ -1,0 +1,154 @@
+//! What the deck's reader hears of an ear in memory, with the calls of it that fail: tuning in, and one a datagram.
+
+ghost use Rattle.std.specs.Prelude.{◌≡◌, ◌≤◌, length, All, IfOk, None};
+ghost use Rattle.air_base.specs.declared.limits.TheConstants.{MOST_DECK_BYTES};
+
+use crate::air::{BUCKET_0, BUCKET_1, deck_text, planned};
+use air_casts::{HearFault, MOST_HEARD_BYTES, ear_sessions};
+use air_devices::{Ear, MemEar};
+use air_history::History;
+use air_report::{Report, write_report};
+use listeners::Sessions;
+use std::alloc::Global;
+use std::test::Fail;
+
+/// Whether the reader hears one datagram alone, what an ear has to hear, the calls that fail, and what the reader's session prints,
+/// or why it doesn't.
+#[derive(Clone, Copy)]
+struct Case<'a> {
+    hears_one: bool,
+    heard: &'a [&'a [u8]],
+    fail: &'a [u64],
+    told: Result<&'a [u8], HearFault>,
+}
+
+/// Copies of the datagrams; empty ones are left out.
+fn copies(alloc: Global, datagrams: &[&[u8]]) -> Result<Vec<Vec<u8>>, Fail>
+    ensures { IfOk result (λ all. All (λ bytes. 1 ≤ length bytes.items) all.items) }
+{
+    let mut all = Vec::new(alloc);
+    for bytes in datagrams {
+        if !bytes.is_empty() {
+            all.push(Vec::from_slice(alloc, bytes)?)?;
+        }
+    }
+    Ok(all)
+}
+
+/// The lines of sessions.
+#[tactic(auto, using(air_history::proofs::ScanLemmas::starts_within))]
+fn text_of(alloc: Global, sessions: Sessions) -> Result<Vec<u8>, Fail> {
+    let report = Report {
+        history: History::from_events(Vec::new(alloc)),
+        verdicts: sessions.verdicts,
+        counts: sessions.counts,
+        glances: Vec::new(alloc),
+        looks: Vec::new(alloc),
+    };
+    let mut text = Vec::new(alloc);
+    write_report(alloc, &report, &mut text)?;
+    Ok(text)
+}
+
+/// What the reader of a deck prints that hears this ear, or why it doesn't.
+pub fn heard_by<E: Ear>(
+    alloc: Global,
+    deck: &[u8],
+    ear: &mut E,
+) -> Result<Result<Vec<u8>, HearFault>, Fail>
+    requires size { length deck.now ≤ MOST_DECK_BYTES }
+    requires untuned { (E.state ear.old).port ≡ None }
+{
+    let (deck, program) = planned(alloc, deck)?;
+    match ear_sessions(alloc, &deck, &program, ear, 4000) {
+        Ok(sessions) => Ok(Ok(text_of(alloc, sessions)?)),
+        Err(fault) => Ok(Err(fault)),
+    }
+}
+
+/// Whether a case goes as it is told.
+fn is_told(alloc: Global, case: &Case<'_>) -> Result<bool, Fail> {
+    let heard = copies(alloc, case.heard)?;
+    let mut ear = MemEar::new(heard, Vec::from_slice(alloc, case.fail)?);
+    let deck = deck_text(case.hears_one);
+    Ok(match (heard_by(alloc, deck, &mut ear)?, case.told) {
+        (Ok(text), Ok(told)) => text.as_slice() == told,
+        (Err(fault), Err(told)) => fault == told,
+        _ => false,
+    })
+}
+
+/// A case in which all is heard.
+const ALL: Case<'static> = Case {
+    hears_one: false,
+    heard: &[BUCKET_0, BUCKET_1],
+    fail: &[],
+    told: Ok(b"accept,0,0,1,0@1=10 1@1=20\ncounts,0,2,0,0,0,0,0\n"),
+};
+
+/// A case in which nothing is.
+const NOTHING: Case<'static> = Case {
+    heard: &[],
+    told: Ok(b"unfinished,0,0,1,\ncounts,0,0,0,0,0,0,0\n"),
+    ..ALL
+};
+
+/// A case in which a datagram between the buckets is none.
+const FAULTY: Case<'static> = Case {
+    heard: &[BUCKET_0, b"a", BUCKET_1],
+    told: Ok(b"accept,0,0,1,0@1=10 1@1=20\ncounts,0,2,0,0,1,0,0\n"),
+    ..ALL
+};
+
+#[test]
+fn datagrams_are_heard_to_the_end(rt: HostRuntime) -> Result<(), Fail> {
+    for case in &[ALL, NOTHING, FAULTY] {
+        assert_eq!(rt; is_told(rt.alloc(), case)?, true);
+    }
+    Ok(())
+}
+
+#[test]
+fn a_datagram_past_the_room_is_one_datagram(rt: HostRuntime) -> Result<(), Fail> {
+    let long = vec![in rt.alloc(); 0u8; MOST_HEARD_BYTES + 1]?;
+    let heard = copies(rt.alloc(), &[BUCKET_0, long.as_slice(), BUCKET_1])?;
+    let mut ear = MemEar::new(heard, Vec::new(rt.alloc()));
+    let text = heard_by(rt.alloc(), deck_text(false), &mut ear)?;
+    let told: &[u8] = b"accept,0,0,1,0@1=10 1@1=20\ncounts,0,2,0,0,1,0,0\n";
+    assert_eq!(rt; text.is_ok_and(|text| text.as_slice() == told), true);
+    Ok(())
+}
+
+#[test]
+fn no_more_is_heard_than_the_deck_says(rt: HostRuntime) -> Result<(), Fail> {
+    let one = Case {
+        hears_one: true,
+        told: Ok(b"unfinished,0,0,1,0@1=10\ncounts,0,1,0,0,0,0,0\n"),
+        ..ALL
+    };
+    assert_eq!(rt; is_told(rt.alloc(), &one)?, true);
+    Ok(())
+}
+
+#[test]
+fn where_the_ear_fails_so_many_datagrams_were_heard(rt: HostRuntime) -> Result<(), Fail> {
+    let untuned = Case {
+        fail: &[1],
+        told: Err(HearFault::Ear { heard: 0 }),
+        ..ALL
+    };
+    let second = Case {
+        fail: &[3],
+        told: Err(HearFault::Ear { heard: 1 }),
+        ..ALL
+    };
+    let end = Case {
+        fail: &[4],
+        told: Err(HearFault::Ear { heard: 2 }),
+        ..ALL
+    };
+    for case in &[untuned, second, end] {
+        assert_eq!(rt; is_told(rt.alloc(), case)?, true);
+    }
+    Ok(())
+}
