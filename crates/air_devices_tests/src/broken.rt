@@ -1,9 +1,10 @@
-//! A runtime of which every call fails, as one whose disk and output are gone.
+//! A runtime of which every call fails, as one whose disk, network and output are gone.
 
 use std::alloc::Allocator;
 use std::fmt::Display;
 use std::fs::{File, Metadata, OpenOptions};
 use std::io::{Error, ErrorKind, Result};
+use std::net::{Net, SocketAddr, TcpListener, TcpStream, UdpSocket};
 use std::rt::Files;
 
 /// The runtime.
@@ -71,6 +72,24 @@ impl Print for Broken {
     }
 
     fn write_all(&self, _bytes: &[u8]) -> Result<()> {
+        Err(failure())
+    }
+}
+
+impl Net for Broken {
+    type Stream = TcpStream;
+
+    type Listener = TcpListener;
+
+    fn bind(&self, _addr: SocketAddr) -> Result<TcpListener> {
+        Err(failure())
+    }
+
+    fn connect(&self, _addr: SocketAddr) -> Result<TcpStream> {
+        Err(failure())
+    }
+
+    fn bind_udp(&self, _addr: SocketAddr) -> Result<UdpSocket> {
         Err(failure())
     }
 }

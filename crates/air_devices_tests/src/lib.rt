@@ -2,8 +2,8 @@
 //!
 //! `shelves` has the calls of a shelf and their checker; `shelf_tests` plays them on the shelf in memory, `file_tests` and
 //! `room_tests` on the one over files, `failure_tests` also where each call fails (`broken`). `mast_tests` plays calls on
-//! the mast in memory, and adds to a tape, `ear_tests` on the ear; `refusal_tests` prints refusals. `played`
-//! walks over their cases.
+//! the mast in memory, and adds to a tape, `ear_tests` on the ear; `udp_tests` sends and hears over real sockets;
+//! `refusal_tests` prints refusals. `played` walks over their cases.
 #![tactic(auto)]
 
 #[cfg(test)]
@@ -26,3 +26,5 @@ mod room_tests;
 mod shelf_tests;
 #[cfg(test)]
 mod shelves;
+#[cfg(test)]
+mod udp_tests;

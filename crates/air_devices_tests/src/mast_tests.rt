@@ -3,6 +3,7 @@
 //! A bucket takes its own bytes and four more: two buckets of two bytes and one take eleven.
 
 use crate::played::{Played, first_other_case};
+use air_base::limits::MOST_DATAGRAM_BYTES;
 use air_devices::{Failed, Mast, MemMast, TapeRoom};
 use std::alloc::Global;
 use std::test::Fail;
@@ -37,7 +38,7 @@ enum Other {
 
 /// The mast's answer to a send; none where the bucket is empty or past the longest, and may not be sent.
 fn send<M: Mast>(mast: &mut M, bytes: &[u8]) -> Option<Result<(), Failed>> {
-    if bytes.is_empty() || bytes.len() > 65507 {
+    if bytes.is_empty() || bytes.len() > MOST_DATAGRAM_BYTES {
         return None;
     }
     Some(mast.send(bytes))
@@ -212,7 +213,7 @@ fn first_other_record(
     records: &[(&[u8], bool)],
 ) -> Option<(usize, Option<bool>)> {
     for (place, (bytes, told)) in records.iter().enumerate() {
-        if bytes.len() > 65507 {
+        if bytes.len() > MOST_DATAGRAM_BYTES {
             return Some((place, None));
         }
         let taken = tape.add(bytes);
