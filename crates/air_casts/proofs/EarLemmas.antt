@@ -1,5 +1,5 @@
 -- Datagrams that are taken from the front of what is still to be heard, and what listeners have heard of them.
-use Rattle.std.proofs.Common.{◌≡◌, ℕ, zero, suc, ◌+◌, ◌≤◌, ◌<◌, Option, Some, None, List, [], ◌∷◌, ◌++◌, length, map, take, drop, All, refl, sym, ◌∙◌, ap, subst, arith}
+use Rattle.std.proofs.Common.{◌≡◌, ℕ, zero, suc, ◌+◌, ◌≤◌, ◌<◌, Option, Some, None, List, [], ◌∷◌, ◌++◌, length, map, take, drop, refl, sym, ◌∙◌, ap, subst, arith}
 use Rattle.std.proofs.lemmas.List.{length-append, length-take, map-append, take_all}
 use Rattle.std.proofs.lemmas.List.Elements.{All-nil, All-push}
 use Rattle.air_model.specs.Buckets.{Bucket, bucket_in}
@@ -63,18 +63,10 @@ over n most (Some w) mid now heard l are used =
     let long = nothing_left w n u.0 in
     (are.2 ∙ ap (map heard_of) (take_all n w long ∙ sym (take_all most w (omega arith))), u.1 ∙ ap Some (sym (drop_past w most (omega arith))))
 
-all_taken : (most : ℕ) (before now : Option (List (List ℕ))) (heard : List (List ℕ)) → AreFirst most before now heard → AreHeard most before heard × TakesUpTo most before now
-all_taken most None now heard are = (tt, tt)
-all_taken most (Some w) now heard are = (are.2, are.1)
-
 -- Just so many were taken.
 just : (n : ℕ) (before now : Option (List (List ℕ))) (heard : List (List ℕ)) → AreFirst n before now heard → TakesJust n before now
 just n None now heard are = tt
 just n (Some w) now heard are = (are.0, are.1)
-
-pub taken_none : (told now : Option (List (List ℕ))) → now ≡ told → TakesJust 0 told now
-taken_none None now same = tt
-taken_none (Some w) now same = (omega arith, same)
 
 -- Just so many were taken: as many as may be, or all that there were.
 just_some : (most : ℕ) (w : List (List ℕ)) → (count : ℕ) × (count ≤ most) × (count ≤ length w) × (drop count w ≡ drop most w)
@@ -139,15 +131,6 @@ module _ (before : Option (List (List ℕ))) (first : List Listener) where
   heard_over n most mid now last l h used =
       let o = over n most before mid now h.heard l h.are used in
       record { heard = h.heard; is = record { few = (let so = h.long in omega arith); each = h.each; are = o.0; taken = o.1 }; same = h.same }
-
-  pub heard_all : (n most : ℕ) (now : Option (List (List ℕ))) (last : List Listener) → n ≡ most → HaveHeardFirst n before now first last → HaveHeard most before now first last
-  heard_all n most now last e h =
-      let o = all_taken n before now h.heard h.are in
-      record {
-        heard = h.heard;
-        is = record { few = (let so = h.long in omega arith); each = h.each; are = subst (λ k. AreHeard k before h.heard) e o.0; taken = subst (λ k. TakesUpTo k before now) e o.1 };
-        same = h.same;
-      }
 
   -- What was taken, where a call then fails.
   pub heard_just : (n : ℕ) (mid now : Option (List (List ℕ))) (last : List Listener) → HaveHeardFirst n before mid first last → now ≡ mid → TakesJust n before now

@@ -1,3 +1,2 @@
 pub mod CastLemmas
 pub mod EarLemmas
-pub mod FaultLemmas
