@@ -9,7 +9,7 @@ ghost use Rattle.air_jobs.specs.Published.{AreInStep, GoesOn, IsPublishedUpTo, P
 ghost use Rattle.air_jobs.specs.Sendings.{IsAirOf, IsCause, SendsCycles, SendsUpTo};
 
 use crate::cycles::conduct_cycle;
-use air_base::Policy;
+use air_base::{NoMemory, Policy};
 use air_devices::{Gate, Mast};
 use chunk_program::Program;
 use control_matrix::Board;
@@ -25,6 +25,17 @@ pub enum ConductFault {
     Mast { sent: u64 },
     /// There was no memory. The cycles before stand.
     NoMemory,
+}
+
+impl From<NoMemory> for ConductFault {
+    ghost use Rattle.std.specs.Prelude.{◌≡◌};
+    ghost use Rattle.air_jobs.specs.declared.conductors.ConductFault.TheVariants.{NoMemory};
+
+    ghost from_gives = { λ _ fault. fault ≡ NoMemory };
+
+    fn from(_error: NoMemory) -> Self {
+        ConductFault::NoMemory
+    }
 }
 
 /// Conducts so many cycles, each between its two gate calls. A cycle starts; its fresh events are applied to the board, once each;

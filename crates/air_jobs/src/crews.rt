@@ -16,6 +16,7 @@ use crate::conductors::{ConductFault, conductor_job};
 use crate::monitors::monitor_job;
 use crate::updaters::updater_job;
 use air_base::Policy;
+use air_base::limits::{MOST_MONITORS, MOST_UPDATERS};
 use air_devices::{Gate, Mast};
 use air_model::reports::LookLine;
 use chunk_program::Program;
@@ -27,9 +28,6 @@ use std::alloc::Global;
 use std::sync::Wait;
 use std::thread;
 use std::thread::{Threads, join_mut};
-
-/// The most threads for the updaters, and for the monitors: a deck has no more of either.
-const MOST_THREADS: usize = 16;
 
 /// An updater: its pass, and whether all of its updates were committed.
 #[derive(Drop)]
@@ -83,7 +81,7 @@ impl MonitorRun {
     }
 }
 
-/// All updaters at once.
+/// All updaters at once, each on a thread of its own: a deck has no more of them.
 fn update_all<R: Threads + Wait + Sync, G: Gate + Sync>(
     rt: &R,
     alloc: Global,
@@ -98,12 +96,12 @@ fn update_all<R: Threads + Wait + Sync, G: Gate + Sync>(
     thread::for_each_mut(
         rt,
         updaters,
-        MOST_THREADS,
+        MOST_UPDATERS,
         &|_, run| run.work(rt, alloc, station, deck, gate),
     );
 }
 
-/// All monitors at once.
+/// All monitors at once, each on a thread of its own: a deck has no more of them.
 fn watch_all<R: Threads + Sync, G: Gate + Sync>(
     rt: &R,
     monitors: &mut [MonitorRun],
@@ -113,7 +111,12 @@ fn watch_all<R: Threads + Sync, G: Gate + Sync>(
     requires { 1 ≤ looks }
     ensures { EachWatched looks monitors.old monitors.new }
 {
-    thread::for_each_mut(rt, monitors, MOST_THREADS, &|_, run| run.work(looks, gate));
+    thread::for_each_mut(
+        rt,
+        monitors,
+        MOST_MONITORS as usize,
+        &|_, run| run.work(looks, gate),
+    );
 }
 
 /// All updaters beside all monitors.

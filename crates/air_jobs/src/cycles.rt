@@ -55,10 +55,8 @@ fn start_fresh<R: Wait>(
         MatchResult result (λ fresh. IsBatch (length pass.old.values) fresh.items × IsUpTo 1 pass.new.seen batches × IsUpTo 0 pass.new.seen (batches ++ fresh.items ∷ [])) (λ _. IsUpTo 0 pass.new.seen batches) }
 {
     let mut fresh = Vec::new(alloc);
-    match station.start_cycle(wait, alloc, pass, &mut fresh) {
-        Ok(_cycle) => Ok(fresh),
-        Err(_) => Err(NoMemory),
-    }
+    let _cycle = station.start_cycle(wait, alloc, pass, &mut fresh)?;
+    Ok(fresh)
 }
 
 /// Starts a cycle, applies its events to the board, and publishes them as one batch.
@@ -77,14 +75,10 @@ fn begin_cycle<R: Wait>(
     ensures begun { OnOk result (AreInStep pass.new publisher.new board.new × AddsBatch publisher.old publisher.new) }
     ensures stopped { OnErr result ((publisher.new ≡ publisher.old) × IsPublishedUpTo pass.new.seen publisher.new.batches fault.NoMemory) }
 {
-    let Ok(fresh) = start_fresh(wait, alloc, station, pass) else {
-        return Err(NoMemory);
-    };
+    let fresh = start_fresh(wait, alloc, station, pass)?;
     apply_all(board, &fresh);
-    match publisher.publish(wait, fresh) {
-        Ok(()) => Ok(()),
-        Err(_) => Err(NoMemory),
-    }
+    publisher.publish(wait, fresh)?;
+    Ok(())
 }
 
 /// The slot at which the mast failed.
@@ -125,12 +119,7 @@ pub fn conduct_cycle<R: Wait, M: Mast>(
     ensures port { (M.state mast.new).port ≡ (M.state mast.old).port }
     ensures buffer { length buf.new ≡ length buf.old }
 {
-    match begin_cycle(wait, alloc, station, pass, publisher, board) {
-        Ok(()) => {}
-        Err(_) => {
-            return Err(ConductFault::NoMemory);
-        }
-    }
+    begin_cycle(wait, alloc, station, pass, publisher, board)?;
     below_law();
     match air_cycle(program, board, policy, mast, buf) {
         Ok(()) => Ok(()),

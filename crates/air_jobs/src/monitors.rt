@@ -34,12 +34,8 @@ pub fn monitor_job<G: Gate>(
     let _before = monitor.looks();
     for look in 0..looks {
         gate.before_look(look);
-        match monitor.look() {
-            Ok(()) => gate.after_look(look),
-            Err(_) => {
-                return Err(NoMemory);
-            }
-        }
+        monitor.look()?;
+        gate.after_look(look);
     }
     Ok(line_of(monitor))
 }
@@ -51,8 +47,6 @@ pub fn last_look(monitor: &mut Monitor, publisher: &Publisher) -> Result<LookLin
     ensures looked { MatchResult result (λ line. Looked (record monitor.old { told = monitor.new.told }) monitor.new × IsLineOf monitor.new line) (λ _. monitor.new ≡ record monitor.old { told = monitor.new.told }) }
 {
     monitor.learn(publisher.tell());
-    match monitor.look() {
-        Ok(()) => Ok(line_of(monitor)),
-        Err(_) => Err(NoMemory),
-    }
+    monitor.look()?;
+    Ok(line_of(monitor))
 }

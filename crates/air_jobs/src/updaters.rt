@@ -32,12 +32,8 @@ pub fn updater_job<R: Wait, G: Gate>(
         let by = pass.by();
         let seq = pass.made();
         gate.before_commit(by, seq);
-        match station.commit(wait, alloc, pass, update) {
-            Ok(_receipt) => gate.after_commit(by, seq),
-            Err(_) => {
-                return Err(NoMemory);
-            }
-        }
+        let _receipt = station.commit(wait, alloc, pass, update)?;
+        gate.after_commit(by, seq);
     }
     Ok(())
 }

@@ -7,13 +7,19 @@ use Rattle.cycle_snapshot.proofs.BatchLemmas.{batch_starts}
 use Rattle.air_jobs.specs.Published.{AreInStep, IsUpTo}
 use Rattle.air_jobs.proofs.CycleLemmas.{board_cycle, board_sized, in_step}
 use Rattle.cycle_snapshot.specs.Batches.{events_in}
+use Rattle.std.specs.Prelude.{Result, Ok, Err, OnErr}
 use Rattle.air_jobs.proofs.cycles.begin_cycle.Goals as goal
+
+-- What holds anyway holds at a fault.
+at_fault : {T E : Type 0} (Q : Type 0) (r : Result T E) → Q → OnErr r Q
+at_fault Q (Ok x) h = tt
+at_fault Q (Err e) h = h
 
 pub apply_all-requires-clause-fits : goal.apply_all-requires-clause-fits
 apply_all-requires-clause-fits g c =
     let p = c.args.pass.now in
     let f = c.args.publisher.now in
-    let s = c.in-Ok.ensures.started f.batches c.requires.step.published in
+    let s = c.in_ok-fresh.ensures.started f.batches c.requires.step.published in
     let sized = board_sized p.values c.args.board.now (events_in f.batches) c.requires.step.board in
     subst (λ n. All (ItemsFit n) c.deref.result.now) (sym sized) (subst (All (ItemsFit (length p.values))) (sym c.deref.ensures.value) s.0.fits)
 
@@ -21,37 +27,37 @@ pub apply_all-requires-clause-room : goal.apply_all-requires-clause-room
 apply_all-requires-clause-room g c =
     let p = c.args.pass.now in
     let f = c.args.publisher.now in
-    let s = c.in-Ok.ensures.started f.batches c.requires.step.published in
+    let s = c.in_ok-fresh.ensures.started f.batches c.requires.step.published in
     let cycle = board_cycle p f c.args.board.now c.requires.step in
-    let one : starts c.deref.result.now ≡ 1 = ap starts c.deref.ensures.value ∙ batch_starts (length p.values) c.in-Ok.fresh.items s.0 in
+    let one : starts c.deref.result.now ≡ 1 = ap starts c.deref.ensures.value ∙ batch_starts (length p.values) c.in_ok-fresh.fresh.items s.0 in
     let room = c.requires.room.1 in
     omega arith
 
 pub publish-requires-clause-batch : goal.publish-requires-clause-batch
 publish-requires-clause-batch g c =
     let f = c.args.publisher.now in
-    let s = c.in-Ok.ensures.started f.batches c.requires.step.published in
-    subst (λ v. IsBatch (length v) c.in-Ok.fresh.items) (sym c.requires.step.values) s.0
+    let s = c.in_ok-fresh.ensures.started f.batches c.requires.step.published in
+    subst (λ v. IsBatch (length v) c.in_ok-fresh.fresh.items) (sym c.requires.step.values) s.0
 
 pub publish-requires-clause-room : goal.publish-requires-clause-room
 publish-requires-clause-room g c = let count = c.requires.step.published.count in let room = c.requires.room.0 in omega arith
 
-pub returns-in-Ok-publish-clause-begun : goal.returns-in-Ok-publish-clause-begun
-returns-in-Ok-publish-clause-begun g c =
+pub returns-clause-begun : goal.returns-clause-begun
+returns-clause-begun g c =
     let p = c.args.pass.now in
     let f = c.args.publisher.now in
-    let fresh = c.in-Ok.fresh.items in
+    let fresh = c.in_ok-fresh.fresh.items in
     let step = c.requires.step in
-    let s = c.in-Ok.ensures.started f.batches step.published in
+    let s = c.in_ok-fresh.ensures.started f.batches step.published in
     let lent = c.deref.ensures.value in
     let bases = subst (All BasesRead) lent c.apply_all.ensures.bases in (
-      in_step p c.start_fresh.new.pass f c.publish.new.self c.args.board.now c.apply_all.new.board fresh step c.start_fresh.ensures.on c.in-Ok-publish.ensures
+      in_step p c.start_fresh.new.pass f c.publish.new.self c.args.board.now c.apply_all.new.board fresh step c.start_fresh.ensures.on c.in_ok-publish.ensures
           (c.apply_all.ensures.stepped ∙ ap (Rattle.cycle_snapshot.specs.BoardRuns.step_all c.args.board.now) lent) s.0 bases s.2,
-      (fresh, c.in-Ok-publish.ensures, subst (λ v. IsBatch (length v) fresh) (sym step.values) s.0),
+      (fresh, c.in_ok-publish.ensures, subst (λ v. IsBatch (length v) fresh) (sym step.values) s.0),
     )
 
-pub returns-in-Err-clause-stopped : goal.returns-in-Err-clause-stopped
-returns-in-Err-clause-stopped g c =
+pub returns-in_err-publish-clause-stopped : goal.returns-in_err-publish-clause-stopped
+returns-in_err-publish-clause-stopped g c =
     let f = c.args.publisher.now in
-    let s = c.in-Ok.ensures.started f.batches c.requires.step.published in
-    (c.in-Err.ensures, inr (subst (IsUpTo 1 c.start_fresh.new.pass.seen) (sym (ap (λ x. x.batches) c.in-Err.ensures)) s.1))
+    let s = c.in_ok-fresh.ensures.started f.batches c.requires.step.published in
+    at_fault _ c.from_residual-in_err-publish.result (c.in_err-publish.ensures, inr (subst (IsUpTo 1 c.start_fresh.new.pass.seen) (sym (ap (λ x. x.batches) c.in_err-publish.ensures)) s.1))

@@ -10,33 +10,33 @@ use Rattle.air_jobs.proofs.cycles.conduct_cycle.Goals as goal
 
 pub air_cycle-requires-clause-started : goal.air_cycle-requires-clause-started
 air_cycle-requires-clause-started g c =
-    let b = c.in-Ok.ensures.begun in
+    let b = c.in_ok-begin_cycle.ensures.begun in
     started c.args.pass.now c.begin_cycle.new.pass c.args.publisher.now c.begin_cycle.new.publisher c.begin_cycle.new.board c.begin_cycle.ensures.pass b.0 b.1
 
 pub air_cycle-requires-clause-below : goal.air_cycle-requires-clause-below
 air_cycle-requires-clause-below g c =
-    let b = c.in-Ok.ensures.begun in
+    let b = c.in_ok-begin_cycle.ensures.begun in
     let p = c.args.pass.now in
     let is = last p c.begin_cycle.new.pass c.args.publisher.now c.begin_cycle.new.publisher c.begin_cycle.new.board c.begin_cycle.ensures.pass b.0 b.1 in
     subst EntriesBelow (sym is) (c.below_law.ensures p.values (front p c.begin_cycle.new.pass c.args.publisher.now c.begin_cycle.new.publisher c.begin_cycle.new.board c.begin_cycle.ensures.pass b.0 b.1))
 
 pub air_cycle-requires-clause-items : goal.air_cycle-requires-clause-items
 air_cycle-requires-clause-items g c =
-    let b = c.in-Ok.ensures.begun in
+    let b = c.in_ok-begin_cycle.ensures.begun in
     let is = last c.args.pass.now c.begin_cycle.new.pass c.args.publisher.now c.begin_cycle.new.publisher c.begin_cycle.new.board c.begin_cycle.ensures.pass b.0 b.1 in
     c.requires.items ∙ sym (board_sized c.args.pass.now.values c.begin_cycle.new.board _ is)
 
 pub air_cycle-requires-clause-room : goal.air_cycle-requires-clause-room
 air_cycle-requires-clause-room g c =
-    let b = c.in-Ok.ensures.begun in
+    let b = c.in_ok-begin_cycle.ensures.begun in
     let is = last c.args.pass.now c.begin_cycle.new.pass c.args.publisher.now c.begin_cycle.new.publisher c.begin_cycle.new.board c.begin_cycle.ensures.pass b.0 b.1 in
     let sized = board_sized c.args.pass.now.values c.begin_cycle.new.board _ is in
     let room = c.requires.buffer in
     omega arith
 
-pub returns-in-Ok-air_cycle-clause-aired : goal.returns-in-Ok-air_cycle-clause-aired
-returns-in-Ok-air_cycle-clause-aired g c = λ air is.
-    let b = c.in-Ok.ensures.begun in
+pub returns-in-Ok-clause-aired : goal.returns-in-Ok-clause-aired
+returns-in-Ok-clause-aired g c = λ air is.
+    let b = c.in_ok-begin_cycle.ensures.begun in
     let p = c.args.pass.now in
     let q = c.begin_cycle.new.pass in
     let f = c.args.publisher.now in
@@ -45,11 +45,11 @@ returns-in-Ok-air_cycle-clause-aired g c = λ air is.
     let on = c.begin_cycle.ensures.pass in
     let policy = c.args.policy in
     let slots = slots_of c.args.program.now in
-    cycle_sent p q f h board on b.0 b.1 air policy slots is _ _ (c.in-Ok-air_cycle.ensures.history p.values air (front p q f h board on b.0 b.1) (last_board p q f h board on b.0 b.1 air policy slots is))
+    cycle_sent p q f h board on b.0 b.1 air policy slots is _ _ (c.in-Ok.ensures.history p.values air (front p q f h board on b.0 b.1) (last_board p q f h board on b.0 b.1 air policy slots is))
 
-pub returns-in-Err-air_cycle-clause-aired : goal.returns-in-Err-air_cycle-clause-aired
-returns-in-Err-air_cycle-clause-aired g c = λ air is.
-    let b = c.in-Ok.ensures.begun in
+pub returns-in-Err-clause-aired : goal.returns-in-Err-clause-aired
+returns-in-Err-clause-aired g c = λ air is.
+    let b = c.in_ok-begin_cycle.ensures.begun in
     let p = c.args.pass.now in
     let q = c.begin_cycle.new.pass in
     let f = c.args.publisher.now in
@@ -59,11 +59,11 @@ returns-in-Err-air_cycle-clause-aired g c = λ air is.
     let policy = c.args.policy in
     let slots = slots_of c.args.program.now in
     cycle_failed_by p q f h board on b.0 b.1 air policy slots is g.M.Mast.state _ c.from.result c.args.mast.now c.air_cycle.new.mast (c.from.ensures ∙ c.slot_of.ensures)
-    (c.in-Err-air_cycle.ensures.history p.values air (front p q f h board on b.0 b.1) (last_board p q f h board on b.0 b.1 air policy slots is)) c.in-Err-air_cycle.ensures.fault
+    (c.in-Err.ensures.history p.values air (front p q f h board on b.0 b.1) (last_board p q f h board on b.0 b.1 air policy slots is)) c.in-Err.ensures.fault
 
-pub returns-in-Err-air_cycle-clause-short : goal.returns-in-Err-air_cycle-clause-short
-returns-in-Err-air_cycle-clause-short g c =
-    within_cycle g.M.Mast.state c.args.policy (slots_of c.args.program.now) c.begin_cycle.new.board _ c.from.result c.args.mast.now c.air_cycle.new.mast (c.from.ensures ∙ c.slot_of.ensures) c.in-Err-air_cycle.ensures.fault
+pub returns-in-Err-clause-short : goal.returns-in-Err-clause-short
+returns-in-Err-clause-short g c =
+    within_cycle g.M.Mast.state c.args.policy (slots_of c.args.program.now) c.begin_cycle.new.board _ c.from.result c.args.mast.now c.air_cycle.new.mast (c.from.ensures ∙ c.slot_of.ensures) c.in-Err.ensures.fault
 
-pub returns-in-Err-air_cycle-clause-cause : goal.returns-in-Err-air_cycle-clause-cause
-returns-in-Err-air_cycle-clause-cause g c = rose_by g.M.Mast.state _ _ c.args.mast.now c.air_cycle.new.mast c.in-Err-air_cycle.ensures.fault
+pub returns-in-Err-clause-cause : goal.returns-in-Err-clause-cause
+returns-in-Err-clause-cause g c = rose_by g.M.Mast.state _ _ c.args.mast.now c.air_cycle.new.mast c.in-Err.ensures.fault

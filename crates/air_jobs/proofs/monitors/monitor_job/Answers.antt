@@ -1,5 +1,6 @@
 use Rattle.std.proofs.Common.{◌≡◌, ◌<◌, subst, sym, arith}
 use Rattle.air_jobs.specs.Looks.{LookedTimes}
+use Rattle.station.proofs.TurnLemmas.{refused}
 use Rattle.air_jobs.proofs.LookLemmas.{looked_more, looked_none}
 use Rattle.air_jobs.proofs.monitors.monitor_job.Goals as goal
 
@@ -7,10 +8,10 @@ pub loop-look-init : goal.loop-look-init
 loop-look-init g c = looked_none c.args.monitor.now (subst (λ n. n < 18446744073709551616) c.looks-before.ensures c.looks-before.type_inv)
 
 pub loop-look-preserved : goal.loop-look-preserved
-loop-look-preserved g c = looked_more c.args.monitor.now c.loop-look.monitor c.look.new.self c.loop-look.look c.loop-look.invariant c.in-Ok.ensures
+loop-look-preserved g c = looked_more c.args.monitor.now c.loop-look.monitor c.look.new.self c.loop-look.look c.loop-look.invariant c.in_ok-look.ensures
 
-pub returns-in-Err : goal.returns-in-Err
-returns-in-Err g c = record { looked = (c.loop-look.look, c.loop-look-test.true, subst (LookedTimes c.loop-look.look c.args.monitor.now) (sym c.in-Err.ensures) c.loop-look.invariant) }
+pub returns-in_err-look : goal.returns-in_err-look
+returns-in_err-look g c = record { looked = refused _ _ c.from_residual.result c.from_residual.ensures.0 (c.loop-look.look, c.loop-look-test.true, subst (LookedTimes c.loop-look.look c.args.monitor.now) (sym c.in_err-look.ensures) c.loop-look.invariant) }
 
 pub returns : goal.returns
 returns g c =
