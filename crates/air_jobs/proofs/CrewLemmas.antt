@@ -1,11 +1,11 @@
 -- What a deck's updater commits, from nothing on.
-use Rattle.std.proofs.Common.{◌≡◌, ℕ, zero, suc, ◌+◌, ◌<◌, ◌≤◌, ◌^◌, List, [], ◌∷◌, ◌++◌, length, take, get_or, All, refl, sym, ◌∙◌, ap, subst, arith}
-use Rattle.std.specs.Prelude.{sum_by, count_by}
+use Rattle.std.proofs.Common.{◌≡◌, ℕ, zero, suc, ◌+◌, ◌<◌, ◌≤◌, List, [], ◌∷◌, ◌++◌, length, take, get_or, All, sym, ◌∙◌, ap, subst, arith}
+use Rattle.std.specs.Prelude.{sum_by}
 use Rattle.std.proofs.lemmas.List.Sums.{sum_by-cons}
 use Rattle.air_history.specs.declared.histories.Event.{Event}
 use Rattle.air_history.specs.UpdateLists.{UpdateLists}
 use Rattle.air_history.specs.UpdateRules.{UpdateFits}
-use Rattle.air_model.specs.Decks.{Deck, IsDeck, count_made, is_by, updates_by, values_in}
+use Rattle.air_model.specs.Decks.{Deck, IsDeck, count_made, updates_by, values_in}
 use Rattle.air_model.specs.DeckLaws.{commits_from, made_by}
 use Rattle.item_catalog.specs.DeckLimits.{WithinLimits}
 use Rattle.station.specs.PassStates.{PassState, new_pass}

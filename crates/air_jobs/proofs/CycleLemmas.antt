@@ -1,11 +1,9 @@
 -- What the conductor's pass has seen, and the batches that are published of it.
-use Rattle.std.proofs.Common.{◌≡◌, ◌⊎◌, ℕ, zero, suc, ◌+◌, ◌<◌, ◌≤◌, cond, List, [], ◌∷◌, ◌++◌, length, All, inl, inr, refl, sym, ◌∙◌, ap, subst, arith, append_assoc, length-append}
+use Rattle.std.proofs.Common.{◌≡◌, ◌⊎◌, ℕ, ◌+◌, ◌≤◌, cond, List, [], ◌∷◌, ◌++◌, length, All, inl, inr, refl, sym, ◌∙◌, ap, subst, arith, append_assoc, length-append}
 use Rattle.std.proofs.lemmas.List.{append-nil}
 use Rattle.std.proofs.lemmas.List.Sums.{sum_by-cons}
-use mathlib.Core.List.{IsPrefix}
 use Rattle.air_history.specs.declared.histories.Event.{Event}
 use Rattle.air_history.specs.declared.histories.Event.TheVariants.{Commit, Start}
-use Rattle.air_history.specs.UpdateLists.{UpdateLists}
 use Rattle.air_history.specs.Histories.{is_start, starts, since_start, EventFits, ItemsFit}
 use Rattle.air_history.specs.Tables.{BasesRead}
 use Rattle.air_history.specs.Boards.{Board, board_of}
@@ -15,7 +13,7 @@ use Rattle.station.specs.PassStates.{PassState, with_seen}
 use Rattle.cycle_snapshot.specs.Batches.{IsBatch, events_in}
 use Rattle.cycle_snapshot.specs.BoardRuns.{step_all}
 use Rattle.cycle_snapshot.specs.SnapshotStates.{PublisherState, with_batch}
-use Rattle.cycle_snapshot.proofs.BatchLemmas.{starts_append, batch_starts, events_more, board_all, board_values}
+use Rattle.cycle_snapshot.proofs.BatchLemmas.{starts_append, events_more, board_all, board_values}
 use Rattle.cycle_snapshot.proofs.PrefixLemmas.{prefix_self, prefix_trans}
 use Rattle.run_laws.specs.Fronts.{EndsAtStart}
 use Rattle.air_jobs.specs.Published.{AreInStep, GoesOn, IsUpTo, PublishesOn}

@@ -1,5 +1,5 @@
 -- A deck's run, from the beginning.
-use Rattle.std.proofs.Common.{◌≡◌, ℕ, ◌+◌, ◌*◌, ◌≤◌, Option, List, [], ◌∷◌, ◌++◌, length, map, inl, refl, sym, ◌∙◌, ap, subst, arith}
+use Rattle.std.proofs.Common.{◌≡◌, ℕ, ◌+◌, ◌≤◌, Option, List, [], ◌++◌, length, inl, refl, sym, ◌∙◌, ap, subst, arith}
 use Rattle.std.proofs.lemmas.List.{length-map}
 use Rattle.std.specs.Prelude.{Result, Ok, Err, MatchResult, OnErr, OnOk}
 use Rattle.air_base.specs.declared.verdicts.Policy.{Policy}
@@ -13,10 +13,9 @@ use Rattle.air_model.specs.Aired.{Air, air_of, buckets_of}
 use Rattle.air_model.proofs.ItemOrder.{cut_items, length-order}
 use Rattle.air_devices.specs.Masts.{Changes, Masted, Sent, with_buckets}
 use Rattle.air_sender.specs.AirFaults.{FailedAt}
-use Rattle.station.specs.PassStates.{PassState, new_pass}
-use Rattle.turnstile.specs.Passes.{GateId}
+use Rattle.station.specs.PassStates.{PassState}
 use Rattle.cycle_snapshot.specs.Batches.{events_in}
-use Rattle.cycle_snapshot.specs.SnapshotStates.{PublisherState, new_publisher}
+use Rattle.cycle_snapshot.specs.SnapshotStates.{PublisherState}
 use Rattle.update_commit.proofs.EventLemmas.{starts_none}
 use Rattle.air_jobs.specs.Published.{AreInStep, IsUpTo}
 use Rattle.air_jobs.specs.Sendings.{FailsAfter, IsAirOf, SendsCycles, SendsPart, SendsUpTo, bytes_aired}

@@ -1,12 +1,11 @@
 -- What was sent of what a history airs.
-use Rattle.std.proofs.Common.{◌≡◌, ℕ, zero, suc, ◌+◌, ◌*◌, ◌<◌, ◌≤◌, false, cond, Option, Some, None, List, [], ◌∷◌, ◌++◌, length, map, take, inl, inr, refl, sym, ◌∙◌, ap, subst, arith, append_assoc, length-append, add-mul, zero-mul, one-mul, mul-le-mul_right}
+use Rattle.std.proofs.Common.{◌≡◌, ℕ, zero, suc, ◌+◌, ◌*◌, ◌<◌, ◌≤◌, Option, Some, None, List, [], ◌∷◌, ◌++◌, length, map, take, sym, ◌∙◌, ap, subst, arith, append_assoc, length-append, add-mul, zero-mul, one-mul, mul-le-mul_right}
 use Rattle.std.proofs.lemmas.List.{append-nil, length-map, map-append}
 use Rattle.std.proofs.lemmas.List.FromFn.{length-map-range_with_len}
-use Rattle.std.proofs.lemmas.Bool.{cond-true, cond-false}
 use Rattle.air_history.specs.declared.histories.Event.{Event}
 use Rattle.air_history.specs.declared.histories.Event.TheVariants.{Commit, Start}
 use Rattle.air_history.specs.Histories.{is_start, starts}
-use Rattle.air_model.specs.Buckets.{Bucket, spelling}
+use Rattle.air_model.specs.Buckets.{spelling}
 use Rattle.air_model.specs.Aired.{Air, bucket_of, buckets_of}
 use Rattle.air_devices.specs.Counts.{Rose}
 use Rattle.air_devices.specs.Masts.{Changes, Masted, Sent, with_buckets}
@@ -20,7 +19,7 @@ use Rattle.cycle_snapshot.specs.Batches.{IsBatch, events_in}
 use Rattle.cycle_snapshot.proofs.BatchLemmas.{events_more}
 use Rattle.air_base.specs.declared.verdicts.Policy.{Policy}
 use Rattle.air_history.specs.Boards.{Board, board_of}
-use Rattle.board_laws.specs.BoardBuckets.{EntriesBelow, IsLastBoard, cycle_bytes}
+use Rattle.board_laws.specs.BoardBuckets.{IsLastBoard, cycle_bytes}
 use Rattle.air_sender.proofs.SendFacts.{length_cycle}
 use Rattle.station.specs.PassStates.{PassState}
 use Rattle.cycle_snapshot.specs.SnapshotStates.{PublisherState}

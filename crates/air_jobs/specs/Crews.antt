@@ -1,5 +1,5 @@
 -- Jobs before and after they ran side by side.
-use Rattle.std.specs.Prelude.{◌≡◌, ℕ, ◌<◌, List, [], length, map, take, get_or, MatchBool, Option, Some, None}
+use Rattle.std.specs.Prelude.{◌≡◌, ℕ, ◌<◌, List, length, map, take, get_or, MatchBool, Option, Some, None}
 use Rattle.turnstile.specs.Passes.{GateId}
 use Rattle.air_model.specs.Decks.{Deck, updates_by}
 use Rattle.air_model.specs.DeckLaws.{commits_from, made_by}

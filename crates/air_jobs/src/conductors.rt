@@ -7,8 +7,10 @@ ghost use Rattle.air_model.specs.Aired.{Air};
 ghost use Rattle.bucket_codec.specs.declared.offsets.TheConstants.{ENTRY_BYTES, HEAD_BYTES};
 ghost use Rattle.air_jobs.specs.Published.{AreInStep, GoesOn, IsPublishedUpTo, PublishesOn};
 ghost use Rattle.air_jobs.specs.Sendings.{IsAirOf, IsCause, SendsCycles, SendsUpTo};
+ghost use Rattle.air_jobs.specs.Steps.CycleSteps.{HasConducted};
 
 use crate::cycles::conduct_cycle;
+use crate::means::Means;
 use air_base::{NoMemory, Policy};
 use air_devices::{Gate, Mast};
 use chunk_program::Program;
@@ -72,14 +74,41 @@ pub fn conductor_job<R: Wait, M: Mast, G: Gate>(
     ensures port { (M.state mast.new).port ≡ (M.state mast.old).port }
     ensures buffer { length buf.new ≡ length buf.old }
 {
-    program.well_made();
-    let slots = u64::from(program.slots());
+    let means = Means {
+        wait,
+        alloc,
+        station,
+        program,
+        policy,
+    };
+    conduct(&means, pass, publisher, board, cycles, mast, buf, gate)
+}
+
+/// The conductor's job, with all that it leaves said at once.
+pub fn conduct<R: Wait, M: Mast, G: Gate>(
+    means: &Means<'_, R>,
+    pass: &mut ConductorPass,
+    publisher: &mut Publisher,
+    board: &mut Board,
+    cycles: u32,
+    mast: &mut M,
+    buf: &mut [u8],
+    gate: &G,
+) -> Result<(), ConductFault>
+    requires own { pass.old.station ≡ means.now.station.now }
+    requires step { AreInStep pass.old publisher.old board.old }
+    requires room { (starts pass.old.seen + cycles ≤ publisher.old.most) × (starts pass.old.seen + cycles + 1 < 2 ^ 32) }
+    requires items { length (all_items means.now.program.now) ≡ length pass.old.values }
+    requires buffer { HEAD_BYTES + ENTRY_BYTES * length pass.old.values ≤ length buf.old }
+    ensures conducted { HasConducted M.state means.now.policy (slots_of means.now.program.now) cycles pass.old pass.new publisher.old publisher.new board.new mast.old mast.new result }
+    ensures buffer { length buf.new ≡ length buf.old }
+{
+    means.program.well_made();
+    let slots = u64::from(means.program.slots());
     for k in 0..cycles {
         let cycle = pass.started() + 1;
         gate.before_cycle(cycle);
-        match conduct_cycle(
-            wait, alloc, station, pass, publisher, board, program, policy, mast, buf,
-        ) {
+        match conduct_cycle(means, pass, publisher, board, mast, buf) {
             Ok(()) => gate.after_cycle(cycle),
             Err(ConductFault::NoMemory) => {
                 return Err(ConductFault::NoMemory);

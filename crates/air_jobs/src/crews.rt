@@ -12,7 +12,8 @@ ghost use Rattle.air_jobs.specs.Published.{AreInStep};
 ghost use Rattle.air_jobs.specs.Steps.CycleSteps.{HasConducted};
 ghost use Rattle.air_jobs.specs.Crews.{EachDone, EachWatched, IsDone, IsReady, IsWatched};
 
-use crate::conductors::{ConductFault, conductor_job};
+use crate::conductors::{ConductFault, conduct};
+use crate::means::Means;
 use crate::monitors::monitor_job;
 use crate::updaters::updater_job;
 use air_base::Policy;
@@ -148,33 +149,6 @@ fn update_and_watch<R: Threads + Wait + Sync, G: Gate + Sync>(
     );
 }
 
-/// The conductor's job, with all that it leaves said at once.
-fn conduct<R: Wait, M: Mast, G: Gate>(
-    wait: &R,
-    alloc: Global,
-    station: &Station,
-    pass: &mut ConductorPass,
-    publisher: &mut Publisher,
-    board: &mut Board,
-    program: &Program,
-    policy: Policy,
-    cycles: u32,
-    mast: &mut M,
-    buf: &mut [u8],
-    gate: &G,
-) -> Result<(), ConductFault>
-    requires own { pass.old.station ≡ station.now }
-    requires step { AreInStep pass.old publisher.old board.old }
-    requires room { (starts pass.old.seen + cycles ≤ publisher.old.most) × (starts pass.old.seen + cycles + 1 < 2 ^ 32) }
-    requires items { length (all_items program.now) ≡ length pass.old.values }
-    requires buffer { HEAD_BYTES + ENTRY_BYTES * length pass.old.values ≤ length buf.old }
-    ensures conducted { HasConducted M.state policy (slots_of program.now) cycles pass.old pass.new publisher.old publisher.new board.new mast.old mast.new result }
-{
-    conductor_job(
-        wait, alloc, station, pass, publisher, board, program, policy, cycles, mast, buf, gate,
-    )
-}
-
 /// The conductor beside all updaters and all monitors. It answers as the conductor's job does; each updater tells whether it
 /// committed all of its updates, and each monitor its last look.
 pub fn run_beside<R: Threads + Wait + Sync, M: Mast + Send, G: Gate + Sync>(
@@ -209,10 +183,14 @@ pub fn run_beside<R: Threads + Wait + Sync, M: Mast + Send, G: Gate + Sync>(
     let (conducted, _) = join_mut(
         rt,
         &mut || {
-            conduct(
-                rt, alloc, station, pass, publisher, board, program, policy, cycles, mast, buf,
-                gate,
-            )
+            let means = Means {
+                wait: rt,
+                alloc,
+                station,
+                program,
+                policy,
+            };
+            conduct(&means, pass, publisher, board, cycles, mast, buf, gate)
         },
         &mut ||
             requires { IsSync R.row × IsSync G.row × All (IsReady station.now deck.now) updaters.now × (1 ≤ looks) }

@@ -10,6 +10,7 @@ mod conductors;
 mod crews;
 mod cycles;
 pub mod laws;
+mod means;
 mod monitors;
 mod openings;
 pub mod runs;

@@ -66,22 +66,9 @@ pub fn run_jobs<R: Threads + Wait + Sync, M: Mast + Send, G: Gate + Sync>(
 {
     deck.well_made();
     let settings = deck.settings();
+    let (policy, cycles) = (settings.policy, settings.cycles);
     run_beside(
-        rt,
-        alloc,
-        deck,
-        program,
-        station,
-        pass,
-        publisher,
-        board,
-        settings.policy,
-        settings.cycles,
-        mast,
-        buf,
-        updaters,
-        monitors,
-        LOOKS,
-        gate,
+        rt, alloc, deck, program, station, pass, publisher, board, policy, cycles, mast, buf,
+        updaters, monitors, LOOKS, gate,
     )
 }

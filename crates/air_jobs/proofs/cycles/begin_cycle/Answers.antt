@@ -1,11 +1,12 @@
-use Rattle.std.proofs.Common.{◌≡◌, ◌+◌, ◌<◌, ◌∙◌, All, length, sym, ap, subst, arith, inr}
+use Rattle.std.proofs.Common.{◌≡◌, ◌∙◌, All, length, sym, ap, subst, arith, inr}
 use Rattle.air_history.specs.Histories.{starts, ItemsFit}
 use Rattle.air_history.specs.Tables.{BasesRead}
-use Rattle.station.specs.PassStates.{PassState}
 use Rattle.cycle_snapshot.specs.Batches.{IsBatch}
 use Rattle.cycle_snapshot.proofs.BatchLemmas.{batch_starts}
-use Rattle.air_jobs.specs.Published.{AreInStep, IsUpTo}
+use Rattle.air_jobs.specs.Published.{IsUpTo}
+use Rattle.board_laws.specs.BoardBuckets.{EntriesBelow}
 use Rattle.air_jobs.proofs.CycleLemmas.{board_cycle, board_sized, in_step}
+use Rattle.air_jobs.proofs.SendLemmas.{front, last, started}
 use Rattle.cycle_snapshot.specs.Batches.{events_in}
 use Rattle.std.specs.Prelude.{Result, Ok, Err, OnErr}
 use Rattle.air_jobs.proofs.cycles.begin_cycle.Goals as goal
@@ -55,6 +56,29 @@ returns-clause-begun g c =
           (c.apply_all.ensures.stepped ∙ ap (Rattle.cycle_snapshot.specs.BoardRuns.step_all c.args.board.now) lent) s.0 bases s.2,
       (fresh, c.in_ok-publish.ensures, subst (λ v. IsBatch (length v) fresh) (sym step.values) s.0),
     )
+
+pub returns-clause-started : goal.returns-clause-started
+returns-clause-started g c =
+    let b = returns-clause-begun g c in
+    started c.args.pass.now c.start_fresh.new.pass c.args.publisher.now c.publish.new.self c.apply_all.new.board c.start_fresh.ensures.on b.0 b.1
+
+pub returns-clause-below : goal.returns-clause-below
+returns-clause-below g c =
+    let b = returns-clause-begun g c in
+    let p = c.args.pass.now in
+    let q = c.start_fresh.new.pass in
+    let f = c.args.publisher.now in
+    let h = c.publish.new.self in
+    let board = c.apply_all.new.board in
+    let on = c.start_fresh.ensures.on in
+    subst EntriesBelow (sym (last p q f h board on b.0 b.1)) (c.below_law.ensures p.values (front p q f h board on b.0 b.1))
+
+pub returns-clause-sized : goal.returns-clause-sized
+returns-clause-sized g c =
+    let b = returns-clause-begun g c in
+    let p = c.args.pass.now in
+    let board = c.apply_all.new.board in
+    board_sized p.values board _ (last p c.start_fresh.new.pass c.args.publisher.now c.publish.new.self board c.start_fresh.ensures.on b.0 b.1)
 
 pub returns-in_err-publish-clause-stopped : goal.returns-in_err-publish-clause-stopped
 returns-in_err-publish-clause-stopped g c =

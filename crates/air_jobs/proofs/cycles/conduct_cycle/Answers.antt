@@ -1,38 +1,7 @@
-use Rattle.std.proofs.Common.{◌≡◌, ◌+◌, ◌<◌, ◌≤◌, ◌∙◌, ◌++◌, ◌∷◌, [], length, refl, sym, ap, subst, arith}
-use Rattle.air_history.specs.declared.histories.Event.TheVariants.{Start}
-use Rattle.air_history.specs.Boards.{board_of}
+use Rattle.std.proofs.Common.{◌∙◌}
 use Rattle.air_model.specs.Programs.{program as slots_of}
-use Rattle.board_laws.specs.BoardBuckets.{EntriesBelow}
-use Rattle.cycle_snapshot.specs.Batches.{events_in}
-use Rattle.air_jobs.proofs.CycleLemmas.{board_sized, publishes_batch, publishes_none}
-use Rattle.air_jobs.proofs.SendLemmas.{cycle_failed_by, cycle_sent, front, last, last_board, rose_by, started, within_cycle}
+use Rattle.air_jobs.proofs.SendLemmas.{cycle_failed_by, cycle_sent, front, last_board, rose_by, within_cycle}
 use Rattle.air_jobs.proofs.cycles.conduct_cycle.Goals as goal
-
-pub air_cycle-requires-clause-started : goal.air_cycle-requires-clause-started
-air_cycle-requires-clause-started g c =
-    let b = c.in_ok-begin_cycle.ensures.begun in
-    started c.args.pass.now c.begin_cycle.new.pass c.args.publisher.now c.begin_cycle.new.publisher c.begin_cycle.new.board c.begin_cycle.ensures.pass b.0 b.1
-
-pub air_cycle-requires-clause-below : goal.air_cycle-requires-clause-below
-air_cycle-requires-clause-below g c =
-    let b = c.in_ok-begin_cycle.ensures.begun in
-    let p = c.args.pass.now in
-    let is = last p c.begin_cycle.new.pass c.args.publisher.now c.begin_cycle.new.publisher c.begin_cycle.new.board c.begin_cycle.ensures.pass b.0 b.1 in
-    subst EntriesBelow (sym is) (c.below_law.ensures p.values (front p c.begin_cycle.new.pass c.args.publisher.now c.begin_cycle.new.publisher c.begin_cycle.new.board c.begin_cycle.ensures.pass b.0 b.1))
-
-pub air_cycle-requires-clause-items : goal.air_cycle-requires-clause-items
-air_cycle-requires-clause-items g c =
-    let b = c.in_ok-begin_cycle.ensures.begun in
-    let is = last c.args.pass.now c.begin_cycle.new.pass c.args.publisher.now c.begin_cycle.new.publisher c.begin_cycle.new.board c.begin_cycle.ensures.pass b.0 b.1 in
-    c.requires.items ∙ sym (board_sized c.args.pass.now.values c.begin_cycle.new.board _ is)
-
-pub air_cycle-requires-clause-room : goal.air_cycle-requires-clause-room
-air_cycle-requires-clause-room g c =
-    let b = c.in_ok-begin_cycle.ensures.begun in
-    let is = last c.args.pass.now c.begin_cycle.new.pass c.args.publisher.now c.begin_cycle.new.publisher c.begin_cycle.new.board c.begin_cycle.ensures.pass b.0 b.1 in
-    let sized = board_sized c.args.pass.now.values c.begin_cycle.new.board _ is in
-    let room = c.requires.buffer in
-    omega arith
 
 pub returns-in-Ok-clause-aired : goal.returns-in-Ok-clause-aired
 returns-in-Ok-clause-aired g c = λ air is.
@@ -43,8 +12,8 @@ returns-in-Ok-clause-aired g c = λ air is.
     let h = c.begin_cycle.new.publisher in
     let board = c.begin_cycle.new.board in
     let on = c.begin_cycle.ensures.pass in
-    let policy = c.args.policy in
-    let slots = slots_of c.args.program.now in
+    let policy = c.args.means.now.policy in
+    let slots = slots_of c.args.means.now.program.now in
     cycle_sent p q f h board on b.0 b.1 air policy slots is _ _ (c.in-Ok.ensures.history p.values air (front p q f h board on b.0 b.1) (last_board p q f h board on b.0 b.1 air policy slots is))
 
 pub returns-in-Err-clause-aired : goal.returns-in-Err-clause-aired
@@ -56,14 +25,14 @@ returns-in-Err-clause-aired g c = λ air is.
     let h = c.begin_cycle.new.publisher in
     let board = c.begin_cycle.new.board in
     let on = c.begin_cycle.ensures.pass in
-    let policy = c.args.policy in
-    let slots = slots_of c.args.program.now in
+    let policy = c.args.means.now.policy in
+    let slots = slots_of c.args.means.now.program.now in
     cycle_failed_by p q f h board on b.0 b.1 air policy slots is g.M.Mast.state _ c.from.result c.args.mast.now c.air_cycle.new.mast (c.from.ensures ∙ c.slot_of.ensures)
     (c.in-Err.ensures.history p.values air (front p q f h board on b.0 b.1) (last_board p q f h board on b.0 b.1 air policy slots is)) c.in-Err.ensures.fault
 
 pub returns-in-Err-clause-short : goal.returns-in-Err-clause-short
 returns-in-Err-clause-short g c =
-    within_cycle g.M.Mast.state c.args.policy (slots_of c.args.program.now) c.begin_cycle.new.board _ c.from.result c.args.mast.now c.air_cycle.new.mast (c.from.ensures ∙ c.slot_of.ensures) c.in-Err.ensures.fault
+    within_cycle g.M.Mast.state c.args.means.now.policy (slots_of c.args.means.now.program.now) c.begin_cycle.new.board _ c.from.result c.args.mast.now c.air_cycle.new.mast (c.from.ensures ∙ c.slot_of.ensures) c.in-Err.ensures.fault
 
 pub returns-in-Err-clause-cause : goal.returns-in-Err-clause-cause
 returns-in-Err-clause-cause g c = rose_by g.M.Mast.state _ _ c.args.mast.now c.air_cycle.new.mast c.in-Err.ensures.fault

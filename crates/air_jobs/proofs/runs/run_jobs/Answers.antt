@@ -1,4 +1,4 @@
-use Rattle.std.proofs.Common.{◌≡◌, ◌+◌, ◌<◌, ◌≤◌, ◌∙◌, length, sym, ap, subst, arith}
+use Rattle.std.proofs.Common.{◌≡◌, ◌∙◌, length, sym, ap, arith}
 use Rattle.air_history.specs.Histories.{starts}
 use Rattle.air_model.specs.Decks.{values_in}
 use Rattle.station.specs.PassStates.{PassState}

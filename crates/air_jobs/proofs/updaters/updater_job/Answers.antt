@@ -1,4 +1,4 @@
-use Rattle.std.proofs.Common.{◌≡◌, ◌+◌, ◌<◌, ◌∙◌, length, refl, sym, ap, subst, arith}
+use Rattle.std.proofs.Common.{◌≡◌, ◌+◌, ◌∙◌, length, refl, sym, ap, subst, arith}
 use Rattle.air_history.specs.UpdateRules.{UpdateFits}
 use Rattle.air_model.specs.Decks.{count_made, is_by}
 use Rattle.air_model.specs.Closings.{GoesOnWithout}

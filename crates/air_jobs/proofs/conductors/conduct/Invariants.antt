@@ -4,7 +4,7 @@ use Rattle.air_model.specs.Aired.{Air}
 use Rattle.cycle_snapshot.specs.Batches.{events_in}
 use Rattle.air_jobs.specs.Published.{AreInStep, GoesOn, PublishesOn}
 use Rattle.air_jobs.specs.Sendings.{IsAirOf, SendsCycles}
-use Rattle.air_jobs.proofs.conductors.conductor_job.Given as goal
+use Rattle.air_jobs.proofs.conductors.conduct.Given as goal
 
 -- So many cycles were conducted.
 abbrev pub invariant-loop-k : goal.invariant-loop-k
@@ -13,7 +13,7 @@ invariant-loop-k g l = record {
   publisher : PublishesOn l.initial.publisher l.publisher;
   step : AreInStep l.pass l.publisher l.board;
   count : length l.publisher.batches ≡ length l.initial.publisher.batches + l.k;
-  aired : (air : Air) → IsAirOf l.initial.pass.values l.policy (slots_of l.program) air →
+  aired : (air : Air) → IsAirOf l.initial.pass.values l.means.policy (slots_of l.means.program.now) air →
       SendsCycles l.initial.pass.values air l.k (events_in l.initial.publisher.batches) (events_in l.publisher.batches) (g.M.Mast.state l.initial.mast).told (g.M.Mast.state l.mast).told;
   calm : (g.M.Mast.state l.mast).faults ≡ (g.M.Mast.state l.initial.mast).faults;
   port : (g.M.Mast.state l.mast).port ≡ (g.M.Mast.state l.initial.mast).port;
