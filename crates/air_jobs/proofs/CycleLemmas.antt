@@ -109,6 +109,15 @@ goes_nowhere p = record { same = refl; seen = prefix_self p.seen }
 pub goes_further : (p q r : PassState) → GoesOn p q → GoesOn q r → GoesOn p r
 goes_further p q r a b = record { same = b.same ∙ ap (λ x. with_seen x r.seen) a.same; seen = prefix_trans p.seen q.seen r.seen a.seen b.seen }
 
+pub on_station : (p q : PassState) → GoesOn p q → q.station ≡ p.station
+on_station p q on = ap (λ x. x.station) on.same
+
+pub on_values : (p q : PassState) → GoesOn p q → q.values ≡ p.values
+on_values p q on = ap (λ x. x.values) on.same
+
+pub on_most : (f g : PublisherState) → PublishesOn f g → g.most ≡ f.most
+on_most f g on = ap (λ x. x.most) on.same
+
 pub publishes_none : (f : PublisherState) → PublishesOn f f
 publishes_none f = record { same = refl; batches = prefix_self f.batches }
 

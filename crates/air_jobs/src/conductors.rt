@@ -40,10 +40,10 @@ impl From<NoMemory> for ConductFault {
     }
 }
 
-/// Conducts so many cycles, each between its two gate calls. A cycle starts; its fresh events are applied to the board, once each;
-/// they are published as one batch; and its buckets are sent. What was sent are the buckets of the history that the pass has
-/// seen, for each way in which receivers may know them. After a fault nothing is said of the board. `ConductorPass::started`
-/// tells how many cycles the pass started.
+/// Conducts so many cycles. A cycle starts; its fresh events are applied to the board, once each; they are published as one batch;
+/// and its buckets are sent. What was sent are the buckets of the history that the pass has seen, for each way in which receivers
+/// may know them. After a fault nothing is said of the board. `ConductorPass::started` tells how many cycles the pass started.
+/// Each cycle stands between its two gate calls, of which no clause speaks.
 pub fn conductor_job<R: Wait, M: Mast, G: Gate>(
     wait: &R,
     alloc: Global,

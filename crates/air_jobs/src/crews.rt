@@ -16,11 +16,9 @@ use crate::conductors::{ConductFault, conduct};
 use crate::means::Means;
 use crate::monitors::monitor_job;
 use crate::updaters::updater_job;
-use air_base::Policy;
 use air_base::limits::{MOST_MONITORS, MOST_UPDATERS};
 use air_devices::{Gate, Mast};
 use air_model::reports::LookLine;
-use chunk_program::Program;
 use control_matrix::Board;
 use cycle_snapshot::{Monitor, Publisher};
 use item_catalog::Deck;
@@ -82,7 +80,7 @@ impl MonitorRun {
     }
 }
 
-/// All updaters at once, each on a thread of its own: a deck has no more of them.
+/// All updaters at once, on no more threads than a deck has updaters.
 fn update_all<R: Threads + Wait + Sync, G: Gate + Sync>(
     rt: &R,
     alloc: Global,
@@ -102,7 +100,7 @@ fn update_all<R: Threads + Wait + Sync, G: Gate + Sync>(
     );
 }
 
-/// All monitors at once, each on a thread of its own: a deck has no more of them.
+/// All monitors at once, on no more threads than a deck has monitors.
 fn watch_all<R: Threads + Sync, G: Gate + Sync>(
     rt: &R,
     monitors: &mut [MonitorRun],
@@ -152,15 +150,11 @@ fn update_and_watch<R: Threads + Wait + Sync, G: Gate + Sync>(
 /// The conductor beside all updaters and all monitors. It answers as the conductor's job does; each updater tells whether it
 /// committed all of its updates, and each monitor its last look.
 pub fn run_beside<R: Threads + Wait + Sync, M: Mast + Send, G: Gate + Sync>(
-    rt: &R,
-    alloc: Global,
+    means: &Means<'_, R>,
     deck: &Deck,
-    program: &Program,
-    station: &Station,
     pass: &mut ConductorPass,
     publisher: &mut Publisher,
     board: &mut Board,
-    policy: Policy,
     cycles: u32,
     mast: &mut M,
     buf: &mut [u8],
@@ -169,29 +163,23 @@ pub fn run_beside<R: Threads + Wait + Sync, M: Mast + Send, G: Gate + Sync>(
     looks: u32,
     gate: &G,
 ) -> Result<(), ConductFault>
-    requires own { pass.old.station ≡ station.now }
+    requires own { pass.old.station ≡ means.now.station.now }
     requires step { AreInStep pass.old publisher.old board.old }
     requires room { (starts pass.old.seen + cycles ≤ publisher.old.most) × (starts pass.old.seen + cycles + 1 < 2 ^ 32) }
-    requires items { length (all_items program.now) ≡ length pass.old.values }
+    requires items { length (all_items means.now.program.now) ≡ length pass.old.values }
     requires buffer { HEAD_BYTES + ENTRY_BYTES * length pass.old.values ≤ length buf.old }
-    requires ready { All (IsReady station.now deck.now) updaters.old }
+    requires ready { All (IsReady means.now.station.now deck.now) updaters.old }
     requires some { 1 ≤ looks }
-    ensures conducted { HasConducted M.state policy (slots_of program.now) cycles pass.old pass.new publisher.old publisher.new board.new mast.old mast.new result }
+    ensures conducted { HasConducted M.state means.now.policy (slots_of means.now.program.now) cycles pass.old pass.new publisher.old publisher.new board.new mast.old mast.new result }
     ensures updaters { EachDone deck.now updaters.old updaters.new }
     ensures monitors { EachWatched looks monitors.old monitors.new }
 {
+    let rt = means.wait;
+    let alloc = means.alloc;
+    let station = means.station;
     let (conducted, _) = join_mut(
         rt,
-        &mut || {
-            let means = Means {
-                wait: rt,
-                alloc,
-                station,
-                program,
-                policy,
-            };
-            conduct(&means, pass, publisher, board, cycles, mast, buf, gate)
-        },
+        &mut || conduct(means, pass, publisher, board, cycles, mast, buf, gate),
         &mut ||
             requires { IsSync R.row × IsSync G.row × All (IsReady station.now deck.now) updaters.now × (1 ≤ looks) }
             ensures { EachDone deck.entry.now updaters.entry.now updaters.exit.now × EachWatched looks monitors.entry.now monitors.exit.now }

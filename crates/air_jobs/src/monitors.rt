@@ -21,8 +21,8 @@ fn line_of(monitor: &Monitor) -> LookLine
     }
 }
 
-/// Looks so many times, each between its two gate calls, and gives the last look, with the monitor's number 0. It ends at the first
-/// look that answers `NoMemory`. It waits for nobody.
+/// Looks so many times, and gives the last look, with the monitor's number 0. It ends at the first look that answers `NoMemory`.
+/// It waits for nobody. Each look stands between its two gate calls, of which no clause speaks.
 pub fn monitor_job<G: Gate>(
     monitor: &mut Monitor,
     looks: u32,

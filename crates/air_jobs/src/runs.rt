@@ -15,6 +15,7 @@ ghost use Rattle.air_jobs.specs.declared.runs.TheConstants.{LOOKS};
 
 use crate::conductors::ConductFault;
 use crate::crews::{MonitorRun, UpdaterRun, run_beside};
+use crate::means::Means;
 use air_devices::{Gate, Mast};
 use chunk_program::Program;
 use control_matrix::Board;
@@ -28,7 +29,29 @@ use std::thread::Threads;
 /// How often each monitor looks while the others work.
 pub const LOOKS: u32 = 100;
 
-/// Runs the deck's conductor beside all its updaters and its monitors, each on a thread where there is one. Whatever the schedule,
+/// What the deck's conductor works with.
+fn means_of<'a, R>(
+    rt: &'a R,
+    alloc: Global,
+    deck: &Deck,
+    program: &'a Program,
+    station: &'a Station,
+) -> Means<'a, R>
+    ensures station { result.station.now ≡ station.now }
+    ensures program { result.program.now ≡ program.now }
+    ensures policy { result.policy ≡ deck.now.settings.policy }
+{
+    let settings = deck.settings();
+    Means {
+        wait: rt,
+        alloc,
+        station,
+        program,
+        policy: settings.policy,
+    }
+}
+
+/// Runs the deck's conductor beside all its updaters and its monitors, on threads where there are some. Whatever the schedule,
 /// each updater committed its updates in order, or the first of them; each monitor made its looks, or the first of them; and what
 /// was sent are the buckets of the history that the conductor's pass has seen. A job that ends before its time leaves the others
 /// to go on.
@@ -65,10 +88,9 @@ pub fn run_jobs<R: Threads + Wait + Sync, M: Mast + Send, G: Gate + Sync>(
     ensures monitors { EachWatched LOOKS monitors.old monitors.new }
 {
     deck.well_made();
-    let settings = deck.settings();
-    let (policy, cycles) = (settings.policy, settings.cycles);
+    let cycles = deck.settings().cycles;
+    let means = means_of(rt, alloc, deck, program, station);
     run_beside(
-        rt, alloc, deck, program, station, pass, publisher, board, policy, cycles, mast, buf,
-        updaters, monitors, LOOKS, gate,
+        &means, deck, pass, publisher, board, cycles, mast, buf, updaters, monitors, LOOKS, gate,
     )
 }

@@ -12,8 +12,9 @@ use station::{Station, UpdaterPass};
 use std::alloc::Global;
 use std::sync::Wait;
 
-/// Commits the updates in order, each between its two gate calls. The pass made just these further commits, and after `NoMemory`
-/// the first of them. `Update::fits` tells whether an update fits, `UpdaterPass::made` how many commits the pass made.
+/// Commits the updates in order. The pass made just these further commits, and after `NoMemory` the first of them. `Update::fits`
+/// tells whether an update fits, `UpdaterPass::made` how many commits the pass made. Each commit stands between its two gate calls,
+/// of which no clause speaks.
 pub fn updater_job<R: Wait, G: Gate>(
     wait: &R,
     alloc: Global,

@@ -3,13 +3,11 @@ use Rattle.air_history.specs.Histories.{starts}
 use Rattle.air_model.specs.Programs.{program as slots_of}
 use Rattle.air_model.specs.Aired.{Air}
 use Rattle.air_devices.specs.Counts.{Rose}
-use Rattle.station.specs.PassStates.{PassState}
 use Rattle.cycle_snapshot.specs.Batches.{events_in}
-use Rattle.cycle_snapshot.specs.SnapshotStates.{PublisherState}
 use Rattle.air_jobs.specs.Sendings.{FailsAfter, IsAirOf, SendsCycles}
 use Rattle.air_jobs.specs.Steps.CycleSteps.{SendsInCycle}
 use Rattle.air_jobs.specs.declared.conductors.ConductFault.TheVariants as fault
-use Rattle.air_jobs.proofs.CycleLemmas.{few_starts, goes_further, goes_nowhere, publishes_further, publishes_none}
+use Rattle.air_jobs.proofs.CycleLemmas.{few_starts, goes_further, goes_nowhere, on_most, on_station, on_values, publishes_further, publishes_none}
 use Rattle.air_jobs.proofs.SendLemmas.{fails_as, few_sent, fails_further, seen_bytes, sends_as, sends_further, sends_none}
 use Rattle.air_jobs.proofs.conductors.conduct.Goals as goal
 
@@ -28,12 +26,12 @@ loop-k-init g c =
     }
 
 pub conduct_cycle-requires-clause-own : goal.conduct_cycle-requires-clause-own
-conduct_cycle-requires-clause-own g c = ap (λ (p : PassState). p.station) c.loop-k.invariant.pass.same ∙ c.requires.own
+conduct_cycle-requires-clause-own g c = on_station c.args.pass.now c.loop-k.pass c.loop-k.invariant.pass ∙ c.requires.own
 
 pub conduct_cycle-requires-clause-room : goal.conduct_cycle-requires-clause-room
 conduct_cycle-requires-clause-room g c =
     let i = c.loop-k.invariant in
-    let most = ap (λ (f : PublisherState). f.most) i.publisher.same in
+    let most = on_most c.args.publisher.now c.loop-k.publisher i.publisher in
     let now = i.step.published.count in
     let first = c.requires.step.published.count in
     let room = c.requires.room.0 in
@@ -43,11 +41,11 @@ conduct_cycle-requires-clause-room g c =
     (omega arith, omega arith)
 
 pub conduct_cycle-requires-clause-items : goal.conduct_cycle-requires-clause-items
-conduct_cycle-requires-clause-items g c = c.requires.items ∙ ap (λ (p : PassState). length p.values) (sym c.loop-k.invariant.pass.same)
+conduct_cycle-requires-clause-items g c = c.requires.items ∙ ap length (sym (on_values c.args.pass.now c.loop-k.pass c.loop-k.invariant.pass))
 
 pub conduct_cycle-requires-clause-buffer : goal.conduct_cycle-requires-clause-buffer
 conduct_cycle-requires-clause-buffer g c =
-    let values = ap (λ (p : PassState). length p.values) c.loop-k.invariant.pass.same in
+    let values = ap length (on_values c.args.pass.now c.loop-k.pass c.loop-k.invariant.pass) in
     let size = c.loop-k.invariant.buffer in
     let room = c.requires.buffer in
     omega arith
@@ -59,7 +57,7 @@ loop-k-preserved g c =
     let q = c.loop-k.pass in
     let f = c.args.publisher.now in
     let l = c.loop-k.publisher in
-    let values = ap (λ (x : PassState). x.values) i.pass.same in
+    let values = on_values p c.loop-k.pass i.pass in
     let one = subst (λ v. (air : Air) → IsAirOf v c.args.means.now.policy (slots_of c.args.means.now.program.now) air → SendsCycles v air 1 (events_in l.batches) (events_in c.conduct_cycle.new.publisher.batches) (g.M.Mast.state c.loop-k.mast).told (g.M.Mast.state c.conduct_cycle.new.mast).told) values c.in-Ok.ensures.aired in
     record {
       pass = goes_further p q c.conduct_cycle.new.pass i.pass c.conduct_cycle.ensures.pass;
@@ -89,7 +87,7 @@ returns-in-Err-NoMemory-clause-conducted g c =
     let f = c.args.publisher.now in
     let l = c.loop-k.publisher in
     let h = c.conduct_cycle.new.publisher in
-    let values = ap (λ (x : PassState). x.values) i.pass.same in
+    let values = on_values p c.loop-k.pass i.pass in
     let none = subst (λ v. (air : Air) → IsAirOf v c.args.means.now.policy (slots_of c.args.means.now.program.now) air → SendsCycles v air 0 (events_in l.batches) (events_in h.batches) (g.M.Mast.state c.loop-k.mast).told (g.M.Mast.state c.conduct_cycle.new.mast).told) values (rw c.in-Err-NoMemory.field-0-is at c.in-Err-NoMemory.ensures.aired) in
     let same : c.loop-k.k + 0 ≡ c.loop-k.k = omega arith in
     let stopped = rw c.in-Err-NoMemory.field-0-is at c.in-Err-NoMemory.ensures.stopped in
@@ -123,7 +121,7 @@ returns-in-Err-Mast-clause-conducted g c =
     let before = c.args.mast.now in
     let now = c.conduct_cycle.new.mast in
     let sent = c.in-Err-Mast.sent in
-    let values = ap (λ (x : PassState). x.values) i.pass.same in
+    let values = on_values p c.loop-k.pass i.pass in
     let cycle = subst (λ v. (air : Air) → IsAirOf v c.args.means.now.policy (slots_of c.args.means.now.program.now) air → SendsInCycle state v air (events_in l.batches) (events_in h.batches) c.loop-k.mast now (fault.Mast sent)) values (rw c.in-Err-Mast.field-0-is at c.in-Err-Mast.ensures.aired) in
     let stopped = rw c.in-Err-Mast.field-0-is at c.in-Err-Mast.ensures.stopped in
     let rose = rw c.in-Err-Mast.field-0-is at c.in-Err-Mast.ensures.cause in

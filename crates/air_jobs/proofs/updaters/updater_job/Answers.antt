@@ -4,6 +4,7 @@ use Rattle.air_model.specs.Decks.{count_made, is_by}
 use Rattle.air_model.specs.Closings.{GoesOnWithout}
 use Rattle.station.specs.PassStates.{PassState, with_seen}
 use Rattle.station.proofs.TurnLemmas.{refused}
+use Rattle.air_jobs.specs.Commits.{Makes, MakesSome}
 use Rattle.air_jobs.proofs.CommitLemmas.{makes_more, makes_none, makes_stop}
 use Rattle.air_jobs.proofs.updaters.updater_job.Goals as goal
 
@@ -25,8 +26,9 @@ returns-in_err-_receipt-clause-made g c =
     let i = c.loop-update.invariant in
     let q = c.loop-update.pass in
     let s = c.in_err-_receipt.ensures.seen in
-    refused _ _ c.from_residual.result c.from_residual.ensures.0 (makes_stop c.args.updates.now c.loop-update.update-index c.args.pass.now q c.commit.new.pass s.0 (ap (λ p. p.number) i.same) i.count i.made c.loop-update-test.true
-    (subst (GoesOnWithout (is_by q.number) q.seen) (sym s.2) s.1))
+    let new = c.commit.new.pass in
+    let some = makes_stop c.args.updates.now c.loop-update.update-index c.args.pass.now q new s.0 (ap (λ p. p.number) i.same) i.count i.made c.loop-update-test.true (subst (GoesOnWithout (is_by q.number) q.seen) (sym s.2) s.1) in
+    refused (λ _. Makes c.args.updates.now c.args.pass.now new) (MakesSome c.args.updates.now c.args.pass.now new) c.from_residual.result c.from_residual.ensures.0 some
 
 pub loop-update-preserved : goal.loop-update-preserved
 loop-update-preserved g c =
