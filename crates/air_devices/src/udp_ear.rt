@@ -1,8 +1,8 @@
 //! An ear over UDP on this machine alone: what comes to 127.0.0.1 at the port that it is tuned to, whoever sent it.
 //!
 //! It tells nothing of what is still to be heard, since no contract can say what a socket gives; what the system said of the
-//! last failure is kept. A datagram that is longer than the buffer is cut to it, and an empty one is the end mark. No call takes
-//! memory.
+//! last failure is kept. A datagram that is longer than the buffer is cut to it, and an empty one is the
+//! end mark.
 
 ghost use Rattle.std.specs.Prelude.{◌≡◌, ◌≤◌, ◌<◌, None, Some, length, IfOk};
 ghost use Rattle.std.specs.Option.{option_map};
@@ -64,7 +64,7 @@ impl<R: Net + Drop> UdpEar<R> {
         Failed
     }
 
-    /// Hears a datagram; it fails where the ear could not be tuned.
+    /// Hears a datagram; it fails where no tuning in has succeeded. One that fails leaves the socket of an earlier one.
     fn receive(&self, buf: &mut [u8]) -> io::Result<Heard>
         requires { 0 < length buf.old }
         ensures { IfOk result (Hears None None buf.new) }

@@ -2,7 +2,7 @@
 //!
 //! It tells nothing of what it sent, since no contract can say what a socket takes; what the system said of the last failure is
 //! kept. It sends from a socket that isn't connected, so that no send fails because nobody listens. The end mark is an empty
-//! datagram. No call takes memory.
+//! datagram.
 
 ghost use Rattle.std.specs.Prelude.{◌≡◌, ◌≤◌, ◌<◌, [], None, Some, length, IsErr};
 ghost use Rattle.std.specs.Option.{option_map};
@@ -67,7 +67,7 @@ impl<R: Net + Drop> UdpMast<R> {
         Failed
     }
 
-    /// Sends a datagram of all of these bytes; it fails where the mast wasn't aimed, or could not be.
+    /// Sends a datagram of all of these bytes; it fails where no aim has succeeded; a failed one leaves the earlier socket.
     fn send_all(&self, bytes: &[u8]) -> io::Result<()>
         ensures { self.now.port ≡ None → IsErr result }
     {
