@@ -41,7 +41,7 @@ fn main(rt: HostRuntime) -> ExitCode {
             let status = air_main(
                 &rt, alloc, words, &mut shelf, &mut mast, &mut ear, &OpenGate,
             );
-            explain(&rt, alloc, words, &mut shelf, status);
+            explain(&rt, alloc, words, &mut shelf, None, status);
             ExitCode::from(status.code())
         }
     }

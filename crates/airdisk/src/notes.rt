@@ -6,11 +6,11 @@
 use air_base::NoMemory;
 use air_base::limits::{MOST_DECK_BYTES, MOST_SLOTS, MOST_TAPE_BYTES};
 use air_cli::Status;
-use air_devices::{FileShelf, read_file};
+use air_devices::{FileShelf, NetFailure, read_file};
 use audited_reports::audit_report;
 use deck_files::read_deck_file;
-use fault_notes::{Shown, deck_note, report_note, tape_note};
-use item_catalog::DeckFault;
+use fault_notes::{Shown, air_note, deck_note, report_note, tape_note};
+use item_catalog::{Deck, DeckFault};
 use live_replay::limits::MOST_REPLAYED;
 use report_reading::limits::MOST_REPORT_BYTES;
 use std::alloc::Global;
@@ -33,6 +33,29 @@ fn plain_size<R: Files>(rt: &R, name: &str) -> Option<u64> {
     }
 }
 
+/// The bytes of a plain file that is read again; none where that can't be.
+fn read_again<R: Files + Print + Drop>(
+    rt: &R,
+    alloc: Global,
+    shelf: &mut FileShelf<R>,
+    name: &str,
+    limit: usize,
+) -> Option<Vec<u8>> {
+    let _size = plain_size(rt, name)?;
+    read_file(alloc, shelf, name, limit).ok()
+}
+
+/// A deck that is read again from a plain file; none where that can't be.
+fn deck_again<R: Files + Print + Drop>(
+    rt: &R,
+    alloc: Global,
+    shelf: &mut FileShelf<R>,
+    name: &str,
+) -> Option<Deck> {
+    let _size = plain_size(rt, name)?;
+    read_deck_file(alloc, shelf, name).ok()
+}
+
 /// What the system said of the last call that failed.
 fn failure_note<R: Files + Print + Drop>(
     alloc: Global,
@@ -48,6 +71,21 @@ fn failure_note<R: Files + Print + Drop>(
     }
 }
 
+/// What the system said of the mast or the ear that failed after so many datagrams; none where it said nothing.
+fn air_failure_note(
+    alloc: Global,
+    air: Option<&NetFailure>,
+    after: u64,
+) -> Result<Option<String>, NoMemory> {
+    match air {
+        Some(failure) => {
+            let said = format!(in alloc; "{failure}")?;
+            Ok(Some(air_note(alloc, said.as_str(), after)?))
+        }
+        None => Ok(None),
+    }
+}
+
 /// What is wrong with a deck.
 fn fault_note<R: Files + Print + Drop>(
     rt: &R,
@@ -56,11 +94,7 @@ fn fault_note<R: Files + Print + Drop>(
     name: &str,
     fault: DeckFault,
 ) -> Result<Option<String>, NoMemory> {
-    let again = match plain_size(rt, name) {
-        Some(_) => read_file(alloc, shelf, name, MOST_DECK_BYTES).ok(),
-        None => None,
-    };
-    match again {
+    match read_again(rt, alloc, shelf, name, MOST_DECK_BYTES) {
         Some(bytes) => Ok(Some(deck_note(alloc, name, &bytes, fault)?)),
         None => {
             let name = Shown::whole(name);
@@ -77,11 +111,7 @@ fn cut_note<R: Files + Print + Drop>(
     name: &str,
     at: u64,
 ) -> Result<Option<String>, NoMemory> {
-    let again = match plain_size(rt, name) {
-        Some(_) => read_file(alloc, shelf, name, MOST_TAPE_BYTES).ok(),
-        None => None,
-    };
-    match again {
+    match read_again(rt, alloc, shelf, name, MOST_TAPE_BYTES) {
         Some(tape) => Ok(Some(tape_note(alloc, name, &tape, at)?)),
         None => {
             let name = Shown::whole(name);
@@ -116,23 +146,22 @@ fn size_note<R: Files>(
     }
 }
 
-/// What is wrong with a report.
+/// What is wrong with a report, against its deck where both can be read again.
 fn refused_report_note<R: Files + Print + Drop>(
     rt: &R,
     alloc: Global,
+    words: &[String],
     shelf: &mut FileShelf<R>,
-    name: &str,
     row: u32,
     kind: u8,
 ) -> Result<Option<String>, NoMemory> {
-    let again = match plain_size(rt, name) {
-        Some(_) => read_file(alloc, shelf, name, MOST_REPORT_BYTES).ok(),
-        None => None,
+    let deck = deck_again(rt, alloc, shelf, word(words, 1));
+    let name = word(words, 2);
+    let note = match read_again(rt, alloc, shelf, name, MOST_REPORT_BYTES) {
+        Some(bytes) => report_note(alloc, name, deck.as_ref(), &bytes, row, kind)?,
+        None => report_note(alloc, name, deck.as_ref(), &[], row, kind)?,
     };
-    match again {
-        Some(bytes) => Ok(Some(report_note(alloc, name, &bytes, row, kind)?)),
-        None => Ok(Some(report_note(alloc, name, &[], row, kind)?)),
-    }
+    Ok(Some(note))
 }
 
 /// How many lines of a report differ from their replays; none where it can't be read again.
@@ -143,10 +172,8 @@ fn count_differing<R: Files + Print + Drop>(
     deck: &str,
     report: &str,
 ) -> Option<u64> {
-    let _deck = plain_size(rt, deck)?;
-    let _report = plain_size(rt, report)?;
-    let deck = read_deck_file(alloc, shelf, deck).ok()?;
-    let bytes = read_file(alloc, shelf, report, MOST_REPORT_BYTES).ok()?;
+    let deck = deck_again(rt, alloc, shelf, deck)?;
+    let bytes = read_again(rt, alloc, shelf, report, MOST_REPORT_BYTES)?;
     if MOST_REPORT_BYTES < bytes.len() {
         return None;
     }
@@ -187,9 +214,7 @@ fn audit_note<R: Files + Print + Drop>(
     status: Status,
 ) -> Result<Option<String>, NoMemory> {
     match status {
-        Status::Report { row, kind } => {
-            refused_report_note(rt, alloc, shelf, word(words, 2), row, kind)
-        }
+        Status::Report { row, kind } => { refused_report_note(rt, alloc, words, shelf, row, kind) }
         Status::Differs => difference_note(rt, alloc, shelf, words),
         Status::TooMuch { product } => {
             let report = Shown::whole(word(words, 2));
@@ -207,6 +232,7 @@ fn text_of<R: Files + Print + Drop>(
     alloc: Global,
     words: &[String],
     shelf: &mut FileShelf<R>,
+    air: Option<&NetFailure>,
     status: Status,
 ) -> Result<Option<String>, NoMemory> {
     let deck = Shown::whole(word(words, 1));
@@ -215,6 +241,7 @@ fn text_of<R: Files + Print + Drop>(
             fault_note(rt, alloc, shelf, word(words, 1), DeckFault { row, kind })
         }
         Status::ReadFault | Status::WriteFault => failure_note(alloc, shelf),
+        Status::AirFault { at } => air_failure_note(alloc, air, at),
         Status::TapeCut { at } => cut_note(rt, alloc, shelf, word(words, 2), at),
         Status::TooLarge { limit } => size_note(rt, alloc, words, limit),
         Status::TooLong { bytes } => Ok(Some(format!(in alloc;
@@ -232,19 +259,21 @@ pub fn explain_no_memory<R: Eprint>(rt: &R) {
     let _ = eprintln!(rt; "airdisk: out of memory");
 }
 
-/// Says a line on standard error where a command ended with a status from 2 on; nothing where that fails.
+/// Says a line on standard error where a command ended with a status from 2 on; nothing where that fails. `air` is what the system
+/// said of a mast or an ear.
 pub fn explain<R: Files + Print + Eprint + Drop>(
     rt: &R,
     alloc: Global,
     words: &[String],
     shelf: &mut FileShelf<R>,
+    air: Option<&NetFailure>,
     status: Status,
 ) {
     if status == Status::NoMemory {
         explain_no_memory(rt);
         return;
     }
-    if let Ok(Some(text)) = text_of(rt, alloc, words, shelf, status) {
+    if let Ok(Some(text)) = text_of(rt, alloc, words, shelf, air, status) {
         let _ = eprintln!(rt; "{text}");
     }
 }

@@ -1,17 +1,13 @@
 //! Decks that have a fault at their end alone.
 
+use crate::sayings::Said;
 use crate::seen::Seen;
-use air_base::NoMemory;
-use std::alloc::Global;
 
 /// What is wrong at the end of a deck that declares all this.
-pub fn end_note(alloc: Global, seen: &Seen) -> Result<String, NoMemory> {
-    let items = seen.items;
-    let sizes = seen.sizes;
-    if items == 0 && sizes == 0 {
-        return Ok(format!(in alloc; "there is no item and no disk")?);
+pub fn end_note(seen: &Seen) -> Said<'static> {
+    if seen.items == 0 && seen.sizes == 0 {
+        return Said::numbers("there is no item and no disk", 0, 0, 0);
     }
-    Ok(format!(in alloc;
-        "the sizes of the disks add up to {sizes}, and the number of items is {items}"
-    )?)
+    let form = "the sizes of the disks add up to #first#, and the number of items is #second#";
+    Said::numbers(form, seen.sizes, seen.items, 0)
 }

@@ -1,9 +1,8 @@
-//! The record of a row: where it begins, its fields, and what the records before it declare.
+//! The record of a row: where it begins, its fields, and what the records before it say.
 
+use crate::sayings::Said;
 use crate::seen::Seen;
-use crate::tags::Tag;
-use crate::{forms, limits, names, settings};
-use air_base::NoMemory;
+use air_base::{NoMemory, read_u64};
 use csv::{ByteRecord, ReaderBuilder};
 use std::alloc::Global;
 
@@ -13,17 +12,21 @@ pub struct Record {
     fields: Vec<String>,
 }
 
-/// What stands at a row: a record, and the line at which it begins, or the end.
+/// What stands at a row.
+#[derive(Clone, Copy)]
+pub enum Kind {
+    Record,
+    End,
+    Nothing,
+}
+
+/// What stands at a row: where a record does, the line at which it begins, else 0; the record; and what those before it say.
 #[derive(Drop)]
-pub enum Found {
-    Record {
-        line: u64,
-        record: Record,
-        seen: Seen,
-    },
-    End {
-        seen: Seen,
-    },
+pub struct Found {
+    pub kind: Kind,
+    pub line: u64,
+    pub record: Record,
+    pub seen: Seen,
 }
 
 impl Record {
@@ -49,35 +52,21 @@ impl Record {
         }
     }
 
-    /// The fields with commas between them.
-    pub fn text(&self, alloc: Global) -> Result<String, NoMemory> {
-        let mut text = String::new(alloc);
-        for (place, field) in self.fields.iter().enumerate() {
-            if place > 0 {
-                text.push_str(",")?;
-            }
-            text.push_str(field.as_str())?;
-        }
-        Ok(text)
+    /// The number in a field; 0 where there is none.
+    pub fn number(&self, place: usize) -> u64 {
+        read_u64(self.field(place).as_bytes()).unwrap_or(0)
     }
+}
 
-    /// What is wrong with the record, by the kind of its fault; nothing where that isn't found.
-    pub fn note(&self, alloc: Global, seen: &Seen, kind: u8) -> Result<String, NoMemory> {
-        let Some(tag) = Tag::of(self.field(0)) else {
-            return forms::tag_note(alloc, self);
+impl Found {
+    /// Where it stands, behind the name of the file.
+    pub fn place(&self) -> Said<'static> {
+        let form = match self.kind {
+            Kind::Record => ":#first#: ",
+            Kind::End => ": the end, ",
+            Kind::Nothing => ": ",
         };
-        match kind {
-            1 => forms::fields_note(alloc, self, tag),
-            2 => forms::form_note(alloc, seen, self, tag),
-            3 => names::id_note(alloc, seen, self),
-            4 => names::undeclared_note(alloc, seen, self, tag),
-            5 => names::twice_note(alloc, self, tag),
-            7 => limits::limit_note(alloc, seen, self, tag),
-            8 => names::unread_note(alloc, self),
-            10 => settings::setting_note(alloc, seen, self),
-            11 => limits::overdrawn_note(alloc, seen, self),
-            _ => Ok(String::new(alloc)),
-        }
+        Said::numbers(form, self.line, 0, 0)
     }
 }
 
@@ -102,26 +91,33 @@ fn line_at(bytes: &[u8], place: u64) -> u64 {
     line
 }
 
-/// What stands at a row of a text; none where the text ends before it.
-pub fn find(alloc: Global, bytes: &[u8], row: u32) -> Result<Option<Found>, NoMemory> {
+/// What stands at a row of a text.
+pub fn find(alloc: Global, bytes: &[u8], row: u32) -> Result<Found, NoMemory> {
     let mut records = ReaderBuilder::new()
         .has_headers(false)
         .flexible(true)
         .from_reader(alloc, bytes);
     let mut record = ByteRecord::new(alloc);
     let mut seen = Seen::default();
+    let mut kind = Kind::Nothing;
+    let mut line = 0;
     for at in 1..=row {
         match records.read_byte_record(&mut record) {
-            Ok(true) if at < row => seen.add(&record),
+            Ok(true) if at < row => seen.add(&record, at),
             Ok(true) => {
                 let place = record.position().map_or(0, |position| position.byte());
-                let line = line_at(bytes, place);
-                let record = Record::of(alloc, &record)?;
-                return Ok(Some(Found::Record { line, record, seen }));
+                line = line_at(bytes, place);
+                kind = Kind::Record;
             }
-            Ok(false) if at == row => return Ok(Some(Found::End { seen })),
-            _ => return Ok(None),
+            Ok(false) if at == row => kind = Kind::End,
+            _ => break,
         }
     }
-    Ok(None)
+    let record = Record::of(alloc, &record)?;
+    Ok(Found {
+        kind,
+        line,
+        record,
+        seen,
+    })
 }

@@ -1,96 +1,120 @@
 //! What is wrong with a report that was refused.
 
-use crate::records::{Found, Record, find};
+use crate::fields::{count_note, report_field_note, tag_note};
+use crate::known::{commit_note, stranger_note};
+use crate::lists::{Test, first_failing};
+use crate::records::{Found, Kind, Record, find};
+use crate::sayings::Said;
+use crate::seen::Seen;
+use crate::tags::{Line, Tag, report_line, section};
 use crate::texts::Shown;
 use air_base::NoMemory;
+use item_catalog::Deck;
 use std::alloc::Global;
 
-/// The lines of a report: the tag, the form, and the number of fields.
-const LINES: [(&str, &str, usize); 8] = [
-    ("start", "start", 1),
-    ("commit", "commit,<by>,<seq>", 3),
-    ("accept", "accept,<reader>,<query>,<attempt>,<reads>", 5),
-    (
-        "abort",
-        "abort,<reader>,<query>,<attempt>,<reads>,<item>@<cycle>,<clash>",
-        7,
-    ),
-    (
-        "unfinished",
-        "unfinished,<reader>,<query>,<attempt>,<reads>",
-        5,
-    ),
-    (
-        "counts",
-        "counts,<reader>,<opened>,<dozed>,<late>,<refused>,<foreign>,<copied>",
-        8,
-    ),
-    ("glance", "glance,<monitor>,<cycle>,<total>", 4),
-    ("look", "look,<monitor>,<cycle>,<total>", 4),
+/// The tags of a report's lines.
+const TAGS: &str = "start, commit, accept, abort, unfinished, counts, glance and look";
+
+/// The rules that a line of a report may break, by the numbers of the faults' kinds; no kind has the number 0.
+const RULES: [&str; 8] = [
+    "it has a fault",
+    "its tag has another number of fields",
+    "a field, or a part of its reads, isn't of its form, or its number is too great",
+    "its tag is unknown",
+    "a line of a later section stands above it",
+    "its commit isn't the next one of its updater in the deck",
+    "its reader, query, attempt or monitor isn't the deck's, or its items don't follow the query",
+    "a cycle of it hasn't been started above it",
 ];
 
 /// The rule that a fault of this kind breaks.
-fn rule_of(kind: u8) -> &'static str {
-    match kind {
-        1 => "its tag has another number of fields",
-        2 => "a field, or a part of its reads, isn't of its form, or its number is too great",
-        3 => "its tag is unknown",
-        4 => "a line of a later section stands above it",
-        5 => "its commit isn't the next one of its updater in the deck",
-        6 => {
-            "its reader, query, attempt or monitor isn't the deck's, or its items don't follow the query"
-        }
-        7 => "a cycle of it hasn't been started above it",
-        _ => "it has a fault",
-    }
+fn rule_of(kind: u8) -> Said<'static> {
+    let place = usize::from(kind);
+    let rule = if place < RULES.len() {
+        RULES[place]
+    } else {
+        RULES[0]
+    };
+    Said::numbers(rule, 0, 0, 0)
 }
 
-/// The form of a tag's lines, and the number of their fields.
-fn form_of(tag: &str) -> Option<(&'static str, usize)> {
-    for (name, form, fields) in LINES {
-        if name == tag {
-            return Some((form, fields));
+/// A line of a later section stands above; none where none does.
+fn order_note(seen: &Seen, tag: Tag) -> Option<Said<'static>> {
+    for place in section(tag) + 1..5 {
+        if let Some((row, name)) = seen.begun[place] {
+            let form =
+                "stands below the #name# line of record #first#: first come start and commit, then accept, abort and unfinished, then counts, then glance, then look";
+            return Some(Said::words(form, "", name, "").with(u64::from(row), 0, ""));
         }
     }
     None
 }
 
-/// What is wrong with a record of a report.
-fn record_note(alloc: Global, record: &Record, kind: u8) -> Result<String, NoMemory> {
-    let Some((form, wanted)) = form_of(record.field(0)) else {
-        let tag = Shown::field(record.field(0));
-        return Ok(format!(in alloc;
-            "the tag is {tag}: none of start, commit, accept, abort, unfinished, counts, glance and look"
-        )?);
+/// A cycle of a line hasn't been started above it.
+fn cycle_note<'a>(starts: u64, record: &'a Record, tag: Tag) -> Said<'a> {
+    let (form, text) = match tag {
+        Tag::Glance | Tag::Look => (
+            "has the cycle #text#: it is at most the number of start lines above, which is #second#",
+            record.field(2),
+        ),
+        _ => match first_failing(record.field(4), Test::Cycle(starts)) {
+            Some((text, _)) => (
+                "has #text# among its reads: its cycle is from 1 to the number of start lines above, which is #second#",
+                text,
+            ),
+            None => (
+                "has the refused read #text#: its cycle is from 1 to the number of start lines above, which is #second#",
+                record.field(5),
+            ),
+        },
     };
-    if kind == 1 {
-        let count = record.len();
-        let fields = if count == 1 { "field" } else { "fields" };
-        return Ok(format!(in alloc; "it has {count} {fields}, and {form} has {wanted}")?);
-    }
-    let text = record.text(alloc)?;
-    let shown = Shown::field(text.as_str());
-    let rule = rule_of(kind);
-    Ok(format!(in alloc; "it is {shown}: {rule}")?)
+    Said::words(form, text, "", "").with(0, starts, "")
 }
 
-/// What is wrong with a report: the file's name and the line at which the faulty record begins, its row, and the fault.
+/// What is wrong with a line of a report; none where that isn't found.
+fn said_of<'a>(deck: Option<&Deck>, found: &'a Found, line: Line, kind: u8) -> Option<Said<'a>> {
+    let Found { record, seen, .. } = found;
+    match (kind, deck) {
+        (1, _) => Some(count_note(record, line)),
+        (2, _) => report_field_note(record, line.form),
+        (4, _) => order_note(seen, line.tag),
+        (5, Some(deck)) => Some(commit_note(deck, seen, record)),
+        (6, Some(deck)) => stranger_note(deck, record, line.tag),
+        (7, _) => Some(cycle_note(seen.starts, record, line.tag)),
+        _ => None,
+    }
+}
+
+/// Of whom a note tells, and what is wrong.
+fn told<'a>(deck: Option<&Deck>, found: &'a Found, kind: u8) -> (Said<'a>, Said<'a>) {
+    let nobody = Said::numbers("", 0, 0, 0);
+    let record = &found.record;
+    if !matches!(found.kind, Kind::Record) {
+        return (nobody, rule_of(kind));
+    }
+    let Some(line) = report_line(record.field(0)) else {
+        return (nobody, tag_note(record, TAGS));
+    };
+    match said_of(deck, found, line, kind) {
+        Some(said) if kind == 1 => (nobody, said),
+        Some(said) => (Said::words("the #name# line ", "", line.name, ""), said),
+        None => (nobody, rule_of(kind)),
+    }
+}
+
+/// What is wrong with a report: the file's name and the line at which the faulty record begins, its row, and the fault. Where
+/// the deck is told, also what of it the record would have to name.
 pub fn report_note(
     alloc: Global,
     name: &str,
+    deck: Option<&Deck>,
     bytes: &[u8],
     row: u32,
     kind: u8,
 ) -> Result<String, NoMemory> {
+    let found = find(alloc, bytes, row)?;
+    let (subject, said) = told(deck, &found, kind);
     let name = Shown::whole(name);
-    match find(alloc, bytes, row)? {
-        Some(Found::Record { line, record, .. }) => {
-            let said = record_note(alloc, &record, kind)?;
-            Ok(format!(in alloc; "{name}:{line}: record {row}: {said}")?)
-        }
-        _ => {
-            let rule = rule_of(kind);
-            Ok(format!(in alloc; "{name}: record {row}: {rule}")?)
-        }
-    }
+    let place = found.place();
+    Ok(format!(in alloc; "{name}{place}record {row}: {subject}{said}")?)
 }

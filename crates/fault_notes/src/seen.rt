@@ -1,12 +1,12 @@
-//! What the records before a faulty one declare. They have no fault, so each is taken as its tag says.
+//! What the records before a faulty one say, of a deck or of a report. They have no fault, so each is taken as its tag says.
 
 use crate::settings::setting_place;
-use crate::tags::Tag;
+use crate::tags::{Line, Tag, deck_line, report_line, section};
 use air_base::limits::MOST_UPDATERS;
 use air_base::read_u64;
 use csv::ByteRecord;
 
-/// How many of each there are, and the sums that limits speak of.
+/// How many of each there are, and the sums that limits speak of; of a report also the rows at which its sections begin.
 #[derive(Clone, Copy, Default)]
 pub struct Seen {
     pub items: u64,
@@ -20,6 +20,7 @@ pub struct Seen {
     pub starts: u64,
     pub commits_by: [u64; MOST_UPDATERS],
     pub set: [bool; 9],
+    pub begun: [Option<(u32, &'static str)>; 5],
 }
 
 /// Adds one.
@@ -35,20 +36,17 @@ fn raise_of(counts: &mut [u64; MOST_UPDATERS], by: u64) {
     }
 }
 
-/// The number in a field.
-fn number_in(record: &ByteRecord, place: usize) -> Option<u64> {
-    match record.get(place) {
-        Some(text) => read_u64(text),
-        None => None,
-    }
-}
-
 /// The text in a field.
 fn text_in(record: &ByteRecord, place: usize) -> &str {
     match record.get(place) {
         Some(text) => std::str::from_utf8(text).unwrap_or(""),
         None => "",
     }
+}
+
+/// The number in a field; 0 where there is none.
+fn number_in(record: &ByteRecord, place: usize) -> u64 {
+    read_u64(text_in(record, place).as_bytes()).unwrap_or(0)
 }
 
 impl Seen {
@@ -72,28 +70,49 @@ impl Seen {
         }
     }
 
-    /// Takes one more record.
-    pub fn add(&mut self, record: &ByteRecord) {
-        match Tag::of(text_in(record, 0)) {
-            Some(Tag::Item) => raise(&mut self.items),
-            Some(Tag::Disk) => {
+    /// Takes one more record of a deck.
+    fn add_to_deck(&mut self, record: &ByteRecord, tag: Tag) {
+        match tag {
+            Tag::Item => raise(&mut self.items),
+            Tag::Disk => {
                 raise(&mut self.disks);
-                let size = number_in(record, 1).unwrap_or(0);
-                self.sizes = self.sizes.saturating_add(size);
+                self.sizes = self.sizes.saturating_add(number_in(record, 1));
             }
-            Some(Tag::Update) => {
+            Tag::Update => {
                 raise(&mut self.updates);
-                raise_of(&mut self.updates_by, number_in(record, 1).unwrap_or(0));
+                raise_of(&mut self.updates_by, number_in(record, 1));
             }
-            Some(Tag::Reader) => raise(&mut self.readers),
-            Some(Tag::Query) => raise(&mut self.queries),
-            Some(Tag::Script) => self.add_events(text_in(record, 1)),
-            Some(Tag::Set) => {
+            Tag::Reader => raise(&mut self.readers),
+            Tag::Query => raise(&mut self.queries),
+            Tag::Script => self.add_events(text_in(record, 1)),
+            _ => {
                 if let Some(place) = setting_place(text_in(record, 1)) {
                     self.set[place] = true;
                 }
             }
-            None => {}
+        }
+    }
+
+    /// Takes one more record of a report.
+    fn add_to_report(&mut self, record: &ByteRecord, row: u32, line: Line) {
+        if line.tag == Tag::Start {
+            raise(&mut self.starts);
+        } else if line.tag == Tag::Commit {
+            raise_of(&mut self.commits_by, number_in(record, 1));
+        }
+        let place = section(line.tag);
+        if self.begun[place].is_none() {
+            self.begun[place] = Some((row, line.name));
+        }
+    }
+
+    /// Takes the record of a row.
+    pub fn add(&mut self, record: &ByteRecord, row: u32) {
+        let tag = text_in(record, 0);
+        if let Some(line) = deck_line(tag) {
+            self.add_to_deck(record, line.tag);
+        } else if let Some(line) = report_line(tag) {
+            self.add_to_report(record, row, line);
         }
     }
 }

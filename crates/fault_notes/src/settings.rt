@@ -3,11 +3,11 @@
 ghost use Rattle.std.specs.Prelude.{◌<◌, IfSome};
 
 use crate::records::Record;
+use crate::sayings::{Said, range};
 use crate::seen::Seen;
-use crate::texts::{Range, Shown, has_outer_space, why_no_number};
+use crate::texts::{space_of, why_no_number};
 use air_base::limits::{MOST_CYCLES, MOST_DELTA, MOST_HEARS, MOST_MONITORS, MOST_SHARE};
-use air_base::{NoMemory, read_u64};
-use std::alloc::Global;
+use air_base::read_u64;
 
 /// The settings, each with its least and its greatest value; the first has letters for values.
 const SETTINGS: [(&str, u64, u64); 9] = [
@@ -34,60 +34,43 @@ pub fn setting_place(name: &str) -> Option<usize>
     None
 }
 
-/// That a text has a space at one of its ends; nothing where it has none.
-fn space_of(text: &str) -> &'static str {
-    if has_outer_space(text) {
-        "it has a space, and "
-    } else {
-        ""
+/// The value of the policy is none of its letters; none where it is one.
+fn policy_note(text: &str) -> Option<Said<'_>> {
+    if matches!(text, "F" | "D" | "R") {
+        return None;
     }
+    let form = "the setting policy has the value #text#: #why#F, D and R are the values";
+    Some(Said::words(form, text, "", space_of(text)))
 }
 
-/// A setting's value isn't one that it can have; nothing where it is.
-fn value_note(
-    alloc: Global,
-    name: &str,
-    value: &str,
-    least: u64,
-    most: u64,
-) -> Result<String, NoMemory> {
-    let shown = Shown::field(value);
-    if name == "policy" {
-        if value == "F" || value == "D" || value == "R" {
-            return Ok(String::new(alloc));
-        }
-        let space = space_of(value);
-        return Ok(format!(in alloc;
-            "the setting policy has the value {shown}: {space}F, D and R are the values"
-        )?);
-    }
-    match read_u64(value.as_bytes()) {
-        Some(number) if least <= number && number <= most => Ok(String::new(alloc)),
-        Some(_) => {
-            let range = Range { least, most };
-            Ok(format!(in alloc; "the setting {name} has the value {shown}: {range}")?)
-        }
-        None => {
-            let why = why_no_number(value);
-            Ok(format!(in alloc; "the setting {name} has the value {shown}: {why}")?)
-        }
-    }
+/// A setting's value is no number within its limits; none where it is one.
+fn value_note<'a>(name: &'static str, least: u64, most: u64, text: &'a str) -> Option<Said<'a>> {
+    let (tail, why) = match read_u64(text.as_bytes()) {
+        Some(number) if least <= number && number <= most => return None,
+        Some(_) => (range(least), ""),
+        None => ("#why#", why_no_number(text)),
+    };
+    let form = "the setting #name# has the value #text#: ";
+    Some(Said::words(form, text, name, why).with(0, most, tail))
 }
 
 /// A setting is unknown, was set before, or can't have its value.
-pub fn setting_note(alloc: Global, seen: &Seen, record: &Record) -> Result<String, NoMemory> {
-    let name = record.field(1);
-    let Some(place) = setting_place(name) else {
-        let shown = Shown::field(name);
-        let space = space_of(name);
-        return Ok(format!(in alloc;
-            "there is no setting {shown}: {space}policy, delta, cycles, seed, loss, again, late, monitors and hears are the settings"
-        )?);
+pub fn setting_note<'a>(seen: &Seen, record: &'a Record) -> Option<Said<'a>> {
+    let text = record.field(1);
+    let Some(place) = setting_place(text) else {
+        let form =
+            "there is no setting #text#: #why#policy, delta, cycles, seed, loss, again, late, monitors and hears are the settings";
+        return Some(Said::words(form, text, "", space_of(text)));
     };
-    let (_, least, most) = SETTINGS[place];
-    let said = value_note(alloc, name, record.field(2), least, most)?;
-    if said.is_empty() && seen.set[place] {
-        return Ok(format!(in alloc; "the setting {name} was set above")?);
+    let (name, least, most) = SETTINGS[place];
+    let value = record.field(2);
+    let said = if place == 0 {
+        policy_note(value)
+    } else {
+        value_note(name, least, most, value)
+    };
+    if said.is_none() && seen.set[place] {
+        return Some(Said::words("the setting #name# was set above", "", name, ""));
     }
-    Ok(said)
+    said
 }

@@ -1,7 +1,9 @@
-//! The tags of records, and the form of each.
+//! The records of decks and reports: the tag of each, and its form.
+
+ghost use Rattle.std.specs.Prelude.{◌<◌};
 
 /// The tags of records.
-#[derive(Clone, Copy, Debug, PartialEq, Eq)]
+#[derive(Clone, Copy, PartialEq, Eq)]
 pub enum Tag {
     Item,
     Disk,
@@ -10,45 +12,107 @@ pub enum Tag {
     Query,
     Script,
     Set,
+    Start,
+    Commit,
+    Accept,
+    Abort,
+    Unfinished,
+    Counts,
+    Glance,
+    Look,
 }
 
-/// Each tag with its name.
-const NAMED: [(Tag, &str); 7] = [
-    (Tag::Item, "item"),
-    (Tag::Disk, "disk"),
-    (Tag::Update, "update"),
-    (Tag::Reader, "reader"),
-    (Tag::Query, "query"),
-    (Tag::Script, "script"),
-    (Tag::Set, "set"),
+/// A kind of record: its tag, the tag's name, and the form.
+#[derive(Clone, Copy)]
+pub struct Line {
+    pub tag: Tag,
+    pub name: &'static str,
+    pub form: &'static str,
+}
+
+/// A row of a table of records.
+type Row = (Tag, &'static str, &'static str);
+
+/// The records of a deck.
+const DECK: [Row; 7] = [
+    (Tag::Item, "item", "item,<id>,<value>,<rate>"),
+    (Tag::Disk, "disk", "disk,<size>,<freq>"),
+    (Tag::Update, "update", "update,<by>,<reads>,<writes>"),
+    (Tag::Reader, "reader", "reader,<room>,<age>,<tries>"),
+    (Tag::Query, "query", "query,<reader>,<items>"),
+    (Tag::Script, "script", "script,<events>"),
+    (Tag::Set, "set", "set,<name>,<value>"),
 ];
 
-impl Tag {
-    /// The tag of this name.
-    pub fn of(name: &str) -> Option<Tag> {
-        for (tag, of_tag) in NAMED {
-            if name == of_tag {
-                return Some(tag);
-            }
-        }
-        None
-    }
+/// The records of a report.
+const REPORT: [Row; 8] = [
+    (Tag::Start, "start", "start"),
+    (Tag::Commit, "commit", "commit,<by>,<seq>"),
+    (
+        Tag::Accept,
+        "accept",
+        "accept,<reader>,<query>,<attempt>,<reads>",
+    ),
+    (
+        Tag::Abort,
+        "abort",
+        "abort,<reader>,<query>,<attempt>,<reads>,<item>@<cycle>,<clash>",
+    ),
+    (
+        Tag::Unfinished,
+        "unfinished",
+        "unfinished,<reader>,<query>,<attempt>,<reads>",
+    ),
+    (
+        Tag::Counts,
+        "counts",
+        "counts,<reader>,<opened>,<dozed>,<late>,<refused>,<foreign>,<copied>",
+    ),
+    (Tag::Glance, "glance", "glance,<monitor>,<cycle>,<total>"),
+    (Tag::Look, "look", "look,<monitor>,<cycle>,<total>"),
+];
 
-    /// The form of its records, and the number of their fields.
-    pub fn form(self) -> (&'static str, usize) {
-        match self {
-            Tag::Item => ("item,<id>,<value>,<rate>", 4),
-            Tag::Disk => ("disk,<size>,<freq>", 3),
-            Tag::Update => ("update,<by>,<reads>,<writes>", 4),
-            Tag::Reader => ("reader,<room>,<age>,<tries>", 4),
-            Tag::Query => ("query,<reader>,<items>", 3),
-            Tag::Script => ("script,<events>", 2),
-            Tag::Set => ("set,<name>,<value>", 3),
+/// The record of this name in a table.
+fn line_in(rows: &[Row], wanted: &str) -> Option<Line> {
+    for (tag, name, form) in rows {
+        if *name == wanted {
+            return Some(Line {
+                tag: *tag,
+                name,
+                form,
+            });
         }
     }
+    None
+}
 
-    /// Whether its records have a list.
-    pub fn has_list(self) -> bool {
-        matches!(self, Tag::Update | Tag::Query | Tag::Script)
+/// The record of a deck that has this name.
+pub fn deck_line(name: &str) -> Option<Line> {
+    line_in(&DECK, name)
+}
+
+/// The record of a report that has this name.
+pub fn report_line(name: &str) -> Option<Line> {
+    line_in(&REPORT, name)
+}
+
+/// The section of a report to which a record belongs: history, verdicts, counts, glances and looks.
+pub fn section(tag: Tag) -> usize
+    ensures { result < 5 }
+{
+    match tag {
+        Tag::Accept | Tag::Abort | Tag::Unfinished => 1,
+        Tag::Counts => 2,
+        Tag::Glance => 3,
+        Tag::Look => 4,
+        _ => 0,
     }
+}
+
+/// Whether the records of a tag have a list.
+pub fn has_list(tag: Tag) -> bool {
+    matches!(
+        tag,
+        Tag::Update | Tag::Query | Tag::Script | Tag::Accept | Tag::Abort | Tag::Unfinished
+    )
 }

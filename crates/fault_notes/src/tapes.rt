@@ -1,5 +1,6 @@
 //! Where a tape is cut.
 
+use crate::sayings::Said;
 use crate::texts::Shown;
 use air_base::NoMemory;
 use bucket_codec::TapeReader;
@@ -9,16 +10,20 @@ use std::alloc::Global;
 const LENGTH_BYTES: usize = 4;
 
 /// What is missing of the record that begins with these bytes.
-fn missing(alloc: Global, rest: &[u8]) -> Result<String, NoMemory> {
+fn missing(rest: &[u8]) -> Said<'static> {
     let there = rest.len();
     if there < LENGTH_BYTES {
-        return Ok(format!(in alloc;
-            "of the {LENGTH_BYTES} bytes of its length {there} are there"
-        )?);
+        let form = "of the #second# bytes of its length #first# are there";
+        return Said::numbers(form, there as u64, LENGTH_BYTES as u64, 0);
     }
     let wanted = u32::from_be_bytes([rest[0], rest[1], rest[2], rest[3]]);
     let there = there - LENGTH_BYTES;
-    Ok(format!(in alloc; "of its {wanted} bytes {there} are there")?)
+    Said::numbers(
+        "of its #second# bytes #first# are there",
+        there as u64,
+        u64::from(wanted),
+        0,
+    )
 }
 
 /// Which record of a tape is cut: the one that begins at this byte.
@@ -33,8 +38,8 @@ pub fn tape_note(alloc: Global, name: &str, tape: &[u8], at: u64) -> Result<Stri
         record = record.saturating_add(1);
     }
     let missing = match usize::try_from(at) {
-        Ok(place) if place < tape.len() => missing(alloc, &tape[place..])?,
-        _ => String::new(alloc),
+        Ok(place) if place < tape.len() => missing(&tape[place..]),
+        _ => Said::numbers("", 0, 0, 0),
     };
     Ok(format!(in alloc; "{name}: record {record}, which begins at byte {at}, is cut: {missing}")?)
 }

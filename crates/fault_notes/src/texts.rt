@@ -44,20 +44,12 @@ pub fn has_outer_space(text: &str) -> bool {
     text.trim().len() != text.len()
 }
 
-/// The numbers that there may be, as a note says them.
-#[derive(Clone, Copy)]
-pub struct Range {
-    pub least: u64,
-    pub most: u64,
-}
-
-impl fmt::Display for Range {
-    fn fmt<W: fmt::Write>(&self, f: &mut fmt::Formatter<W>) -> fmt::Result {
-        let Range { least, most } = *self;
-        if least == 0 {
-            return write!(f, "at most {most}");
-        }
-        write!(f, "{least} to {most}")
+/// That a text has a space at one of its ends; nothing where it has none.
+pub fn space_of(text: &str) -> &'static str {
+    if has_outer_space(text) {
+        "it has a space, and "
+    } else {
+        ""
     }
 }
 

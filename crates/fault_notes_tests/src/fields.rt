@@ -1,6 +1,6 @@
 //! Notes on records, fields and parts of lists that aren't of their form.
 
-use crate::rows::{Row, first_other};
+use crate::rows::{DECK, Row, first_other};
 use std::test::Fail;
 
 #[test]
@@ -28,7 +28,7 @@ fn fields_that_are_too_few_or_too_many_are_told(rt: HostRuntime) -> Result<(), F
             "it has 3 fields, and script,<events> has 2: the parts of a list are separated by spaces",
         ),
     ];
-    assert_eq!(rt; first_other(rt.alloc(), rows)?, None);
+    assert_eq!(rt; first_other(rt.alloc(), DECK, rows)?, None);
     Ok(())
 }
 
@@ -101,19 +101,28 @@ fn a_field_that_is_no_number_is_told_with_why(rt: HostRuntime) -> Result<(), Fai
             "the update has the updater a: not a number",
         ),
     ];
-    assert_eq!(rt; first_other(rt.alloc(), rows)?, None);
+    assert_eq!(rt; first_other(rt.alloc(), DECK, rows)?, None);
     Ok(())
 }
 
 #[test]
 fn a_part_of_a_list_that_spells_nothing_is_told(rt: HostRuntime) -> Result<(), Fail> {
-    let empty = "among its items: one space stands between two parts, and none at the ends";
-    let alloc = rt.alloc();
-    let two_spaces = format!(in alloc; "the query has an empty part {empty}")?;
     let rows: &[Row<'_>] = &[
-        ("query,0,0  1", 2, two_spaces.as_str()),
-        ("query,0,0 ", 2, two_spaces.as_str()),
-        ("query,0, 0", 2, two_spaces.as_str()),
+        (
+            "query,0,0  1",
+            2,
+            "the query has an empty part among its items: one space stands between two parts, and none at the ends",
+        ),
+        (
+            "query,0,0 ",
+            2,
+            "the query has an empty part among its items: one space stands between two parts, and none at the ends",
+        ),
+        (
+            "query,0, 0",
+            2,
+            "the query has an empty part among its items: one space stands between two parts, and none at the ends",
+        ),
         (
             "query,0,0 b",
             2,
@@ -140,6 +149,6 @@ fn a_part_of_a_list_that_spells_nothing_is_told(rt: HostRuntime) -> Result<(), F
             "the script has S among its events: neither s nor the number of an updater",
         ),
     ];
-    assert_eq!(rt; first_other(alloc, rows)?, None);
+    assert_eq!(rt; first_other(rt.alloc(), DECK, rows)?, None);
     Ok(())
 }

@@ -1,4 +1,4 @@
-//! The notes on refused decks, tapes and reports: for each fault a text written by hand, as a person should read it.
+//! The notes on refused decks, tapes and reports, and on what the system refused: for each fault a text written by hand, as a person should read it.
 #![tactic(auto)]
 
 #[cfg(test)]
@@ -11,6 +11,8 @@ mod names;
 mod reports;
 #[cfg(test)]
 mod rows;
+#[cfg(test)]
+mod systems;
 #[cfg(test)]
 mod tapes;
 #[cfg(test)]

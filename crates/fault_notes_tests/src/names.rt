@@ -1,6 +1,6 @@
 //! Notes on names, limits, tags and settings.
 
-use crate::rows::{Row, first_other};
+use crate::rows::{DECK, Row, first_other};
 use std::test::Fail;
 
 #[test]
@@ -14,27 +14,27 @@ fn names_out_of_turn_undeclared_or_twice_are_told(rt: HostRuntime) -> Result<(),
         (
             "query,0,0 2",
             4,
-            "the query has item 2 among its items, and only items 0 and 1 stand above it",
+            "the query has item 2 among its items, and up to here the deck has only items 0 and 1",
         ),
         (
             "query,1,0",
             4,
-            "the query is of reader 1, and only reader 0 stands above it",
+            "the query is of reader 1, and up to here the deck has only reader 0",
         ),
         (
             "update,0,5,0=1",
             4,
-            "the update has item 5 among its reads, and only items 0 and 1 stand above it",
+            "the update has item 5 among its reads, and up to here the deck has only items 0 and 1",
         ),
         (
             "update,0,,2=1",
             4,
-            "the update has item 2 among its writes, and only items 0 and 1 stand above it",
+            "the update has item 2 among its writes, and up to here the deck has only items 0 and 1",
         ),
         (
             "update,0,,1=7+1",
             4,
-            "the update has item 7 among its bases, and only items 0 and 1 stand above it",
+            "the update has item 7 among its bases, and up to here the deck has only items 0 and 1",
         ),
         ("query,0,0 1 1", 5, "the query has item 1 twice"),
         (
@@ -53,7 +53,7 @@ fn names_out_of_turn_undeclared_or_twice_are_told(rt: HostRuntime) -> Result<(),
             "the write 1=1+1 has item 1 for its base, and the update doesn't have it among its reads",
         ),
     ];
-    assert_eq!(rt; first_other(rt.alloc(), rows)?, None);
+    assert_eq!(rt; first_other(rt.alloc(), DECK, rows)?, None);
     Ok(())
 }
 
@@ -71,7 +71,7 @@ fn a_passed_limit_is_told_with_the_number(rt: HostRuntime) -> Result<(), Fail> {
         (
             "update,16,,0=1",
             7,
-            "the update is of updater 16: at most 15",
+            "the update has the updater 16: at most 15",
         ),
         ("update,0,,", 7, "the update has 0 writes: 1 to 16"),
         (
@@ -92,7 +92,7 @@ fn a_passed_limit_is_told_with_the_number(rt: HostRuntime) -> Result<(), Fail> {
         ("query,0,", 7, "the query has 0 items: 1 to 16"),
         ("script,s 16", 7, "the script has updater 16: at most 15"),
     ];
-    assert_eq!(rt; first_other(rt.alloc(), rows)?, None);
+    assert_eq!(rt; first_other(rt.alloc(), DECK, rows)?, None);
     Ok(())
 }
 
@@ -153,9 +153,9 @@ fn unknown_tags_and_settings_are_told(rt: HostRuntime) -> Result<(), Fail> {
         (
             "script,s 0",
             11,
-            "up to here the script commits 1 update of updater 0, and none stands above",
+            "up to here the script commits 1 update of updater 0, which has no update",
         ),
     ];
-    assert_eq!(rt; first_other(rt.alloc(), rows)?, None);
+    assert_eq!(rt; first_other(rt.alloc(), DECK, rows)?, None);
     Ok(())
 }

@@ -1,28 +1,36 @@
 //! Notes on reports that were refused.
 
+use crate::rows::{Base, Row, first_other};
 use air_base::NoMemory;
 use fault_notes::report_note;
+use item_catalog::{Deck, read_deck};
 use std::alloc::Global;
 use std::test::Fail;
 
-/// A record behind two good ones, the kind of its fault, and the note behind the file's name, line and row.
-type Row<'a> = (&'a str, u8, &'a str);
+/// Three items on a disk, two updates of updater 0 and one of updater 2, two readers with two queries and one, and two monitors.
+const DECK: &[u8] =
+    b"item,0,1,1\nitem,1,2,1\nitem,2,3,1\ndisk,3,1\nupdate,0,,0=1\nupdate,0,,0=2\nupdate,2,,1=3\n\
+reader,0,0,3\nquery,0,0 1\nquery,0,2\nreader,0,0,1\nquery,1,1\nset,monitors,2\n";
 
-/// The place of the first row whose note isn't the wanted one, and its note.
-fn first_other(alloc: Global, rows: &[Row<'_>]) -> Result<Option<(usize, String)>, NoMemory> {
-    for (place, (record, kind, wanted)) in rows.iter().enumerate() {
-        let text = format!(in alloc; "start\n\ncommit,0,0\n{record}\n")?;
-        let note = report_note(alloc, "a report", text.as_bytes(), 3, *kind)?;
-        let wanted = format!(in alloc; "a report:4: record 3: {wanted}")?;
-        if note != wanted {
-            return Ok(Some((place, note)));
-        }
+/// A start and a commit above a record, in a report of the deck.
+fn behind_a_commit(deck: &Deck) -> Base<'_> {
+    Base {
+        above: "start\n\ncommit,0,0\n",
+        row: 3,
+        begins: "a file:4: record 3: ",
+        is_report: true,
+        deck: Some(deck),
     }
-    Ok(None)
+}
+
+/// The place of the first row behind a start and a commit whose note isn't the wanted one, and its note.
+fn first_behind_a_commit(alloc: Global, rows: &[Row<'_>]) -> Result<Option<(usize, String)>, Fail> {
+    let deck = read_deck(alloc, DECK)?;
+    Ok(first_other(alloc, behind_a_commit(&deck), rows)?)
 }
 
 #[test]
-fn a_faulty_line_of_a_report_is_told(rt: HostRuntime) -> Result<(), Fail> {
+fn another_number_of_fields_or_tag_is_told(rt: HostRuntime) -> Result<(), Fail> {
     let rows: &[Row<'_>] = &[
         ("start,1", 1, "it has 2 fields, and start has 1"),
         (
@@ -31,9 +39,19 @@ fn a_faulty_line_of_a_report_is_told(rt: HostRuntime) -> Result<(), Fail> {
             "it has 2 fields, and commit,<by>,<seq> has 3",
         ),
         (
-            "accept,0,0,1,0@1=x",
-            2,
-            "it is accept,0,0,1,0@1=x: a field, or a part of its reads, isn't of its form, or its number is too great",
+            "abort",
+            1,
+            "it has 1 field, and abort,<reader>,<query>,<attempt>,<reads>,<item>@<cycle>,<clash> has 7",
+        ),
+        (
+            "accept,0,0,1,0@1=1,1@1=2",
+            1,
+            "it has 6 fields, and accept,<reader>,<query>,<attempt>,<reads> has 5: the parts of a list are separated by spaces",
+        ),
+        (
+            "counts,0,1,2,3,4,5,6,7",
+            1,
+            "it has 9 fields, and counts,<reader>,<opened>,<dozed>,<late>,<refused>,<foreign>,<copied> has 8",
         ),
         (
             "begin",
@@ -41,21 +59,408 @@ fn a_faulty_line_of_a_report_is_told(rt: HostRuntime) -> Result<(), Fail> {
             "the tag is begin: none of start, commit, accept, abort, unfinished, counts, glance and look",
         ),
         (
-            "commit,0,2",
-            5,
-            "it is commit,0,2: its commit isn't the next one of its updater in the deck",
-        ),
-        (
-            "look,7,1,0",
-            6,
-            "it is look,7,1,0: its reader, query, attempt or monitor isn't the deck's, or its items don't follow the query",
-        ),
-        (
-            "look,0,2,0",
-            7,
-            "it is look,0,2,0: a cycle of it hasn't been started above it",
+            "start ",
+            3,
+            "the tag is start : it has a space, and is none of start, commit, accept, abort, unfinished, counts, glance and look",
         ),
     ];
-    assert_eq!(rt; first_other(rt.alloc(), rows)?, None);
+    assert_eq!(rt; first_behind_a_commit(rt.alloc(), rows)?, None);
+    Ok(())
+}
+
+#[test]
+fn a_field_that_is_not_of_its_form_is_told_with_why(rt: HostRuntime) -> Result<(), Fail> {
+    let rows: &[Row<'_>] = &[
+        (
+            "commit,x,1",
+            2,
+            "the commit line has the updater x: not a number",
+        ),
+        (
+            "commit,0,01",
+            2,
+            "the commit line has the seq 01: not a number: it has a leading zero",
+        ),
+        (
+            "commit,4294967296,1",
+            2,
+            "the commit line has the updater 4294967296: at most 4294967295",
+        ),
+        (
+            "accept,-1,0,1,",
+            2,
+            "the accept line has the reader -1: not a number: it has a sign",
+        ),
+        (
+            "accept,0,,1,",
+            2,
+            "the accept line has the query (empty): not a number",
+        ),
+        (
+            "unfinished,0,0,1.5,",
+            2,
+            "the unfinished line has the attempt 1.5: not a number: it has a decimal point",
+        ),
+        (
+            "accept,0,0,1,0@1",
+            2,
+            "the accept line has 0@1 among its reads: it isn't item@cycle=value",
+        ),
+        (
+            "accept,0,0,1,0=1",
+            2,
+            "the accept line has 0=1 among its reads: it isn't item@cycle=value",
+        ),
+        (
+            "accept,0,0,1,0@1=x",
+            2,
+            "the accept line has 0@1=x among its reads: its value isn't a number up to 18446744073709551615",
+        ),
+        (
+            "accept,0,0,1,0@1=1 65536@1=1",
+            2,
+            "the accept line has 65536@1=1 among its reads: its item isn't a number up to 65535",
+        ),
+        (
+            "accept,0,0,1,0@4294967296=1",
+            2,
+            "the accept line has 0@4294967296=1 among its reads: its cycle isn't a number up to 4294967295",
+        ),
+        (
+            "accept,0,0,1,0@1=1  1@1=2",
+            2,
+            "the accept line has an empty part among its reads: one space stands between two parts, and none at the ends",
+        ),
+        (
+            "abort,0,0,1,0@1=1,1,0",
+            2,
+            "the abort line has the refused read 1: it isn't item@cycle",
+        ),
+        (
+            "abort,0,0,1,0@1=1,1@x,0",
+            2,
+            "the abort line has the refused read 1@x: its cycle isn't a number up to 4294967295",
+        ),
+        (
+            "abort,0,0,1,0@1=1,1@1,65536",
+            2,
+            "the abort line has the clash 65536: at most 65535",
+        ),
+        (
+            "counts,0,1,2,3,4,5,x",
+            2,
+            "the counts line has the count of copied x: not a number",
+        ),
+        (
+            "glance,0,1,18446744073709551616",
+            2,
+            "the glance line has the total 18446744073709551616: not a number: it is above 18446744073709551615",
+        ),
+        (
+            "look,0,one,1",
+            2,
+            "the look line has the cycle one: not a number",
+        ),
+    ];
+    assert_eq!(rt; first_behind_a_commit(rt.alloc(), rows)?, None);
+    Ok(())
+}
+
+/// The order of a report's lines, as notes tell it.
+const ORDER: &str =
+    "first come start and commit, then accept, abort and unfinished, then counts, then glance, then look";
+
+/// The place of the first case whose note isn't the wanted one, and its note: two records, a third below them, and what stands below
+/// what.
+fn first_below(
+    alloc: Global,
+    cases: &[(&str, &str, &str)],
+) -> Result<Option<(usize, String)>, NoMemory> {
+    for (place, (above, line, wanted)) in cases.iter().enumerate() {
+        let text = format!(in alloc; "{above}{line}\n")?;
+        let note = report_note(alloc, "r", None, text.as_bytes(), 3, 4)?;
+        let wanted = format!(in alloc; "r:4: record 3: the {wanted}: {ORDER}")?;
+        if note != wanted {
+            return Ok(Some((place, note)));
+        }
+    }
+    Ok(None)
+}
+
+#[test]
+fn a_line_below_a_later_section_is_told(rt: HostRuntime) -> Result<(), Fail> {
+    let cases = &[
+        (
+            "start\n\ncounts,0,0,0,0,0,0,0\n",
+            "commit,0,0",
+            "commit line stands below the counts line of record 2",
+        ),
+        (
+            "start\n\naccept,0,0,1,\n",
+            "start",
+            "start line stands below the accept line of record 2",
+        ),
+        (
+            "start\n\nlook,0,0,6\n",
+            "unfinished,0,0,1,",
+            "unfinished line stands below the look line of record 2",
+        ),
+        (
+            "abort,0,0,1,,0@1,0\n\nlook,0,0,6\n",
+            "counts,0,0,0,0,0,0,0",
+            "counts line stands below the look line of record 2",
+        ),
+        (
+            "glance,0,0,6\n\nlook,0,0,6\n",
+            "start",
+            "start line stands below the glance line of record 1",
+        ),
+        (
+            "start\n\nlook,0,0,6\n",
+            "glance,0,0,6",
+            "glance line stands below the look line of record 2",
+        ),
+    ];
+    assert_eq!(rt; first_below(rt.alloc(), cases)?, None);
+    Ok(())
+}
+
+#[test]
+fn what_the_deck_has_not_is_told(rt: HostRuntime) -> Result<(), Fail> {
+    let rows: &[Row<'_>] = &[
+        (
+            "commit,0,2",
+            5,
+            "the commit line has the seq 2, and 1 is the next of updater 0: the commits of an updater run from 0 without a gap",
+        ),
+        (
+            "commit,2,1",
+            5,
+            "the commit line has the seq 1, and 0 is the next of updater 2: the commits of an updater run from 0 without a gap",
+        ),
+        (
+            "commit,1,0",
+            5,
+            "the commit line has the updater 1, of which the deck has no update",
+        ),
+        (
+            "commit,16,0",
+            5,
+            "the commit line has the updater 16, of which the deck has no update",
+        ),
+        (
+            "counts,2,0,0,0,0,0,0",
+            6,
+            "the counts line has the reader 2, and the deck has only readers 0 and 1",
+        ),
+        (
+            "glance,2,1,6",
+            6,
+            "the glance line has the monitor 2, and the deck has only monitors 0 and 1",
+        ),
+        (
+            "look,7,1,6",
+            6,
+            "the look line has the monitor 7, and the deck has only monitors 0 and 1",
+        ),
+        (
+            "accept,2,0,1,0@1=1 1@1=2",
+            6,
+            "the accept line has the reader 2, and the deck has only readers 0 and 1",
+        ),
+        (
+            "accept,0,0,0,0@1=1 1@1=2",
+            6,
+            "the accept line has the attempt 0: for reader 0 it is 1 to 3",
+        ),
+        (
+            "unfinished,1,0,2,",
+            6,
+            "the unfinished line has the attempt 2: for reader 1 it is 1 to 1",
+        ),
+        (
+            "accept,0,2,1,0@1=1 1@1=2",
+            6,
+            "the accept line has the query 2, and reader 0 has only queries 0 and 1",
+        ),
+        (
+            "accept,1,1,1,1@1=2",
+            6,
+            "the accept line has the query 1, and reader 1 has only query 0",
+        ),
+        (
+            "accept,0,0,1,1@1=2 0@1=1",
+            6,
+            "the accept line has item 1 among its reads in the place of item 0: reads stand in the order of the query",
+        ),
+        (
+            "accept,0,0,1,0@1=1 2@1=3",
+            6,
+            "the accept line has item 2 among its reads in the place of item 1: reads stand in the order of the query",
+        ),
+        (
+            "accept,0,1,1,2@1=3 0@1=1",
+            6,
+            "the accept line has item 0 among its reads, behind the last item of its query",
+        ),
+        (
+            "accept,0,0,1,0@1=1",
+            6,
+            "the accept line has 1 of the 2 items of its query, and an accept has each",
+        ),
+        (
+            "accept,0,0,1,",
+            6,
+            "the accept line has 0 of the 2 items of its query, and an accept has each",
+        ),
+        (
+            "unfinished,0,0,1,0@1=1 1@1=2",
+            6,
+            "the unfinished line has each item of its query, as an accept alone has",
+        ),
+        (
+            "abort,0,0,1,0@1=1 1@1=2,2@1,0",
+            6,
+            "the abort line has each item of its query, as an accept alone has",
+        ),
+        (
+            "abort,0,0,1,0@1=1,2@1,0",
+            6,
+            "the abort line has the refused item 2, and item 1 is the next of its query",
+        ),
+        (
+            "abort,0,0,1,0@1=1,1@1,2",
+            6,
+            "the abort line has the clash 2, which is no item of its reads",
+        ),
+        (
+            "abort,0,0,1,,0@1,0",
+            6,
+            "the abort line has the clash 0, which is no item of its reads",
+        ),
+    ];
+    assert_eq!(rt; first_behind_a_commit(rt.alloc(), rows)?, None);
+    Ok(())
+}
+
+#[test]
+fn a_cycle_that_was_not_started_is_told(rt: HostRuntime) -> Result<(), Fail> {
+    let rows: &[Row<'_>] = &[
+        (
+            "accept,0,0,1,0@1=1 1@2=2",
+            7,
+            "the accept line has 1@2=2 among its reads: its cycle is from 1 to the number of start lines above, which is 1",
+        ),
+        (
+            "unfinished,0,0,1,0@0=1",
+            7,
+            "the unfinished line has 0@0=1 among its reads: its cycle is from 1 to the number of start lines above, which is 1",
+        ),
+        (
+            "abort,0,0,1,0@1=1,1@3,0",
+            7,
+            "the abort line has the refused read 1@3: its cycle is from 1 to the number of start lines above, which is 1",
+        ),
+        (
+            "glance,0,2,6",
+            7,
+            "the glance line has the cycle 2: it is at most the number of start lines above, which is 1",
+        ),
+        (
+            "look,1,4,6",
+            7,
+            "the look line has the cycle 4: it is at most the number of start lines above, which is 1",
+        ),
+    ];
+    assert_eq!(rt; first_behind_a_commit(rt.alloc(), rows)?, None);
+    Ok(())
+}
+
+/// A record of a report that stands alone, where the deck isn't known.
+const ALONE: Base<'static> = Base {
+    above: "",
+    row: 1,
+    begins: "a file:1: record 1: ",
+    is_report: true,
+    deck: None,
+};
+
+#[test]
+fn a_rule_is_told_where_the_deck_is_unknown(rt: HostRuntime) -> Result<(), Fail> {
+    let rows: &[Row<'_>] = &[
+        (
+            "commit,0,2",
+            5,
+            "its commit isn't the next one of its updater in the deck",
+        ),
+        (
+            "look,0,0,0",
+            6,
+            "its reader, query, attempt or monitor isn't the deck's, or its items don't follow the query",
+        ),
+        (
+            "look,0,1,0",
+            7,
+            "the look line has the cycle 1: it is at most the number of start lines above, which is 0",
+        ),
+    ];
+    assert_eq!(rt; first_other(rt.alloc(), ALONE, rows)?, None);
+    Ok(())
+}
+
+#[test]
+fn a_rule_is_told_where_there_is_no_such_record(rt: HostRuntime) -> Result<(), Fail> {
+    let end = Base {
+        row: 2,
+        begins: "a file: the end, record 2: ",
+        ..ALONE
+    };
+    let rule = "a field, or a part of its reads, isn't of its form, or its number is too great";
+    assert_eq!(rt; first_other(rt.alloc(), end, &[("start", 2, rule)])?, None);
+    let none = Base {
+        row: 7,
+        begins: "a file: record 7: ",
+        ..ALONE
+    };
+    assert_eq!(rt;
+        first_other(rt.alloc(), none, &[("start", 9, "it has a fault")])?,
+        None
+    );
+    Ok(())
+}
+
+/// An item, a disk, and two updates of updater 0.
+const SMALL: &[u8] = b"item,0,1,1\ndisk,1,1\nupdate,0,,0=1\nupdate,0,,0=1\n";
+
+/// The place of the first row behind two commits, of all updates of a small deck, whose note isn't the wanted one, and its note.
+fn first_behind_all(alloc: Global, rows: &[Row<'_>]) -> Result<Option<(usize, String)>, Fail> {
+    let deck = read_deck(alloc, SMALL)?;
+    let base = Base {
+        above: "commit,0,0\n\ncommit,0,1\n",
+        ..behind_a_commit(&deck)
+    };
+    Ok(first_other(alloc, base, rows)?)
+}
+
+#[test]
+fn a_deck_that_has_none_of_them_is_told(rt: HostRuntime) -> Result<(), Fail> {
+    let rows: &[Row<'_>] = &[
+        (
+            "counts,0,0,0,0,0,0,0",
+            6,
+            "the counts line has the reader 0, and the deck has no reader",
+        ),
+        (
+            "look,0,0,1",
+            6,
+            "the look line has the monitor 0, and the deck has no monitor",
+        ),
+        (
+            "commit,0,2",
+            5,
+            "the commit line has the seq 2, and each update of updater 0 is committed above it: the deck has only updates 0 and 1",
+        ),
+    ];
+    assert_eq!(rt; first_behind_all(rt.alloc(), rows)?, None);
     Ok(())
 }

@@ -1,28 +1,52 @@
-//! The form of a case: a record behind five good ones, and the note on it. `first_other` gives the first whose note differs, and that
-//! note.
+//! The form of a case: a record behind good ones, and the note on it. `first_other` gives the first whose note differs, and that note.
 
 use air_base::NoMemory;
-use fault_notes::deck_note;
-use item_catalog::DeckFault;
+use fault_notes::{deck_note, report_note};
+use item_catalog::{Deck, DeckFault};
 use std::alloc::Global;
 
-/// Two items on a disk, a reader and a setting.
-const BASE: &str = "item,0,1,1\nitem,1,2,1\ndisk,2,1\nreader,0,0,1\nset,delta,1\n";
+/// The text above a record, its row, how a note on it begins, and whether it is a report, of a deck that may be known.
+#[derive(Clone, Copy)]
+pub struct Base<'a> {
+    pub above: &'a str,
+    pub row: u32,
+    pub begins: &'a str,
+    pub is_report: bool,
+    pub deck: Option<&'a Deck>,
+}
 
-/// A record behind the base, the kind of its fault, and the note behind the file's name, line and row.
+/// Two items on a disk, a reader and a setting.
+pub const DECK: Base<'static> = Base {
+    above: "item,0,1,1\nitem,1,2,1\ndisk,2,1\nreader,0,0,1\nset,delta,1\n",
+    row: 6,
+    begins: "a file:6: record 6: ",
+    is_report: false,
+    deck: None,
+};
+
+/// A record, the kind of its fault, and the note behind the file's name, line and row.
 pub type Row<'a> = (&'a str, u8, &'a str);
 
+/// The note on a record.
+fn note_on(alloc: Global, base: Base<'_>, text: &str, kind: u8) -> Result<String, NoMemory> {
+    let row = base.row;
+    if base.is_report {
+        return report_note(alloc, "a file", base.deck, text.as_bytes(), row, kind);
+    }
+    deck_note(alloc, "a file", text.as_bytes(), DeckFault { row, kind })
+}
+
 /// The place of the first row whose note isn't the wanted one, and its note.
-pub fn first_other(alloc: Global, rows: &[Row<'_>]) -> Result<Option<(usize, String)>, NoMemory> {
+pub fn first_other(
+    alloc: Global,
+    base: Base<'_>,
+    rows: &[Row<'_>],
+) -> Result<Option<(usize, String)>, NoMemory> {
+    let above = base.above;
     for (place, (record, kind, wanted)) in rows.iter().enumerate() {
-        let text = format!(in alloc; "{BASE}{record}\n")?;
-        let fault = DeckFault {
-            row: 6,
-            kind: *kind,
-        };
-        let note = deck_note(alloc, "deck.csv", text.as_bytes(), fault)?;
-        let wanted = format!(in alloc; "deck.csv:6: record 6: {wanted}")?;
-        if note != wanted {
+        let text = format!(in alloc; "{above}{record}\n")?;
+        let note = note_on(alloc, base, text.as_str(), *kind)?;
+        if note.strip_prefix(base.begins) != Some(*wanted) {
             return Ok(Some((place, note)));
         }
     }

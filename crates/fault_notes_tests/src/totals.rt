@@ -73,10 +73,24 @@ fn totals_count_the_record_itself(rt: HostRuntime) -> Result<(), Fail> {
         ),
         (
             "update,2,,0=1\n",
+            2,
+            "script,2 2 2\n",
+            11,
+            "d:6: record 6: up to here the script commits 3 updates of updater 2, which has only updates 0 and 1",
+        ),
+        (
+            "update,2,,0=1\n",
+            1,
+            "script,2 2\n",
+            11,
+            "d:5: record 5: up to here the script commits 2 updates of updater 2, which has only update 0",
+        ),
+        (
+            "update,2,,0=1\n",
             3,
             "script,2 2 s 2 2\n",
             11,
-            "d:7: record 7: up to here the script commits 4 updates of updater 2, and only 3 stand above",
+            "d:7: record 7: up to here the script commits 4 updates of updater 2, which has only updates 0 to 2",
         ),
     ];
     assert_eq!(rt; first_other(rt.alloc(), cases)?, None);

@@ -1,0 +1,86 @@
+//! What is wrong with a deck that was refused.
+
+use crate::ends::end_note;
+use crate::fields::{count_note, deck_field_note, tag_note};
+use crate::limits::{overdrawn_note, total_note};
+use crate::names::{id_note, twice_note, undeclared_note, unread_note};
+use crate::records::{Found, Kind, Record, find};
+use crate::sayings::Said;
+use crate::seen::Seen;
+use crate::settings::setting_note;
+use crate::tags::{Line, Tag, deck_line};
+use crate::texts::Shown;
+use air_base::{NoMemory, read_u64};
+use item_catalog::DeckFault;
+use std::alloc::Global;
+
+/// The tags of a deck's records.
+const TAGS: &str = "item, disk, update, reader, query, script and set";
+
+/// Of whom a note on a record tells.
+fn subject_of<'a>(seen: &Seen, record: &'a Record, line: Line) -> Said<'a> {
+    let text = record.field(1);
+    let (form, number) = match line.tag {
+        Tag::Item if read_u64(text.as_bytes()).is_some() => ("#name# #text# ", 0),
+        Tag::Disk => ("#name# #first# ", seen.disks),
+        Tag::Reader => ("#name# #first# ", seen.readers),
+        _ => ("the #name# ", 0),
+    };
+    Said::words(form, text, line.name, "").with(number, 0, "")
+}
+
+/// What is wrong with a record; none where that isn't found.
+fn said_of<'a>(found: &'a Found, line: Line, kind: u8) -> Option<Said<'a>> {
+    let Found { record, seen, .. } = found;
+    match kind {
+        1 => Some(count_note(record, line)),
+        2 => deck_field_note(record, line.form),
+        3 => Some(id_note(seen, record)),
+        4 => undeclared_note(seen, record, line.tag),
+        5 => twice_note(record, line.tag),
+        7 => deck_field_note(record, line.form).or(total_note(seen, record, line.tag)),
+        8 => unread_note(record),
+        10 => setting_note(seen, record),
+        11 => overdrawn_note(seen, record),
+        _ => None,
+    }
+}
+
+/// Of whom a note tells, and what is wrong; none where that isn't found.
+fn told<'a>(found: &'a Found, kind: u8) -> Option<(Said<'a>, Said<'a>)> {
+    let Found { record, seen, .. } = found;
+    let nobody = Said::numbers("", 0, 0, 0);
+    match found.kind {
+        Kind::Record => {}
+        Kind::End => return Some((nobody, end_note(seen))),
+        Kind::Nothing => return None,
+    }
+    let Some(line) = deck_line(record.field(0)) else {
+        return Some((nobody, tag_note(record, TAGS)));
+    };
+    let said = said_of(found, line, kind)?;
+    let subject = match kind {
+        2 | 4 | 5 | 7 => subject_of(seen, record, line),
+        _ => nobody,
+    };
+    Some((subject, said))
+}
+
+/// What is wrong with a deck: the file's name and the line at which the faulty record begins, its row, and the fault.
+pub fn deck_note(
+    alloc: Global,
+    name: &str,
+    bytes: &[u8],
+    fault: DeckFault,
+) -> Result<String, NoMemory> {
+    let row = fault.row;
+    let found = find(alloc, bytes, row)?;
+    let name = Shown::whole(name);
+    let place = found.place();
+    match told(&found, fault.kind) {
+        Some((subject, said)) => Ok(format!(in alloc;
+            "{name}{place}record {row}: {subject}{said}"
+        )?),
+        None => Ok(format!(in alloc; "{name}{place}{fault}")?),
+    }
+}
