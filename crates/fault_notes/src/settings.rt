@@ -63,14 +63,13 @@ pub fn setting_note<'a>(seen: &Seen, record: &'a Record) -> Option<Said<'a>> {
         return Some(Said::words(form, text, "", space_of(text)));
     };
     let (name, least, most) = SETTINGS[place];
+    if seen.set[place] {
+        return Some(Said::words("the setting #name# was set above", "", name, ""));
+    }
     let value = record.field(2);
-    let said = if place == 0 {
+    if place == 0 {
         policy_note(value)
     } else {
         value_note(name, least, most, value)
-    };
-    if said.is_none() && seen.set[place] {
-        return Some(Said::words("the setting #name# was set above", "", name, ""));
     }
-    said
 }

@@ -4,6 +4,8 @@
 #[cfg(test)]
 mod fields;
 #[cfg(test)]
+mod known;
+#[cfg(test)]
 mod lines;
 #[cfg(test)]
 mod names;

@@ -1,33 +1,10 @@
-//! Notes on reports that were refused.
+//! Notes on reports that were refused, by what their records spell.
 
-use crate::rows::{Base, Row, first_other};
+use crate::rows::{Base, REPORT, Row, first_other};
 use air_base::NoMemory;
 use fault_notes::report_note;
-use item_catalog::{Deck, read_deck};
 use std::alloc::Global;
 use std::test::Fail;
-
-/// Three items on a disk, two updates of updater 0 and one of updater 2, two readers with two queries and one, and two monitors.
-const DECK: &[u8] =
-    b"item,0,1,1\nitem,1,2,1\nitem,2,3,1\ndisk,3,1\nupdate,0,,0=1\nupdate,0,,0=2\nupdate,2,,1=3\n\
-reader,0,0,3\nquery,0,0 1\nquery,0,2\nreader,0,0,1\nquery,1,1\nset,monitors,2\n";
-
-/// A start and a commit above a record, in a report of the deck.
-fn behind_a_commit(deck: &Deck) -> Base<'_> {
-    Base {
-        above: "start\n\ncommit,0,0\n",
-        row: 3,
-        begins: "a file:4: record 3: ",
-        is_report: true,
-        deck: Some(deck),
-    }
-}
-
-/// The place of the first row behind a start and a commit whose note isn't the wanted one, and its note.
-fn first_behind_a_commit(alloc: Global, rows: &[Row<'_>]) -> Result<Option<(usize, String)>, Fail> {
-    let deck = read_deck(alloc, DECK)?;
-    Ok(first_other(alloc, behind_a_commit(&deck), rows)?)
-}
 
 #[test]
 fn another_number_of_fields_or_tag_is_told(rt: HostRuntime) -> Result<(), Fail> {
@@ -64,7 +41,7 @@ fn another_number_of_fields_or_tag_is_told(rt: HostRuntime) -> Result<(), Fail> 
             "the tag is start : it has a space, and is none of start, commit, accept, abort, unfinished, counts, glance and look",
         ),
     ];
-    assert_eq!(rt; first_behind_a_commit(rt.alloc(), rows)?, None);
+    assert_eq!(rt; first_other(rt.alloc(), REPORT, rows)?, None);
     Ok(())
 }
 
@@ -162,7 +139,7 @@ fn a_field_that_is_not_of_its_form_is_told_with_why(rt: HostRuntime) -> Result<(
             "the look line has the cycle one: not a number",
         ),
     ];
-    assert_eq!(rt; first_behind_a_commit(rt.alloc(), rows)?, None);
+    assert_eq!(rt; first_other(rt.alloc(), REPORT, rows)?, None);
     Ok(())
 }
 
@@ -226,124 +203,6 @@ fn a_line_below_a_later_section_is_told(rt: HostRuntime) -> Result<(), Fail> {
 }
 
 #[test]
-fn what_the_deck_has_not_is_told(rt: HostRuntime) -> Result<(), Fail> {
-    let rows: &[Row<'_>] = &[
-        (
-            "commit,0,2",
-            5,
-            "the commit line has the seq 2, and 1 is the next of updater 0: the commits of an updater run from 0 without a gap",
-        ),
-        (
-            "commit,2,1",
-            5,
-            "the commit line has the seq 1, and 0 is the next of updater 2: the commits of an updater run from 0 without a gap",
-        ),
-        (
-            "commit,1,0",
-            5,
-            "the commit line has the updater 1, of which the deck has no update",
-        ),
-        (
-            "commit,16,0",
-            5,
-            "the commit line has the updater 16, of which the deck has no update",
-        ),
-        (
-            "counts,2,0,0,0,0,0,0",
-            6,
-            "the counts line has the reader 2, and the deck has only readers 0 and 1",
-        ),
-        (
-            "glance,2,1,6",
-            6,
-            "the glance line has the monitor 2, and the deck has only monitors 0 and 1",
-        ),
-        (
-            "look,7,1,6",
-            6,
-            "the look line has the monitor 7, and the deck has only monitors 0 and 1",
-        ),
-        (
-            "accept,2,0,1,0@1=1 1@1=2",
-            6,
-            "the accept line has the reader 2, and the deck has only readers 0 and 1",
-        ),
-        (
-            "accept,0,0,0,0@1=1 1@1=2",
-            6,
-            "the accept line has the attempt 0: for reader 0 it is 1 to 3",
-        ),
-        (
-            "unfinished,1,0,2,",
-            6,
-            "the unfinished line has the attempt 2: for reader 1 it is 1 to 1",
-        ),
-        (
-            "accept,0,2,1,0@1=1 1@1=2",
-            6,
-            "the accept line has the query 2, and reader 0 has only queries 0 and 1",
-        ),
-        (
-            "accept,1,1,1,1@1=2",
-            6,
-            "the accept line has the query 1, and reader 1 has only query 0",
-        ),
-        (
-            "accept,0,0,1,1@1=2 0@1=1",
-            6,
-            "the accept line has item 1 among its reads in the place of item 0: reads stand in the order of the query",
-        ),
-        (
-            "accept,0,0,1,0@1=1 2@1=3",
-            6,
-            "the accept line has item 2 among its reads in the place of item 1: reads stand in the order of the query",
-        ),
-        (
-            "accept,0,1,1,2@1=3 0@1=1",
-            6,
-            "the accept line has item 0 among its reads, behind the last item of its query",
-        ),
-        (
-            "accept,0,0,1,0@1=1",
-            6,
-            "the accept line has 1 of the 2 items of its query, and an accept has each",
-        ),
-        (
-            "accept,0,0,1,",
-            6,
-            "the accept line has 0 of the 2 items of its query, and an accept has each",
-        ),
-        (
-            "unfinished,0,0,1,0@1=1 1@1=2",
-            6,
-            "the unfinished line has each item of its query, as an accept alone has",
-        ),
-        (
-            "abort,0,0,1,0@1=1 1@1=2,2@1,0",
-            6,
-            "the abort line has each item of its query, as an accept alone has",
-        ),
-        (
-            "abort,0,0,1,0@1=1,2@1,0",
-            6,
-            "the abort line has the refused item 2, and item 1 is the next of its query",
-        ),
-        (
-            "abort,0,0,1,0@1=1,1@1,2",
-            6,
-            "the abort line has the clash 2, which is no item of its reads",
-        ),
-        (
-            "abort,0,0,1,,0@1,0",
-            6,
-            "the abort line has the clash 0, which is no item of its reads",
-        ),
-    ];
-    assert_eq!(rt; first_behind_a_commit(rt.alloc(), rows)?, None);
-    Ok(())
-}
-
-#[test]
 fn a_cycle_that_was_not_started_is_told(rt: HostRuntime) -> Result<(), Fail> {
     let rows: &[Row<'_>] = &[
         (
@@ -372,7 +231,7 @@ fn a_cycle_that_was_not_started_is_told(rt: HostRuntime) -> Result<(), Fail> {
             "the look line has the cycle 4: it is at most the number of start lines above, which is 1",
         ),
     ];
-    assert_eq!(rt; first_behind_a_commit(rt.alloc(), rows)?, None);
+    assert_eq!(rt; first_other(rt.alloc(), REPORT, rows)?, None);
     Ok(())
 }
 
@@ -426,41 +285,5 @@ fn a_rule_is_told_where_there_is_no_such_record(rt: HostRuntime) -> Result<(), F
         first_other(rt.alloc(), none, &[("start", 9, "it has a fault")])?,
         None
     );
-    Ok(())
-}
-
-/// An item, a disk, and two updates of updater 0.
-const SMALL: &[u8] = b"item,0,1,1\ndisk,1,1\nupdate,0,,0=1\nupdate,0,,0=1\n";
-
-/// The place of the first row behind two commits, of all updates of a small deck, whose note isn't the wanted one, and its note.
-fn first_behind_all(alloc: Global, rows: &[Row<'_>]) -> Result<Option<(usize, String)>, Fail> {
-    let deck = read_deck(alloc, SMALL)?;
-    let base = Base {
-        above: "commit,0,0\n\ncommit,0,1\n",
-        ..behind_a_commit(&deck)
-    };
-    Ok(first_other(alloc, base, rows)?)
-}
-
-#[test]
-fn a_deck_that_has_none_of_them_is_told(rt: HostRuntime) -> Result<(), Fail> {
-    let rows: &[Row<'_>] = &[
-        (
-            "counts,0,0,0,0,0,0,0",
-            6,
-            "the counts line has the reader 0, and the deck has no reader",
-        ),
-        (
-            "look,0,0,1",
-            6,
-            "the look line has the monitor 0, and the deck has no monitor",
-        ),
-        (
-            "commit,0,2",
-            5,
-            "the commit line has the seq 2, and each update of updater 0 is committed above it: the deck has only updates 0 and 1",
-        ),
-    ];
-    assert_eq!(rt; first_behind_all(rt.alloc(), rows)?, None);
     Ok(())
 }

@@ -24,6 +24,15 @@ pub const DECK: Base<'static> = Base {
     deck: None,
 };
 
+/// A start and a commit above a record of a report, whose deck isn't known.
+pub const REPORT: Base<'static> = Base {
+    above: "start\n\ncommit,0,0\n",
+    row: 3,
+    begins: "a file:4: record 3: ",
+    is_report: true,
+    deck: None,
+};
+
 /// A record, the kind of its fault, and the note behind the file's name, line and row.
 pub type Row<'a> = (&'a str, u8, &'a str);
 
