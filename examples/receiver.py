@@ -1,12 +1,19 @@
 #!/usr/bin/env python3
-"""A receiver in plain Python, written from docs/FORMATS.md alone: it lets the readers of a deck hear a tape.
+"""A receiver in plain Python, written from docs/FORMATS.md alone: it lets the readers of a deck hear a tape, or the air.
 
-usage: examples/receiver.py DECK TAPE      prints what `airdisk tune DECK TAPE` prints
-       examples/receiver.py --tape TAPE    prints each record of a tape: what its bucket says, or its fault
+usage: examples/receiver.py DECK TAPE         prints what `airdisk tune DECK TAPE` prints
+       examples/receiver.py DECK udp PORT     hears datagrams at 127.0.0.1:PORT, and prints what `airdisk listen DECK PORT` prints; but
+                                              first each bucket as it comes, in a line without a comma: <item>@<cycle>=<value>, or
+                                              `idle`, or `foreign`, or its fault
+       examples/receiver.py --tape TAPE       prints each record of a tape: what its bucket says, or its fault
+       examples/receiver.py --tape udp PORT   prints so each datagram, as it comes
 
-The deck is taken to be without faults. Where the tape is cut, the line of that is printed, and the status is 6.
+The deck is taken to be without faults. Where the tape is cut, the line of that is printed, and the status is 6. An empty datagram is the
+end mark; an interrupt (Ctrl-C) sends one.
 """
 import csv
+import signal
+import socket
 import struct
 import sys
 from collections import namedtuple
@@ -50,13 +57,24 @@ def records(tape):
     return found
 
 
+def datagrams(port, most):
+    """What comes to the port, as it comes, up to the end mark or to so many datagrams; each is cut to 2,048 bytes."""
+    with socket.socket(socket.AF_INET, socket.SOCK_DGRAM) as ear:
+        ear.setsockopt(socket.SOL_SOCKET, socket.SO_RCVBUF, 1 << 22)
+        ear.bind(("127.0.0.1", port))
+        signal.signal(signal.SIGINT, lambda *_: ear.sendto(b"", ear.getsockname()))
+        while most > 0 and (data := ear.recv(2048)):
+            yield data
+            most -= 1
+
+
 class Deck:
     """What a receiver needs of a deck: its readers with their queries, and which item stands in which slot."""
 
     def __init__(self, rows):
         of = lambda tag: [row[1:] for row in rows if row[0] == tag]
         rates, disks, settings = [int(row[2]) for row in of("item")], of("disk"), dict(of("set"))
-        self.policy = settings.get("policy", "F")
+        self.policy, self.hears = settings.get("policy", "F"), int(settings.get("hears", 1000000))
         self.readers = [(int(room), int(age), int(tries), []) for room, age, tries in of("reader")]
         for reader, items in of("query"):
             self.readers[int(reader)][3].append([int(item) for item in items.split()])
@@ -98,78 +116,110 @@ class Deck:
         return self.policy == "R" and held != [] and new.cycle < held[-1].cycle
 
 
-def session(deck, number, heard):
-    """The verdict lines of a reader that hears these, and its line of counts."""
-    room, age, tries, queries = deck.readers[number]
-    lines, counts, copies = [], dict.fromkeys("opened dozed late refused foreign copied".split(), 0), {}
-    query, attempt, held, newest = 0, 1, [], 0
+class Reader:
+    """A reader of a deck, with the verdict lines and the counts of what it has heard so far."""
 
-    def wanted():
-        return queries[query][len(held)] if query < len(queries) else None
+    def __init__(self, deck, number):
+        self.deck, self.number = deck, number
+        self.room, self.age, self.tries, self.queries = deck.readers[number]
+        self.lines, self.counts, self.copies = [], dict.fromkeys("opened dozed late refused foreign copied".split(), 0), {}
+        self.query, self.attempt, self.held, self.newest = 0, 1, [], 0
 
-    def end(verdict, more="", again=False):
-        nonlocal query, attempt, held
-        reads = " ".join(f"{read.item}@{read.cycle}={read.value}" for read in held)
-        lines.append(f"{verdict},{number},{query},{attempt},{reads}{more}")
-        query, attempt, held = (query, attempt + 1, []) if again else (query + 1, 1, [])
+    def wanted(self):
+        return self.queries[self.query][len(self.held)] if self.query < len(self.queries) else None
 
-    def hold(new):
-        held.append(new)
-        if len(held) == len(queries[query]):
-            end("accept")
+    def end(self, verdict, more="", again=False):
+        reads = " ".join(f"{read.item}@{read.cycle}={read.value}" for read in self.held)
+        self.lines.append(f"{verdict},{self.number},{self.query},{self.attempt},{reads}{more}")
+        self.query, self.attempt, self.held = (self.query, self.attempt + 1, []) if again else (self.query + 1, 1, [])
 
-    def settle():
-        while (item := wanted()) in copies:
-            if newest - copies[item].cycle > age or deck.is_late(held, copies[item]) or deck.clashes(held, copies[item]):
-                del copies[item]
+    def hold(self, new):
+        self.held.append(new)
+        if len(self.held) == len(self.queries[self.query]):
+            self.end("accept")
+
+    def settle(self):
+        while (copy := self.copies.get(self.wanted())) is not None:
+            if self.newest - copy.cycle > self.age or self.deck.is_late(self.held, copy) or self.deck.clashes(self.held, copy):
+                del self.copies[copy.item]
             else:
-                counts["copied"] += 1
-                hold(copies[item])
+                self.counts["copied"] += 1
+                self.hold(copy)
 
-    def open_bucket(new):
-        clashes = deck.clashes(held, new)
+    def open(self, new):
+        clashes = self.deck.clashes(self.held, new)
         if clashes:
-            end("abort", f",{new.item}@{new.cycle},{min(clashes)}", again=attempt < tries)
-            copies.pop(min(clashes), None)
+            self.end("abort", f",{new.item}@{new.cycle},{min(clashes)}", again=self.attempt < self.tries)
+            self.copies.pop(min(clashes), None)
         else:
-            hold(new)
-        copies[new.item] = new
-        if len(copies) > room:
-            del copies[max(copies, key=lambda item: (-deck.pix[item], item))]
+            self.hold(new)
+        self.copies[new.item] = new
+        if len(self.copies) > self.room:
+            del self.copies[max(self.copies, key=lambda item: (-self.deck.pix[item], item))]
 
-    for bucket in heard:
-        settle()
-        count = "refused" if isinstance(bucket, str) else "opened" if deck.fits(bucket) else "foreign"
+    def hear(self, bucket):
+        self.settle()
+        count = "refused" if isinstance(bucket, str) else "opened" if self.deck.fits(bucket) else "foreign"
         if count == "opened":
-            newest = max(newest, bucket.cycle)
-            if bucket.kind == IDLE or bucket.item != wanted():
+            self.newest = max(self.newest, bucket.cycle)
+            if bucket.kind == IDLE or bucket.item != self.wanted():
                 count = "dozed"
-            elif deck.is_late(held, bucket):
+            elif self.deck.is_late(self.held, bucket):
                 count = "late"
             else:
-                open_bucket(bucket)
-        counts[count] += 1
-    settle()
-    while query < len(queries):
-        end("unfinished")
-    return lines, f"counts,{number}," + ",".join(map(str, counts.values()))
+                self.open(bucket)
+        self.counts[count] += 1
+
+    def finish(self):
+        """All that is left stays unfinished."""
+        self.settle()
+        while self.query < len(self.queries):
+            self.end("unfinished")
+
+
+def fields(bucket):
+    """All that a bucket says, or its fault."""
+    return bucket if isinstance(bucket, str) else " ".join(f"{name}={it}" for name, it in bucket._asdict().items())
+
+
+def brief(deck, bucket):
+    """What a bucket is to the readers of a deck."""
+    if isinstance(bucket, str):
+        return bucket
+    if not deck.fits(bucket):
+        return "foreign"
+    return "idle" if bucket.kind == IDLE else f"{bucket.item}@{bucket.cycle}={bucket.value}"
+
+
+def deck_in(name):
+    csv.field_size_limit(1 << 27)
+    with open(name, encoding="utf-8-sig", newline="") as file:
+        return Deck([row for row in csv.reader(file) if row])
+
+
+def records_in(name):
+    with open(name, "rb") as file:
+        return records(file.read())
 
 
 def main(words):
-    if len(words) != 2:
+    on_air = len(words) == 3 and words[1] == "udp"
+    if len(words) != 2 and not on_air:
         sys.exit(__doc__)
-    with open(words[1], "rb") as file:
-        heard = [decode(record) for record in records(file.read())]
-    if words[0] == "--tape":
-        for bucket in heard:
-            print(bucket if isinstance(bucket, str) else " ".join(f"{name}={it}" for name, it in bucket._asdict().items()))
-        return
-    csv.field_size_limit(1 << 27)
-    with open(words[0], encoding="utf-8-sig", newline="") as file:
-        deck = Deck([row for row in csv.reader(file) if row])
-    sessions = [session(deck, number, heard) for number in range(len(deck.readers))]
-    for line in [line for lines, _ in sessions for line in lines] + [counts for _, counts in sessions]:
+    deck = None if words[0] == "--tape" else deck_in(words[0])
+    readers = [Reader(deck, number) for number in range(len(deck.readers))] if deck else []
+    for data in datagrams(int(words[2]), deck.hears if deck else sys.maxsize) if on_air else records_in(words[1]):
+        bucket = decode(data)
+        if on_air or not deck:
+            print(brief(deck, bucket) if deck else fields(bucket), flush=on_air)
+        for reader in readers:
+            reader.hear(bucket)
+    for reader in readers:
+        reader.finish()
+    for line in [line for reader in readers for line in reader.lines]:
         print(line)
+    for reader in readers:
+        print(f"counts,{reader.number}," + ",".join(map(str, reader.counts.values())))
 
 
 if __name__ == "__main__":
