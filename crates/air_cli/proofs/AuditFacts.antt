@@ -21,7 +21,6 @@ use Rattle.live_replay.specs.Audits.{findings, replayed_in}
 use Rattle.live_replay.specs.declared.findings.Finding.{Finding}
 use Rattle.live_replay.specs.declared.limits.TheConstants.{MOST_REPLAYED}
 use Rattle.report_reading.specs.ReportGrammar.{HasReportFault}
-use Rattle.report_reading.specs.ReportLines.{ReportLines}
 use Rattle.air_cli.specs.Answers.{InputFailed, NoCountRose}
 use Rattle.air_cli.specs.Audit.{AuditCause, AuditGives, OfReport, audit_given, audit_meaning, report_limit}
 use Rattle.air_cli.specs.Steps.Making.{Reads}

@@ -1,5 +1,5 @@
 -- What reading one named file, or two, leaves, and what it tells of an earlier moment.
-use Rattle.std.proofs.Common.{◌≡◌, ◌≢◌, ℕ, ◌+◌, Bool, true, false, List, length, drop, Some, refl, sym, ◌∙◌, subst, inl, inr, arith}
+use Rattle.std.proofs.Common.{◌≡◌, ◌≢◌, ℕ, ◌+◌, Bool, true, false, List, length, drop, Some, refl, sym, subst, inl, inr, arith}
 use Rattle.std.specs.Prelude.{◌<◌, ◌⊎◌, nat_eq}
 use Rattle.std.specs.Cmp.Lexicographic.{bytes_decides, pointwise}
 use Rattle.std.specs.Io.KnownBytes.{IsAtEnd}

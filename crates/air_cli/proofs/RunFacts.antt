@@ -1,5 +1,5 @@
 -- What the proofs of `run` need of its definitions.
-use Rattle.std.proofs.Common.{◌≡◌, ℕ, ◌≤◌, List, length, false, true, refl, arith}
+use Rattle.std.proofs.Common.{◌≡◌, ℕ, ◌≤◌, List, false, refl, arith}
 use Rattle.air_devices.specs.Counts.{NoCountFalls}
 use Rattle.air_devices.specs.Unchanged.{KeepsButPrinted}
 use Rattle.air_devices.specs.Shelves.{Shelved}
@@ -11,10 +11,12 @@ use Rattle.deck_files.specs.NamedDecks.{DeckCause, OfDeck, SpellsDeck}
 use Rattle.deck_files.specs.NamedFiles.{UnreadCause}
 use Rattle.deck_files.specs.RunnableDecks.{IsShort, UnrunnableCause}
 use Rattle.deck_files.proofs.CauseFacts.{of_deck, where_so}
-use Rattle.aired_runs.specs.GivenRuns.{IsRunRefusal}
+use Rattle.delivery.specs.Given.{Given}
+use Rattle.run_laws.specs.Runs.{Run}
+use Rattle.aired_runs.specs.GivenRuns.{IsGivenRun, IsRunRefusal}
 use Rattle.aired_runs.specs.RunTapes.{IsLongRun, run_tape_len}
 use Rattle.air_cli.specs.Answers.{NoCountRose}
-use Rattle.air_cli.specs.Run.{RunCause, run_meaning}
+use Rattle.air_cli.specs.Run.{CanRun, RunCause, RunGives, run_meaning}
 use Rattle.air_cli.specs.ToldInputs.{TellsInputs}
 use Rattle.air_cli.proofs.InputFacts.{CommandFacts, both, runs_fits}
 use Rattle.air_cli.proofs.RefusalFacts.{IsSound, unrunnable_still}
@@ -53,19 +55,26 @@ run_sound deck tape = record {
 not_both : (d : Deck) (bytes : ℕ) → run_tape_len d ≤ tape_limit → IsLongRun d bytes → ⊥
 not_both d bytes few long = let same = long.counted in let above = long.above in omega arith
 
-can_run : (deck : List ℕ) (before : Shelved) → OfDeck deck before (λ d. IsShort d × (run_tape_len d ≤ tape_limit)) → OfDeck deck before IsShort
+can_run : (deck : List ℕ) (before : Shelved) → OfDeck deck before CanRun → OfDeck deck before IsShort
 can_run deck before suits = where_so (before.told.file deck) _ _ (λ bytes h. (h.0, (h.1.0, h.1.1, h.1.2.0))) suits
 
-run_fits : (deck tape : List ℕ) (before now : Shelved) (s : Status) → TellsInputs (run_meaning deck tape) before → OfDeck deck before (λ d. IsShort d × (run_tape_len d ≤ tape_limit))
+run_fits : (deck tape : List ℕ) (before now : Shelved) (s : Status) → TellsInputs (run_meaning deck tape) before → OfDeck deck before CanRun
     → NoCountRose before.faults now.faults → RunCause deck before now s → s ≡ status.NoMemory
 unfolding RunCause
 run_fits deck tape before now (status.TooLong bytes) told suits calm h =
     let known = told deck refl in
-    let two = both deck before known.0 (λ d. IsShort d × (run_tape_len d ≤ tape_limit)) (λ d. IsShort d × IsLongRun d bytes) known.1 suits h in
+    let two = both deck before known.0 CanRun (λ d. IsShort d × IsLongRun d bytes) known.1 suits h in
     absurd (not_both two.0 bytes two.1.1 two.2.1)
 run_fits deck tape before now s told suits calm h =
     let known = told deck refl in
     runs_fits deck before now s known.0 known.1 (can_run deck before suits) calm h
+
+-- Where the deck's file is told, all of it is so of the deck that the file spells.
+pub told_run : (deck : List ℕ) (before : Shelved) (given : Given) → RunGives deck before given
+    → (given.differs ≡ false) × OfDeck deck before (λ d. IsShort d × (run_tape_len d ≤ tape_limit) × ((run : Run) × IsGivenRun d given run))
+unfolding RunGives
+told_run deck before given (same, (d, spells, made, can, is)) =
+    (same, of_deck deck before d (λ d. IsShort d × (run_tape_len d ≤ tape_limit) × ((run : Run) × IsGivenRun d given run)) spells (can.0, can.1, is))
 
 -- Its inputs don't decide what it gives.
 pub run_facts : (deck tape : List ℕ) → CommandFacts (run_meaning deck tape)

@@ -1,5 +1,5 @@
 -- What the top call answers, by the facts of the command that the words ask for.
-use Rattle.std.proofs.Common.{◌≡◌, ℕ, true, List, Option, Some, None, refl, ap, sym, ◌∙◌, subst, inl, inr}
+use Rattle.std.proofs.Common.{◌≡◌, true, Option, Some, None, refl, ap, sym, ◌∙◌, subst, inl, inr}
 use Rattle.air_devices.specs.Shelves.{Shelved}
 use Rattle.air_status.specs.declared.status.Status.{Status}
 use Rattle.air_status.specs.declared.status.Status.TheVariants as status

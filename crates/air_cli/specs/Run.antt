@@ -1,11 +1,11 @@
 -- The command `run DECK TAPE`.
 use Rattle.std.specs.Prelude.{◌≡◌, ◌≤◌, ℕ, false, List, Some}
 use Rattle.air_devices.specs.Shelves.{Shelved}
-use Rattle.air_model.specs.Decks.{Deck}
+use Rattle.air_model.specs.Decks.{Deck, IsDeck}
 use Rattle.air_status.specs.declared.status.Status.{Status}
 use Rattle.air_status.specs.declared.status.Status.TheVariants as status
 use Rattle.deck_files.specs.RunnableDecks.{IsShort, UnrunnableCause}
-use Rattle.deck_files.specs.NamedDecks.{OfDeck}
+use Rattle.deck_files.specs.NamedDecks.{OfDeck, SpellsDeck}
 use Rattle.deck_files.specs.FileLimits.{tape_limit}
 use Rattle.delivery.specs.Given.{Given}
 use Rattle.run_laws.specs.Runs.{Run}
@@ -13,24 +13,28 @@ use Rattle.aired_runs.specs.GivenRuns.{IsGivenRun}
 use Rattle.aired_runs.specs.RunTapes.{IsLongRun, run_tape_len}
 use Rattle.air_cli.specs.Meanings.{Meaning}
 
+-- A deck can be run: its program is short enough, and so is the tape of each of its runs.
+abbrev pub CanRun : Deck → Type 0
+CanRun d = IsShort d × (run_tape_len d ≤ tape_limit)
+
 -- Why it is refused: its deck can't be run, or the tape would be too long.
 unfoldable pub RunCause : List ℕ → Shelved → Shelved → Status → Type 0
 RunCause deck before now (status.TooLong bytes) = OfDeck deck before (λ d. IsShort d × IsLongRun d bytes)
 RunCause deck before now s = UnrunnableCause deck before now s
 
--- What it gives: its deck can be run, the tape is short enough, and this is report and tape of a run of the deck, of which all is true
--- that is true of one. Nothing in it differs.
+-- What it gives: there is a well-made deck that can be run, the one that the named file spells where it is told; and this is report
+-- and tape of a run of it, of which all is true that is true of one. Nothing in it differs.
 unfoldable pub RunGives : List ℕ → Shelved → Given → Type 0
 RunGives deck before given =
-    (given.differs ≡ false) × OfDeck deck before (λ d. IsShort d × (run_tape_len d ≤ tape_limit) × ((run : Run) × IsGivenRun d given run))
+    (given.differs ≡ false) × ((d : Deck) × SpellsDeck deck before d × IsDeck d × CanRun d × ((run : Run) × IsGivenRun d given run))
 
--- It reads its deck, which must be one that can be run and have a tape that is short enough, and writes the tape. The deck alone
+-- It reads its deck, which must be one that can be run, and writes the tape. The deck alone
 -- doesn't decide what it gives: the threads make one of many histories.
 abbrev pub run_meaning : List ℕ → List ℕ → Meaning
 run_meaning deck tape = record {
   IsInput = λ name. name ≡ deck;
   output = Some tape;
-  Suits = λ before. OfDeck deck before (λ d. IsShort d × (run_tape_len d ≤ tape_limit));
+  Suits = λ before. OfDeck deck before CanRun;
   Refuses = RunCause deck;
   Gives = RunGives deck;
   decided = false;

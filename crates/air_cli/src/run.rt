@@ -26,6 +26,7 @@ pub(crate) fn run<R: Threads + Wait + Sync, S: Shelf, G: Gate + Sync>(
     ensures reads { (tape : List ℕ) → Reads (run_meaning name.now tape) (S.state shelf.old) (S.state shelf.new) }
 {
     let (deck, program) = read_runnable_deck(alloc, shelf, name)?;
+    deck.well_made();
     let given = run_on_air(rt, alloc, &deck, &program, gate)?;
     Ok(given)
 }

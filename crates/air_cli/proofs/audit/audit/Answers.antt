@@ -1,13 +1,11 @@
-use Rattle.std.proofs.Common.{◌≡◌, ◌≢◌, ◌≤◌, ℕ, List, [], length, ap₂, inl, inr, subst, sym, rules}
+use Rattle.std.proofs.Common.{◌≤◌, [], length, ap₂, inl, inr, subst, sym, rules}
 use Rattle.std.specs.Prelude.{⊤}
 use Rattle.std.specs.Io.KnownBytes.{IsAtEnd}
-use Rattle.air_status.specs.declared.status.Status.TheVariants as status
 use Rattle.audited_reports.specs.AuditAnswers.{IsAudit}
-use Rattle.delivery.specs.Given.{Given}
 use Rattle.delivery.proofs.CountFacts.{kept_twice}
 use Rattle.deck_files.proofs.CauseFacts.{of_deck}
-use Rattle.air_cli.specs.Audit.{AuditGives, audit_given, audit_meaning}
-use Rattle.air_cli.specs.Steps.Making.{IsMade, IsUnmade}
+use Rattle.air_cli.specs.Audit.{AuditGives, audit_meaning}
+use Rattle.air_cli.specs.Steps.Making.{IsUnmade}
 use Rattle.air_cli.proofs.AuditFacts.{deck_audit, of_report, reads_both, told_first, unaudited, unread_audit}
 use Rattle.air_cli.proofs.ReadFacts.{end_still, unread_since}
 use Rattle.air_cli.proofs.audit.audit.Goals as goal

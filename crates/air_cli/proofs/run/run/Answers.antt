@@ -1,14 +1,8 @@
-use Rattle.std.proofs.Common.{◌≡◌, ◌≤◌, ap, subst, sym, rules}
+use Rattle.std.proofs.Common.{ap, subst, sym, rules}
 use Rattle.std.specs.Io.KnownBytes.{IsAtEnd}
-use Rattle.deck_files.specs.FileLimits.{tape_limit}
-use Rattle.deck_files.specs.RunnableDecks.{IsShort}
-use Rattle.deck_files.proofs.CauseFacts.{of_deck}
 use Rattle.delivery.specs.Given.{Given}
-use Rattle.run_laws.specs.Runs.{Run}
-use Rattle.aired_runs.specs.GivenRuns.{IsGivenRun}
-use Rattle.aired_runs.specs.RunTapes.{run_tape_len}
 use Rattle.air_cli.specs.Run.{RunGives, run_meaning}
-use Rattle.air_cli.specs.Steps.Making.{IsMade, IsUnmade}
+use Rattle.air_cli.specs.Steps.Making.{IsUnmade}
 use Rattle.air_cli.proofs.RunFacts.{long_run_cause, unrunnable_run}
 use Rattle.air_cli.proofs.run.run.Goals as goal
 
@@ -39,16 +33,12 @@ pub returns-clause-made : goal.returns-clause-made
 unfolding RunGives
 returns-clause-made g c = λ tape.
     let S = g.S.Shelf in
-    let name = c.args.name.now in
-    let before = S.state c.args.shelf.now in
     let now = S.state c.read_runnable_deck.new.shelf in
     let d = c.in_ok-deck.deck in
-    let given = c.in_ok-given.given in
     record {
       gives = (
         ap (λ (g : Given). g.differs) c.in_ok-given.ensures.gives.1.given_is,
-        of_deck name before d (λ d. IsShort d × (run_tape_len d ≤ tape_limit) × ((run : Run) × IsGivenRun d given run)) c.in_ok-deck.ensures.deck
-            (c.in_ok-deck.ensures.runnable, c.in_ok-given.ensures.short, c.in_ok-given.ensures.gives),
+        (d, c.in_ok-deck.ensures.deck, c.well_made.ensures.made, (c.in_ok-deck.ensures.runnable, c.in_ok-given.ensures.short), c.in_ok-given.ensures.gives),
       );
       read = λ other same. subst (λ input. IsAtEnd (now.told.left input)) (sym same) c.in_ok-deck.ensures.reads.end;
       calm = c.in_ok-deck.ensures.reads.calm;

@@ -4,7 +4,7 @@ use Rattle.air_model.specs.Outputs.{script_tape}
 use Rattle.air_status.specs.declared.status.Status.TheVariants as status
 use Rattle.deck_files.specs.RunnableDecks.{IsShort}
 use Rattle.deck_files.specs.FileLimits.{tape_limit}
-use Rattle.air_cli.specs.Steps.Making.{IsMade, IsUnmade}
+use Rattle.air_cli.specs.Steps.Making.{IsUnmade}
 use Rattle.delivery.specs.Given.{Given}
 use Rattle.delivery.specs.SentTapes.{tape_sent}
 use Rattle.air_cli.specs.Script.{HasLongTape, ScriptCause, ScriptGives, script_given, script_meaning}

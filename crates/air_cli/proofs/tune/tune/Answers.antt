@@ -1,10 +1,9 @@
-use Rattle.std.proofs.Common.{◌≡◌, ◌≢◌, ℕ, List, refl, ap, inl, inr, subst, sym, rules}
+use Rattle.std.proofs.Common.{◌≡◌, refl, ap, inl, inr, subst, sym, rules}
 use Rattle.std.specs.Io.KnownBytes.{IsAtEnd}
-use Rattle.air_devices.specs.Counts.{KeepsCounts}
 use Rattle.air_model.specs.Tapes.{tape_read}
 use Rattle.air_status.specs.declared.status.Status.TheVariants as status
 use Rattle.deck_files.specs.RunnableDecks.{IsShort}
-use Rattle.air_cli.specs.Steps.Making.{IsMade, IsUnmade}
+use Rattle.air_cli.specs.Steps.Making.{IsUnmade}
 use Rattle.delivery.specs.Given.{Given}
 use Rattle.air_cli.specs.Truths.{IsTrueTape}
 use Rattle.air_cli.specs.Tune.{OfTape, TuneCause, TuneGives, tune_given, tune_meaning}
