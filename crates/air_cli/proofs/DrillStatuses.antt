@@ -2,6 +2,8 @@
 use Rattle.std.proofs.Common.{◌≡◌, ap, ◌∙◌, ℕ, Bool, true, false, List, [], ◌∷◌, codes, length, Option, Some, None, refl, arith}
 use Rattle.std.specs.Prelude.{◌==◌, ◌||◌, ◌&&◌, nat_le, if◌then◌else◌, Contains}
 use Rattle.air_base.specs.Numbers.{number_of}
+use Rattle.air_devices.specs.Ears.{Eared}
+use Rattle.air_devices.specs.Masts.{Masted}
 use Rattle.air_devices.specs.Shelves.{Shelved}
 use Rattle.air_status.specs.Statuses.{code_of}
 use Rattle.air_status.specs.declared.status.Status.{Status}
@@ -12,7 +14,8 @@ use Rattle.air_cli.specs.Commands.{words_meaning}
 use Rattle.delivery.specs.Given.{Given, given_status}
 use Rattle.air_cli.specs.Drill.{DrillCause, DrillGives}
 use Rattle.air_cli.specs.Meanings.{Meaning, WordsCause}
-use Rattle.air_cli.specs.MainWords.{main_asked_of}
+use Rattle.air_cli.specs.MainWords.{OnShelf, called_of}
+use Rattle.air_cli.specs.OnAir.{called_meaning}
 use Rattle.air_cli.specs.Words.{AsksDrill, asked_drill, asked_of_one}
 
 -- The status is one of these.
@@ -60,19 +63,20 @@ drill_few (Some seed) (Some size) = by (nat_le 1 size && nat_le size MOST_DRILL_
     by true = record { refuses = λ before now s h. drill_among s h; same = λ before given h. drill_same seed size given h }
     by false = none_few
 
-words_few : (words : List (List ℕ)) → RefusesFew (words_meaning (main_asked_of (codes "drill" ∷ words)))
-words_few [] = none_few
-words_few (first ∷ []) = by (length first == 0)
+words_few : (words : List (List ℕ)) (mast mast_now : Masted) (ear ear_now : Eared) → RefusesFew (called_meaning (called_of (codes "drill" ∷ words)) mast mast_now ear ear_now)
+words_few [] mast mast_now ear ear_now = none_few
+words_few (first ∷ []) mast mast_now ear ear_now = by (length first == 0)
   where
     by : (empty : Bool) → RefusesFew (words_meaning (if empty then None else asked_of_one (codes "drill") first))
     by true = none_few
     by false = none_few
-words_few (first ∷ second ∷ []) = by (length first == 0 || length second == 0)
+words_few (first ∷ second ∷ []) mast mast_now ear ear_now = by (length first == 0 || length second == 0)
   where
-    by : (empty : Bool) → RefusesFew (words_meaning (if empty then None else asked_drill (number_of first) (number_of second)))
+    by : (empty : Bool) → RefusesFew (called_meaning (if empty then OnShelf None else OnShelf (asked_drill (number_of first) (number_of second))) mast mast_now ear ear_now)
     by true = none_few
     by false = drill_few (number_of first) (number_of second)
-words_few (first ∷ second ∷ more ∷ words) = none_few
+words_few (first ∷ second ∷ more ∷ words) mast mast_now ear ear_now = none_few
 
-pub drill_ends : (words : List (List ℕ)) (before now : Shelved) (s : Status) → QuietAnswers (words_meaning (main_asked_of (codes "drill" ∷ words))) before now s → IsAmong s
-drill_ends words = ends_among (words_meaning (main_asked_of (codes "drill" ∷ words))) (words_few words)
+pub drill_ends : (words : List (List ℕ)) (mast mast_now : Masted) (ear ear_now : Eared) (before now : Shelved) (s : Status)
+    → QuietAnswers (called_meaning (called_of (codes "drill" ∷ words)) mast mast_now ear ear_now) before now s → IsAmong s
+drill_ends words mast mast_now ear ear_now = ends_among (called_meaning (called_of (codes "drill" ∷ words)) mast mast_now ear ear_now) (words_few words mast mast_now ear ear_now)

@@ -13,6 +13,8 @@ pub mod TuneFacts
 pub mod DrillFacts
 pub mod AuditFacts
 pub mod RunFacts
+pub mod CastFacts
+pub mod ListenFacts
 pub mod DrillStatuses
 pub mod CommandFacts
 pub mod TopFacts

@@ -34,7 +34,7 @@ long_run_cause name before now d (status.TooLong bytes) spells short h = of_deck
 long_run_cause name before now d status.NoMemory spells short h = tt
 long_run_cause name before now d s spells short h = absurd h
 
-run_still : (name : List ℕ) (before mid now : Shelved) (s : Status) → KeepsButPrinted mid.told now.told → NoCountFalls mid.faults now.faults → RunCause name before mid s → RunCause name before now s
+pub run_still : (name : List ℕ) (before mid now : Shelved) (s : Status) → KeepsButPrinted mid.told now.told → NoCountFalls mid.faults now.faults → RunCause name before mid s → RunCause name before now s
 unfolding RunCause
 run_still name before mid now (status.TooLong bytes) rest counts h = h
 run_still name before mid now s rest counts h = unrunnable_still name before mid now s rest counts h
@@ -58,7 +58,7 @@ not_both d bytes few long = let same = long.counted in let above = long.above in
 can_run : (deck : List ℕ) (before : Shelved) → OfDeck deck before CanRun → OfDeck deck before IsShort
 can_run deck before suits = where_so (before.told.file deck) _ _ (λ bytes h. (h.0, (h.1.0, h.1.1, h.1.2.0))) suits
 
-run_fits : (deck tape : List ℕ) (before now : Shelved) (s : Status) → TellsInputs (run_meaning deck tape) before → OfDeck deck before CanRun
+pub run_fits : (deck tape : List ℕ) (before now : Shelved) (s : Status) → TellsInputs (run_meaning deck tape) before → OfDeck deck before CanRun
     → NoCountRose before.faults now.faults → RunCause deck before now s → s ≡ status.NoMemory
 unfolding RunCause
 run_fits deck tape before now (status.TooLong bytes) told suits calm h =

@@ -1,17 +1,25 @@
 -- What the top call answers, by the facts of the command that the words ask for.
 use Rattle.std.proofs.Common.{◌≡◌, true, Option, Some, None, refl, ap, sym, ◌∙◌, subst, inl, inr}
+use Rattle.air_devices.specs.Ears.{Eared}
+use Rattle.air_devices.specs.Masts.{Masted}
 use Rattle.air_devices.specs.Shelves.{Shelved}
 use Rattle.air_status.specs.declared.status.Status.{Status}
 use Rattle.air_status.specs.declared.status.Status.TheVariants as status
 use Rattle.delivery.specs.Given.{Given, given_status}
 use Rattle.delivery.specs.Deliveries.{IsGiven}
 use Rattle.air_cli.specs.Words.{Asked}
+use Rattle.air_cli.specs.Cast.{cast_meaning}
+use Rattle.air_cli.specs.Listen.{listen_meaning}
+use Rattle.air_cli.specs.MainWords.{Called, Casts, Listens, OnShelf}
+use Rattle.air_cli.specs.OnAir.{called_meaning}
 use Rattle.air_cli.specs.Meanings.{Meaning}
 use Rattle.air_cli.specs.Commands.{words_meaning}
 use Rattle.air_cli.specs.ToldInputs.{TellSameInputs}
 use Rattle.air_cli.specs.Answers.{Completes, IsDone, IsSuccess, QuietAnswers}
 use Rattle.air_cli.proofs.InputFacts.{GoesByInputs}
+use Rattle.air_cli.proofs.CastFacts.{cast_facts}
 use Rattle.air_cli.proofs.CommandFacts.{facts_of}
+use Rattle.air_cli.proofs.ListenFacts.{listen_facts}
 
 words_inputs : (asked : Option Asked) → GoesByInputs (words_meaning asked)
 words_inputs None = record { fits = λ before now s told suits calm h. absurd suits; one = λ decided before other a b same first second. absurd first }
@@ -29,6 +37,13 @@ completes command by before now s h told suits calm = inr (by.fits before now s 
 
 pub words_complete : (asked : Option Asked) (before now : Shelved) (s : Status) → QuietAnswers (words_meaning asked) before now s → Completes (words_meaning asked) before now s
 words_complete asked = completes (words_meaning asked) (words_inputs asked)
+
+-- So with a mast and an ear.
+pub call_complete : (called : Called) (mast mast_now : Masted) (ear ear_now : Eared) (before now : Shelved) (s : Status)
+    → QuietAnswers (called_meaning called mast mast_now ear ear_now) before now s → Completes (called_meaning called mast mast_now ear ear_now) before now s
+call_complete (OnShelf asked) mast mast_now ear ear_now = words_complete asked
+call_complete (Casts deck port) mast mast_now ear ear_now = completes (cast_meaning deck port mast mast_now) (cast_facts deck port mast mast_now).inputs
+call_complete (Listens deck port) mast mast_now ear ear_now = completes (listen_meaning deck port ear ear_now) (listen_facts deck port ear ear_now).inputs
 
 -- What a call that succeeded says, with either status.
 done : (command : Meaning) (before now : Shelved) (s : Status) → IsSuccess s → QuietAnswers command before now s → IsDone command before now s

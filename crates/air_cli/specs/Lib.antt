@@ -9,7 +9,11 @@ pub mod Tune
 pub mod Drill
 pub mod Audit
 pub mod MainWords
+pub mod Calls
 pub mod Run
+pub mod Cast
+pub mod Listen
+pub mod OnAir
 pub mod Untouched
 pub mod Truths
 pub mod Steps

@@ -4,8 +4,11 @@
 #![tactic(auto)]
 
 mod audit;
+mod calls;
+mod cast;
 mod drill;
 pub mod laws;
+mod listen;
 mod main_call;
 mod plan;
 mod quiet;

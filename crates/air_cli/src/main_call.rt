@@ -1,19 +1,24 @@
 //! The top call for all commands.
 //!
-//! A command that needs no waiting is left to `air_quiet`; `run` is done here, in the same way: what it prints and writes is made
-//! before anything is printed or written.
+//! A command that needs no waiting is left to `air_quiet`; `run`, `cast` and `listen` are done here, in the same way: what they print
+//! and write is made before anything is printed or written, and after all was sent or heard.
 
 ghost use Rattle.std.specs.Prelude.{◌≡◌, map, string_bytes, None};
 ghost use Rattle.air_devices.specs.Masts.{nothing_sent};
 ghost use Rattle.air_devices.specs.Told.{WhereTold};
 ghost use Rattle.air_cli.specs.Answers.{Completes, Leaves, QuietAnswers};
-ghost use Rattle.air_cli.specs.Commands.{words_meaning};
-ghost use Rattle.air_cli.specs.MainWords.{main_asked_of};
+ghost use Rattle.air_cli.specs.Calls.{called_by};
+ghost use Rattle.air_cli.specs.Cast.{cast_meaning};
+ghost use Rattle.air_cli.specs.Listen.{listen_meaning};
+ghost use Rattle.air_cli.specs.MainWords.{Casts, Listens, called_of};
+ghost use Rattle.air_cli.specs.OnAir.{LeavesEar, LeavesMast, called_meaning};
 ghost use Rattle.air_cli.specs.Run.{run_meaning};
 
+use crate::calls::{Call, call_of};
+use crate::cast::cast;
+use crate::listen::listen;
 use crate::quiet::air_quiet;
 use crate::run::run;
-use crate::words::run_words;
 use air_devices::{Ear, Gate, Mast, Shelf};
 use air_status::Status;
 use delivery::{deliver, refuse};
@@ -21,8 +26,8 @@ use std::alloc::Global;
 use std::sync::Wait;
 use std::thread::Threads;
 
-/// Runs what the words ask for: `run DECK TAPE`, or what `air_quiet` does. The mast and the ear are to be as they are when made; no
-/// command uses them yet.
+/// Runs what the words ask for: `run DECK TAPE`, `cast DECK PORT`, `listen DECK PORT`, or what `air_quiet` does. The mast and the ear
+/// are to be as they are when made; `cast` alone uses the mast, and `listen` alone the ear.
 pub fn air_main<R: Threads + Wait + Sync, S: Shelf, M: Mast + Send, E: Ear, G: Gate + Sync>(
     rt: &R,
     alloc: Global,
@@ -35,15 +40,40 @@ pub fn air_main<R: Threads + Wait + Sync, S: Shelf, M: Mast + Send, E: Ear, G: G
     requires unaimed { (M.state mast.old).port ≡ None }
     requires unsent { WhereTold (M.state mast.old).told (λ s. s ≡ nothing_sent) }
     requires untuned { (E.state ear.old).port ≡ None }
-    ensures answers { QuietAnswers (words_meaning (main_asked_of (map (λ w. string_bytes w) words.now))) (S.state shelf.old) (S.state shelf.new) result }
-    ensures complete { Completes (words_meaning (main_asked_of (map (λ w. string_bytes w) words.now))) (S.state shelf.old) (S.state shelf.new) result }
-    ensures leaves { Leaves (words_meaning (main_asked_of (map (λ w. string_bytes w) words.now))) (S.state shelf.old) (S.state shelf.new) }
-    ensures mast { M.state mast.new ≡ M.state mast.old }
-    ensures ear { E.state ear.new ≡ E.state ear.old }
+    ensures answers { QuietAnswers (called_meaning (called_of (map (λ w. string_bytes w) words.now)) (M.state mast.old) (M.state mast.new) (E.state ear.old) (E.state ear.new)) (S.state shelf.old) (S.state shelf.new) result }
+    ensures complete { Completes (called_meaning (called_of (map (λ w. string_bytes w) words.now)) (M.state mast.old) (M.state mast.new) (E.state ear.old) (E.state ear.new)) (S.state shelf.old) (S.state shelf.new) result }
+    ensures leaves { Leaves (called_meaning (called_of (map (λ w. string_bytes w) words.now)) (M.state mast.old) (M.state mast.new) (E.state ear.old) (E.state ear.new)) (S.state shelf.old) (S.state shelf.new) }
+    ensures mast { LeavesMast (called_of (map (λ w. string_bytes w) words.now)) (S.state shelf.old) (M.state mast.old) (M.state mast.new) }
+    ensures ear { LeavesEar (called_of (map (λ w. string_bytes w) words.now)) (S.state shelf.old) (E.state ear.old) (E.state ear.new) }
 {
-    match run_words(words) {
-        Some((deck, tape)) => run_deck(rt, alloc, shelf, deck, tape, gate),
+    match call_of(words) {
+        Some(call) => make_call(rt, alloc, shelf, mast, ear, &call, gate),
         None => air_quiet(rt, alloc, words, shelf),
+    }
+}
+
+/// Runs a command that waits.
+fn make_call<R: Threads + Wait + Sync, S: Shelf, M: Mast + Send, E: Ear, G: Gate + Sync>(
+    rt: &R,
+    alloc: Global,
+    shelf: &mut S,
+    mast: &mut M,
+    ear: &mut E,
+    call: &Call,
+    gate: &G,
+) -> Status
+    requires unaimed { (M.state mast.old).port ≡ None }
+    requires unsent { WhereTold (M.state mast.old).told (λ s. s ≡ nothing_sent) }
+    requires untuned { (E.state ear.old).port ≡ None }
+    ensures answers { QuietAnswers (called_meaning (called_by call.now) (M.state mast.old) (M.state mast.new) (E.state ear.old) (E.state ear.new)) (S.state shelf.old) (S.state shelf.new) result }
+    ensures leaves { Leaves (called_meaning (called_by call.now) (M.state mast.old) (M.state mast.new) (E.state ear.old) (E.state ear.new)) (S.state shelf.old) (S.state shelf.new) }
+    ensures mast { LeavesMast (called_by call.now) (S.state shelf.old) (M.state mast.old) (M.state mast.new) }
+    ensures ear { LeavesEar (called_by call.now) (S.state shelf.old) (E.state ear.old) (E.state ear.new) }
+{
+    match call {
+        Call::Run { deck, tape } => run_deck(rt, alloc, shelf, deck, tape, gate),
+        Call::Cast { deck, port } => cast_deck(rt, alloc, shelf, mast, deck, *port, gate),
+        Call::Listen { deck, port } => listen_deck(alloc, shelf, ear, deck, *port),
     }
 }
 
@@ -61,6 +91,53 @@ fn run_deck<R: Threads + Wait + Sync, S: Shelf, G: Gate + Sync>(
 {
     match run(rt, alloc, shelf, deck, gate) {
         Ok(given) => deliver(shelf, Some(tape), &given),
+        Err(status) => match status {
+            Status::NoMemory => Status::NoMemory,
+            _ => refuse(alloc, shelf, status),
+        },
+    }
+}
+
+/// Casts a run of a deck to a port, and delivers what that gives; or refuses.
+fn cast_deck<R: Threads + Wait + Sync, S: Shelf, M: Mast + Send, G: Gate + Sync>(
+    rt: &R,
+    alloc: Global,
+    shelf: &mut S,
+    mast: &mut M,
+    deck: &str,
+    port: u16,
+    gate: &G,
+) -> Status
+    requires unaimed { (M.state mast.old).port ≡ None }
+    requires unsent { WhereTold (M.state mast.old).told (λ s. s ≡ nothing_sent) }
+    ensures answers { QuietAnswers (cast_meaning deck.now port (M.state mast.old) (M.state mast.new)) (S.state shelf.old) (S.state shelf.new) result }
+    ensures leaves { Leaves (cast_meaning deck.now port (M.state mast.old) (M.state mast.new)) (S.state shelf.old) (S.state shelf.new) }
+    ensures mast { LeavesMast (Casts deck.now port) (S.state shelf.old) (M.state mast.old) (M.state mast.new) }
+{
+    match cast(rt, alloc, shelf, mast, deck, port, gate) {
+        Ok(given) => deliver(shelf, None, &given),
+        Err(status) => match status {
+            Status::NoMemory => Status::NoMemory,
+            _ => refuse(alloc, shelf, status),
+        },
+    }
+}
+
+/// Lets a deck's readers listen on a port, and delivers what that gives; or refuses.
+fn listen_deck<S: Shelf, E: Ear>(
+    alloc: Global,
+    shelf: &mut S,
+    ear: &mut E,
+    deck: &str,
+    port: u16,
+) -> Status
+    requires untuned { (E.state ear.old).port ≡ None }
+    ensures answers { QuietAnswers (listen_meaning deck.now port (E.state ear.old) (E.state ear.new)) (S.state shelf.old) (S.state shelf.new) result }
+    ensures leaves { Leaves (listen_meaning deck.now port (E.state ear.old) (E.state ear.new)) (S.state shelf.old) (S.state shelf.new) }
+    ensures ear { LeavesEar (Listens deck.now port) (S.state shelf.old) (E.state ear.old) (E.state ear.new) }
+{
+    match listen(alloc, shelf, ear, deck, port) {
+        Ok(given) => deliver(shelf, None, &given),
         Err(status) => match status {
             Status::NoMemory => Status::NoMemory,
             _ => refuse(alloc, shelf, status),

@@ -1,18 +1,19 @@
-//! The reports of `script` and `tune`, in memory: what a deck's readers made of a tape.
+//! The reports of `script`, `tune`, `listen` and `cast`, in memory.
 //!
 //! `script` runs the deck's script and lets each of its readers hear its own ether of the tape of it. `tune` lets them hear a
-//! given tape.
+//! given tape; `listen` reports of what they heard of an ear, and `cast` of a run that readers may hear elsewhere.
 
 ghost use Rattle.std.specs.Prelude.{◌≡◌, ◌<◌, ◌≤◌, ◌^◌, [], length, None, IfOk};
 ghost use Rattle.air_history.specs.Histories.{starts};
 ghost use Rattle.air_model.specs.Decks.{disks_in};
-ghost use Rattle.air_model.specs.Outputs.{script_output, script_tape, tune_output};
+ghost use Rattle.air_model.specs.Outputs.{cast_output, script_output, script_tape, tune_output};
 ghost use Rattle.air_model.specs.Reports.{report_text};
 ghost use Rattle.air_model.specs.Tapes.{tape_of, tape_read};
 ghost use Rattle.air_sender.specs.TapeMasts.{told_by};
 ghost use Rattle.deck_files.specs.FileLimits.{tape_limit};
 
 use air_base::NoMemory;
+use air_casts::Run;
 use air_history::{Event, History};
 use air_report::{Report, write_report};
 use air_sender::TapeMast;
@@ -63,8 +64,33 @@ pub(crate) fn tune_report(
     ensures { IfOk result (λ text. text.items ≡ tune_output deck.now (tape_read tape.now).records) }
 {
     let sessions = tape_sessions(alloc, deck, program, tape)?;
+    let report = heard_report(alloc, sessions)?;
+    Ok(report)
+}
+
+/// The report of what the sessions of readers tell who know no history.
+pub(crate) fn heard_report(alloc: Global, sessions: Sessions) -> Result<Vec<u8>, NoMemory>
+    ensures { IfOk result (λ text. text.items
+        ≡ report_text (record { history = []; verdicts = sessions.verdicts.items; counts = sessions.counts.items; glances = []; looks = [] })) }
+{
     let report = report_of(alloc, Vec::new(alloc), sessions)?;
     Ok(report)
+}
+
+/// The report of a run that no reader here heard: its history, and what its monitors saw.
+pub(crate) fn cast_report(alloc: Global, run: Run) -> Result<Vec<u8>, NoMemory>
+    ensures { IfOk result (λ text. text.items ≡ cast_output run.history run.glances run.looks) }
+{
+    let report = Report {
+        history: run.history,
+        verdicts: Vec::new(alloc),
+        counts: Vec::new(alloc),
+        glances: run.glances,
+        looks: run.looks,
+    };
+    let mut text = Vec::new(alloc);
+    write_report(alloc, &report, &mut text)?;
+    Ok(text)
 }
 
 /// The text of the report of a history and of what the sessions of readers tell; no monitor saw it.

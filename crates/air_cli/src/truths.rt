@@ -3,6 +3,9 @@
 ghost use Rattle.std.specs.Prelude.{ℕ, ◌≤◌, List};
 ghost use Rattle.air_model.specs.Drills.{drill_deck};
 ghost use Rattle.deck_files.specs.RunnableDecks.{IsShort};
+ghost use Rattle.air_model.specs.Outputs.{cast_output};
+ghost use Rattle.aired_runs.specs.RunTruths.{IsTrueRun, TellsHistory};
+ghost use Rattle.run_laws.specs.Runs.{IsRun, Run};
 ghost use Rattle.air_cli.specs.Truths.{IsTrueScript, IsTrueTape};
 ghost use Rattle.item_catalog.specs.declared.deck.drill.TheConstants.{MOST_DRILL_SIZE};
 
@@ -10,8 +13,10 @@ use air_model::aired::bytes_law;
 use air_model::deck::{events_law, script_law};
 use air_model::ether::heard_was_pushed_law;
 use air_model::sessions::receiver_law;
+use aired_runs::laws::true_run_law;
 use aired_sessions::laws::drill_slots_law;
 use item_catalog::{Deck, drill_law};
+use report_laws::one_history_law;
 
 /// The sessions over a script's history are true of it.
 pub(crate) fn script_is_true(deck: &Deck)
@@ -47,4 +52,14 @@ pub(crate) fn tapes_are_true(deck: &Deck)
 {
     deck.well_made();
     receiver_law();
+}
+
+/// So are the runs of a deck, and a cast's report tells the history of its run.
+pub(crate) fn casts_are_true(deck: &Deck)
+    requires { IsShort deck.now }
+    ensures { (run : Run) → IsRun deck.now run → IsTrueRun deck.now run × TellsHistory deck.now run.history (cast_output run.history run.glances run.looks) }
+{
+    deck.well_made();
+    true_run_law();
+    one_history_law();
 }

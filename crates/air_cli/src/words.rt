@@ -1,8 +1,7 @@
 //! The words of a command, and the help on them.
 
-ghost use Rattle.std.specs.Prelude.{◌≡◌, option_map, map, string_bytes, IfSome, MatchOption, Some};
-ghost use Rattle.air_cli.specs.MainWords.{main_asked_of, main_asked_of_two};
-ghost use Rattle.air_cli.specs.Words.{AsksRun, HasSize, asked_drill, asked_of, asked_of_one, asked_of_two};
+ghost use Rattle.std.specs.Prelude.{◌≡◌, option_map, map, string_bytes, IfSome};
+ghost use Rattle.air_cli.specs.Words.{HasSize, asked_drill, asked_of, asked_of_one, asked_of_two};
 ghost use Rattle.air_cli.specs.Commands.{asked_by, meaning_of};
 
 use air_base::read_u64;
@@ -18,6 +17,8 @@ pub const HELP: &str = "airdisk: data on air, proved
   airdisk drill SEED SIZE     make a deck of size 1 to 100, run its script, and print what came of it
   airdisk audit DECK REPORT   replay a report by its own history, and print which of its lines agree
   airdisk run DECK TAPE       run a deck on threads, print the report, and write the tape
+  airdisk cast DECK PORT      run a deck on threads, send what is aired to a port of this machine, and print the history
+  airdisk listen DECK PORT    let the readers of a deck hear what comes to a port, and print their report
   airdisk --help, -h          print this text
   airdisk --version           print the version
 
@@ -136,30 +137,5 @@ fn drill_of<'a>(seed: Option<u64>, size: Option<u64>) -> Option<Command<'a>>
             })
         }
         _ => None,
-    }
-}
-
-/// The deck and the tape of the words `run DECK TAPE`, and `None` exactly if they are of another form or of none.
-pub(crate) fn run_words<'a>(words: &'a [String]) -> Option<(&'a str, &'a str)>
-    ensures { MatchOption result
-        (main_asked_of (map (λ w. string_bytes w) words.now) ≡ asked_of (map (λ w. string_bytes w) words.now))
-        (λ files. main_asked_of (map (λ w. string_bytes w) words.now) ≡ Some (AsksRun files.0.now files.1.now)) }
-{
-    match words {
-        [name, deck, tape] if !deck.is_empty() && !tape.is_empty() => run_files(name, deck, tape),
-        _ => None,
-    }
-}
-
-/// The two files, where the name is that of `run`.
-fn run_files<'a>(name: &str, deck: &'a str, tape: &'a str) -> Option<(&'a str, &'a str)>
-    ensures { MatchOption result
-        (main_asked_of_two name.now deck.now tape.now ≡ asked_of_two name.now deck.now tape.now)
-        (λ files. main_asked_of_two name.now deck.now tape.now ≡ Some (AsksRun files.0.now files.1.now)) }
-{
-    if name == "run" {
-        Some((deck, tape))
-    } else {
-        None
     }
 }

@@ -157,7 +157,11 @@ pub fn shelf_of(alloc: Global, case: &Case<'_>) -> Result<MemShelf, NoMemory> {
 }
 
 /// In what the shelf differs from what is wanted of it, if it does.
-fn left_other(alloc: Global, shelf: &MemShelf, case: &Case<'_>) -> Result<Option<Other>, NoMemory> {
+pub fn left_other(
+    alloc: Global,
+    shelf: &MemShelf,
+    case: &Case<'_>,
+) -> Result<Option<Other>, NoMemory> {
     let printed = bytes_of(alloc, case.printed)?;
     if shelf.printed() != printed.as_slice() {
         return Ok(Some(Other::Printed));

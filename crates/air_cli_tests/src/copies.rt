@@ -2,8 +2,8 @@
 //!
 //! The wanted reports are from an independent program.
 
-use crate::cases::{Case, Part, Parts, first_other};
-use crate::first::{FIRST_CASE, SCRIPT};
+use crate::cases::{Part, Parts, first_other};
+use crate::first::reported;
 
 /// Two items, of which the second is the hotter, so that the program airs it first; a reader with room for both.
 const TWO: Part<'static> = Part::Text(
@@ -16,17 +16,6 @@ const THREE: Part<'static> = Part::Text(
     "item,0,10,1\nitem,1,20,1\nitem,2,30,1\ndisk,3,1\nreader,1,9,1\n\
     query,0,2\nquery,0,1\nquery,0,0\nquery,0,0 1\nquery,0,0\n",
 );
-
-/// A script of this deck prints this report.
-fn reported<'a>(shows: &'a str, deck: Parts<'a>, printed: Parts<'a>) -> Case<'a> {
-    Case {
-        shows,
-        words: SCRIPT,
-        deck,
-        printed,
-        ..FIRST_CASE
-    }
-}
 
 #[test]
 fn a_wanted_item_is_read_from_its_copy_where_that_clashes_with_nothing(rt: HostRuntime) {

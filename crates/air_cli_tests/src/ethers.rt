@@ -3,7 +3,7 @@
 //! The wanted reports are from an independent program. The tape is the same with and without an ether.
 
 use crate::cases::{Case, Part, Parts, first_other};
-use crate::first::{FIRST, FIRST_CASE, FIRST_REPORT, FIRST_TAPE, SCRIPT, SCRIPT_TAPE, TUNE};
+use crate::first::{FIRST, FIRST_CASE, FIRST_REPORT, FIRST_TAPE, SCRIPT_TAPE, TUNE, reported};
 
 /// Item 1 descends from item 0, and each of three readers asks for both, and then for item 2 and item 1.
 const MANY: Part<'static> = Part::Text(
@@ -98,23 +98,12 @@ fn the_tape_stays_and_a_reader_hears_what_its_ether_gives(rt: HostRuntime) {
     assert_eq!(rt; first_other(&rt, rt.alloc(), &cases), None);
 }
 
-/// A script of three readers with this seed and policy prints this report.
-fn of_many<'a>(shows: &'a str, deck: Parts<'a>, printed: Parts<'a>) -> Case<'a> {
-    Case {
-        shows,
-        words: SCRIPT,
-        deck,
-        printed,
-        ..FIRST_CASE
-    }
-}
-
 #[test]
 fn each_reader_has_an_ether_of_its_own(rt: HostRuntime) {
     let cases = [
-        of_many("by F-Matrix", &[MANY, ODDS, SEVEN], OF_SEVEN),
-        of_many("by Datacycle", &[MANY, ODDS, NINE_BY_D], OF_NINE_BY_D),
-        of_many("by R-Matrix", &[MANY, ODDS, NINE_BY_R], OF_NINE_BY_R),
+        reported("by F-Matrix", &[MANY, ODDS, SEVEN], OF_SEVEN),
+        reported("by Datacycle", &[MANY, ODDS, NINE_BY_D], OF_NINE_BY_D),
+        reported("by R-Matrix", &[MANY, ODDS, NINE_BY_R], OF_NINE_BY_R),
     ];
     assert_eq!(rt; first_other(&rt, rt.alloc(), &cases), None);
 }

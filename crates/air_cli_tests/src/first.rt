@@ -1,6 +1,6 @@
-//! The deck that most cases begin with, its report and its tape; and the words of each command.
+//! The deck that most cases begin with, its report and its tape; the words of each command; and the cases of scripts.
 
-use crate::cases::{Case, Part};
+use crate::cases::{Case, Part, Parts};
 use air_cli::Status;
 
 /// Two items on one flat disk, one reader with one query, one cycle.
@@ -43,3 +43,14 @@ pub const FIRST_CASE: Case<'static> = Case {
     printed: &[],
     output: &[],
 };
+
+/// A script of this deck prints this report.
+pub fn reported<'a>(shows: &'a str, deck: Parts<'a>, printed: Parts<'a>) -> Case<'a> {
+    Case {
+        shows,
+        words: SCRIPT,
+        deck,
+        printed,
+        ..FIRST_CASE
+    }
+}

@@ -1,9 +1,11 @@
 //! The commands of airdisk over a shelf in memory: words, a deck and a tape in; a status, a text and an output out.
 //!
-//! Runs go through `air_main`, all else through `air_quiet`. A test is a table of one behaviour. `cases` has the form of a case and plays it,
+//! What waits goes through `air_main`, all else through `air_quiet`. A test is a table of one behaviour. `cases` has the form of a case and plays it,
 //! `first` has the deck that most of them begin with, its tape, and the words of each command.
 #![tactic(auto)]
 
+#[cfg(test)]
+mod airings;
 #[cfg(test)]
 mod audits;
 #[cfg(test)]

@@ -4,7 +4,7 @@
 //! in a table of `policies` and in one of `ethers`, and reads from copies in that of `copies`.
 
 use crate::cases::{Case, Part, Parts, first_other};
-use crate::first::{FIRST_CASE, FIRST_TAPE, SCRIPT, TUNE};
+use crate::first::{FIRST_CASE, FIRST_TAPE, TUNE, reported};
 
 /// Three items, updates by which item 1 descends from item 0, and four readers.
 const FOUR_READERS: Part<'static> = Part::Text(
@@ -44,17 +44,6 @@ const FOUR_COUNTS: Case<'static> = Case {
     ],
     ..FIRST_CASE
 };
-
-/// A script of this deck prints this report.
-fn reported<'a>(shows: &'a str, deck: Parts<'a>, printed: Parts<'a>) -> Case<'a> {
-    Case {
-        shows,
-        words: SCRIPT,
-        deck,
-        printed,
-        ..FIRST_CASE
-    }
-}
 
 #[test]
 fn each_kind_of_verdict_has_its_row(rt: HostRuntime) {

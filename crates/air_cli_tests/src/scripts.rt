@@ -1,7 +1,7 @@
 //! The command `script`: its report and its tape.
 
 use crate::cases::{Case, Part, Parts, first_other};
-use crate::first::{FIRST_CASE, FIRST_REPORT, FIRST_TAPE, SCRIPT, SCRIPT_TAPE};
+use crate::first::{FIRST_CASE, FIRST_REPORT, FIRST_TAPE, SCRIPT_TAPE, reported};
 
 /// Two items, of which the second is the hotter, so that the program airs it first.
 const TWO: Part<'static> = Part::Text(
@@ -54,17 +54,6 @@ const DISKS: Parts<'static> = &[Part::Text(
 const DISKS_REPORT: Parts<'static> = &[Part::Text(
     "start\nstart\naccept,0,0,1,2@1=9 0@2=7\naccept,0,1,1,1@2=8\ncounts,0,3,5,0,0,0,0\n",
 )];
-
-/// A script of this deck prints this report.
-fn reported<'a>(shows: &'a str, deck: Parts<'a>, printed: Parts<'a>) -> Case<'a> {
-    Case {
-        shows,
-        words: SCRIPT,
-        deck,
-        printed,
-        ..FIRST_CASE
-    }
-}
 
 #[test]
 fn a_script_airs_its_program_and_prints_what_the_reader_hears(rt: HostRuntime) {

@@ -1,8 +1,8 @@
 //! The program: words in, a status out.
 //!
-//! It hands its words and a shelf over files and standard output to the top call, with a gate that is open, and a mast and an ear in
-//! memory, which no command uses yet. It says on standard error what went wrong where something did (`notes`), and ends with the
-//! status's number. `--help`, `-h` and `--version`, each as the only word, are answered here.
+//! It hands its words and a shelf over files and standard output to the top call, with a gate that is open, and a mast and an ear over
+//! UDP on this machine. It says on standard error what went wrong where something did (`notes`), and ends with the status's number.
+//! `--help`, `-h` and `--version`, each as the only word, are answered here.
 #![tactic(auto)]
 
 mod notes;
@@ -11,7 +11,7 @@ use crate::notes::{explain, explain_no_memory};
 use air_base::NoMemory;
 use air_cli::words::HELP;
 use air_cli::{Status, air_main};
-use air_devices::{FileShelf, MemEar, MemMast, OpenGate};
+use air_devices::{FileShelf, OpenGate, UdpEar, UdpMast};
 use std::alloc::Global;
 use std::env::{self, Env};
 use std::io::{self, Write};
@@ -30,18 +30,23 @@ fn main(rt: HostRuntime) -> ExitCode {
         [word] if word.as_str() == "--help" || word.as_str() == "-h" => print_text(&rt, HELP),
         [word] if word.as_str() == "--version" => print_text(&rt, VERSION),
         words => {
-            let Ok(handle) = rt.clone() else {
+            let Ok(files) = rt.clone() else {
                 return end_without_memory(&rt);
             };
-            let Ok(mut mast) = MemMast::new(alloc, 0, Vec::new(alloc)) else {
+            let Ok(sending) = rt.clone() else {
                 return end_without_memory(&rt);
             };
-            let mut shelf = FileShelf::new(handle);
-            let mut ear = MemEar::new(Vec::new(alloc), Vec::new(alloc));
+            let Ok(hearing) = rt.clone() else {
+                return end_without_memory(&rt);
+            };
+            let mut shelf = FileShelf::new(files);
+            let mut mast = UdpMast::new(sending);
+            let mut ear = UdpEar::new(hearing);
             let status = air_main(
                 &rt, alloc, words, &mut shelf, &mut mast, &mut ear, &OpenGate,
             );
-            explain(&rt, alloc, words, &mut shelf, None, status);
+            let on_air = mast.last_failure().or(ear.last_failure());
+            explain(&rt, alloc, words, &mut shelf, on_air, status);
             ExitCode::from(status.code())
         }
     }

@@ -20,7 +20,7 @@ pub(crate) fn run_bytes(deck: &Deck, program: &Program) -> u64
 }
 
 /// How many bytes the tape of each run of a deck would have, where that is more than a tape may have.
-pub(crate) fn long_run(deck: &Deck, program: &Program) -> Option<u64>
+pub fn long_run(deck: &Deck, program: &Program) -> Option<u64>
     requires { program.now ≡ disks_in deck.now }
     ensures { MatchOption result (run_tape_len deck.now ≤ MOST_TAPE_BYTES) (IsLongRun deck.now) }
 {

@@ -1,0 +1,98 @@
+//! The command `cast`: a run of a named deck on threads, sent to a port.
+
+ghost use Rattle.std.specs.Prelude.{◌≡◌, ◌≤◌, ◌⊎◌, None, IfErr, IfOk};
+ghost use Rattle.air_devices.specs.Masts.{nothing_sent};
+ghost use Rattle.air_devices.specs.Told.{WhereTold};
+ghost use Rattle.air_model.specs.Decks.{disks_in};
+ghost use Rattle.aired_runs.specs.RunTapes.{run_tape_len};
+ghost use Rattle.deck_files.specs.FileLimits.{tape_limit};
+ghost use Rattle.deck_files.specs.RunnableDecks.{IsShort};
+ghost use Rattle.run_laws.specs.Runs.{Run};
+ghost use Rattle.air_cli.specs.Cast.{HasSent, IsCast, IsCastRefusal, cast_meaning, fault_status};
+ghost use Rattle.air_cli.specs.MainWords.{Casts};
+ghost use Rattle.air_cli.specs.OnAir.{LeavesMast};
+ghost use Rattle.air_cli.specs.Steps.Making.{IsMade, IsUnmade, Reads};
+
+use crate::reports::cast_report;
+use crate::truths::casts_are_true;
+use air_casts::{RunFault, cast_run};
+use air_devices::{Gate, Mast, Shelf};
+use air_status::Status;
+use aired_runs::long_run;
+use chunk_program::Program;
+use deck_files::read_runnable_deck;
+use delivery::Given;
+use item_catalog::Deck;
+use std::alloc::Global;
+use std::sync::Wait;
+use std::thread::Threads;
+
+/// The report of a run of the named deck, which is cast to a port.
+pub(crate) fn cast<R: Threads + Wait + Sync, S: Shelf, M: Mast + Send, G: Gate + Sync>(
+    rt: &R,
+    alloc: Global,
+    shelf: &mut S,
+    mast: &mut M,
+    name: &str,
+    port: u16,
+    gate: &G,
+) -> Result<Given, Status>
+    requires unaimed { (M.state mast.old).port ≡ None }
+    requires unsent { WhereTold (M.state mast.old).told (λ s. s ≡ nothing_sent) }
+    ensures made { IfOk result (IsMade (cast_meaning name.now port (M.state mast.old) (M.state mast.new)) (S.state shelf.old) (S.state shelf.new)) }
+    ensures unmade { IfErr result (IsUnmade (cast_meaning name.now port (M.state mast.old) (M.state mast.new)) (S.state shelf.old) (S.state shelf.new)) }
+    ensures reads { Reads (cast_meaning name.now port (M.state mast.old) (M.state mast.new)) (S.state shelf.old) (S.state shelf.new) }
+    ensures mast { LeavesMast (Casts name.now port) (S.state shelf.old) (M.state mast.old) (M.state mast.new) }
+{
+    let (deck, program) = read_runnable_deck(alloc, shelf, name)?;
+    deck.well_made();
+    let given = cast_on_air(rt, alloc, &deck, &program, mast, port, gate)?;
+    Ok(given)
+}
+
+/// The report of a run of a deck, which is cast to a port. A deck whose tape would be too long is refused before the mast is aimed.
+#[tactic(auto, unfolding(crate::specs::Cast::IsCastRefusal), using(crate::proofs::CastFacts::all_cast, crate::proofs::CastFacts::part_cast, crate::proofs::CastFacts::is_cast, crate::proofs::CastFacts::fault_refused))]
+fn cast_on_air<R: Threads + Wait + Sync, M: Mast + Send, G: Gate + Sync>(
+    rt: &R,
+    alloc: Global,
+    deck: &Deck,
+    program: &Program,
+    mast: &mut M,
+    port: u16,
+    gate: &G,
+) -> Result<Given, Status>
+    requires planned { program.now ≡ disks_in deck.now }
+    requires short { IsShort deck.now }
+    requires unaimed { (M.state mast.old).port ≡ None }
+    requires unsent { WhereTold (M.state mast.old).told (λ s. s ≡ nothing_sent) }
+    ensures few { IfOk result (λ given. run_tape_len deck.now ≤ tape_limit) }
+    ensures gives { IfOk result (λ given. (run : Run) × IsCast deck.now port (M.state mast.old) (M.state mast.new) given run) }
+    ensures refused { IfErr result (IsCastRefusal deck.now port (M.state mast.old) (M.state mast.new)) }
+    ensures mast { (M.state mast.new ≡ M.state mast.old) ⊎ HasSent deck.now port (M.state mast.old) (M.state mast.new) }
+{
+    if let Some(bytes) = long_run(deck, program) {
+        return Err(Status::TooLong { bytes });
+    }
+    casts_are_true(deck);
+    match cast_run(rt, alloc, deck, program, mast, gate, port) {
+        Ok(run) => {
+            let text = cast_report(alloc, run)?;
+            Ok(Given {
+                text,
+                tape: None,
+                differs: false,
+            })
+        }
+        Err(fault) => Err(status_of(fault)),
+    }
+}
+
+/// The status of a cast that was not done.
+fn status_of(fault: RunFault) -> Status
+    ensures { result ≡ fault_status fault }
+{
+    match fault {
+        RunFault::Mast { sent } => Status::AirFault { at: sent },
+        RunFault::NoMemory => Status::NoMemory,
+    }
+}
