@@ -9,6 +9,7 @@ use Rattle.air_devices.specs.Told.{ToldIs, WhereTold}
 use Rattle.air_model.specs.Decks.{Deck}
 use Rattle.air_status.specs.declared.status.Status.{Status}
 use Rattle.air_status.specs.declared.status.Status.TheVariants as status
+use Rattle.air_report.specs.declared.reading.ReadReport.{ReadReport}
 use Rattle.audited_reports.specs.AuditAnswers.{CanBeAudited, IsAudit, IsTooMuch, UnauditedCause}
 use Rattle.audited_reports.proofs.AuditFacts.{no_report_fault, one_report}
 use Rattle.deck_files.specs.NamedDecks.{DeckCause, OfDeck, SpellsDeck}
@@ -139,13 +140,13 @@ one_told deck report before other db rb P Q first second first2 second2 p q =
 
 -- A report that can be audited has no fault, and isn't too much.
 can_or_faulty : (d : Deck) (bytes : List ℕ) (row kind : ℕ) → CanBeAudited d bytes → HasReportFault d bytes row kind → ⊥
-can_or_faulty d bytes row kind can fault = no_report_fault d bytes can.lines row kind can.spelled fault
+can_or_faulty d bytes row kind can fault = no_report_fault d bytes can.read row kind can.is fault
 
 can_or_too_much : (d : Deck) (bytes : List ℕ) (product : ℕ) → CanBeAudited d bytes → IsTooMuch d bytes product → ⊥
 can_or_too_much d bytes product can much =
-    let same : replayed_in can.lines ≡ replayed_in much.lines = ap replayed_in (one_report d bytes can.lines much.lines can.spelled much.spelled) in
-    let within : replayed_in can.lines ≤ MOST_REPLAYED = can.within in
-    let counted : product ≡ replayed_in much.lines = much.counted in
+    let same : replayed_in can.read.report ≡ replayed_in much.read.report = ap (λ (r : ReadReport). replayed_in r.report) (one_report d bytes can.read much.read can.is much.is) in
+    let within : replayed_in can.read.report ≤ MOST_REPLAYED = can.within in
+    let counted : product ≡ replayed_in much.read.report = much.counted in
     let above : MOST_REPLAYED < product = much.above in
     omega arith
 
@@ -172,7 +173,7 @@ audit_fits deck report before now s told suits calm (inr h) =
 
 -- Findings of the same bytes are the same.
 same_found : (d : Deck) (bytes : List ℕ) (a b : List Finding) → IsAudit d bytes a → IsAudit d bytes b → a ≡ b
-same_found d bytes a b first second = first.are ∙ ap (findings d) (one_report d bytes first.lines second.lines first.spelled second.spelled) ∙ sym second.are
+same_found d bytes a b first second = first.are ∙ ap (findings d) (one_report d bytes first.read second.read first.is second.is) ∙ sym second.are
 
 audit_one : (deck report : List ℕ) (before other : Shelved) (a b : Given) → TellSameInputs (audit_meaning deck report) before other
     → AuditGives deck report before a → AuditGives deck report other b → a ≡ b

@@ -15,7 +15,7 @@ ghost use Rattle.deck_files.specs.FileLimits.{tape_limit};
 use air_base::NoMemory;
 use air_casts::Run;
 use air_history::{Event, History};
-use air_report::{Report, write_report};
+use report_texts::{Report, write_report};
 use air_sender::TapeMast;
 use aired_sessions::air_script;
 use chunk_program::Program;

@@ -1,1 +1,5 @@
-mod LineLemmas
+pub mod LineOrder
+pub mod LineRows
+pub mod LineCounts
+pub mod MadeReports
+mod ReportExamples

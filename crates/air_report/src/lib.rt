@@ -1,12 +1,15 @@
-//! Reports: a history, the verdicts and the counts of readers, and what monitors saw.
+//! Reports as texts, both ways: `write_report` appends the text of a report, and `read_report` reads one back against a deck.
 //!
-//! `Report` holds these as lists, and `write_report` writes them as rows of csv text, section by section. The lines are
-//! plain data of `air_model`, whose `Reports` has the row of each and the text of all.
+//! A report is read as lines first (`report_reading`). `reading` makes the report of them, whose commits have the deck's updates,
+//! and tells the row of each verdict, glance and look; `laws` has that what is written is read back.
 #![tactic(auto)]
 
-mod report;
-mod rows;
-mod sections;
+mod events;
+mod laws;
+mod reading;
 
-pub use air_model::reports::{CountsLine, LookLine, VerdictLine};
-pub use report::{Report, write_report};
+pub use air_base::Rows;
+pub use laws::read_back_law;
+pub use reading::{ReadReport, read_report};
+pub use report_reading::{ReportError, limits};
+pub use report_texts::{CountsLine, LookLine, Report, VerdictLine, write_report};

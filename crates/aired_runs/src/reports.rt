@@ -11,7 +11,7 @@ use crate::laws::true_run_law;
 use crate::runs::{AiredRun, air_run};
 use air_base::NoMemory;
 use air_devices::Gate;
-use air_report::{Report, write_report};
+use report_texts::{Report, write_report};
 use chunk_program::Program;
 use delivery::Given;
 use item_catalog::Deck;

@@ -3,8 +3,9 @@ use Rattle.std.specs.Prelude.{◌≡◌, ◌≤◌, ◌<◌, ℕ, List, ⊤}
 use Rattle.air_model.specs.Decks.{Deck}
 use Rattle.air_status.specs.declared.status.Status.{Status}
 use Rattle.air_status.specs.declared.status.Status.TheVariants as status
-use Rattle.report_reading.specs.ReportGrammar.{HasReportFault, SpellsReport}
-use Rattle.report_reading.specs.ReportLines.{ReportLines}
+use Rattle.report_reading.specs.ReportGrammar.{HasReportFault}
+use Rattle.air_report.specs.declared.reading.ReadReport.{ReadReport}
+use Rattle.air_report.specs.ReadReports.{IsReportOf}
 use Rattle.live_replay.specs.Audits.{findings, replayed_in}
 use Rattle.live_replay.specs.declared.findings.Finding.{Finding}
 use Rattle.live_replay.specs.declared.limits.TheConstants.{MOST_REPLAYED}
@@ -14,24 +15,24 @@ use Rattle.audited_reports.specs.declared.reports.Audited.{Audited}
 
 -- The bytes spell a report of the deck that isn't too much to replay.
 pub record CanBeAudited (deck : Deck) (bytes : List ℕ) : Type 0 where
-  pub lines : ReportLines
-  pub spelled : SpellsReport deck bytes lines
-  pub within : replayed_in lines ≤ MOST_REPLAYED
+  pub read : ReadReport
+  pub is : IsReportOf deck bytes read
+  pub within : replayed_in read.report ≤ MOST_REPLAYED
 
 -- So much would be replayed of the report that the bytes spell, more than may be.
 pub record IsTooMuch (deck : Deck) (bytes : List ℕ) (product : ℕ) : Type 0 where
-  pub lines : ReportLines
-  pub spelled : SpellsReport deck bytes lines
-  pub counted : product ≡ replayed_in lines
+  pub read : ReadReport
+  pub is : IsReportOf deck bytes read
+  pub counted : product ≡ replayed_in read.report
   pub above : MOST_REPLAYED < product
 
 -- The bytes spell a report of the deck that isn't too much to replay, these are its findings, and they are true.
 pub record IsAudit (deck : Deck) (bytes : List ℕ) (found : List Finding) : Type 0 where
-  pub lines : ReportLines
-  pub spelled : SpellsReport deck bytes lines
-  pub within : replayed_in lines ≤ MOST_REPLAYED
-  pub are : found ≡ findings deck lines
-  pub true_of : IsTrueAudit deck bytes lines
+  pub read : ReadReport
+  pub is : IsReportOf deck bytes read
+  pub within : replayed_in read.report ≤ MOST_REPLAYED
+  pub are : found ≡ findings deck read
+  pub true_of : IsTrueAudit deck bytes read
 
 -- The answer is the text of the findings, and whether some differs.
 abbrev pub HasAudit : Deck → List ℕ → Audited → Type 0

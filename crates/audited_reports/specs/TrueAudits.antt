@@ -1,6 +1,6 @@
 -- What is true of an audit: when it says that a line agrees, of which rows its findings are, that it finds true sessions so, and
 -- when nothing differs.
-use Rattle.std.specs.Prelude.{◌≡◌, ◌↔◌, ◌≤◌, ℕ, false, List, All, Option, None}
+use Rattle.std.specs.Prelude.{◌≡◌, ◌↔◌, ℕ, false, List, All, Option, None}
 use Rattle.std.specs.List.{enumerate_from, filter_map}
 use Rattle.air_history.specs.declared.histories.Event.{Event}
 use Rattle.air_model.specs.Buckets.{Bucket}
@@ -9,8 +9,8 @@ use Rattle.air_model.specs.Reports.{verdict_lines}
 use Rattle.air_model.specs.declared.reports.LookLine.{LookLine}
 use Rattle.air_model.specs.declared.reports.VerdictLine.{VerdictLine}
 use Rattle.report_reading.specs.LineTexts.{line_of}
-use Rattle.report_reading.specs.ReportLines.{ReportLines, report_in}
 use Rattle.text_records.specs.Records.{records_of}
+use Rattle.air_report.specs.declared.reading.ReadReport.{ReadReport}
 use Rattle.live_replay.specs.Audits.{findings}
 use Rattle.live_replay.specs.FindingLaws.{GivesLook, GivesVerdict}
 use Rattle.live_replay.specs.Findings.{look_cause, verdict_cause}
@@ -21,11 +21,11 @@ use Rattle.audited_reports.specs.FindingTexts.{some_differ}
 -- that of a glance or a look where it gives the total. The findings are those of the text's records, in order, each with its
 -- record's row. Where the verdicts are those of sessions that the history judges, whatever the readers heard, and all totals are
 -- its own, every line agrees. Nothing differs exactly where every line agrees.
-pub record IsTrueAudit (deck : Deck) (text : List ℕ) (lines : ReportLines) : Type 0 where
-  pub verdicts : (line : VerdictLine) → (verdict_cause deck (report_in deck lines).history line ≡ None) ↔ GivesVerdict deck (report_in deck lines).history line
-  pub looks : (line : LookLine) → (look_cause deck (report_in deck lines).history line ≡ None) ↔ GivesLook deck (report_in deck lines).history line
-  pub rows : findings deck lines ≡ filter_map (λ p. spelled_finding deck (report_in deck lines).history p.0 (line_of p.1)) (enumerate_from 1 (records_of text))
-  pub sessions : (heard : ℕ → List (Option Bucket)) → lines.verdicts ≡ verdict_lines (sessions_judged deck (report_in deck lines).history heard)
-      → All (GivesLook deck (report_in deck lines).history) lines.glances → All (GivesLook deck (report_in deck lines).history) lines.looks
-      → All (λ found. found.differs ≡ None) (findings deck lines)
-  pub none : (some_differ (findings deck lines) ≡ false) ↔ All (λ found. found.differs ≡ None) (findings deck lines)
+pub record IsTrueAudit (deck : Deck) (text : List ℕ) (read : ReadReport) : Type 0 where
+  pub verdicts : (line : VerdictLine) → (verdict_cause deck read.report.history line ≡ None) ↔ GivesVerdict deck read.report.history line
+  pub looks : (line : LookLine) → (look_cause deck read.report.history line ≡ None) ↔ GivesLook deck read.report.history line
+  pub rows : findings deck read ≡ filter_map (λ p. spelled_finding deck read.report.history p.0 (line_of p.1)) (enumerate_from 1 (records_of text))
+  pub sessions : (heard : ℕ → List (Option Bucket)) → read.report.verdicts ≡ verdict_lines (sessions_judged deck read.report.history heard)
+      → All (GivesLook deck read.report.history) read.report.glances → All (GivesLook deck read.report.history) read.report.looks
+      → All (λ found. found.differs ≡ None) (findings deck read)
+  pub none : (some_differ (findings deck read) ≡ false) ↔ All (λ found. found.differs ≡ None) (findings deck read)

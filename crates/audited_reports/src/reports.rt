@@ -2,17 +2,17 @@
 
 ghost use Rattle.std.specs.Prelude.{ℕ, ◌≤◌, List, IfErr, IfOk, length};
 ghost use Rattle.report_reading.specs.declared.limits.TheConstants.{MOST_REPORT_BYTES};
-ghost use Rattle.report_reading.specs.ReportGrammar.{SpellsReport};
-ghost use Rattle.report_reading.specs.ReportLines.{ReportLines};
+ghost use Rattle.air_report.specs.declared.reading.ReadReport.{ReadReport};
+ghost use Rattle.air_report.specs.ReadReports.{IsReportOf};
+ghost use Rattle.air_report.specs.KeptReports.{KeepsGrammar};
 ghost use Rattle.audited_reports.specs.AuditAnswers.{HasAudit, UnauditedCause};
 ghost use Rattle.audited_reports.specs.TrueAudits.{IsTrueAudit};
 
 use crate::texts::{differing, findings_text};
+use air_report::{ReadReport, ReportError, read_report};
 use air_status::Status;
 use item_catalog::Deck;
-use live_replay::{AuditError, agrees_law, audit, few_lines_law, rows_law, true_report_law};
-use report_laws::kept_law;
-use report_reading::{ReadReport, ReportError, read_report};
+use live_replay::{AuditError, agrees_law, audit, rows_law, true_report_law};
 use std::alloc::Global;
 
 /// An audit: the text of its findings, and whether some line differs.
@@ -44,13 +44,11 @@ fn audit_read(
     bytes: &[u8],
     report: &ReadReport,
 ) -> Result<Audited, Status>
-    requires size { length bytes.now ≤ MOST_REPORT_BYTES }
-    requires read { SpellsReport deck.now bytes.now report.now }
+    requires read { IsReportOf deck.now bytes.now report.now }
+    requires kept { KeepsGrammar deck.now report.now }
     ensures audit { IfOk result (HasAudit deck.now bytes.now) }
     ensures refused { IfErr result (UnauditedCause deck.now bytes.now) }
 {
-    kept_law();
-    few_lines_law();
     audits_are_true(deck);
     match audit(alloc, deck, report) {
         Ok(found) => {
@@ -65,7 +63,7 @@ fn audit_read(
 
 /// Audits are true, by the laws of replays. The calls do nothing.
 fn audits_are_true(deck: &Deck)
-    ensures { (text : List ℕ) (lines : ReportLines) → SpellsReport deck.now text lines → IsTrueAudit deck.now text lines }
+    ensures { (text : List ℕ) (read : ReadReport) → IsReportOf deck.now text read → IsTrueAudit deck.now text read }
 {
     deck.well_made();
     agrees_law();

@@ -1,9 +1,9 @@
--- What lines in the grammar give a replay: the deck's updates, items of the deck, and cycles from 1 on.
-use Rattle.std.proofs.Common.{◌≡◌, ℕ, zero, suc, ◌<◌, ◌≤◌, Bool, true, false, ◌&&◌, ◌==◌, nat_lt, nat_le, Option, Some, None, List, [], ◌∷◌, ◌++◌, length, get_or, map, All, refl, sym, ◌∙◌, ap, subst, inl, inr, arith}
+-- What lines in the grammar give a replay: items of the deck, and cycles from 1 on.
+use Rattle.std.proofs.Common.{◌≡◌, ℕ, zero, suc, ◌<◌, ◌≤◌, Bool, true, false, ◌&&◌, ◌==◌, Option, Some, None, List, [], ◌∷◌, length, get_or, map, All, refl, sym, ◌∙◌, ap, subst, inl, inr, arith}
 use Rattle.std.specs.Prelude.{slice_get}
 use Rattle.std.specs.List.{list_all}
 use Rattle.std.specs.Option.{option_map_or}
-use Rattle.std.proofs.lemmas.Bool.{and_parts, cases_lt, eqb-true, ltb-true, leb-true, false≢true}
+use Rattle.std.proofs.lemmas.Bool.{and_parts, cases_lt, eqb-true, leb-true, false≢true}
 use Rattle.std.proofs.lemmas.List.{get_or_past}
 use Rattle.std.proofs.lemmas.List.Elements.{All-cons, All-head, All-map, All-nil, All-tail}
 use Rattle.std.proofs.lemmas.List.Sums.{AllPass-from_list_all}
@@ -12,30 +12,14 @@ use Rattle.air_base.specs.declared.verdicts.ReadOf.{ReadOf}
 use Rattle.air_base.specs.declared.verdicts.VerdictKind.{VerdictKind}
 use Rattle.air_base.specs.declared.verdicts.VerdictKind.TheVariants.{Accept, Abort, Unfinished}
 use Rattle.air_history.specs.Reads.{IsRead}
-use Rattle.air_model.specs.Decks.{Deck, IsDeck, IsQuery, updates_by}
+use Rattle.air_model.specs.Decks.{Deck, IsDeck, IsQuery}
 use Rattle.air_model.specs.declared.reports.VerdictLine.{VerdictLine}
 use Rattle.report_reading.specs.ReportFaults.{follow, has_begun, its_item, leads}
 use Rattle.report_reading.specs.ReportLines.{ReportLines, starts_in}
-use Rattle.report_reading.specs.declared.lines.EventLine.{EventLine}
-use Rattle.report_reading.specs.declared.lines.EventLine.TheVariants.{Commit, Start}
 use Rattle.report_reading.specs.declared.lines.Line.TheVariants as l
-use Rattle.report_laws.specs.ReportRules.{EachNext, InGrammar, IsRight}
+use Rattle.report_laws.specs.ReportRules.{InGrammar, IsRight}
 use Rattle.live_replay.specs.Findings.{place_of, places_of}
 use Rattle.live_replay.specs.Steps.Lines.{EndFits, LineFits}
-use Rattle.live_replay.specs.Steps.Replays.{NamesUpdate}
-
--- ---- the history
-
-next_named : (deck : Deck) (before lines : List EventLine) → EachNext deck before lines → All (NamesUpdate deck) lines
-next_named deck before [] each = All-nil (NamesUpdate deck)
-next_named deck before (Commit by seq ∷ lines) each =
-    All-cons (NamesUpdate deck) (Commit by seq) lines (ltb-true seq (length (updates_by deck by)) (and_parts _ _ each.0).1) (next_named deck (before ++ Commit by seq ∷ []) lines each.1)
-next_named deck before (Start ∷ lines) each = All-cons (NamesUpdate deck) Start lines tt (next_named deck (before ++ Start ∷ []) lines each.1)
-
-pub grammar_named : (deck : Deck) (lines : ReportLines) → InGrammar deck lines → All (NamesUpdate deck) lines.events
-grammar_named deck lines g = next_named deck [] lines.events g.events
-
--- ---- verdicts
 
 told : {X : Type 0} (f : X → Bool) (o : Option X) → option_map_or f o false ≡ true → (x : X) × (o ≡ Some x) × (f x ≡ true)
 told f None h = absurd (false≢true h)

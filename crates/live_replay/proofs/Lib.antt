@@ -15,6 +15,5 @@ pub mod PolicyFacts
 pub mod GrammarFacts
 pub mod FoundFacts
 pub mod FindingFacts
-pub mod LineCounts
 pub mod RowFindings
 pub mod TrueReports

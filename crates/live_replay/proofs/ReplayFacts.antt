@@ -2,22 +2,16 @@
 use Rattle.std.proofs.Common.{◌≡◌, ℕ, zero, suc, ◌+◌, ◌%◌, ◌^◌, ◌<◌, ◌≤◌, Bool, cond, ◌⊎◌, List, [], ◌∷◌, length, get_or, map, take, count_by, All, refl, sym, ◌∙◌, ap, subst, inl, inr, arith, add-one, zero-add}
 use Rattle.std.specs.List.{sum}
 use Rattle.std.proofs.Math.Nat.{mod-add-mod}
-use Rattle.std.proofs.lemmas.Bool.{cases_lt}
 use Rattle.std.proofs.lemmas.List.FromFn.{get_or-map-range_with_len, length-map-range_with_len}
-use Rattle.std.proofs.lemmas.List.{get_or-map, get_or_default, get_or_past, length-map, length-take, take_all}
+use Rattle.std.proofs.lemmas.List.{get_or_default, length-map, length-take, take_all}
 use Rattle.std.proofs.lemmas.List.Sums.{count_by-le-length, sum_by_more}
 use Rattle.air_history.specs.declared.histories.Event.{Event}
-use Rattle.air_history.specs.declared.histories.Event.TheVariants as e
-use Rattle.air_history.specs.Histories.{is_start, event_at, cycle_at, front}
-use Rattle.air_history.specs.UpdateLists.{UpdateLists}
-use Rattle.air_history.specs.UpdateRules.{UpdateFits}
+use Rattle.air_history.specs.Histories.{is_start, cycle_at, front, ItemsFit}
 use Rattle.air_history.specs.Reads.{read_value}
 use Rattle.air_history.specs.Tables.{table, table_list, values_of}
 use Rattle.air_model.specs.Reports.{total_at}
-use Rattle.air_model.specs.Decks.{Deck, Item, IsDeck, IsUpdate, update_at, updates_by, values_in}
-use Rattle.report_reading.specs.ReportLines.{event_in}
-use Rattle.report_reading.specs.declared.lines.EventLine.{EventLine}
-use Rattle.report_reading.specs.declared.lines.EventLine.TheVariants.{Commit, Start}
+use Rattle.air_model.specs.Decks.{Deck, Item, IsDeck, IsLegal, values_in}
+use Rattle.air_model.proofs.DeckLemmas.{events, items_fit}
 use Rattle.live_replay.specs.declared.running.Running.{Running}
 use Rattle.live_replay.specs.declared.replay.Replay.TheInside.{Inside}
 use Rattle.live_replay.specs.declared.writes.ItemWrite.{ItemWrite}
@@ -27,23 +21,12 @@ use Rattle.live_replay.specs.Steps.Replays.{IsReplay, replayed}
 use Rattle.live_replay.specs.Steps.Runs.{IsRun}
 use Rattle.live_replay.proofs.SourceFacts.{sources_count}
 
--- A line's updater has updates.
-pub updater_within : (deck : Deck) (by seq : ℕ) → seq < length (updates_by deck by) → by < length deck.updates
-updater_within deck by seq l = elim (cases_lt by (length deck.updates)) as (λ _. by < length deck.updates) [
-  | inl below ↦ below
-  | inr past ↦ absurd (let none = ap length (get_or_past deck.updates by [] past) in omega arith)
-]
-
--- Each update of the deck fits its items.
-pub update_fits : (deck : Deck) (by seq : ℕ) (d : UpdateLists) → IsDeck deck → seq < length (updates_by deck by) → UpdateFits (length deck.items) (get_or (updates_by deck by) seq d)
-update_fits deck by seq d is l = (is.updates by [] (updater_within deck by seq l) seq d l).fits
+-- The items of a legal history's updates are the deck's.
+pub legal_fits : (deck : Deck) (H : List Event) → IsDeck deck → IsLegal deck H → All (ItemsFit (length deck.items)) H
+legal_fits deck H is legal = λ p d l. items_fit (length deck.updates) (length deck.items) (get_or H p d) ((events deck H is legal).0 p d l)
 
 pub values_length : (deck : Deck) → length (values_in deck) ≡ length deck.items
 values_length deck = length-map deck.items (λ (i : Item). i.value)
-
--- The event of a line.
-pub event_of_line : (deck : Deck) (lines : List EventLine) (n : ℕ) (d : EventLine) → n < length lines → event_at (map (event_in deck) lines) n ≡ event_in deck (get_or lines n d)
-event_of_line deck lines n d l = get_or-map (event_in deck) lines n d e.Start l
 
 cycle_few : (H : List Event) (n : ℕ) → cycle_at H n ≤ n
 unfolding cycle_at

@@ -1,8 +1,7 @@
 -- No line of a report differs that sessions tell which its history judges, and whose glances and looks have their totals.
 use Rattle.std.proofs.Common.{◌≡◌, ℕ, zero, suc, ◌+◌, ◌<◌, ◌≤◌, Option, Some, None, List, [], ◌∷◌, ◌++◌, length, get_or, map, All, refl, sym, ◌∙◌, ap, subst, arith}
 use Rattle.std.specs.List.{enumerate_from, flat_map, range_with_len}
-use Rattle.std.proofs.lemmas.List.Elements.{All-append, All-map, All-nil}
-use Rattle.std.proofs.lemmas.List.FromFn.{get_or-enumerate_from, length-enumerate_from}
+use Rattle.std.proofs.lemmas.List.Elements.{All-append, All-cons, All-head, All-map, All-nil, All-tail}
 use Rattle.air_history.specs.declared.histories.Event.{Event}
 use Rattle.air_model.specs.Aired.{air_of, scheme_in}
 use Rattle.air_model.specs.Buckets.{Bucket}
@@ -13,21 +12,21 @@ use Rattle.air_model.specs.Reports.{line_by, verdict_lines}
 use Rattle.air_model.specs.Sessions.{Line, State, reader_of}
 use Rattle.air_model.specs.declared.reports.VerdictLine.{VerdictLine}
 use Rattle.air_model.proofs.DeckLemmas.{air}
-use Rattle.report_reading.specs.ReportLines.{ReportLines, report_in}
+use Rattle.air_report.specs.declared.reading.ReadReport.{ReadReport}
 use Rattle.live_replay.specs.declared.findings.Cause.{Cause}
 use Rattle.live_replay.specs.declared.findings.Finding.{Finding}
-use Rattle.live_replay.specs.Audits.{findings, found_from}
+use Rattle.live_replay.specs.Audits.{findings, found_in}
 use Rattle.live_replay.specs.Findings.{look_cause, verdict_cause}
 use Rattle.live_replay.specs.FindingLaws.{GivesLook, GivesVerdict}
 use Rattle.live_replay.specs.ReportFindings.{sessions_judged}
 use Rattle.live_replay.proofs.FindingFacts.{agrees, look_agrees, session_agrees}
 
-none_differs : {L : Type 0} (cause : L → Option Cause) (row : ℕ) (lines : List L) → All (λ l. cause l ≡ None) lines → All (λ f. f.differs ≡ None) (found_from cause row lines)
-none_differs cause row [] h = All-nil (λ (f : Finding). f.differs ≡ None)
-none_differs cause row (l ∷ lines) h = All-map (λ (f : Finding). f.differs ≡ None) (λ p. record { row = p.0; differs = cause p.1 }) (enumerate_from row (l ∷ lines))
-    (λ k d b.
-    let below : k < length (l ∷ lines) = omega (arith, length-enumerate_from row (l ∷ lines)) in
-    ap (λ p. cause p.1) (get_or-enumerate_from row (l ∷ lines) k d below) ∙ h k d.1 below)
+none_differs : {L : Type 0} (cause : L → Option Cause) (rows : List ℕ) (lines : List L) → All (λ l. cause l ≡ None) lines → All (λ f. f.differs ≡ None) (found_in cause rows lines)
+none_differs cause [] lines h = All-nil (λ (f : Finding). f.differs ≡ None)
+none_differs cause (row ∷ rows) [] h = All-nil (λ (f : Finding). f.differs ≡ None)
+none_differs cause (row ∷ rows) (l ∷ lines) h =
+    All-cons (λ (f : Finding). f.differs ≡ None) (record { row = row; differs = cause l }) (found_in cause rows lines)
+    (All-head (λ l. cause l ≡ None) l lines h) (none_differs cause rows lines (All-tail (λ l. cause l ≡ None) l lines h))
 
 module _ (deck : Deck) (H : List Event) where
   pub judged_session : (r : ℕ) (heard : List (Option Bucket)) → IsDeck deck →
@@ -54,15 +53,15 @@ module _ (deck : Deck) (H : List Event) where
     pub judged_lines : All Given (verdict_lines (sessions_judged deck H heard))
     judged_lines = lines_given 0 (length deck.readers)
 
-pub none_differ : (deck : Deck) (lines : ReportLines) → All (GivesVerdict deck (report_in deck lines).history) lines.verdicts →
-    All (GivesLook deck (report_in deck lines).history) lines.glances → All (GivesLook deck (report_in deck lines).history) lines.looks → All (λ f. f.differs ≡ None) (findings deck lines)
+pub none_differ : (deck : Deck) (read : ReadReport) → All (GivesVerdict deck read.report.history) read.report.verdicts →
+    All (GivesLook deck read.report.history) read.report.glances → All (GivesLook deck read.report.history) read.report.looks → All (λ f. f.differs ≡ None) (findings deck read)
 unfolding findings
-none_differ deck lines verdicts glances looks =
-    let H = (report_in deck lines).history in
-    let n = 1 + length lines.events in let g = n + length lines.verdicts + length lines.counts in let k = g + length lines.glances in
-    let V = found_from (verdict_cause deck H) n lines.verdicts in let G = found_from (look_cause deck H) g lines.glances in let K = found_from (look_cause deck H) k lines.looks in
+none_differ deck read verdicts glances looks =
+    let H = read.report.history in
+    let r = read.report in
+    let V = found_in (verdict_cause deck H) read.verdict_rows r.verdicts in let G = found_in (look_cause deck H) read.glance_rows r.glances in let K = found_in (look_cause deck H) read.look_rows r.looks in
     let P : Finding → Type 0 = λ f. f.differs ≡ None in
     All-append P (V ++ G) K
-    (All-append P V G (none_differs (verdict_cause deck H) n lines.verdicts (λ i d b. (agrees deck H (get_or lines.verdicts i d)).1 (verdicts i d b)))
-    (none_differs (look_cause deck H) g lines.glances (λ i d b. (look_agrees deck H (get_or lines.glances i d)).1 (glances i d b))))
-    (none_differs (look_cause deck H) k lines.looks (λ i d b. (look_agrees deck H (get_or lines.looks i d)).1 (looks i d b)))
+    (All-append P V G (none_differs (verdict_cause deck H) read.verdict_rows r.verdicts (λ i d b. (agrees deck H (get_or r.verdicts i d)).1 (verdicts i d b)))
+    (none_differs (look_cause deck H) read.glance_rows r.glances (λ i d b. (look_agrees deck H (get_or r.glances i d)).1 (glances i d b))))
+    (none_differs (look_cause deck H) read.look_rows r.looks (λ i d b. (look_agrees deck H (get_or r.looks i d)).1 (looks i d b)))

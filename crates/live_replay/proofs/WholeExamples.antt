@@ -11,16 +11,15 @@ use Rattle.air_history.specs.Reads.{origin, stale}
 use Rattle.air_history.specs.Consistency.{descends_from, runs_alone, last_alone, consistent}
 use Rattle.air_history.specs.Clashes.{least, is_late, clash_by_history}
 use Rattle.air_history.specs.ClashLaws.{passes}
-use Rattle.air_model.specs.Decks.{Deck}
+use Rattle.air_model.specs.Decks.{Deck, event_of, script_history}
 use Rattle.air_model.specs.Reports.{total_at}
 use Rattle.air_model.specs.declared.reports.LookLine.{LookLine}
 use Rattle.air_model.proofs.SessionExamples.{s, swapped, u}
-use Rattle.report_reading.specs.ReportLines.{ReportLines}
-use Rattle.report_reading.specs.declared.lines.EventLine.TheVariants.{Commit, Start}
+use Rattle.air_report.specs.declared.reading.ReadReport.{ReadReport}
 use Rattle.live_replay.specs.declared.findings.Cause.{Cause}
 use Rattle.live_replay.specs.declared.findings.Cause.TheVariants.{Value, Verdict, Total}
 use Rattle.live_replay.specs.declared.findings.Finding.{Finding}
-use Rattle.live_replay.specs.Audits.{findings, line_count, replayed_in}
+use Rattle.live_replay.specs.Audits.{findings, replayed_in}
 use Rattle.live_replay.specs.Findings.{all_pass, is_refused, is_clash, verdict_cause, look_cause}
 
 -- Item 0 becomes 11 and item 1 becomes 21, both in cycle 1.
@@ -33,30 +32,34 @@ r item cycle value = record { item = item; cycle = cycle; value = value }
 abbrev seen : ℕ → ℕ → LookLine
 seen cycle total = record { monitor = 0; cycle = cycle; total = total }
 
--- The report of that history with a verdict in row 5, the reader's counts, and what monitors saw.
-abbrev report : VerdictKind → List ReadOf → List LookLine → List LookLine → ReportLines
-report kind reads glances looks = record {
-  events = Start ∷ Commit 0 0 ∷ Commit 0 1 ∷ Start ∷ [];
-  verdicts = record { reader = 0; verdict = record { query = 0; attempt = 1; kind = kind }; reads = reads } ∷ [];
-  counts = record { reader = 0; counts = record { opened = 2; dozed = 2; late = 0; refused = 0; foreign = 0; copied = 0 } } ∷ [];
-  glances = glances;
-  looks = looks;
+-- The report of that history with a verdict in row 5, the reader's counts, and what monitors saw in the rows told.
+abbrev report : VerdictKind → List ReadOf → List LookLine → List LookLine → List ℕ → List ℕ → ReadReport
+report kind reads glances looks glance_rows look_rows = record {
+  report = record {
+    history = script_history deck;
+    verdicts = record { reader = 0; verdict = record { query = 0; attempt = 1; kind = kind }; reads = reads } ∷ [];
+    counts = record { reader = 0; counts = record { opened = 2; dozed = 2; late = 0; refused = 0; foreign = 0; copied = 0 } } ∷ [];
+    glances = glances;
+    looks = looks;
+  };
+  verdict_rows = 5 ∷ [];
+  glance_rows = glance_rows;
+  look_rows = look_rows;
 }
 
 abbrev found : ℕ → Option Cause → Finding
 found row differs = record { row = row; differs = differs }
 
-abbrev whole : ReportLines
-whole = report Accept (r 0 1 10 ∷ r 1 2 21 ∷ []) (seen 0 30 ∷ seen 2 31 ∷ []) (seen 2 32 ∷ [])
+abbrev whole : ReadReport
+whole = report Accept (r 0 1 10 ∷ r 1 2 21 ∷ []) (seen 0 30 ∷ seen 2 31 ∷ []) (seen 2 32 ∷ []) (7 ∷ 8 ∷ []) (9 ∷ [])
 
 pub record Reports : Type 0 where
-  agrees : findings deck (report Accept (r 0 1 10 ∷ r 1 2 21 ∷ []) [] []) ≡ found 5 None ∷ []
-  verdict : findings deck (report (Abort 1 2 0) (r 0 1 10 ∷ []) [] []) ≡ found 5 (Some Verdict) ∷ []
-  value : findings deck (report Accept (r 0 1 10 ∷ r 1 2 22 ∷ []) [] []) ≡ found 5 (Some Value) ∷ []
+  agrees : findings deck (report Accept (r 0 1 10 ∷ r 1 2 21 ∷ []) [] [] [] []) ≡ found 5 None ∷ []
+  verdict : findings deck (report (Abort 1 2 0) (r 0 1 10 ∷ []) [] [] [] []) ≡ found 5 (Some Verdict) ∷ []
+  value : findings deck (report Accept (r 0 1 10 ∷ r 1 2 22 ∷ []) [] [] [] []) ≡ found 5 (Some Value) ∷ []
   rows : findings deck whole ≡ found 5 None ∷ found 7 None ∷ found 8 (Some Total) ∷ found 9 None ∷ []
-  replayed : replayed_in whole ≡ 8
-  counted : line_count whole ≡ 9
+  replayed : replayed_in whole.report ≡ 8
 
 reports : Reports
-unfolding findings replayed_in verdict_cause look_cause total_at all_pass is_refused is_clash passes is_late clash_by_history least stale origin consistent last_alone runs_alone descends_from descends descends_in writer writer_before writes reads is_start front last_place table value_after write_of based
-reports = record { agrees = refl; verdict = refl; value = refl; rows = refl; replayed = refl; counted = refl }
+unfolding findings replayed_in verdict_cause look_cause total_at all_pass is_refused is_clash passes is_late clash_by_history least stale origin consistent last_alone runs_alone descends_from descends descends_in writer writer_before writes reads is_start front last_place table value_after write_of based script_history event_of
+reports = record { agrees = refl; verdict = refl; value = refl; rows = refl; replayed = refl }

@@ -1,7 +1,7 @@
 //! Laws of audits: when a line agrees, of which rows the findings are, and that true reports agree. Each is carried by a function
 //! that does nothing.
 
-ghost use Rattle.std.specs.Prelude.{◌≡◌, ◌↔◌, ◌≤◌, ℕ, List, All, Option, None, length};
+ghost use Rattle.std.specs.Prelude.{◌≡◌, ◌↔◌, ℕ, List, All, Option, None};
 ghost use Rattle.std.specs.List.{enumerate_from, filter_map};
 ghost use Rattle.air_history.specs.declared.histories.Event.{Event};
 ghost use Rattle.air_model.specs.Aired.{scheme_in};
@@ -13,11 +13,10 @@ ghost use Rattle.air_model.specs.Reports.{line_by, verdict_lines};
 ghost use Rattle.air_model.specs.declared.reports.LookLine.{LookLine};
 ghost use Rattle.air_model.specs.declared.reports.VerdictLine.{VerdictLine};
 ghost use Rattle.report_reading.specs.LineTexts.{line_of};
-ghost use Rattle.report_reading.specs.ReportGrammar.{SpellsReport};
-ghost use Rattle.report_reading.specs.ReportLines.{ReportLines, report_in};
-ghost use Rattle.report_reading.specs.declared.limits.TheConstants.{MOST_REPORT_BYTES};
 ghost use Rattle.text_records.specs.Records.{records_of};
-ghost use Rattle.live_replay.specs.Audits.{HasFewLines, findings};
+ghost use Rattle.air_report.specs.declared.reading.ReadReport.{ReadReport};
+ghost use Rattle.air_report.specs.ReadReports.{IsReportOf};
+ghost use Rattle.live_replay.specs.Audits.{findings};
 ghost use Rattle.live_replay.specs.FindingLaws.{GivesLook, GivesVerdict};
 ghost use Rattle.live_replay.specs.Findings.{look_cause, verdict_cause};
 ghost use Rattle.live_replay.specs.ReportFindings.{sessions_judged, spelled_finding};
@@ -30,13 +29,8 @@ pub fn agrees_law()
 
 /// The findings are those of the lines that a text's records spell, in their order, each with its record's row, counted from 1.
 pub fn rows_law()
-    ensures { (deck : Deck) (text : List ℕ) (lines : ReportLines) → SpellsReport deck text lines →
-        findings deck lines ≡ filter_map (λ p. spelled_finding deck (report_in deck lines).history p.0 (line_of p.1)) (enumerate_from 1 (records_of text)) }
-{}
-
-/// A text that isn't too long to be read spells as few lines as an audit wants.
-pub fn few_lines_law()
-    ensures { (deck : Deck) (text : List ℕ) (lines : ReportLines) → SpellsReport deck text lines → length text ≤ MOST_REPORT_BYTES → HasFewLines lines }
+    ensures { (deck : Deck) (text : List ℕ) (read : ReadReport) → IsReportOf deck text read →
+        findings deck read ≡ filter_map (λ p. spelled_finding deck read.report.history p.0 (line_of p.1)) (enumerate_from 1 (records_of text)) }
 {}
 
 /// A replay gives each line of a session that its history judges, whatever the reader heard.
@@ -48,8 +42,8 @@ pub fn session_law()
 /// No line of a report differs whose verdicts are those of sessions that its history judges, whatever the readers heard, and whose
 /// glances and looks have the totals of its history.
 pub fn true_report_law()
-    ensures { (deck : Deck) (lines : ReportLines) (heard : ℕ → List (Option Bucket)) → IsDeck deck →
-        lines.verdicts ≡ verdict_lines (sessions_judged deck (report_in deck lines).history heard) →
-        All (GivesLook deck (report_in deck lines).history) lines.glances → All (GivesLook deck (report_in deck lines).history) lines.looks →
-        All (λ found. found.differs ≡ None) (findings deck lines) }
+    ensures { (deck : Deck) (read : ReadReport) (heard : ℕ → List (Option Bucket)) → IsDeck deck →
+        read.report.verdicts ≡ verdict_lines (sessions_judged deck read.report.history heard) →
+        All (GivesLook deck read.report.history) read.report.glances → All (GivesLook deck read.report.history) read.report.looks →
+        All (λ found. found.differs ≡ None) (findings deck read) }
 {}

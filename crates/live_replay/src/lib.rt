@@ -18,4 +18,4 @@ mod writes;
 
 pub use audits::audit;
 pub use findings::{AuditError, Cause, Finding};
-pub use laws::{agrees_law, few_lines_law, rows_law, session_law, true_report_law};
+pub use laws::{agrees_law, rows_law, session_law, true_report_law};

@@ -2,21 +2,21 @@
 //!
 //! The history is run once. What an item's writes left, and how many came before a cycle, tells the rest; no control column is made.
 
-ghost use Rattle.std.specs.Prelude.{◌≡◌, ◌+◌, ◌^◌, ◌<◌, ◌≤◌, length, map, All, IfOk, IfSome, option_map};
+ghost use Rattle.std.specs.Prelude.{◌≡◌, ◌+◌, ◌^◌, ◌<◌, ◌≤◌, length, All, IfOk, IfSome, option_map};
+ghost use Rattle.air_history.specs.Histories.{ItemsFit};
 ghost use Rattle.air_history.specs.Reads.{origin, read_value, same_origin};
 ghost use Rattle.air_history.specs.Tables.{values_of};
 ghost use Rattle.air_model.specs.Decks.{values_in};
 ghost use Rattle.air_model.specs.Reports.{total_at};
-ghost use Rattle.report_reading.specs.ReportLines.{event_in};
 ghost use Rattle.live_replay.specs.Findings.{read_of};
 ghost use Rattle.live_replay.specs.Steps.Commits.{count_at, number_at, sources_to, writes_from};
-ghost use Rattle.live_replay.specs.Steps.Replays.{NamesUpdate, TellsRead};
+ghost use Rattle.live_replay.specs.Steps.Replays.{TellsRead};
 
 use crate::running::Running;
 use crate::writes::{ItemWrite, ItemWrites, Sources};
 use air_base::{NoMemory, Policy};
+use air_history::Event;
 use item_catalog::Deck;
-use report_reading::EventLine;
 use std::alloc::Global;
 use std::marker::Model;
 
@@ -24,7 +24,7 @@ use std::marker::Model;
 #[derive(Drop)]
 pub struct Replay<'a> {
     deck: &'a Deck,
-    lines: &'a [EventLine],
+    events: &'a [Event],
     sources: Vec<Sources>,
     writes: Vec<ItemWrites>,
 }
@@ -40,29 +40,28 @@ impl<'a> Model for Replay<'a> {
 }
 
 impl<'a> Replay<'a> {
-    /// The replay of the history that the lines name.
+    /// The replay of these events.
     pub fn new(
         alloc: Global,
         deck: &'a Deck,
-        lines: &'a [EventLine],
+        events: &'a [Event],
     ) -> Result<Replay<'a>, NoMemory>
-        requires named { All (NamesUpdate deck.now) lines.now }
-        requires few { length lines.now + 1 < 2 ^ 32 }
-        ensures { IfOk result (λ r. r ≡ record { deck = deck.now; history = map (event_in deck.now) lines.now }) }
+        requires fits { All (ItemsFit (length deck.now.items)) events.now }
+        requires few { length events.now + 1 < 2 ^ 32 }
+        ensures { IfOk result (λ r. r ≡ record { deck = deck.now; history = events.now }) }
     {
-        deck.well_made();
         let mut running = Running::new(alloc, deck)?;
-        for line in lines {
-            match *line {
-                EventLine::Start => running.start(),
-                EventLine::Commit { by, seq } => {
-                    running.commit(alloc, by, seq, &deck.updates(by)[seq as usize])?;
+        for event in events {
+            match event {
+                Event::Start => running.start(),
+                Event::Commit { by, seq, update } => {
+                    running.commit(alloc, *by, *seq, update)?;
                 }
             }
         }
         Ok(Replay {
             deck,
-            lines,
+            events,
             sources: running.sources,
             writes: running.writes,
         })

@@ -3,11 +3,10 @@
 //! A row is a deck, a report of it, and what is found of the report's lines, each with its row.
 
 use air_base::limits::MOST_DECK_BYTES;
+use air_report::limits::MOST_REPORT_BYTES;
+use air_report::read_report;
 use item_catalog::{Deck, read_deck};
-use live_replay::{AuditError, Cause, Finding, audit, few_lines_law};
-use report_laws::kept_law;
-use report_reading::limits::MOST_REPORT_BYTES;
-use report_reading::read_report;
+use live_replay::{AuditError, Cause, Finding, audit};
 use std::alloc::Global;
 
 /// What an audit says.
@@ -29,12 +28,10 @@ pub fn audit_by(alloc: Global, deck: &Deck, report: &[u8]) -> Audit {
     if report.len() > MOST_REPORT_BYTES {
         return Audit::Other;
     }
-    let Ok(lines) = read_report(alloc, deck, report) else {
+    let Ok(read) = read_report(alloc, deck, report) else {
         return Audit::Other;
     };
-    kept_law();
-    few_lines_law();
-    match audit(alloc, deck, &lines) {
+    match audit(alloc, deck, &read) {
         Ok(found) => Audit::Found(found),
         Err(AuditError::TooMuch { product }) => Audit::TooMuch(product),
         Err(AuditError::NoMemory) => Audit::Other,

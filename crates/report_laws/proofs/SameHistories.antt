@@ -80,7 +80,7 @@ module _ (deck : Deck) where
   pub same_legal : (H : List Event) → EachNext deck [] (map named H) → map (event_in deck) (map named H) ≡ H → IsLegal deck H
   same_legal H each same = let P : List Event → Type 0 = λ H. IsLegal deck H in subst P same (legal deck (map named H) each)
 
-  report_same : (report : Report) → IsLegal deck report.history → report_in deck (lines_in report) ≡ report
+  pub report_same : (report : Report) → IsLegal deck report.history → report_in deck (lines_in report) ≡ report
   report_same report legal = ap (λ H. record report { history = H }) (legal_same report.history legal)
 
   -- What is read of a report's text stands for the report.

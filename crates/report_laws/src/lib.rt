@@ -1,4 +1,4 @@
-//! Laws of reports: what is written of lines in the grammar is read back as these lines, what is read is in the grammar,
+//! Laws of the lines of reports: what is written of lines in the grammar spells these lines, what is spelled is in the grammar,
 //! and a text tells the history that it begins with. No code runs.
 #![tactic(auto)]
 
@@ -35,11 +35,4 @@ pub fn one_history_law()
 /// A history is legal for a deck exactly if its lines come each next and stand for the history itself: each names the deck's update.
 pub fn legal_lines_law()
     ensures { (deck : Deck) (H : List Event) → IsLegal deck H ↔ (EachNext deck [] (map named H) × (map (event_in deck) (map named H) ≡ H)) }
-{}
-
-/// A report whose numbers fit, whose lines are in the grammar and whose history is legal is read back as it is, its updates too: the
-/// lines that its text spells stand for this very report.
-pub fn same_report_law()
-    ensures { (deck : Deck) (report : Report) → HasWidths (lines_in report) → InGrammar deck (lines_in report) → IsLegal deck report.history →
-        (lines : ReportLines) → SpellsReport deck (report_text report) lines → report_in deck lines ≡ report }
 {}

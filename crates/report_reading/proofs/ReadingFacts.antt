@@ -23,8 +23,8 @@ module _ (deck : Deck) (text : List ℕ) (rows : List (List (List ℕ))) (before
       let within : length rows < length (rows ++ row ∷ left) = omega (arith, length-append rows (row ∷ left)) in
       (length rows, refl, subst P (sym all) (refused (judge deck) rows row left (length (rows ++ row ∷ left)) (code_of kind) within before (least_after deck rows row kind h)))
 
-  pub read_lines : records_of text ≡ rows ++ [] → SpellsReport deck text (sections_of (lines_of rows))
+  pub read_all : records_of text ≡ rows ++ [] → SpellsReport deck text (sections_of (lines_of rows))
   unfolding SpellsReport
-  read_lines all =
+  read_all all =
       let P : List (List (List ℕ)) → Type 0 = λ all. RowsSpellLines deck all (sections_of (lines_of rows)) in
       subst P (sym (all ∙ append-nil rows)) (record { faultless = before; sections = refl })

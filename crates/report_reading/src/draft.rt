@@ -13,7 +13,7 @@ ghost use Rattle.report_reading.specs.Steps.Answers.{Adds, CanCommit, CanPush, P
 use crate::kinds::FaultKind;
 use crate::lines::{EventLine, Line};
 use crate::parsing::read_line;
-use crate::report::ReadReport;
+use crate::sections::ReadLines;
 use crate::rules::{is_begun, is_known};
 use air_base::limits::MOST_UPDATERS;
 use csv::ByteRecord;
@@ -25,7 +25,7 @@ use text_records::Refusal;
 /// The lines so far, the number of each updater's commits, and that of starts.
 #[derive(Debug, Drop)]
 pub struct Draft {
-    lines: ReadReport,
+    lines: ReadLines,
     made: [u64; MOST_UPDATERS],
     starts: u64,
 }
@@ -47,7 +47,7 @@ impl Draft {
         ensures { result ≡ sections_of [] }
     {
         Draft {
-            lines: ReadReport::new(alloc),
+            lines: ReadLines::new(alloc),
             made: [0; MOST_UPDATERS],
             starts: 0,
         }
@@ -58,11 +58,11 @@ impl Draft {
         ensures { result ≡ comes_late self.now line.now }
     {
         let lines = &self.lines;
-        let looks = !lines.looks().is_empty();
-        let glances = !lines.glances().is_empty() || looks;
-        let counts = !lines.counts().is_empty() || glances;
+        let looks = !lines.looks.is_empty();
+        let glances = !lines.glances.is_empty() || looks;
+        let counts = !lines.counts.is_empty() || glances;
         match line {
-            Line::Event(_) => !lines.verdicts().is_empty() || counts,
+            Line::Event(_) => !lines.verdicts.is_empty() || counts,
             Line::Verdict(_) => counts,
             Line::Counts(_) => glances,
             Line::Glance(_) => looks,
@@ -119,7 +119,7 @@ impl Draft {
         ensures { Pushed result (self.new ≡ with_line self.old (Line.Event event)) }
     {
         self.lines.push_event(event)?;
-        let _places = self.lines.events().len();
+        let _places = self.lines.history().len();
         match event {
             EventLine::Start => self.starts += 1,
             EventLine::Commit { by, seq } => self.made[by as usize] = u64::from(seq) + 1,
@@ -160,7 +160,7 @@ impl Draft {
     }
 
     /// The lines.
-    pub fn into_report(self) -> ReadReport
+    pub fn into_lines(self) -> ReadLines
         ensures { result ≡ self }
     {
         self.lines

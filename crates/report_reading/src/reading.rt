@@ -1,4 +1,4 @@
-//! Reports read from texts: one pass over the records, each taken once and forgotten.
+//! The lines of reports read from texts: one pass over the records, each taken once and forgotten.
 
 ghost use Rattle.std.specs.Prelude.{◌≡◌, ◌≤◌, length, IfErr, IfOk};
 ghost use Rattle.report_reading.specs.declared.limits.TheConstants.{MOST_REPORT_BYTES};
@@ -6,16 +6,16 @@ ghost use Rattle.report_reading.specs.ReportGrammar.{IsReportAnswer, SpellsRepor
 
 use crate::draft::Draft;
 use crate::faults::ReportError;
-use crate::report::ReadReport;
+use crate::sections::ReadLines;
 use csv::ByteRecord;
 use item_catalog::Deck;
 use std::alloc::Global;
 use text_records::{Records, Refusal};
 
-/// The report of the deck that a text spells, or the first faulty record of the text with the least kind that applies there.
-pub fn read_report(alloc: Global, deck: &Deck, bytes: &[u8]) -> Result<ReadReport, ReportError>
+/// The lines of the report of the deck that a text spells, or the first faulty record of the text with the least kind that applies there.
+pub fn read_lines(alloc: Global, deck: &Deck, bytes: &[u8]) -> Result<ReadLines, ReportError>
     requires limit { length bytes.now ≤ MOST_REPORT_BYTES }
-    ensures report { IfOk result (SpellsReport deck.now bytes.now) }
+    ensures lines { IfOk result (SpellsReport deck.now bytes.now) }
     ensures fault { IfErr result (IsReportAnswer deck.now bytes.now) }
 {
     let mut draft = Draft::new(alloc);
@@ -23,7 +23,7 @@ pub fn read_report(alloc: Global, deck: &Deck, bytes: &[u8]) -> Result<ReadRepor
     let mut record = ByteRecord::new(alloc);
     for row in 1..u32::MAX {
         if !records.next(&mut record)? {
-            return Ok(draft.into_report());
+            return Ok(draft.into_lines());
         }
         match draft.add(alloc, deck, &record) {
             Ok(()) => {}

@@ -4,7 +4,7 @@ use crate::texts::DECK;
 use air_base::{Counts, ReadOf, Verdict, VerdictKind};
 use air_model::reports::{CountsLine, LookLine, VerdictLine};
 use item_catalog::read_deck;
-use report_reading::{EventLine, ReadReport, read_report};
+use report_reading::{EventLine, ReadLines, read_lines};
 use std::alloc::Global;
 use std::test::Fail;
 
@@ -26,10 +26,10 @@ enum Other {
     Read(usize, usize, Option<ReadOf>),
 }
 
-/// The report.
-fn report_of(alloc: Global) -> Result<ReadReport, Fail> {
+/// The lines of the report.
+fn lines_of(alloc: Global) -> Result<ReadLines, Fail> {
     let deck = read_deck(alloc, DECK)?;
-    Ok(read_report(alloc, &deck, WHOLE)?)
+    Ok(read_lines(alloc, &deck, WHOLE)?)
 }
 
 /// A read.
@@ -82,19 +82,19 @@ fn first_other_verdict(lines: &[VerdictLine], told: &[Told<'_>]) -> Option<Other
 
 #[test]
 fn the_lines_of_a_history_name_its_updates(rt: HostRuntime) -> Result<(), Fail> {
-    let report = report_of(rt.alloc())?;
+    let lines = lines_of(rt.alloc())?;
     let told = [
         EventLine::Start,
         EventLine::Commit { by: 0, seq: 0 },
         EventLine::Start,
     ];
-    assert_eq!(rt; first_other(report.events(), &told), None);
+    assert_eq!(rt; first_other(&lines.events, &told), None);
     Ok(())
 }
 
 #[test]
 fn verdicts_are_read_with_their_reads(rt: HostRuntime) -> Result<(), Fail> {
-    let report = report_of(rt.alloc())?;
+    let lines = lines_of(rt.alloc())?;
     let accepted = [read(0, 1, 1), read(1, 2, 2)];
     let aborted = [read(1, 1, 2), read(2, 2, 3)];
     let abort = VerdictKind::Abort {
@@ -107,13 +107,13 @@ fn verdicts_are_read_with_their_reads(rt: HostRuntime) -> Result<(), Fail> {
         (1, 0, 1, abort, &aborted),
         (0, 1, 2, VerdictKind::Unfinished, &[]),
     ];
-    assert_eq!(rt; first_other_verdict(report.verdicts(), told), None);
+    assert_eq!(rt; first_other_verdict(&lines.verdicts, told), None);
     Ok(())
 }
 
 #[test]
 fn counts_glances_and_looks_are_read(rt: HostRuntime) -> Result<(), Fail> {
-    let report = report_of(rt.alloc())?;
+    let lines = lines_of(rt.alloc())?;
     let counts = Counts {
         opened: 9,
         dozed: 8,
@@ -142,9 +142,9 @@ fn counts_glances_and_looks_are_read(rt: HostRuntime) -> Result<(), Fail> {
     ];
     assert_eq!(rt;
         (
-            first_other(report.counts(), &counted),
-            first_other(report.glances(), &glances),
-            first_other(report.looks(), &looks)
+            first_other(&lines.counts, &counted),
+            first_other(&lines.glances, &glances),
+            first_other(&lines.looks, &looks)
         ),
         (None, None, None)
     );

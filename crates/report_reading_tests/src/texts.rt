@@ -3,9 +3,9 @@
 //! A row is a record, or some, and what the text is that has them behind a front, or in the place of a line of a report: a report,
 //! or one with a fault.
 
+use air_report::limits::MOST_REPORT_BYTES;
+use air_report::{ReportError, read_report};
 use item_catalog::read_deck;
-use report_reading::limits::MOST_REPORT_BYTES;
-use report_reading::{ReportError, read_report};
 use std::alloc::{AllocError, Global};
 
 /// Three items, three updates of two updaters, two readers with three queries, and two monitors.

@@ -1,12 +1,9 @@
 -- For private steps alone. What is replayed, and what is kept of it.
-use Rattle.std.specs.Prelude.{◌≡◌, ◌<◌, ℕ, List, [], length, get_or, map, ⊤, Option, Some, None, option_map}
+use Rattle.std.specs.Prelude.{◌≡◌, ◌<◌, ℕ, List, [], length, get_or, Option, Some, None, option_map}
 use Rattle.air_history.specs.declared.histories.Event.{Event}
 use Rattle.air_history.specs.Reads.{origin, read_value}
 use Rattle.air_history.specs.Tables.{values_of}
-use Rattle.air_model.specs.Decks.{Deck, updates_by, values_in}
-use Rattle.report_reading.specs.ReportLines.{event_in}
-use Rattle.report_reading.specs.declared.lines.EventLine.{EventLine}
-use Rattle.report_reading.specs.declared.lines.EventLine.TheVariants.{Commit, Start}
+use Rattle.air_model.specs.Decks.{Deck, values_in}
 use Rattle.live_replay.specs.declared.replay.Replay.TheInside.{Inside}
 use Rattle.live_replay.specs.declared.writes.ItemWrite.{ItemWrite}
 use Rattle.live_replay.specs.Findings.{read_of}
@@ -17,20 +14,15 @@ pub record Replayed : Type 0 where
   pub deck : Deck
   pub history : List Event
 
--- The lines name the events of the history.
+-- The deck, and the history of the events.
 abbrev pub replayed : Inside → Replayed
-replayed r = record { deck = r.deck.now; history = map (event_in r.deck.now) r.lines.now }
+replayed r = record { deck = r.deck.now; history = r.events.now }
 
 -- What each commit reads from is kept, and the writes of each item.
 pub record IsReplay (r : Inside) : Type 0 where
   pub sources : r.sources.items ≡ sources_to (replayed r).history (length (replayed r).history)
   pub sized : length r.writes.items ≡ length (values_in r.deck.now)
   pub writes : (i : ℕ) → i < length (values_in r.deck.now) → get_or r.writes.items i [] ≡ writes_from (values_in r.deck.now) (replayed r).history i 0 (length (replayed r).history)
-
--- A line's update is one of the deck's.
-abbrev pub NamesUpdate : Deck → EventLine → Type 0
-NamesUpdate deck (Commit by seq) = seq < length (updates_by deck by)
-NamesUpdate deck Start = ⊤
 
 -- What the last write of an item before a cycle tells of a read, or that there is none.
 abbrev pub TellsRead : List ℕ → List Event → ℕ → ℕ → Option ItemWrite → Type 0

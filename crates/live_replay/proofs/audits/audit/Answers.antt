@@ -1,14 +1,19 @@
 use Rattle.std.proofs.Common.{All, length, sym, ap, subst}
+use Rattle.air_history.specs.Histories.{ItemsFit}
+use Rattle.report_reading.specs.ReportLines.{lines_in}
 use Rattle.live_replay.specs.Steps.Lines.{LineFits}
-use Rattle.live_replay.specs.Steps.Replays.{NamesUpdate, Replayed}
-use Rattle.live_replay.proofs.GrammarFacts.{grammar_fits, grammar_named}
+use Rattle.live_replay.specs.Steps.Replays.{Replayed}
+use Rattle.live_replay.proofs.GrammarFacts.{grammar_fits}
+use Rattle.live_replay.proofs.ReplayFacts.{legal_fits}
 use Rattle.live_replay.proofs.audits.audit.Goals as goal
 
-pub new-requires-clause-named : goal.new-requires-clause-named
-new-requires-clause-named c = subst (All (NamesUpdate c.args.deck.now)) (sym c.events.ensures) (grammar_named c.args.deck.now c.args.report.now c.requires.grammar)
+pub new-requires-clause-fits : goal.new-requires-clause-fits
+new-requires-clause-fits c =
+    let deck = c.args.deck.now in
+    subst (All (ItemsFit (length deck.items))) (sym c.events.ensures.listed) (legal_fits deck c.args.report.now.report.history c.well_made.ensures.made c.requires.kept.legal)
 
 pub add_verdicts-requires-clause-fits : goal.add_verdicts-requires-clause-fits
 add_verdicts-requires-clause-fits c =
-    subst (All (LineFits (length c.in_ok-replay.replay.deck.items))) (sym c.verdicts-2.ensures)
-    (subst (λ n. All (LineFits n) c.args.report.now.verdicts) (ap (λ (t : Replayed). length t.deck.items) (sym c.in_ok-replay.ensures))
-    (grammar_fits c.args.deck.now c.args.report.now c.well_made.ensures.made c.requires.grammar))
+    let report = c.args.report.now.report in
+    subst (λ n. All (LineFits n) report.verdicts) (ap (λ (t : Replayed). length t.deck.items) (sym c.in_ok-replay.ensures))
+    (grammar_fits c.args.deck.now (lines_in report) c.well_made.ensures.made c.requires.kept.lines)

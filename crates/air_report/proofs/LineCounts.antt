@@ -1,0 +1,43 @@
+-- How many lines a text spells at most.
+use Rattle.std.proofs.Common.{◌≡◌, ℕ, suc, ◌+◌, ◌≤◌, Option, Some, None, List, [], ◌∷◌, length, refl, ◌∙◌, ap, arith}
+use Rattle.std.specs.List.{filter_map, cons_option}
+use Rattle.std.specs.Result.{result_ok}
+use Rattle.text_records.specs.Records.{records_of}
+use Rattle.text_records.proofs.RowFacts.{few_records}
+use Rattle.air_model.specs.Decks.{Deck}
+use Rattle.report_reading.specs.ReportFaults.{lines_of}
+use Rattle.report_reading.specs.LineTexts.{line_of}
+use Rattle.report_reading.specs.ReportGrammar.{SpellsReport}
+use Rattle.report_reading.specs.ReportLines.{ReportLines, sections_of}
+use Rattle.report_reading.specs.declared.lines.Line.{Line}
+use Rattle.report_reading.specs.declared.lines.Line.TheVariants as l
+
+-- The number of a report's lines.
+abbrev pub line_count : ReportLines → ℕ
+line_count lines = length lines.events + length lines.verdicts + length lines.counts + length lines.glances + length lines.looks
+
+kept_few : {X Y : Type 0} (f : X → Option Y) (xs : List X) → length (filter_map f xs) ≤ length xs
+kept_few f [] = omega arith
+kept_few f (x ∷ xs) = by (f x) (kept_few f xs)
+  where
+    by : (o : Option _) → length (filter_map f xs) ≤ length xs → length (cons_option o (filter_map f xs)) ≤ length (x ∷ xs)
+    by None rest = omega arith
+    by (Some y) rest = omega arith
+
+-- Each line stands in one section.
+counted : (lines : List Line) → line_count (sections_of lines) ≡ length lines
+counted [] = refl
+counted (l.Event line ∷ lines) = let rest = counted lines in omega arith
+counted (l.Verdict line ∷ lines) = let rest = counted lines in omega arith
+counted (l.Counts line ∷ lines) = let rest = counted lines in omega arith
+counted (l.Glance line ∷ lines) = let rest = counted lines in omega arith
+counted (l.Look line ∷ lines) = let rest = counted lines in omega arith
+
+-- A text spells no more lines than it has bytes, and one more.
+pub few_lines : (deck : Deck) (text : List ℕ) (lines : ReportLines) → SpellsReport deck text lines → line_count lines ≤ length text + 1
+unfolding SpellsReport
+few_lines deck text lines spelled =
+    let rows = records_of text in
+    let all : line_count lines ≡ length (lines_of rows) = ap line_count spelled.sections ∙ counted (lines_of rows) in
+    let kept : length (lines_of rows) ≤ length rows = kept_few (λ row. result_ok (line_of row)) rows in
+    omega (arith, few_records text)

@@ -1,0 +1,20 @@
+use Rattle.std.proofs.Common.{ap, sym, ◌∙◌}
+use Rattle.air_model.specs.Reports.{report_text}
+use Rattle.text_records.specs.Records.{records_of}
+use Rattle.text_records.proofs.FaultPlaces.{not_both}
+use Rattle.report_reading.specs.ReportFaults.{kinds_at}
+use Rattle.report_reading.specs.ReportGrammar.{HasReportFault, SpellsReport}
+use Rattle.report_reading.specs.ReportLines.{lines_in}
+use Rattle.report_laws.proofs.SameHistories.{read_same, report_same}
+use Rattle.report_laws.proofs.StandingLines.{read_back}
+use Rattle.air_report.proofs.laws.read_back_law.Goals as goal
+
+pub returns-clause-faultless : goal.returns-clause-faultless
+unfolding SpellsReport HasReportFault
+returns-clause-faultless c = λ deck report wide right row kind fault.
+    let text = report_text report in
+    not_both (kinds_at deck (records_of text)) _ fault.0 kind (read_back deck report wide right).faultless fault.2
+
+pub returns-clause-same : goal.returns-clause-same
+returns-clause-same c = λ deck report wide right legal read is.
+    sym (report_same deck read.report is.legal) ∙ read_same deck report wide right legal (lines_in read.report) is.spelled

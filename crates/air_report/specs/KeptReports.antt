@@ -1,0 +1,23 @@
+-- What a report that was read keeps to: the condition of its audit.
+use Rattle.std.specs.Prelude.{◌≡◌, ◌≤◌, ◌+◌, List, length}
+use Rattle.air_model.specs.Decks.{Deck, IsLegal}
+use Rattle.report_laws.specs.ReportRules.{InGrammar}
+use Rattle.report_reading.specs.ReportLines.{lines_in}
+use Rattle.report_reading.specs.declared.limits.TheConstants.{MOST_REPORT_BYTES}
+use Rattle.air_report.specs.declared.reading.ReadReport.{ReadReport}
+
+-- A list has no more members than any text that is read has records: of each byte one, and one at its end.
+abbrev pub IsFew : {L : Type 0} → List L → Type 0
+IsFew lines = length lines ≤ MOST_REPORT_BYTES + 1
+
+-- A report's history is legal for the deck, its lines are in the grammar, and it has as many rows as lines, and few of each.
+pub record KeepsGrammar (deck : Deck) (read : ReadReport) : Type 0 where
+  pub legal : IsLegal deck read.report.history
+  pub lines : InGrammar deck (lines_in read.report)
+  pub verdict_rows : length read.verdict_rows ≡ length read.report.verdicts
+  pub glance_rows : length read.glance_rows ≡ length read.report.glances
+  pub look_rows : length read.look_rows ≡ length read.report.looks
+  pub few_events : IsFew read.report.history
+  pub few_verdicts : IsFew read.report.verdicts
+  pub few_glances : IsFew read.report.glances
+  pub few_looks : IsFew read.report.looks

@@ -1,0 +1,3 @@
+pub mod ReadReports
+pub mod KeptReports
+pub mod Steps

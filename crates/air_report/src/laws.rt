@@ -1,0 +1,19 @@
+//! The law of reports both ways: what is written is read back. It is carried by a function that does nothing.
+
+ghost use Rattle.std.specs.Prelude.{◌≡◌, ℕ};
+ghost use Rattle.air_model.specs.Decks.{Deck, IsLegal};
+ghost use Rattle.air_model.specs.Reports.{Report, report_text};
+ghost use Rattle.report_laws.specs.ReportRules.{HasWidths, InGrammar};
+ghost use Rattle.report_reading.specs.ReportGrammar.{HasReportFault};
+ghost use Rattle.report_reading.specs.ReportLines.{lines_in};
+ghost use Rattle.air_report.specs.declared.reading.ReadReport.{ReadReport};
+ghost use Rattle.air_report.specs.ReadReports.{IsReportOf};
+
+/// The text of a report whose numbers fit their types, whose lines are in the grammar and whose history is legal has no fault, and what
+/// is read of it is this very report, its updates too.
+pub fn read_back_law()
+    ensures faultless { (deck : Deck) (report : Report) → HasWidths (lines_in report) → InGrammar deck (lines_in report) →
+        (row kind : ℕ) → HasReportFault deck (report_text report) row kind → ⊥ }
+    ensures same { (deck : Deck) (report : Report) → HasWidths (lines_in report) → InGrammar deck (lines_in report) → IsLegal deck report.history →
+        (read : ReadReport) → IsReportOf deck (report_text report) read → read.report ≡ report }
+{}

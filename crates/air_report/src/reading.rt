@@ -1,0 +1,90 @@
+//! Reports read from texts, with the rows of their lines.
+
+ghost use Rattle.std.specs.Prelude.{◌≡◌, ◌+◌, ◌≤◌, ◌^◌, length, IfErr, IfOk};
+ghost use Rattle.std.specs.List.{range_with_len};
+ghost use Rattle.report_laws.specs.ReportRules.{InGrammar};
+ghost use Rattle.report_reading.specs.declared.limits.TheConstants.{MOST_REPORT_BYTES};
+ghost use Rattle.report_reading.specs.ReportGrammar.{IsReportAnswer, SpellsReport};
+ghost use Rattle.air_report.specs.ReadReports.{IsReportOf};
+ghost use Rattle.air_report.specs.KeptReports.{KeepsGrammar};
+ghost use Rattle.air_report.specs.Steps.Making.{IsMadeOf};
+
+use crate::events::events_in;
+use air_base::{NoMemory, Rows};
+use air_history::History;
+use item_catalog::Deck;
+use report_reading::{ReadLines, ReportError, read_lines};
+use report_texts::Report;
+use std::alloc::Global;
+
+/// A report that was read, and the row of each of its verdict, glance and look lines, counted from 1.
+#[derive(Debug, Drop)]
+pub struct ReadReport {
+    pub report: Report,
+    pub verdict_rows: Rows,
+    pub glance_rows: Rows,
+    pub look_rows: Rows,
+}
+
+/// The report of the deck that a text spells, or the first faulty record of the text with the least kind that applies there.
+pub fn read_report(alloc: Global, deck: &Deck, bytes: &[u8]) -> Result<ReadReport, ReportError>
+    requires limit { length bytes.now ≤ MOST_REPORT_BYTES }
+    ensures report { IfOk result (IsReportOf deck.now bytes.now) }
+    ensures kept { IfOk result (KeepsGrammar deck.now) }
+    ensures fault { IfErr result (IsReportAnswer deck.now bytes.now) }
+{
+    let lines = read_lines(alloc, deck, bytes)?;
+    let report = report_of(alloc, deck, bytes, lines)?;
+    Ok(report)
+}
+
+/// The report that lines stand for, with the rows in which they stand: section by section, a row each.
+fn report_of(
+    alloc: Global,
+    deck: &Deck,
+    bytes: &[u8],
+    lines: ReadLines,
+) -> Result<ReadReport, NoMemory>
+    requires limit { length bytes.now ≤ MOST_REPORT_BYTES }
+    requires spelled { SpellsReport deck.now bytes.now lines }
+    ensures { IfOk result (IsMadeOf deck.now lines) }
+{
+    let ReadLines {
+        events,
+        verdicts,
+        counts,
+        glances,
+        looks,
+    } = lines;
+    let verdict_row = 1 + events.len() as u32;
+    let glance_row = verdict_row + verdicts.len() as u32 + counts.len() as u32;
+    let look_row = glance_row + glances.len() as u32;
+    let verdict_rows = rows_from(alloc, verdict_row, verdicts.len() as u32)?;
+    let glance_rows = rows_from(alloc, glance_row, glances.len() as u32)?;
+    let look_rows = rows_from(alloc, look_row, looks.len() as u32)?;
+    let history = History::from_events(events_in(alloc, deck, &events)?);
+    Ok(ReadReport {
+        report: Report {
+            history,
+            verdicts,
+            counts,
+            glances,
+            looks,
+        },
+        verdict_rows,
+        glance_rows,
+        look_rows,
+    })
+}
+
+/// So many rows from this one on.
+fn rows_from(alloc: Global, first: u32, count: u32) -> Result<Rows, NoMemory>
+    requires { first + count ≤ 2 ^ 31 }
+    ensures { IfOk result (λ rows. rows ≡ range_with_len first count) }
+{
+    let mut rows = Vec::with_capacity(alloc, count as usize)?;
+    for place in 0..count {
+        rows.push(first + place)?;
+    }
+    Ok(Rows::from_vec(rows))
+}
