@@ -1,5 +1,5 @@
 -- What is made of the lines of a text is its report, and keeps to the grammar.
-use Rattle.std.proofs.Common.{◌≡◌, ◌<◌, ◌≤◌, ◌+◌, ◌++◌, ◌∷◌, [], ℕ, List, All, refl, sym, ap, ◌∙◌, subst, inl, inr, length, get_or, map, arith}
+use Rattle.std.proofs.Common.{◌≡◌, ◌<◌, ◌≤◌, ◌+◌, ◌++◌, ◌∷◌, [], ℕ, zero, suc, List, All, refl, sym, ap, ◌∙◌, subst, inl, inr, length, map, arith, add-one}
 use Rattle.std.specs.List.{range_with_len}
 use Rattle.std.proofs.lemmas.Bool.{and_parts, cases_lt, ltb-true}
 use Rattle.std.proofs.lemmas.List.{get_or_past, length-map}
@@ -92,3 +92,19 @@ module _ (deck : Deck) (text : List ℕ) (lines : ReportLines) (read : ReadRepor
         few_looks = omega (arith, few, looks);
       }
 
+-- ---- sizes and rows
+
+-- A text spells few lines in all.
+pub sizes : (deck : Deck) (text : List ℕ) (lines same : ReportLines) → SpellsReport deck text lines → length text ≤ MOST_REPORT_BYTES → same ≡ lines
+    → length same.events + length same.verdicts + length same.counts + length same.glances + length same.looks ≤ MOST_REPORT_BYTES + 1
+sizes deck text lines same spelled limit is = omega (arith, few_lines deck text lines spelled, limit, ap line_count is)
+
+-- A row more.
+row_next : (first count : ℕ) → range_with_len first (suc count) ≡ range_with_len first count ++ (first + count) ∷ []
+row_next first zero = let e : first ≡ first + 0 = omega arith in ap (λ k. k ∷ []) e
+row_next first (suc count) =
+    let e : first + 1 + count ≡ first + suc count = omega arith in
+    ap (λ ks. first ∷ ks) (row_next (first + 1) count ∙ ap (λ k. range_with_len (first + 1) count ++ k ∷ []) e)
+
+pub row_more : (first count : ℕ) → range_with_len first (count + 1) ≡ range_with_len first count ++ (first + count) ∷ []
+row_more first count = ap (range_with_len first) (add-one count) ∙ row_next first count

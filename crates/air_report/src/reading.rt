@@ -59,9 +59,9 @@ fn report_of(
     let verdict_row = 1 + events.len() as u32;
     let glance_row = verdict_row + verdicts.len() as u32 + counts.len() as u32;
     let look_row = glance_row + glances.len() as u32;
-    let verdict_rows = rows_from(alloc, verdict_row, verdicts.len() as u32)?;
-    let glance_rows = rows_from(alloc, glance_row, glances.len() as u32)?;
-    let look_rows = rows_from(alloc, look_row, looks.len() as u32)?;
+    let verdict_rows = rows_from(alloc, verdict_row, verdicts.len())?;
+    let glance_rows = rows_from(alloc, glance_row, glances.len())?;
+    let look_rows = rows_from(alloc, look_row, looks.len())?;
     let history = History::from_events(events_in(alloc, deck, &events)?);
     Ok(ReadReport {
         report: Report {
@@ -78,13 +78,13 @@ fn report_of(
 }
 
 /// So many rows from this one on.
-fn rows_from(alloc: Global, first: u32, count: u32) -> Result<Rows, NoMemory>
+fn rows_from(alloc: Global, first: u32, count: usize) -> Result<Rows, NoMemory>
     requires { first + count ≤ 2 ^ 31 }
     ensures { IfOk result (λ rows. rows ≡ range_with_len first count) }
 {
-    let mut rows = Vec::with_capacity(alloc, count as usize)?;
+    let mut rows = Vec::with_capacity(alloc, count)?;
     for place in 0..count {
-        rows.push(first + place)?;
+        rows.push(first + place as u32)?;
     }
     Ok(Rows::from_vec(rows))
 }

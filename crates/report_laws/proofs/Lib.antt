@@ -1,8 +1,8 @@
 mod TextFacts
 mod WrittenRows
-mod StandingLines
-mod KeptLines
-mod LegalLines
-mod SameHistories
+pub mod StandingLines
+pub mod KeptLines
+pub mod LegalLines
+pub mod SameHistories
 mod ReportExamples
 mod HistoryRows

@@ -1,11 +1,17 @@
 use Rattle.std.proofs.Common.{◌≡◌, ◌∷◌, ◌++◌, List, Option, [], get_or, take, sym, ap, ◌∙◌, append_assoc, arith}
+use Rattle.std.proofs.lemmas.List.{append-nil}
 use Rattle.air_model.specs.declared.reports.LookLine.{LookLine}
 use Rattle.live_replay.specs.Audits.{found_in}
 use Rattle.live_replay.specs.Findings.{look_cause}
 use Rattle.live_replay.specs.declared.findings.Cause.{Cause}
 use Rattle.live_replay.specs.declared.findings.Finding.{Finding}
-use Rattle.live_replay.proofs.FoundFacts.{found_next}
+use Rattle.live_replay.proofs.FoundFacts.{found_next, found_none}
 use Rattle.live_replay.proofs.audits.add_looks.Goals as goal
+
+pub loop-place-init : goal.loop-place-init
+loop-place-init c =
+    let found = c.args.found.now.items in
+    sym (append-nil found) ∙ ap (λ fs. found ++ fs) (sym (found_none (look_cause c.args.replay.now.deck c.args.replay.now.history) c.args.rows.now))
 
 pub loop-place-preserved : goal.loop-place-preserved
 loop-place-preserved c =

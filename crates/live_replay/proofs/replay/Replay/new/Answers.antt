@@ -21,11 +21,22 @@ commit-requires-clause-few c =
 
 pub commit-requires-clause-fits : goal.commit-requires-clause-fits
 unfolding ItemsFit
-commit-requires-clause-fits c = ?
+commit-requires-clause-fits c =
+    let deck = c.args.deck.now in
+    let item = c.event-item.result in
+    let fits : ItemsFit (length deck.items) item = subst (ItemsFit (length deck.items)) (sym c.event-item.is) (c.requires.fits c.loop-event.event-index item c.loop-event-test.true) in
+    let here : UpdateFits (length deck.items) c.in-Commit.update = subst (ItemsFit (length deck.items)) c.in-Commit.is fits in
+    subst (λ n. UpdateFits n c.in-Commit.update) (sym (c.loop-event.invariant.sized ∙ values_length deck)) here
 
 pub loop-event-preserved : goal.loop-event-preserved
 loop-event-preserved c =
     let V = values_in c.args.deck.now in
     let H = c.args.events.now in
     let n = c.loop-event.event-index in
-    ?
+    let item = c.event-item.result in
+    let at : event_at H n ≡ item = get_or_default H n e.Start item c.loop-event-test.true ∙ sym c.event-item.is in
+    elim c.match-event.branch [
+      | in-Start w ↦ subst (IsRun V H (n + 1)) (sym w.running-is) (w.start.ensures V H n c.loop-event.invariant c.loop-event-test.true (at ∙ w.in-Start.is))
+      | in-Commit+in_ok-commit-in-Commit w ↦
+        subst (IsRun V H (n + 1)) (sym w.running-is) (w.in_ok-commit-in-Commit.ensures V H n c.loop-event.invariant c.loop-event-test.true (at ∙ w.in-Commit.is))
+    ]
