@@ -18,6 +18,12 @@ same_lines : (deck : Deck) (text : List ℕ) (a b : ReportLines) → SpellsRepor
 unfolding SpellsReport
 same_lines deck text a b first second = first.sections ∙ sym second.sections
 
+abbrev of : Report → List ℕ → List ℕ → List ℕ → ReadReport
+of report verdicts glances looks = record { report = report; verdict_rows = verdicts; glance_rows = glances; look_rows = looks }
+
+whole : (r s : Report) (v w g h k l : List ℕ) → r ≡ s → v ≡ w → g ≡ h → k ≡ l → of r v g k ≡ of s w h l
+whole r s v w g h k l e f i j = ap (λ x. of x v g k) e ∙ ap (λ x. of s x g k) f ∙ ap (λ x. of s w x k) i ∙ ap (λ x. of s w h x) j
+
 -- What is read of a text is one report, with one row for each line.
 pub one_report : (deck : Deck) (text : List ℕ) (a b : ReadReport) → IsReportOf deck text a → IsReportOf deck text b → a ≡ b
 one_report deck text a b first second =
@@ -27,17 +33,14 @@ one_report deck text a b first second =
     let glances : a.glance_rows ≡ b.glance_rows = first.glance_rows ∙ sym second.glance_rows in
     let looks : a.look_rows ≡ b.look_rows = first.look_rows ∙ sym second.look_rows in
     whole a.report b.report a.verdict_rows b.verdict_rows a.glance_rows b.glance_rows a.look_rows b.look_rows same verdicts glances looks
-  where
-    whole : (r s : Report) (v w g h k l : List ℕ) → r ≡ s → v ≡ w → g ≡ h → k ≡ l →
-        record { report = r; verdict_rows = v; glance_rows = g; look_rows = k } ≡ record { report = s; verdict_rows = w; glance_rows = h; look_rows = l }
-    whole r s v w g h k l e f i j = rw (e, f, i, j) refl
+
+no_fault : (deck : Deck) (text : List ℕ) (lines : ReportLines) (row kind : ℕ) → SpellsReport deck text lines → HasReportFault deck text row kind → ⊥
+unfolding SpellsReport HasReportFault
+no_fault deck text lines row kind spelled fault =
+    not_both (kinds_at deck (records_of text)) (length (records_of text)) fault.0 kind spelled.faultless fault.2
 
 pub no_report_fault : (deck : Deck) (text : List ℕ) (read : ReadReport) (row kind : ℕ) → IsReportOf deck text read → HasReportFault deck text row kind → ⊥
-no_report_fault deck text read row kind is fault = faultless is.spelled fault
-  where
-    faultless : SpellsReport deck text (lines_in read.report) → HasReportFault deck text row kind → ⊥
-    unfolding SpellsReport HasReportFault
-    faultless spelled fault = not_both (kinds_at deck (records_of text)) (length (records_of text)) fault.0 kind spelled.faultless fault.2
+no_report_fault deck text read row kind is fault = no_fault deck text (lines_in read.report) row kind is.spelled fault
 
 -- What is more than may be replayed is too much.
 pub too_much : (deck : Deck) (text : List ℕ) (read : ReadReport) (product : ℕ) → IsReportOf deck text read → product ≡ replayed_in read.report → MOST_REPLAYED < product

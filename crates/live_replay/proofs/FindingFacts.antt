@@ -1,5 +1,5 @@
 -- When a line agrees: exactly if the replay gives it, which it does for every line of a session that the history judges.
-use Rattle.std.proofs.Common.{◌≡◌, ◌↔◌, ℕ, zero, suc, ◌+◌, ◌<◌, ◌≤◌, Bool, true, false, not, ◌&&◌, ◌==◌, if◌then◌else◌, Option, Some, None, List, [], ◌∷◌, ◌++◌, length, get_or, map, All, refl, sym, ◌∙◌, ap, subst, arith}
+use Rattle.std.proofs.Common.{◌≡◌, ◌↔◌, ℕ, Bool, true, false, not, ◌&&◌, ◌==◌, if◌then◌else◌, Option, Some, None, List, get_or, map, All, refl, sym, subst}
 use Rattle.std.specs.Prelude.{IsSomeAnd, IfSome}
 use Rattle.std.specs.List.{list_all}
 use Rattle.std.specs.Option.{is_some, option_map_or}
@@ -10,7 +10,6 @@ use Rattle.std.proofs.lemmas.List.Elements.{All-map}
 use Rattle.std.proofs.lemmas.List.Sums.{AllPass-from_list_all, list_all-from_AllPass}
 use Rattle.air_base.specs.declared.verdicts.Clash.{Clash}
 use Rattle.air_base.specs.declared.verdicts.Policy.{Policy}
-use Rattle.air_base.specs.declared.verdicts.ReadOf.{ReadOf}
 use Rattle.air_base.specs.declared.verdicts.VerdictKind.{VerdictKind}
 use Rattle.air_base.specs.declared.verdicts.VerdictKind.TheVariants.{Accept, Abort, Unfinished}
 use Rattle.air_history.specs.declared.histories.Event.{Event}
@@ -19,8 +18,8 @@ use Rattle.air_history.specs.Reads.{ReadAt, read_value}
 use Rattle.air_history.specs.Clashes.{clash_by_history, is_late}
 use Rattle.air_history.specs.ClashLaws.{Accepts}
 use Rattle.history_laws.proofs.AcceptedLemmas.{accepts_none, accepts_push}
-use Rattle.air_model.specs.Aired.{Air, air_of, fits, scheme_in}
-use Rattle.air_model.specs.Buckets.{Body, Bucket}
+use Rattle.air_model.specs.Aired.{air_of, scheme_in}
+use Rattle.air_model.specs.Buckets.{Bucket}
 use Rattle.air_model.specs.Decks.{Deck, values_in}
 use Rattle.air_model.specs.Judges.{Judge, by_history}
 use Rattle.air_model.specs.Reads.{Read}
@@ -31,7 +30,6 @@ use Rattle.air_model.specs.declared.reports.LookLine.{LookLine}
 use Rattle.air_model.specs.declared.reports.VerdictLine.{VerdictLine}
 use Rattle.air_model.specs.Judges as judge
 use Rattle.air_model.proofs.MomentLemmas.{Gives, Keeps, kept}
-use Rattle.live_replay.specs.declared.findings.Cause.{Cause}
 use Rattle.live_replay.specs.declared.findings.Cause.TheVariants as cause
 use Rattle.live_replay.specs.Findings.{all_pass, has_value, is_clash, is_refused, look_cause, place_of, places_of, read_of, verdict_cause}
 use Rattle.live_replay.specs.FindingLaws.{EndsSo, GivesLook, GivesVerdict}

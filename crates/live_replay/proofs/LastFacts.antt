@@ -1,13 +1,12 @@
 -- What the last write of an item before a cycle tells: the read's origin and its value; and when two cycles have one origin.
-use Rattle.std.proofs.Common.{◌≡◌, ℕ, zero, suc, ◌+◌, ◌-◌, ◌<◌, ◌≤◌, Bool, true, false, cond, ◌⊎◌, ◌==◌, Option, Some, None, List, [], ◌∷◌, ◌++◌, length, get_or, take, refl, sym, ◌∙◌, ap, subst, inl, inr, arith, add-one, zero-add}
-use Rattle.std.proofs.lemmas.Bool.{cases_lt, eq-eqb, eqb-true, both_ways}
+use Rattle.std.proofs.Common.{◌≡◌, ℕ, zero, suc, ◌+◌, ◌-◌, ◌<◌, ◌≤◌, Bool, true, false, cond, ◌==◌, Option, Some, None, List, [], ◌∷◌, ◌++◌, length, get_or, take, refl, sym, ◌∙◌, ap, subst, inl, inr, arith, add-one, zero-add}
+use Rattle.std.proofs.lemmas.Bool.{cases_lt, eq-eqb, eqb-true}
 use Rattle.std.proofs.lemmas.Bool.Decides.{same_from_decides}
 use Rattle.std.proofs.lemmas.List.{append-nil, length_push, length-append, get_or_push, get_or_append_left}
 use Rattle.air_history.specs.declared.histories.Event.{Event}
 use Rattle.air_history.specs.Histories.{writes, event_at, front, writer, writer_before}
-use Rattle.air_history.specs.Reads.{ReadAt, origin, read_value, same_origin}
-use Rattle.air_history.specs.Places.{same_place}
-use Rattle.air_history.specs.Tables.{table, value_after, values_of}
+use Rattle.air_history.specs.Reads.{origin, read_value, same_origin}
+use Rattle.air_history.specs.Tables.{table, values_of}
 use Rattle.air_history.proofs.HistoryLemmas.{front_prefix, front_within, writer_before_is}
 use Rattle.air_history.proofs.OriginLemmas.{origin_whole}
 use Rattle.air_history.proofs.PlaceLemmas.{IsLast, last_unique}
@@ -18,7 +17,7 @@ use Rattle.history_laws.proofs.ConsistencyLemmas.{same_place_decides}
 use Rattle.history_laws.proofs.StaleLemmas.{origin_of}
 use Rattle.live_replay.specs.declared.writes.ItemWrite.{ItemWrite}
 use Rattle.live_replay.specs.Findings.{read_of}
-use Rattle.live_replay.specs.Steps.Commits.{count_at, number_at, write_at, writes_from}
+use Rattle.live_replay.specs.Steps.Commits.{count_at, write_at, writes_from}
 use Rattle.live_replay.proofs.WriteFacts.{before_next, no_places, one_more, split_writes, take_next}
 
 module _ (V : List ℕ) (H : List Event) (i : ℕ) where

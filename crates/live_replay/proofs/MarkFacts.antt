@@ -1,28 +1,24 @@
 -- Marks of commits that grow to those from which reads descend, from the newest commit back; and what they tell of the reads.
-use Rattle.std.proofs.Common.{◌≡◌, ℕ, ◌+◌, ◌-◌, ◌<◌, ◌≤◌, Bool, true, false, not, ◌&&◌, ◌||◌, ◌==◌, ◌⊎◌, Option, Some, None, List, [], length, get_or, drop, refl, sym, ◌∙◌, ap, subst, inl, inr, arith, IsTrue}
-use Rattle.std.specs.List.{list_any, list_all}
-use Rattle.std.proofs.lemmas.Bool.{cases_lt, cases_eq, both_ways, or_cases, or_left, or_right, and_parts, and_from, and_left, and_right, false_from_ne_true, true_from_ne_false, not_from_false, not-true, false≢true}
+use Rattle.std.proofs.Common.{◌≡◌, ℕ, ◌+◌, ◌<◌, Bool, true, false, ◌||◌, ◌==◌, List, [], length, get_or, refl, sym, ◌∙◌, ap, subst, inl, inr, arith, IsTrue}
+use Rattle.std.specs.List.{list_any}
+use Rattle.std.proofs.lemmas.Bool.{cases_lt, cases_eq, both_ways, or_cases, or_left, or_right}
 use Rattle.std.proofs.lemmas.Bool.Decides.{same_from_decides}
-use Rattle.std.proofs.lemmas.List.{drop_at, get_or_past}
+use Rattle.std.proofs.lemmas.List.{get_or_past}
 use Rattle.air_history.specs.declared.histories.Event.{Event}
 use Rattle.air_history.specs.declared.histories.Event.TheVariants.{Commit, Start}
-use Rattle.air_history.specs.Histories.{is_start, writes, reads, event_at, front, writer_before}
-use Rattle.air_history.specs.Places.{same_place}
+use Rattle.air_history.specs.Histories.{is_start, reads, event_at}
 use Rattle.air_history.specs.Descents.{descends}
 use Rattle.air_history.specs.DescentLaws.{ReadsFrom}
 use Rattle.air_history.specs.Reads.{ReadAt, origin}
-use Rattle.air_history.specs.Consistency.{descends_from, runs_alone, last_alone}
-use Rattle.air_history.proofs.PlaceLemmas.{IsLast, last_place_is, last_place_from, place_at, place_from}
-use Rattle.air_history.proofs.HistoryLemmas.{descends_self, writer_before_some, writer_no_start, writes_within, front_within}
+use Rattle.air_history.specs.Consistency.{descends_from, runs_alone}
+use Rattle.air_history.proofs.PlaceLemmas.{place_at, place_from}
+use Rattle.air_history.proofs.HistoryLemmas.{writer_before_some, writer_no_start}
 use Rattle.air_history.proofs.ClosureLemmas.{closure}
-use Rattle.air_history.proofs.OriginLemmas.{origin_some, origin_none}
-use Rattle.history_laws.proofs.ConsistencyLemmas.{alone_at, alone_from, same_place_decides}
-use Rattle.live_replay.specs.declared.writes.ItemWrite.{ItemWrite}
+use Rattle.history_laws.proofs.ConsistencyLemmas.{alone_at, alone_from}
 use Rattle.live_replay.specs.Findings.{read_of}
-use Rattle.live_replay.specs.Steps.Commits.{IsMarked, Marking, MarksAlone, number_at, sources_at, sources_to, write_at, writes_from}
+use Rattle.live_replay.specs.Steps.Commits.{IsMarked, Marking, MarksAlone, number_at, sources_at, sources_to}
 use Rattle.live_replay.proofs.NumberFacts.{number_apart, number_below, number_reached}
 use Rattle.live_replay.proofs.SourceFacts.{read_source, source_read, sources_are}
-use Rattle.live_replay.proofs.WriteFacts.{some_write, split_writes, write_passes}
 
 -- A place that reads from another is a commit of the history, and so is the other.
 pub reads_is_commit : (H : List Event) (p w : ℕ) → ReadsFrom H p w → (w < p) × (is_start (event_at H w) ≡ false)

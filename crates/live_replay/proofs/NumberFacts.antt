@@ -1,6 +1,6 @@
 -- The numbers of commits: they rise from commit to commit, and each below their total is some commit's.
-use Rattle.std.proofs.Common.{◌≡◌, ℕ, zero, suc, ◌+◌, ◌<◌, ◌≤◌, Bool, true, false, cond, not, ◌⊎◌, List, [], ◌∷◌, length, get_or, take, count_by, refl, sym, ◌∙◌, ap, subst, inl, inr, arith, add-one}
-use Rattle.std.proofs.lemmas.Bool.{cases_Bool, cases_lt, cases_order, cases_eq, not_from_true, not_from_false, both_ways, false≢true}
+use Rattle.std.proofs.Common.{◌≡◌, ℕ, zero, suc, ◌+◌, ◌<◌, ◌≤◌, true, false, cond, List, length, take, count_by, refl, sym, ◌∙◌, ap, inl, inr, arith, add-one}
+use Rattle.std.proofs.lemmas.Bool.{cases_Bool, cases_lt, cases_order, not_from_true, not_from_false}
 use Rattle.std.proofs.lemmas.List.Sums.{count_by_more_yes, count_by_more_no, sum_by-take-le}
 use Rattle.std.proofs.lemmas.List.{take-take}
 use Rattle.air_history.specs.declared.histories.Event.{Event}

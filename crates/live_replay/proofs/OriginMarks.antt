@@ -1,18 +1,17 @@
 -- The origins of reads, marked one after the other.
-use Rattle.std.proofs.Common.{◌≡◌, ℕ, ◌+◌, ◌<◌, ◌≤◌, Bool, true, false, ◌⊎◌, Option, Some, None, List, length, get_or, set, refl, sym, ◌∙◌, ap, subst, inl, inr, arith, IsTrue}
+use Rattle.std.proofs.Common.{◌≡◌, ℕ, ◌+◌, ◌<◌, ◌≤◌, Bool, true, false, Option, Some, None, List, length, get_or, set, refl, sym, ◌∙◌, ap, subst, inl, inr, arith, IsTrue}
 use Rattle.std.specs.Prelude.{option_map}
 use Rattle.std.proofs.lemmas.Bool.{cases_lt, cases_eq, false≢true}
 use Rattle.std.proofs.lemmas.List.{get_or_default, get_or-set_same, get_or-set_other, length-set}
 use Rattle.air_history.specs.declared.histories.Event.{Event}
 use Rattle.air_history.specs.Descents.{descends}
-use Rattle.air_history.specs.Histories.{is_start, writes, event_at, front}
+use Rattle.air_history.specs.Histories.{is_start, event_at}
 use Rattle.air_history.specs.Reads.{ReadAt, origin}
 use Rattle.air_history.specs.Consistency.{descends_from, runs_alone}
 use Rattle.air_history.proofs.HistoryLemmas.{descends_self, front_within, writer_no_start}
 use Rattle.air_history.proofs.OriginLemmas.{origin_some}
 use Rattle.air_history.proofs.PlaceLemmas.{place_from}
 use Rattle.history_laws.proofs.ConsistencyLemmas.{alone_from}
-use Rattle.live_replay.specs.Findings.{read_of}
 use Rattle.live_replay.specs.Steps.Commits.{IsMarked, Marking, number_at}
 use Rattle.live_replay.proofs.NumberFacts.{number_apart, number_below}
 

@@ -1,7 +1,6 @@
 -- When each read passes after those before it: as a test, and under F-Matrix exactly if the reads are consistent.
-use Rattle.std.proofs.Common.{◌≡◌, ◌↔◌, ℕ, zero, suc, ◌+◌, ◌<◌, ◌≤◌, true, false, None, List, [], ◌∷◌, ◌++◌, length, get_or, take, map, All, refl, sym, ◌∙◌, ap, subst, arith, add-one, IsTrue}
-use Rattle.std.specs.Prelude.{AllPairs}
-use Rattle.std.specs.List.{list_all, range_with_len}
+use Rattle.std.proofs.Common.{◌≡◌, ℕ, ◌+◌, ◌<◌, ◌≤◌, true, false, List, [], ◌∷◌, ◌++◌, length, get_or, take, All, refl, sym, ◌∙◌, ap, subst, arith}
+use Rattle.std.specs.List.{range_with_len}
 use Rattle.std.proofs.lemmas.Bool.{both_ways, false_from_ne_true}
 use Rattle.std.proofs.lemmas.Bool.Decides.{same_from_decides}
 use Rattle.std.proofs.lemmas.List.FromFn.{get_or-range_with_len, length-range_with_len}
@@ -12,7 +11,7 @@ use Rattle.air_base.specs.declared.verdicts.Policy.TheVariants.{FMatrix}
 use Rattle.air_history.specs.declared.histories.Event.{Event}
 use Rattle.air_history.specs.Reads.{ReadAt, IsRead}
 use Rattle.air_history.specs.Consistency.{IsConsistent, consistent}
-use Rattle.air_history.specs.Clashes.{is_late, clash_by_history}
+use Rattle.air_history.specs.Clashes.{is_late}
 use Rattle.air_history.specs.ClashLaws.{Accepts, passes}
 use Rattle.history_laws.proofs.AcceptedLemmas.{accepted, passes_from}
 use Rattle.history_laws.proofs.ConsistencyLemmas.{whole}

@@ -1,12 +1,11 @@
 -- The findings of a report are those of the lines in a text's rows, in the order of the rows.
-use Rattle.std.proofs.Common.{◌≡◌, ℕ, ◌+◌, Option, Some, None, Result, Ok, List, [], ◌∷◌, ◌++◌, length, map, refl, sym, ◌∙◌, ap}
+use Rattle.std.proofs.Common.{◌≡◌, ℕ, ◌+◌, Option, Some, List, [], ◌∷◌, ◌++◌, length, map, refl, sym, ◌∙◌, ap}
 use Rattle.std.specs.List.{enumerate_from, filter_map, range_with_len}
 use Rattle.std.proofs.lemmas.List.{append-nil}
 use Rattle.text_records.specs.Records.{records_of}
 use Rattle.air_model.specs.Decks.{Deck}
 use Rattle.report_reading.specs.LineTexts.{line_of}
 use Rattle.report_reading.specs.ReportLines.{ReportLines, lines_in}
-use Rattle.report_reading.specs.declared.kinds.FaultKind.{FaultKind}
 use Rattle.report_reading.specs.declared.lines.Line.{Line}
 use Rattle.report_reading.specs.declared.lines.Line.TheVariants as l
 use Rattle.air_report.specs.ReadReports.{IsReportOf}

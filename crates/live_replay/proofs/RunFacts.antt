@@ -1,22 +1,22 @@
 -- A history that is run event by event: what each step keeps.
-use Rattle.std.proofs.Common.{◌≡◌, ◌≢◌, ℕ, zero, suc, ◌+◌, ◌-◌, ◌<◌, ◌≤◌, Bool, true, false, cond, ◌||◌, ◌==◌, ◌⊎◌, Option, Some, None, IfSome, List, [], ◌∷◌, ◌++◌, length, get_or, slice_get, set, take, map, replicate, All, refl, sym, ◌∙◌, ap, subst, inl, inr, arith}
+use Rattle.std.proofs.Common.{◌≡◌, ◌≢◌, ℕ, zero, suc, ◌+◌, ◌-◌, ◌<◌, Bool, true, false, cond, ◌||◌, ◌==◌, Option, Some, None, IfSome, List, [], ◌∷◌, ◌++◌, length, get_or, slice_get, take, map, replicate, All, refl, sym, ◌∙◌, ap, subst, arith}
 use Rattle.std.specs.Prelude.{AllPairs, option_map}
 use Rattle.std.specs.List.{list_any, filter_map, cons_option}
-use Rattle.std.proofs.lemmas.Bool.{cases_Bool, cases_lt, cases_eq, cond-true, cond-false, eq-eqb, ne_eqb, eqb-true, or_left, or_right, or_from, false_from_ne_true}
-use Rattle.std.proofs.lemmas.List.{append-nil, length_push, get_or_push, get_or_default, get_or-set_same, get_or-set_other, get_or-take, get_or-map, length-map, length-replicate, length-take-le, get_or-replicate, take_more}
+use Rattle.std.proofs.lemmas.Bool.{eq-eqb, ne_eqb, eqb-true, or_right, false_from_ne_true}
+use Rattle.std.proofs.lemmas.List.{append-nil, length_push, get_or_push, get_or_default, get_or-take, get_or-map, length-map, length-replicate, length-take-le, get_or-replicate, take_more}
 use Rattle.std.proofs.lemmas.List.Elements.{filter_map-append}
 use Rattle.std.proofs.lemmas.List.Folds.{list_any-append}
 use Rattle.std.proofs.lemmas.Option.{slice_get-get_or}
 use Rattle.air_history.specs.declared.histories.Event.{Event}
 use Rattle.air_history.specs.declared.histories.Event.TheVariants.{Commit, Start}
 use Rattle.air_history.specs.declared.updates.Write.{Write}
-use Rattle.air_history.specs.Histories.{is_start, writes, writes_of, reads, event_at, cycle_at, writer_before}
+use Rattle.air_history.specs.Histories.{is_start, writes, reads, event_at, cycle_at, writer_before}
 use Rattle.air_history.specs.UpdateLists.{UpdateLists}
 use Rattle.air_history.specs.UpdateRules.{item_of}
 use Rattle.air_history.specs.Tables.{table, value_after, values_of}
 use Rattle.air_history.proofs.PlaceLemmas.{any_at}
 use Rattle.air_history.proofs.ScanLemmas.{cycle_more_commit, cycle_more_start, cycle_none}
-use Rattle.air_history.proofs.TableLemmas.{table_nil, table_push}
+use Rattle.air_history.proofs.TableLemmas.{table_nil}
 use Rattle.air_history.proofs.WriteLemmas.{put_start, run_more}
 use Rattle.live_replay.specs.declared.running.Running.{Running}
 use Rattle.live_replay.specs.declared.writes.ItemWrite.{ItemWrite}

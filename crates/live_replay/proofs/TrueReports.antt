@@ -1,9 +1,9 @@
 -- No line of a report differs that sessions tell which its history judges, and whose glances and looks have their totals.
-use Rattle.std.proofs.Common.{◌≡◌, ℕ, zero, suc, ◌+◌, ◌<◌, ◌≤◌, Option, Some, None, List, [], ◌∷◌, ◌++◌, length, get_or, map, All, refl, sym, ◌∙◌, ap, subst, arith}
+use Rattle.std.proofs.Common.{◌≡◌, ℕ, zero, suc, ◌+◌, Option, None, List, [], ◌∷◌, ◌++◌, length, get_or, map, All}
 use Rattle.std.specs.List.{enumerate_from, flat_map, range_with_len}
 use Rattle.std.proofs.lemmas.List.Elements.{All-append, All-cons, All-head, All-map, All-nil, All-tail}
 use Rattle.air_history.specs.declared.histories.Event.{Event}
-use Rattle.air_model.specs.Aired.{air_of, scheme_in}
+use Rattle.air_model.specs.Aired.{scheme_in}
 use Rattle.air_model.specs.Buckets.{Bucket}
 use Rattle.air_model.specs.Decks.{Deck, IsDeck, values_in}
 use Rattle.air_model.specs.Judges.{by_history}

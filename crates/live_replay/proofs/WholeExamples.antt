@@ -1,10 +1,10 @@
 -- Findings of whole reports over a small history, computed: a line that agrees, the same altered, and a glance and a look behind it.
-use Rattle.std.specs.Prelude.{◌≡◌, ◌+◌, ℕ, List, [], ◌∷◌, Option, Some, None, refl}
+use Rattle.std.specs.Prelude.{◌≡◌, ℕ, List, [], ◌∷◌, Option, Some, None, refl}
 use Rattle.air_base.specs.declared.verdicts.ReadOf.{ReadOf}
 use Rattle.air_base.specs.declared.verdicts.VerdictKind.{VerdictKind}
 use Rattle.air_base.specs.declared.verdicts.VerdictKind.TheVariants.{Accept, Abort}
 use Rattle.air_history.specs.Places.{last_place}
-use Rattle.air_history.specs.Histories.{cycle_at, front, writer, writer_before, writes, reads, is_start}
+use Rattle.air_history.specs.Histories.{front, writer, writer_before, writes, reads, is_start}
 use Rattle.air_history.specs.Descents.{descends, descends_in}
 use Rattle.air_history.specs.Tables.{based, write_of, value_after, table}
 use Rattle.air_history.specs.Reads.{origin, stale}

@@ -1,21 +1,17 @@
 -- The writes of an item: what each of them is, how they split at a front, and what the last one before a place tells.
-use Rattle.std.proofs.Common.{◌≡◌, ℕ, zero, suc, ◌+◌, ◌-◌, ◌<◌, ◌≤◌, Bool, true, false, cond, ◌||◌, ◌⊎◌, Option, Some, None, List, [], ◌∷◌, ◌++◌, length, get_or, take, drop, count_by, ltb, All, refl, sym, ◌∙◌, ap, subst, inl, inr, arith, add-one, append_assoc}
+use Rattle.std.proofs.Common.{◌≡◌, ℕ, zero, suc, ◌+◌, ◌-◌, ◌<◌, ◌≤◌, Bool, true, false, cond, ◌||◌, Some, List, [], ◌∷◌, ◌++◌, length, take, count_by, ltb, All, refl, sym, ◌∙◌, ap, subst, inl, inr, arith, add-one, append_assoc}
 use Rattle.std.specs.List.{list_any}
 use Rattle.std.specs.List.Sorted.{IsNonDecreasingBy}
-use Rattle.std.proofs.lemmas.Bool.{cases_Bool, cases_lt, cond-true, cond-false, lt-ltb, le-ltb, or_cases, or_left, or_right, false≢true, both_ways}
-use Rattle.std.proofs.lemmas.List.{append-nil, take_more, length_push, drop_at, length-append}
+use Rattle.std.proofs.lemmas.Bool.{cases_lt, lt-ltb, le-ltb, or_cases, or_left, or_right, false≢true}
+use Rattle.std.proofs.lemmas.List.{append-nil, take_more}
 use Rattle.std.proofs.lemmas.List.Elements.{All-push, All-nil}
 use Rattle.std.proofs.lemmas.List.Folds.{list_any-append}
 use Rattle.std.proofs.lemmas.List.Sorted.{IsNonDecreasingBy-push, IsNonDecreasingBy-short}
 use Rattle.air_history.specs.declared.histories.Event.{Event}
 use Rattle.air_history.specs.declared.histories.Event.TheVariants.{Start}
-use Rattle.air_history.specs.Histories.{is_start, writes, event_at, cycle_at, front, writer_before}
-use Rattle.air_history.specs.Tables.{table, value_after, values_of}
-use Rattle.air_history.proofs.HistoryLemmas.{writer_no_start, writes_within, front_cycle, front_holds, front_within, cycle_mono, writer_before_some}
-use Rattle.air_history.proofs.PlaceLemmas.{IsLast, last_place_suc, last_unique}
-use Rattle.air_history.proofs.ScanLemmas.{writer_before_none}
-use Rattle.air_history.proofs.TableLemmas.{table_nil, table_push}
-use Rattle.history_laws.proofs.AloneLemmas.{not_written}
+use Rattle.air_history.specs.Histories.{writes, event_at, cycle_at, front, writer_before}
+use Rattle.air_history.proofs.HistoryLemmas.{writer_no_start, writes_within, front_cycle, front_holds, front_within, cycle_mono}
+use Rattle.air_history.proofs.PlaceLemmas.{last_place_suc}
 use Rattle.live_replay.specs.declared.writes.ItemWrite.{ItemWrite}
 use Rattle.live_replay.specs.Steps.Commits.{number_at, write_at, writes_from}
 use Rattle.live_replay.proofs.CountFacts.{front_count}

@@ -1,5 +1,5 @@
 -- The words of the laws of findings: what it means that a replay over a history gives a line.
-use Rattle.std.specs.Prelude.{◌≡◌, ℕ, false, List, All, Option, None, IsSomeAnd, ⊤}
+use Rattle.std.specs.Prelude.{◌≡◌, false, List, All, IsSomeAnd, ⊤}
 use Rattle.air_base.specs.declared.verdicts.Policy.{Policy}
 use Rattle.air_base.specs.declared.verdicts.VerdictKind.{VerdictKind}
 use Rattle.air_base.specs.declared.verdicts.VerdictKind.TheVariants.{Accept, Abort, Unfinished}

@@ -1,5 +1,5 @@
 -- For private steps alone. A history that was run up to a place: what is kept there.
-use Rattle.std.specs.Prelude.{◌≡◌, ◌+◌, ◌-◌, ◌<◌, ℕ, ◌==◌, cond, List, [], ◌∷◌, ◌++◌, length, get_or, slice_get, take, Option, option_map}
+use Rattle.std.specs.Prelude.{◌≡◌, ◌-◌, ◌<◌, ℕ, ◌==◌, cond, List, [], ◌∷◌, length, get_or, slice_get, take, Option, option_map}
 use Rattle.std.specs.List.{list_any, filter_map}
 use Rattle.air_history.specs.declared.histories.Event.{Event}
 use Rattle.air_history.specs.declared.updates.Write.{Write}

@@ -1,9 +1,8 @@
-use Rattle.std.proofs.Common.{◌≡◌, ◌<◌, ◌+◌, None, Some, true, length, get_or, set, sym, ap, subst, ◌∙◌, arith}
+use Rattle.std.proofs.Common.{◌≡◌, ◌<◌, ◌+◌, true, length, get_or, set, sym, ap, subst, ◌∙◌, arith}
 use Rattle.std.proofs.lemmas.List.{get_or-map, length-map}
 use Rattle.air_base.specs.declared.verdicts.ReadOf.{ReadOf}
-use Rattle.air_history.specs.Reads.{ReadAt, origin}
+use Rattle.air_history.specs.Reads.{origin}
 use Rattle.live_replay.specs.Findings.{place_of, places_of, read_of}
-use Rattle.live_replay.specs.Steps.Commits.{number_at}
 use Rattle.live_replay.proofs.OriginMarks.{OriginsTo, number_none, number_some, origin_more, origin_none}
 use Rattle.live_replay.proofs.alone.mark_origins.Goals as goal
 use Rattle.live_replay.proofs.alone.mark_origins.Goals.{in-Some, in_default}

@@ -1,4 +1,4 @@
-use Rattle.std.proofs.Common.{◌≡◌, ◌∷◌, ◌++◌, List, Option, [], get_or, take, sym, ap, ◌∙◌, append_assoc, arith}
+use Rattle.std.proofs.Common.{◌∷◌, ◌++◌, List, Option, [], get_or, take, sym, ap, ◌∙◌, append_assoc, arith}
 use Rattle.std.proofs.lemmas.List.{append-nil}
 use Rattle.air_model.specs.declared.reports.LookLine.{LookLine}
 use Rattle.live_replay.specs.Audits.{found_in}

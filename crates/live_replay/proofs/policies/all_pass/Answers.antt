@@ -1,6 +1,5 @@
 use Rattle.std.proofs.Common.{◌≡◌, Bool, sym, ap, subst, ◌∙◌}
 use Rattle.std.specs.Prelude.{IfOk}
-use Rattle.air_base.specs.declared.verdicts.Policy.TheVariants.{FMatrix}
 use Rattle.air_history.specs.Consistency.{consistent}
 use Rattle.live_replay.specs.Findings.{all_pass, places_of}
 use Rattle.live_replay.proofs.PassFacts.{pass_consistent}

@@ -1,4 +1,4 @@
-use Rattle.std.proofs.Common.{◌≡◌, nat_eq, sym, ap, ◌∙◌}
+use Rattle.std.proofs.Common.{nat_eq, sym, ap, ◌∙◌}
 use Rattle.air_model.specs.Decks.{values_in}
 use Rattle.live_replay.specs.Steps.Commits.{count_at}
 use Rattle.live_replay.proofs.LastFacts.{same_origin_is}

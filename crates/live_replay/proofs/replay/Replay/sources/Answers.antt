@@ -1,4 +1,4 @@
-use Rattle.std.proofs.Common.{◌≡◌, ◌<◌, List, ℕ, All, length, sym, ap, subst, ◌∙◌, arith}
+use Rattle.std.proofs.Common.{◌<◌, List, ℕ, All, length, sym, ap, subst, ◌∙◌, arith}
 use Rattle.live_replay.specs.Steps.Commits.{number_at, sources_to}
 use Rattle.live_replay.specs.Steps.Replays.{Replayed}
 use Rattle.live_replay.proofs.SourceFacts.{all_sources_below, sources_count}

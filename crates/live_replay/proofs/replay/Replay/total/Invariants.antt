@@ -1,4 +1,4 @@
-use Rattle.std.proofs.Common.{◌≡◌, ◌%◌, ◌^◌, ◌<◌, ◌≤◌, take}
+use Rattle.std.proofs.Common.{◌≡◌, ◌%◌, ◌^◌, take}
 use Rattle.std.specs.List.{sum}
 use Rattle.air_history.specs.Histories.{front}
 use Rattle.air_history.specs.Tables.{table_list}

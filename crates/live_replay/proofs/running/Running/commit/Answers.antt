@@ -1,9 +1,8 @@
-use Rattle.std.proofs.Common.{◌≡◌, ◌≢◌, ◌∷◌, ◌++◌, ◌<◌, ◌≤◌, ◌+◌, ℕ, List, All, [], get_or, length, take, map, refl, sym, ap, subst, ◌∙◌, arith, rules}
+use Rattle.std.proofs.Common.{◌≡◌, ◌≢◌, ◌∷◌, ◌++◌, ◌<◌, All, [], get_or, length, map, refl, sym, ap, subst, ◌∙◌, rules}
 use Rattle.std.specs.Prelude.{AllPairs}
 use Rattle.std.specs.Vec.{with_items}
 use Rattle.std.proofs.lemmas.List.{with_items_is}
 use Rattle.air_history.specs.declared.histories.Event.TheVariants.{Commit}
-use Rattle.air_history.specs.UpdateLists.{UpdateLists}
 use Rattle.air_history.specs.UpdateRules.{UpdateFits, item_of}
 use Rattle.air_history.specs.Histories.{ItemsFit}
 use Rattle.air_history.specs.Tables.{value_after, values_of}

@@ -1,4 +1,4 @@
-use Rattle.std.proofs.Common.{◌≡◌, ◌<◌, ℕ, [], length, get_or, map, take, replicate}
+use Rattle.std.proofs.Common.{◌≡◌, [], take, replicate}
 use Rattle.air_model.specs.Decks.{values_in}
 use Rattle.live_replay.proofs.running.Running.new.Given as goal
 
