@@ -15,12 +15,12 @@ ghost use Rattle.deck_files.specs.FileLimits.{tape_limit};
 use air_base::NoMemory;
 use air_casts::Run;
 use air_history::{Event, History};
-use report_texts::{Report, write_report};
 use air_sender::TapeMast;
 use aired_sessions::air_script;
 use chunk_program::Program;
 use item_catalog::Deck;
 use listeners::{Sessions, tape_sessions};
+use report_texts::{Report, write_report};
 use std::alloc::Global;
 use std::thread::Threads;
 

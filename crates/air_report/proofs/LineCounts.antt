@@ -1,5 +1,5 @@
 -- How many lines a text spells at most.
-use Rattle.std.proofs.Common.{◌≡◌, ℕ, suc, ◌+◌, ◌≤◌, Option, Some, None, List, [], ◌∷◌, length, refl, ◌∙◌, ap, arith}
+use Rattle.std.proofs.Common.{◌≡◌, ℕ, ◌+◌, ◌≤◌, Option, Some, None, List, [], ◌∷◌, length, refl, ◌∙◌, ap, arith}
 use Rattle.std.specs.List.{filter_map, cons_option}
 use Rattle.std.specs.Result.{result_ok}
 use Rattle.text_records.specs.Records.{records_of}

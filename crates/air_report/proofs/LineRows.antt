@@ -1,5 +1,5 @@
 -- What is told of each record of a text without fault, by its row and its line, is told section by section.
-use Rattle.std.proofs.Common.{◌≡◌, ℕ, zero, suc, ◌+◌, Option, Some, None, Result, Ok, Err, List, [], ◌∷◌, ◌++◌, length, length-append, map, refl, sym, ◌∙◌, ap, arith}
+use Rattle.std.proofs.Common.{◌≡◌, ℕ, ◌+◌, Option, Some, None, Result, Ok, List, [], ◌∷◌, ◌++◌, length, length-append, map, refl, ◌∙◌, ap, arith}
 use Rattle.std.specs.List.{cons_option, enumerate_from, filter_map, range_with_len}
 use Rattle.std.proofs.lemmas.List.{append-nil, length-map}
 use Rattle.text_records.specs.Records.{records_of}

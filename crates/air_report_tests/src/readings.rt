@@ -53,10 +53,7 @@ fn other_in(alloc: Global, read: &ReadReport, case: &Case<'_>) -> Result<Option<
 }
 
 /// The first case that is read otherwise, and in what.
-fn first_other<'a>(
-    alloc: Global,
-    cases: &[Case<'a>],
-) -> Result<Option<(&'a str, Other)>, Fail> {
+fn first_other<'a>(alloc: Global, cases: &[Case<'a>]) -> Result<Option<(&'a str, Other)>, Fail> {
     let deck = read_deck(alloc, DECK)?;
     for case in cases {
         if case.text.len() > 10_000 {

@@ -2,7 +2,6 @@
 -- when nothing differs.
 use Rattle.std.specs.Prelude.{◌≡◌, ◌↔◌, ℕ, false, List, All, Option, None}
 use Rattle.std.specs.List.{enumerate_from, filter_map}
-use Rattle.air_history.specs.declared.histories.Event.{Event}
 use Rattle.air_model.specs.Buckets.{Bucket}
 use Rattle.air_model.specs.Decks.{Deck}
 use Rattle.air_model.specs.Reports.{verdict_lines}

@@ -41,11 +41,7 @@ impl<'a> Model for Replay<'a> {
 
 impl<'a> Replay<'a> {
     /// The replay of these events.
-    pub fn new(
-        alloc: Global,
-        deck: &'a Deck,
-        events: &'a [Event],
-    ) -> Result<Replay<'a>, NoMemory>
+    pub fn new(alloc: Global, deck: &'a Deck, events: &'a [Event]) -> Result<Replay<'a>, NoMemory>
         requires fits { All (ItemsFit (length deck.now.items)) events.now }
         requires few { length events.now + 1 < 2 ^ 32 }
         ensures { IfOk result (λ r. r ≡ record { deck = deck.now; history = events.now }) }

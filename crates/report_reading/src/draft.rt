@@ -13,8 +13,8 @@ ghost use Rattle.report_reading.specs.Steps.Answers.{Adds, CanCommit, CanPush, P
 use crate::kinds::FaultKind;
 use crate::lines::{EventLine, Line};
 use crate::parsing::read_line;
-use crate::sections::ReadLines;
 use crate::rules::{is_begun, is_known};
+use crate::sections::ReadLines;
 use air_base::limits::MOST_UPDATERS;
 use csv::ByteRecord;
 use item_catalog::Deck;

@@ -1,4 +1,4 @@
-use Rattle.std.proofs.Common.{ap, sym, ◌∙◌}
+use Rattle.std.proofs.Common.{sym, ◌∙◌}
 use Rattle.air_model.specs.Reports.{report_text}
 use Rattle.text_records.specs.Records.{records_of}
 use Rattle.text_records.proofs.FaultPlaces.{not_both}

@@ -1,4 +1,4 @@
-use Rattle.std.proofs.Common.{All, arith, ap, sym, subst, length, map, ◌∙◌}
+use Rattle.std.proofs.Common.{All, arith, ap, sym, subst, length, ◌∙◌}
 use Rattle.std.proofs.lemmas.List.{length-map}
 use Rattle.air_history.proofs.ScanLemmas.{starts_within}
 use Rattle.report_reading.specs.ReportLines.{ReportLines, event_in}
@@ -47,5 +47,11 @@ events_in-requires c =
 pub from_events-history-requires : goal.from_events-history-requires
 from_events-history-requires c =
     let events = c.in_ok-events_in.field-0.items in
-    omega (arith, sizes c.args.deck.now c.args.bytes.now c.args.lines _ c.requires.spelled c.requires.limit c.lines.view_is,
-      starts_within events, ap length c.in_ok-events_in.ensures, length-map c.deref.result.now (event_in c.args.deck.now), ap length c.deref.ensures.value)
+    omega (
+      arith,
+      sizes c.args.deck.now c.args.bytes.now c.args.lines _ c.requires.spelled c.requires.limit c.lines.view_is,
+      starts_within events,
+      ap length c.in_ok-events_in.ensures,
+      length-map c.deref.result.now (event_in c.args.deck.now),
+      ap length c.deref.ensures.value,
+    )

@@ -1,4 +1,4 @@
-use Rattle.std.proofs.Common.{◌≡◌, ◌++◌, ◌∷◌, [], ℕ, List, codes, count_by, length, map, ap, ◌∙◌}
+use Rattle.std.proofs.Common.{◌++◌, ◌∷◌, [], ℕ, List, codes, count_by, length, map, ap, ◌∙◌}
 use Rattle.csv.specs.Writing.{row_text}
 use Rattle.air_base.specs.Numbers.{number_text}
 use Rattle.air_model.specs.Rows.{row_writer, rows_text}

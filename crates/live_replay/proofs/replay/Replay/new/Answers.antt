@@ -38,5 +38,5 @@ loop-event-preserved c =
     elim c.match-event.branch [
       | in-Start w ↦ subst (IsRun V H (n + 1)) (sym w.running-is) (w.start.ensures V H n c.loop-event.invariant c.loop-event-test.true (at ∙ w.in-Start.is))
       | in-Commit+in_ok-commit-in-Commit w ↦
-        subst (IsRun V H (n + 1)) (sym w.running-is) (w.in_ok-commit-in-Commit.ensures V H n c.loop-event.invariant c.loop-event-test.true (at ∙ w.in-Commit.is))
+          subst (IsRun V H (n + 1)) (sym w.running-is) (w.in_ok-commit-in-Commit.ensures V H n c.loop-event.invariant c.loop-event-test.true (at ∙ w.in-Commit.is))
     ]
