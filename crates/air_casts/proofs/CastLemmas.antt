@@ -11,7 +11,8 @@ use Rattle.air_model.specs.Decks.{Deck, IsWhole, values_in}
 use Rattle.air_devices.specs.Counts.{Rose}
 use Rattle.air_devices.specs.Masts.{Changes, Masted, Sent, nothing_sent, with_buckets, with_end}
 use Rattle.air_devices.specs.Told.{WhereTold}
-use Rattle.air_runs.specs.RunAnswers.{IsRunAnswer, deck_bytes}
+use Rattle.air_runs.specs.DeckBytes.{deck_bytes}
+use Rattle.air_runs.specs.RunAnswers.{IsRunAnswer}
 use Rattle.air_runs.specs.declared.runs.RunFault.{RunFault}
 use Rattle.air_runs.specs.declared.runs.RunFault.TheVariants as fault
 use Rattle.air_runs.proofs.SentLemmas.{sends_nothing}

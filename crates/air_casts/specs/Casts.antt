@@ -4,7 +4,7 @@ use Rattle.air_history.specs.declared.histories.Event.{Event}
 use Rattle.air_model.specs.Decks.{Deck, IsWhole}
 use Rattle.air_devices.specs.Counts.{Rose}
 use Rattle.air_devices.specs.Masts.{Changes, Masted, Sent}
-use Rattle.air_runs.specs.RunAnswers.{deck_bytes}
+use Rattle.air_runs.specs.DeckBytes.{deck_bytes}
 use Rattle.air_runs.specs.declared.runs.RunFault.{RunFault}
 use Rattle.air_runs.specs.declared.runs.RunFault.TheVariants as fault
 

@@ -6,7 +6,7 @@ ghost use Rattle.air_devices.specs.Counts.{Rose};
 ghost use Rattle.air_devices.specs.Masts.{Changes, nothing_sent, with_end};
 ghost use Rattle.air_devices.specs.Told.{WhereTold};
 ghost use Rattle.run_laws.specs.Runs.{IsRun};
-ghost use Rattle.air_runs.specs.RunAnswers.{deck_bytes};
+ghost use Rattle.air_runs.specs.DeckBytes.{deck_bytes};
 ghost use Rattle.air_casts.specs.Casts.{IsCastAnswer, all_sent};
 ghost use Rattle.air_casts.specs.Steps.CastSteps.{bucket_count};
 

@@ -7,7 +7,7 @@ use Rattle.air_devices.specs.Shelves.{Shelved}
 use Rattle.air_history.specs.declared.histories.Event.{Event}
 use Rattle.air_model.specs.Decks.{Deck, IsDeck, IsWhole}
 use Rattle.air_model.specs.Outputs.{cast_output}
-use Rattle.air_runs.specs.RunAnswers.{deck_bytes}
+use Rattle.air_runs.specs.DeckBytes.{deck_bytes}
 use Rattle.air_runs.specs.declared.runs.RunFault.{RunFault}
 use Rattle.air_runs.specs.declared.runs.RunFault.TheVariants as fault
 use Rattle.air_status.specs.declared.status.Status.{Status}

@@ -18,7 +18,8 @@ use Rattle.air_jobs.specs.declared.conductors.ConductFault.TheVariants as fault
 use Rattle.run_laws.proofs.AiringLemmas.{more_buckets, same_buckets}
 use Rattle.run_laws.proofs.BeyondLemmas.{whole_beyond}
 use Rattle.run_laws.proofs.StartFacts.{starts_none}
-use Rattle.air_runs.specs.RunAnswers.{FailsInRun, IsRunAnswer, SendsFirst, deck_bytes, run_fault}
+use Rattle.air_runs.specs.DeckBytes.{deck_bytes}
+use Rattle.air_runs.specs.RunAnswers.{FailsInRun, IsRunAnswer, SendsFirst, run_fault}
 use Rattle.air_runs.specs.Steps.StageSteps.{BeginsWhole, IsSeenAnswer, SendsFront}
 
 -- ---- more of a history airs more bytes

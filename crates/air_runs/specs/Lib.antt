@@ -1,2 +1,3 @@
+pub mod DeckBytes
 pub mod RunAnswers
 pub mod Steps

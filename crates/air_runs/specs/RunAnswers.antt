@@ -1,13 +1,12 @@
 -- What a run that a fault ended has sent.
 use Rattle.std.specs.Prelude.{◌≡◌, ℕ, ◌≤◌, List, length, take}
 use Rattle.air_history.specs.declared.histories.Event.{Event}
-use Rattle.air_model.specs.Aired.{air_of}
-use Rattle.air_model.specs.Decks.{Deck, IsWhole, values_in}
+use Rattle.air_model.specs.Decks.{Deck, IsWhole}
 use Rattle.air_devices.specs.Masts.{Changes, Masted, with_buckets}
 use Rattle.air_sender.specs.AirFaults.{FailedAt}
-use Rattle.air_jobs.specs.Sendings.{bytes_aired}
 use Rattle.air_jobs.specs.declared.conductors.ConductFault.{ConductFault}
 use Rattle.air_jobs.specs.declared.conductors.ConductFault.TheVariants as conduct
+use Rattle.air_runs.specs.DeckBytes.{deck_bytes}
 use Rattle.air_runs.specs.declared.runs.RunFault.{RunFault}
 use Rattle.air_runs.specs.declared.runs.RunFault.TheVariants as fault
 
@@ -15,10 +14,6 @@ use Rattle.air_runs.specs.declared.runs.RunFault.TheVariants as fault
 abbrev pub run_fault : ConductFault → RunFault
 run_fault (conduct.Mast sent) = fault.Mast sent
 run_fault conduct.NoMemory = fault.NoMemory
-
--- The bytes of the buckets that a history of the deck airs, in order.
-abbrev pub deck_bytes : Deck → List Event → List (List ℕ)
-deck_bytes deck H = bytes_aired (values_in deck) (air_of deck) H
 
 -- After so many buckets of a whole history the mast failed.
 pub record FailsInRun {M : Type 0} (state : M → Masted) (deck : Deck) (sent : ℕ) (before now : M) : Type 0 where

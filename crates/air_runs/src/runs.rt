@@ -4,7 +4,8 @@ ghost use Rattle.std.specs.Prelude.{◌≡◌, IfErr, IfOk, OnOk};
 ghost use Rattle.air_model.specs.Decks.{disks_in};
 ghost use Rattle.air_devices.specs.Masts.{Changes, with_buckets};
 ghost use Rattle.run_laws.specs.Runs.{IsRun};
-ghost use Rattle.air_runs.specs.RunAnswers.{IsRunAnswer, deck_bytes};
+ghost use Rattle.air_runs.specs.DeckBytes.{deck_bytes};
+ghost use Rattle.air_runs.specs.RunAnswers.{IsRunAnswer};
 
 use crate::sights::{Sights, all_sights};
 use crate::stages::{open_publisher, open_stage};

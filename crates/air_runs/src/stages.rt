@@ -11,7 +11,7 @@ ghost use Rattle.air_jobs.specs.Published.{IsUpTo, PublishesOn};
 ghost use Rattle.air_jobs.specs.declared.crews.MonitorRun.{MonitorRun as Watcher};
 ghost use Rattle.air_jobs.specs.declared.crews.UpdaterRun.{UpdaterRun as Updater};
 ghost use Rattle.air_jobs.specs.declared.runs.TheConstants.{LOOKS};
-ghost use Rattle.air_runs.specs.RunAnswers.{deck_bytes};
+ghost use Rattle.air_runs.specs.DeckBytes.{deck_bytes};
 ghost use Rattle.air_runs.specs.Steps.StageSteps.{BeginsWhole, IsEnd, IsPlayed, IsSeenAnswer, IsStage};
 
 use air_base::NoMemory;

@@ -23,7 +23,7 @@ use Rattle.item_catalog.specs.DeckLimits.{WithinLimits}
 use Rattle.run_laws.specs.Runs.{IsRun, Run}
 use Rattle.run_laws.proofs.ItemLemmas.{items_aired}
 use Rattle.aired_sessions.specs.HistoryTapes.{HasTape}
-use Rattle.air_runs.specs.RunAnswers.{deck_bytes}
+use Rattle.air_runs.specs.DeckBytes.{deck_bytes}
 use Rattle.aired_runs.specs.RunTapes.{run_tape_len}
 use Rattle.aired_runs.specs.RunTruths.{IsTrueRun}
 

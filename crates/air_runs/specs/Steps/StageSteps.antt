@@ -14,7 +14,7 @@ use Rattle.station.specs.PassStates.{new_pass, with_seen}
 use Rattle.air_jobs.specs.declared.conductors.ConductFault.{ConductFault}
 use Rattle.air_jobs.specs.declared.conductors.ConductFault.TheVariants as fault
 use Rattle.air_jobs.specs.declared.crews.UpdaterRun.{UpdaterRun}
-use Rattle.air_runs.specs.RunAnswers.{deck_bytes}
+use Rattle.air_runs.specs.DeckBytes.{deck_bytes}
 use Rattle.air_runs.specs.declared.stages.Stage.{Stage}
 
 -- The updaters have the new passes of the deck's station, in their order.
