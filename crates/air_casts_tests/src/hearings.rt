@@ -7,8 +7,8 @@ use crate::air::{BUCKET_0, BUCKET_1, deck_text, planned};
 use air_casts::{HearFault, MOST_HEARD_BYTES, ear_sessions};
 use air_devices::{Ear, MemEar};
 use air_history::History;
-use report_texts::{Report, write_report};
 use listeners::Sessions;
+use report_texts::{Report, write_report};
 use std::alloc::Global;
 use std::test::Fail;
 
