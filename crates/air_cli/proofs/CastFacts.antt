@@ -22,10 +22,11 @@ use Rattle.deck_files.specs.RunnableDecks.{IsShort, UnrunnableCause}
 use Rattle.deck_files.proofs.CauseFacts.{of_deck}
 use Rattle.run_laws.specs.Runs.{IsRun, Run}
 use Rattle.air_cli.specs.Answers.{NoCountRose}
-use Rattle.air_cli.specs.Cast.{CastCause, HasSent, IsCast, IsCastRefusal, cast_meaning, fault_status}
+use Rattle.air_cli.specs.Cast.{CastCause, HasSent, IsCast, cast_meaning}
 use Rattle.air_cli.specs.MainWords.{Casts}
 use Rattle.air_cli.specs.OnAir.{LeavesMast}
 use Rattle.air_cli.specs.Run.{CanRun, RunCause}
+use Rattle.air_cli.specs.Steps.Airing.{IsCastRefusal, cast_status}
 use Rattle.air_cli.specs.ToldInputs.{TellsInputs}
 use Rattle.air_cli.proofs.AnswerFacts.{only_text}
 use Rattle.air_cli.proofs.InputFacts.{CommandFacts}
@@ -99,7 +100,7 @@ part_cast d to before now fault.NoMemory h port = record { sent = inl h.1; later
 
 -- Why it wasn't.
 pub fault_refused : (d : Deck) (to : ℕ) (before now : Masted) (f : RunFault) → run_tape_len d ≤ tape_limit → IsCastAnswer d before now f → now.port ≡ Some to
-    → IsCastRefusal d to before now (fault_status f)
+    → IsCastRefusal d to before now (cast_status f)
 unfolding IsCastRefusal
 fault_refused d to before now (fault.Mast at) few h port = (few, record { rose = h.0; sent = h.1; port = port })
 fault_refused d to before now fault.NoMemory few h port = tt

@@ -18,9 +18,10 @@ use Rattle.deck_files.specs.NamedDecks.{DeckCause, OfDeck, SpellsDeck}
 use Rattle.deck_files.specs.NamedFiles.{UnreadCause}
 use Rattle.deck_files.specs.RunnableDecks.{IsShort, UnrunnableCause}
 use Rattle.air_cli.specs.Answers.{NoCountRose}
-use Rattle.air_cli.specs.Listen.{HasHeard, IsListenRefusal, IsListening, ListenCause, fault_status, listen_meaning}
+use Rattle.air_cli.specs.Listen.{HasHeard, IsListening, ListenCause, listen_meaning}
 use Rattle.air_cli.specs.MainWords.{Listens}
 use Rattle.air_cli.specs.OnAir.{LeavesEar}
+use Rattle.air_cli.specs.Steps.Airing.{IsListenRefusal, hear_status}
 use Rattle.air_cli.specs.ToldInputs.{TellsInputs}
 use Rattle.air_cli.specs.Truths.{IsTrueTape}
 use Rattle.air_cli.proofs.AnswerFacts.{only_text}
@@ -97,7 +98,7 @@ part_heard d on before now fault.NoMemory h port =
 
 -- Why they don't report.
 pub fault_refused : (d : Deck) (on : ℕ) (before now : Eared) (f : HearFault) → IsHearAnswer d.settings.hears before now f → now.port ≡ Some on
-    → IsListenRefusal d on before now (fault_status f)
+    → IsListenRefusal d on before now (hear_status f)
 unfolding IsListenRefusal
 fault_refused d on before now (fault.Ear at) h port = record { rose = h.0; few = h.1; taken = h.2; port = port }
 fault_refused d on before now fault.NoMemory h port = tt

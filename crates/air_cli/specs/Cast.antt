@@ -8,13 +8,9 @@ use Rattle.air_history.specs.declared.histories.Event.{Event}
 use Rattle.air_model.specs.Decks.{Deck, IsDeck, IsWhole}
 use Rattle.air_model.specs.Outputs.{cast_output}
 use Rattle.air_runs.specs.DeckBytes.{deck_bytes}
-use Rattle.air_runs.specs.declared.runs.RunFault.{RunFault}
-use Rattle.air_runs.specs.declared.runs.RunFault.TheVariants as fault
 use Rattle.air_status.specs.declared.status.Status.{Status}
 use Rattle.air_status.specs.declared.status.Status.TheVariants as status
-use Rattle.aired_runs.specs.RunTapes.{IsLongRun, run_tape_len}
 use Rattle.aired_runs.specs.RunTruths.{IsTrueRun, TellsHistory}
-use Rattle.deck_files.specs.FileLimits.{tape_limit}
 use Rattle.deck_files.specs.NamedDecks.{OfDeck, SpellsDeck}
 use Rattle.delivery.specs.Given.{Given}
 use Rattle.run_laws.specs.Runs.{IsRun, Run}
@@ -48,19 +44,6 @@ pub record HasSent (d : Deck) (to : ℕ) (before now : Masted) : Type 0 where
       ⊎ ((H : List Event) × IsWhole d H × Changes (λ _. all_sent (deck_bytes d H)) before.told now.told)
   pub later : before.faults ≤ now.faults
   pub port : now.port ≡ Some to
-
--- The status of a cast that was not done.
-abbrev pub fault_status : RunFault → Status
-fault_status (fault.Mast sent) = status.AirFault sent
-fault_status fault.NoMemory = status.NoMemory
-
--- Why a deck that has a program isn't cast: the tape of its run would be too long, and the mast is as it was; or it wouldn't be, and
--- the mast failed.
-unfoldable pub IsCastRefusal : Deck → ℕ → Masted → Masted → Status → Type 0
-IsCastRefusal d to before now (status.TooLong bytes) = IsLongRun d bytes × (now ≡ before)
-IsCastRefusal d to before now (status.AirFault at) = (run_tape_len d ≤ tape_limit) × IsBrokenCast d to at before now
-IsCastRefusal d to before now status.NoMemory = ⊤
-IsCastRefusal d to before now other = ⊥
 
 -- Why it is refused: the mast failed, where there is a well-made deck that can be run, the one that the named file spells where it is
 -- told; else why a run is refused, and the mast is as it was.

@@ -9,7 +9,6 @@ pub mod Tune
 pub mod Drill
 pub mod Audit
 pub mod MainWords
-pub mod Calls
 pub mod Run
 pub mod Cast
 pub mod Listen

@@ -1,8 +1,6 @@
 -- The command `listen DECK PORT`. What it means is told of the ear, too, as the call found it and as it left it.
 use Rattle.std.specs.Prelude.{◌≡◌, ◌<◌, ◌≤◌, ℕ, false, List, Some, None, ⊤}
 use Rattle.air_casts.specs.Hearings.{IsHeard, TakesJust, TakesUpTo}
-use Rattle.air_casts.specs.declared.hearings.HearFault.{HearFault}
-use Rattle.air_casts.specs.declared.hearings.HearFault.TheVariants as fault
 use Rattle.air_devices.specs.Counts.{Rose}
 use Rattle.air_devices.specs.Ears.{Eared}
 use Rattle.air_devices.specs.Shelves.{Shelved}
@@ -37,17 +35,6 @@ pub record HasHeard (d : Deck) (on : ℕ) (before now : Eared) : Type 0 where
   pub taken : (count : ℕ) × (count ≤ d.settings.hears) × TakesUpTo count before.told now.told
   pub later : before.faults ≤ now.faults
   pub port : now.port ≡ Some on
-
--- The status where not all was heard.
-abbrev pub fault_status : HearFault → Status
-fault_status (fault.Ear heard) = status.AirFault heard
-fault_status fault.NoMemory = status.NoMemory
-
--- Why a deck's readers don't report: the ear failed.
-unfoldable pub IsListenRefusal : Deck → ℕ → Eared → Eared → Status → Type 0
-IsListenRefusal d on before now (status.AirFault at) = IsBrokenListening d on at before now
-IsListenRefusal d on before now status.NoMemory = ⊤
-IsListenRefusal d on before now other = ⊥
 
 -- Why it is refused: the ear failed, where there is a well-made deck that can be run, the one that the named file spells where it is
 -- told; or its deck can't be run, and the ear is as it was.

@@ -8,9 +8,10 @@ ghost use Rattle.aired_runs.specs.RunTapes.{run_tape_len};
 ghost use Rattle.deck_files.specs.FileLimits.{tape_limit};
 ghost use Rattle.deck_files.specs.RunnableDecks.{IsShort};
 ghost use Rattle.run_laws.specs.Runs.{Run};
-ghost use Rattle.air_cli.specs.Cast.{HasSent, IsCast, IsCastRefusal, cast_meaning, fault_status};
+ghost use Rattle.air_cli.specs.Cast.{HasSent, IsCast, cast_meaning};
 ghost use Rattle.air_cli.specs.MainWords.{Casts};
 ghost use Rattle.air_cli.specs.OnAir.{LeavesMast};
+ghost use Rattle.air_cli.specs.Steps.Airing.{IsCastRefusal, cast_status};
 ghost use Rattle.air_cli.specs.Steps.Making.{IsMade, IsUnmade, Reads};
 
 use crate::reports::cast_report;
@@ -51,7 +52,7 @@ pub(crate) fn cast<R: Threads + Wait + Sync, S: Shelf, M: Mast + Send, G: Gate +
 }
 
 /// The report of a run of a deck, which is cast to a port. A deck whose tape would be too long is refused before the mast is aimed.
-#[tactic(auto, unfolding(crate::specs::Cast::IsCastRefusal), using(crate::proofs::CastFacts::all_cast, crate::proofs::CastFacts::part_cast, crate::proofs::CastFacts::is_cast, crate::proofs::CastFacts::fault_refused))]
+#[tactic(auto, unfolding(crate::specs::Steps::Airing::IsCastRefusal), using(crate::proofs::CastFacts::all_cast, crate::proofs::CastFacts::part_cast, crate::proofs::CastFacts::is_cast, crate::proofs::CastFacts::fault_refused))]
 fn cast_on_air<R: Threads + Wait + Sync, M: Mast + Send, G: Gate + Sync>(
     rt: &R,
     alloc: Global,
@@ -89,7 +90,7 @@ fn cast_on_air<R: Threads + Wait + Sync, M: Mast + Send, G: Gate + Sync>(
 
 /// The status of a cast that was not done.
 fn status_of(fault: RunFault) -> Status
-    ensures { result ≡ fault_status fault }
+    ensures { result ≡ cast_status fault }
 {
     match fault {
         RunFault::Mast { sent } => Status::AirFault { at: sent },

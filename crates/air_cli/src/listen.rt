@@ -2,9 +2,10 @@
 
 ghost use Rattle.std.specs.Prelude.{◌≡◌, ◌⊎◌, ℕ, List, None, IfErr, IfOk};
 ghost use Rattle.air_model.specs.Decks.{disks_in};
-ghost use Rattle.air_cli.specs.Listen.{HasHeard, IsListenRefusal, IsListening, fault_status, listen_meaning};
+ghost use Rattle.air_cli.specs.Listen.{HasHeard, IsListening, listen_meaning};
 ghost use Rattle.air_cli.specs.MainWords.{Listens};
 ghost use Rattle.air_cli.specs.OnAir.{LeavesEar};
+ghost use Rattle.air_cli.specs.Steps.Airing.{IsListenRefusal, hear_status};
 ghost use Rattle.air_cli.specs.Steps.Making.{IsMade, IsUnmade, Reads};
 
 use crate::reports::heard_report;
@@ -39,7 +40,7 @@ pub(crate) fn listen<S: Shelf, E: Ear>(
 }
 
 /// The report of a deck's readers over what they hear on a port.
-#[tactic(auto, unfolding(crate::specs::Listen::IsListenRefusal), using(crate::proofs::ListenFacts::all_heard, crate::proofs::ListenFacts::part_heard, crate::proofs::ListenFacts::is_listening, crate::proofs::ListenFacts::fault_refused))]
+#[tactic(auto, unfolding(crate::specs::Steps::Airing::IsListenRefusal), using(crate::proofs::ListenFacts::all_heard, crate::proofs::ListenFacts::part_heard, crate::proofs::ListenFacts::is_listening, crate::proofs::ListenFacts::fault_refused))]
 fn hear_on_air<E: Ear>(
     alloc: Global,
     deck: &Deck,
@@ -69,7 +70,7 @@ fn hear_on_air<E: Ear>(
 
 /// The status where not all was heard.
 fn status_of(fault: HearFault) -> Status
-    ensures { result ≡ fault_status fault }
+    ensures { result ≡ hear_status fault }
 {
     match fault {
         HearFault::Ear { heard } => Status::AirFault { at: heard },

@@ -136,24 +136,15 @@ fn cast<'a>(
 #[test]
 fn a_cast_sends_the_tape_and_the_end(rt: HostRuntime) {
     let start: Parts<'_> = &[Part::Text("start\n")];
-    let faults: [Parts<'_>; 3] = [
-        &[Part::Text("fault,10,0\n")],
-        &[Part::Text("fault,10,1\n")],
-        &[Part::Text("fault,10,2\n")],
-    ];
+    let none: Parts<'_> = &[Part::Text("fault,10,0\n")];
+    let one: Parts<'_> = &[Part::Text("fault,10,1\n")];
+    let two: Parts<'_> = &[Part::Text("fault,10,2\n")];
     let unprinted = cast("a failing print", &[], Status::WriteFault, &[], 72, true);
     let cases = [
         cast("all of it", &[], Status::Ok, start, 72, true),
-        cast("a failing aim", &[1], failed(0), faults[0], 0, false),
-        cast(
-            "a failing second send",
-            &[3],
-            failed(1),
-            faults[1],
-            36,
-            false,
-        ),
-        cast("a failing end", &[4], failed(2), faults[2], 72, false),
+        cast("a failing aim", &[1], failed(0), none, 0, false),
+        cast("a failing second send", &[3], failed(1), one, 36, false),
+        cast("a failing end", &[4], failed(2), two, 72, false),
         AirCase {
             case: Case {
                 fail: &[4],

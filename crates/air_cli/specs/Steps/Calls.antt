@@ -1,4 +1,4 @@
--- What a call of the code is for, in the words of `MainWords`: each file by the bytes of its name.
+-- For private steps alone. What a call of the code is for, in the words of `MainWords`: each file by the bytes of its name.
 use Rattle.std.specs.Prelude.{Some}
 use Rattle.air_cli.specs.declared.calls.Call.{Call}
 use Rattle.air_cli.specs.declared.calls.Call.TheVariants as call
