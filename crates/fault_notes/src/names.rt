@@ -42,11 +42,17 @@ pub fn twice_note(record: &Record, tag: Tag) -> Option<Said<'static>> {
     let reads = record.field(2);
     let writes = record.field(3);
     let (form, item) = match first_failing(reads, Test::Once(reads)) {
-        Some((_, item)) if tag == Tag::Query => ("has item #first# twice", item),
-        Some((_, item)) => ("has item #first# twice among its reads", item),
+        Some((_, item)) if tag == Tag::Query => ("has item #first# twice: each stands once", item),
+        Some((_, item)) => (
+            "has item #first# twice among its reads: each stands once",
+            item,
+        ),
         None => {
             let (_, item) = first_failing(writes, Test::Once(writes))?;
-            ("has item #first# twice among its writes", item)
+            (
+                "has item #first# twice among its writes: each stands once",
+                item,
+            )
         }
     };
     Some(Said::numbers(form, item, 0, 0))

@@ -64,7 +64,12 @@ pub fn setting_note<'a>(seen: &Seen, record: &'a Record) -> Option<Said<'a>> {
     };
     let (name, least, most) = SETTINGS[place];
     if seen.set[place] {
-        return Some(Said::words("the setting #name# was set above", "", name, ""));
+        return Some(Said::words(
+            "the setting #name# was set above: each is set once",
+            "",
+            name,
+            "",
+        ));
     }
     let value = record.field(2);
     if place == 0 {

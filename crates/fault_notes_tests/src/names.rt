@@ -36,16 +36,20 @@ fn names_out_of_turn_undeclared_or_twice_are_told(rt: HostRuntime) -> Result<(),
             4,
             "the update has item 7 among its bases, and up to here the deck has only items 0 and 1",
         ),
-        ("query,0,0 1 1", 5, "the query has item 1 twice"),
+        (
+            "query,0,0 1 1",
+            5,
+            "the query has item 1 twice: each stands once",
+        ),
         (
             "update,0,1 1,0=1",
             5,
-            "the update has item 1 twice among its reads",
+            "the update has item 1 twice among its reads: each stands once",
         ),
         (
             "update,0,,0=1 0=2",
             5,
-            "the update has item 0 twice among its writes",
+            "the update has item 0 twice among its writes: each stands once",
         ),
         (
             "update,0,0,0=0+1 1=1+1",
@@ -144,7 +148,11 @@ fn unknown_tags_and_settings_are_told(rt: HostRuntime) -> Result<(), Fail> {
             10,
             "the setting loss has the value  5: not a number: it has a space",
         ),
-        ("set,delta,2", 10, "the setting delta was set above"),
+        (
+            "set,delta,2",
+            10,
+            "the setting delta was set above: each is set once",
+        ),
         (
             "set,hears,0",
             10,
