@@ -18,7 +18,7 @@ struct PausingEar {
 }
 
 /// Copies as much of a bucket as there is room for to the front of the buffer.
-fn fill(buf: &mut [u8], bytes: &[u8]) -> Heard
+pub fn fill(buf: &mut [u8], bytes: &[u8]) -> Heard
     requires { 0 < length buf.old }
     ensures { Hears None None buf.new result }
 {
