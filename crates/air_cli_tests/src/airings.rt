@@ -234,3 +234,23 @@ fn a_port_is_a_number_from_1_to_65535(rt: HostRuntime) {
     ];
     assert_eq!(rt; first_taken(&rt, rt.alloc(), &forms), None);
 }
+
+/// To listen on the least port.
+const LEAST: &[&str] = &["listen", "deck", "1"];
+
+/// To listen on the greatest one.
+const GREATEST: &[&str] = &["listen", "deck", "65535"];
+
+#[test]
+fn the_least_and_the_greatest_port_are_taken(rt: HostRuntime) {
+    let all: Parts<'_> = &[Part::Text("accept,0,0,1,0@1=10 1@1=20\ncounts,0,2,0,0,0,0,0\n")];
+    let taken = listen("a port that is taken", 2, &[], Status::Ok, all);
+    for words in &[LEAST, GREATEST] {
+        let case = Case {
+            words,
+            ..taken.case
+        };
+        let air = AirCase { case, ..taken };
+        assert_eq!(rt; first_other(&rt, rt.alloc(), &[air]), None);
+    }
+}
