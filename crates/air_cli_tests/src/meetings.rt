@@ -1,8 +1,15 @@
-//! The command `run` where an updater, the conductor and a monitor meet, as no run on one thread can.
+//! The commands `run` and `cast` where an updater, the conductor and a monitor meet, as no run on one thread can.
 
-use crate::cases::{Case, Part, Parts, main_difference};
+use crate::cases::{Case, Other, Part, Parts, left_other, main_difference, shelf_of, words_of};
 use crate::first::{FIRST_CASE, RUN};
+use air_base::NoMemory;
+use air_cli::air_main;
+use air_devices::{MemEar, MemMast};
 use meeting_gate::MeetingGate;
+use std::alloc::Global;
+use std::sync::Wait;
+use std::test::Fail;
+use std::thread::Threads;
 
 /// Two items on one disk of two slots; an updater that puts 11 into item 0, and then item 0's value and 5 more into item 1; three
 /// cycles, and one monitor.
@@ -49,4 +56,49 @@ fn a_commit_a_cycle_and_a_look_meet(rt: HostRuntime) {
     let case = meeting(output);
     let other = main_difference(&rt, rt.alloc(), &case, &gate);
     assert_eq!(rt; (gate.counts(), other), ([1, 1, 1, 1, 1, 1, 1, 0], None));
+}
+
+/// The report of that history where no reader here heard it.
+const CAST_REPORT: Parts<'static> = &[Part::Text(
+    "commit,0,0\nstart\nstart\ncommit,0,1\nstart\nglance,0,2,31\nlook,0,3,27\n",
+)];
+
+/// The case of its cast: no output is written.
+const CAST_CASE: Case<'static> = Case {
+    words: &["cast", "deck", "4000"],
+    deck: MEETING,
+    printed: CAST_REPORT,
+    ..FIRST_CASE
+};
+
+/// In what the shelf is left otherwise than the case says, and the tape that the mast sent.
+fn cast_at<R: Threads + Wait + Sync>(
+    rt: &R,
+    alloc: Global,
+    gate: &MeetingGate,
+) -> Result<(Option<Other>, Vec<u8>), NoMemory> {
+    let mut shelf = shelf_of(alloc, &CAST_CASE)?;
+    let words = words_of(alloc, CAST_CASE.words)?;
+    let mut mast = MemMast::new(alloc, 216, Vec::new(alloc))?;
+    let mut ear = MemEar::new(Vec::new(alloc), Vec::new(alloc));
+    let status = air_main(rt, alloc, &words, &mut shelf, &mut mast, &mut ear, gate);
+    let sent = Vec::from_slice(alloc, mast.sent())?;
+    if status != CAST_CASE.status {
+        return Ok((Some(Other::Status(status)), sent));
+    }
+    Ok((left_other(alloc, &shelf, &CAST_CASE)?, sent))
+}
+
+#[test]
+fn a_commit_a_cycle_and_a_look_meet_in_a_cast(rt: HostRuntime) -> Result<(), Fail> {
+    let gate = MeetingGate::new();
+    let (other, sent) = cast_at(&rt, rt.alloc(), &gate)?;
+    assert_eq!(rt; (gate.counts(), other), ([1, 1, 1, 1, 1, 1, 1, 0], None));
+    let wanted = [cycle(1, 20, 0), cycle(2, 20, 0), cycle(3, 16, 2)];
+    for (place, tape) in wanted.iter().enumerate() {
+        let part = sent.as_slice().get(place * 72..place * 72 + 72);
+        assert_eq!(rt; part == Some(tape.as_slice()), true);
+    }
+    assert_eq!(rt; sent.len(), 216);
+    Ok(())
 }
