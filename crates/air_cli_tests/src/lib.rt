@@ -37,6 +37,8 @@ mod runs;
 #[cfg(test)]
 mod scripts;
 #[cfg(test)]
+mod sockets;
+#[cfg(test)]
 mod tapes;
 #[cfg(test)]
 mod tunings;
