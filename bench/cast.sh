@@ -1,8 +1,7 @@
 #!/usr/bin/env bash
 # How many datagrams a second `cast` sends to a port at which nobody listens, beside a bare loop of `sendto` that sends as many of the
 # same size from a socket of the same kind. The loop is in C where cc is there, and in Python else; the times are those of the whole
-# commands, so `cast` also reads its deck, commits 1,000 updates and prints its report.
-# It was tried with a stand-in for `cast` alone, since the command isn't there yet.
+# commands, so `cast` also reads its deck, commits 1,000 updates and prints the history.
 # Usage: bench/cast.sh [RUNS]. Prints a row for each size: the median of the runs of each, and the first by the second (aim: 0.7).
 set -u
 cd "$(dirname "$0")/.." || exit 1
