@@ -3,14 +3,14 @@ use Rattle.std.proofs.Common.{◌≡◌, ◌<◌, ◌≤◌, ◌++◌, ◌∷◌
 use Rattle.air_base.specs.NumberLists.{all_some, list_of}
 use Rattle.air_base.specs.Pieces.{cut_at}
 use Rattle.air_base.specs.Fronts.{after_part, behind, first_part, is_no_space}
-use Rattle.air_base.specs.ReadParts.{joined, spelled}
+use Rattle.air_base.specs.ReadParts.{part_values, prepend}
 use Rattle.air_base.proofs.Cuts.{cut_first, cut_rest}
 
 pub parts_front : (text : List ℕ) → cut_at 32 text ≡ first_part text ∷ cut_rest 32 (after_part text)
 unfolding first_part after_part
 parts_front text = cut_first 32 text
 
-pub list_spelled : {A : Type 0} (value : List ℕ → Option A) (text : List ℕ) → 0 < length text → list_of value text ≡ spelled value text
+pub list_spelled : {A : Type 0} (value : List ℕ → Option A) (text : List ℕ) → 0 < length text → list_of value text ≡ part_values value text
 list_spelled value [] some = absurd (omega arith)
 list_spelled value (c ∷ cs) some = refl
 
@@ -19,25 +19,25 @@ unfolding all_some
 list_empty value [] none = refl
 list_empty value (c ∷ cs) none = absurd (omega arith)
 
-joined_some : {A : Type 0} (done : List A) (x : A) (more : Option (List A)) → joined done (option_map (λ xs. x ∷ xs) more) ≡ joined (done ++ x ∷ []) more
-joined_some done x None = refl
-joined_some done x (Some xs) = ap Some (sym (append_assoc done (x ∷ []) xs))
+prepend_some : {A : Type 0} (done : List A) (x : A) (more : Option (List A)) → prepend done (option_map (λ xs. x ∷ xs) more) ≡ prepend (done ++ x ∷ []) more
+prepend_some done x None = refl
+prepend_some done x (Some xs) = ap Some (sym (append_assoc done (x ∷ []) xs))
 
-module _ {A : Type 0} (value : List ℕ → Option A) (all : Option (List A)) (done : List A) (rest : List ℕ) (told : joined done (spelled value rest) ≡ all) where
+module _ {A : Type 0} (value : List ℕ → Option A) (all : Option (List A)) (done : List A) (rest : List ℕ) (told : prepend done (part_values value rest) ≡ all) where
   -- One more part, behind which the list goes on.
-  pub list_more : (x : A) (space : ℕ) (more : List ℕ) → value (first_part rest) ≡ Some x → after_part rest ≡ space ∷ more → joined (done ++ x ∷ []) (spelled value more) ≡ all
+  pub list_more : (x : A) (space : ℕ) (more : List ℕ) → value (first_part rest) ≡ Some x → after_part rest ≡ space ∷ more → prepend (done ++ x ∷ []) (part_values value more) ≡ all
   unfolding all_some
-  list_more x space more one after = sym (joined_some done x (spelled value more)) ∙ sym (ap (λ ps. joined done (all_some (map value ps))) (parts_front rest) ∙ rw (one, after) refl) ∙ told
+  list_more x space more one after = sym (prepend_some done x (part_values value more)) ∙ sym (ap (λ ps. prepend done (all_some (map value ps))) (parts_front rest) ∙ rw (one, after) refl) ∙ told
 
   -- The last part.
   pub list_last : (x : A) → value (first_part rest) ≡ Some x → after_part rest ≡ [] → all ≡ Some (done ++ x ∷ [])
   unfolding all_some
-  list_last x one after = sym told ∙ ap (λ ps. joined done (all_some (map value ps))) (parts_front rest) ∙ rw (one, after) refl
+  list_last x one after = sym told ∙ ap (λ ps. prepend done (all_some (map value ps))) (parts_front rest) ∙ rw (one, after) refl
 
   -- A part that spells nothing.
   pub list_bad : value (first_part rest) ≡ None → all ≡ None
   unfolding all_some
-  list_bad none = sym told ∙ ap (λ ps. joined done (all_some (map value ps))) (parts_front rest) ∙ rw none refl
+  list_bad none = sym told ∙ ap (λ ps. prepend done (all_some (map value ps))) (parts_front rest) ∙ rw none refl
 
 -- What follows a part is no longer than the text.
 pub after_short : (text : List ℕ) → length (after_part text) ≤ length text
@@ -49,6 +49,6 @@ after_short (c ∷ cs) = by (is_no_space c) (after_short cs)
     by true h = omega arith
     by false h = omega arith
 
-pub joined_none : {A : Type 0} (all : Option (List A)) → joined [] all ≡ all
-joined_none None = refl
-joined_none (Some xs) = refl
+pub prepend_none : {A : Type 0} (all : Option (List A)) → prepend [] all ≡ all
+prepend_none None = refl
+prepend_none (Some xs) = refl

@@ -2,13 +2,13 @@
 use Rattle.std.proofs.Common.{◌<◌, ◌≤◌, ◌+◌, ◌++◌, ◌∷◌, [], ℕ, List, Option, length, get_or, drop, sym, ap, ◌∙◌, arith, length-drop}
 use Rattle.std.proofs.lemmas.List.{drop_all, drop_more}
 use Rattle.air_base.specs.NumberLists.{list_of}
-use Rattle.air_base.specs.ReadParts.{PlainAt, ReadsTo, Told, spelled}
-use Rattle.air_base.proofs.ListFronts.{after_short, joined_none, list_last, list_more, list_spelled}
+use Rattle.air_base.specs.ReadParts.{PlainAt, ReadsTo, Told, part_values}
+use Rattle.air_base.proofs.ListFronts.{after_short, prepend_none, list_last, list_more, list_spelled}
 
 module _ {A : Type 0} (value : List ℕ → Option A) (text : List ℕ) where
   -- Nothing was read.
   pub reads_none : (Holds : List A → Type 0) → 0 < length text → Holds [] → ReadsTo value text Holds 0
-  reads_none Holds some none = ([], none, ((λ within. joined_none (spelled value text) ∙ sym (list_spelled value text some)), (λ past. absurd (omega (arith, past)))))
+  reads_none Holds some none = ([], none, ((λ within. prepend_none (part_values value text) ∙ sym (list_spelled value text some)), (λ past. absurd (omega (arith, past)))))
 
   module _ (place : ℕ) (f : A × ℕ) (plain : PlainAt value text place f) where
     -- A part ends no sooner than it begins.

@@ -17,17 +17,17 @@ abbrev pub PlainAt : {A : Type 0} → (List ℕ → Option A) → List ℕ → �
 PlainAt value text place f = FrontIs value (drop place text) (Some (f.0, drop f.1 text)) × (f.1 ≤ length text)
 
 -- What the parts between spaces spell, of a text that isn't empty.
-abbrev pub spelled : {A : Type 0} → (List ℕ → Option A) → List ℕ → Option (List A)
-spelled value text = all_some (map value (cut_at 32 text))
+abbrev pub part_values : {A : Type 0} → (List ℕ → Option A) → List ℕ → Option (List A)
+part_values value text = all_some (map value (cut_at 32 text))
 
 -- These elements, and then those.
-abbrev pub joined : {A : Type 0} → List A → Option (List A) → Option (List A)
-joined done None = None
-joined done (Some more) = Some (done ++ more)
+abbrev pub prepend : {A : Type 0} → List A → Option (List A) → Option (List A)
+prepend done None = None
+prepend done (Some more) = Some (done ++ more)
 
 -- A list is told by the values of the parts up to a place and what the rest spells; behind the end there is no rest.
 abbrev pub Told : {A : Type 0} → (List ℕ → Option A) → List ℕ → List A → ℕ → Type 0
-Told value text done place = (place ≤ length text → joined done (spelled value (drop place text)) ≡ list_of value text) × (length text < place → list_of value text ≡ Some done)
+Told value text done place = (place ≤ length text → prepend done (part_values value (drop place text)) ≡ list_of value text) × (length text < place → list_of value text ≡ Some done)
 
 -- Parts of a list were read up to a place: of their values this holds, and they tell the list.
 abbrev pub ReadsTo : {A : Type 0} → (List ℕ → Option A) → List ℕ → (List A → Type 0) → ℕ → Type 0

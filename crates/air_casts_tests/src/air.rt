@@ -37,7 +37,7 @@ pub fn deck_text(hears_one: bool) -> &'static [u8]
 }
 
 /// A deck with its program.
-pub fn planned(alloc: Global, text: &[u8]) -> Result<(Deck, Program), Fail>
+pub fn deck_and_program(alloc: Global, text: &[u8]) -> Result<(Deck, Program), Fail>
     requires { length text.now ≤ MOST_DECK_BYTES }
     ensures { IfOk result (λ both. both.1 ≡ disks_in both.0) }
 {

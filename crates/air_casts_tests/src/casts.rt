@@ -1,6 +1,6 @@
 //! Casts of the deck to a mast in memory, with the calls of it that fail: aim, two buckets, the end.
 
-use crate::air::{BUCKET_0, BUCKET_1, deck_text, planned};
+use crate::air::{BUCKET_0, BUCKET_1, deck_text, deck_and_program};
 use air_casts::{RunFault, cast_run};
 use air_devices::{MemMast, OpenGate};
 use air_history::Event;
@@ -44,7 +44,7 @@ fn other_in<R: Threads + Wait + Sync>(
     alloc: Global,
     case: &Case<'_>,
 ) -> Result<Option<Other>, Fail> {
-    let (deck, program) = planned(alloc, deck_text(false))?;
+    let (deck, program) = deck_and_program(alloc, deck_text(false))?;
     let mut mast = MemMast::new(alloc, case.room, Vec::from_slice(alloc, case.fail)?)?;
     let answer = cast_run(rt, alloc, &deck, &program, &mut mast, &OpenGate, 4000);
     if let Ok(run) = &answer {

@@ -3,7 +3,7 @@
 ghost use Rattle.std.specs.Prelude.{◌≡◌, ◌≤◌, length, All, IfOk, None};
 ghost use Rattle.air_base.specs.declared.limits.TheConstants.{MOST_DECK_BYTES};
 
-use crate::air::{BUCKET_0, BUCKET_1, deck_text, planned};
+use crate::air::{BUCKET_0, BUCKET_1, deck_text, deck_and_program};
 use air_casts::{HearFault, MOST_HEARD_BYTES, ear_sessions};
 use air_devices::{Ear, MemEar};
 use air_history::History;
@@ -59,7 +59,7 @@ pub fn heard_by<E: Ear>(
     requires size { length deck.now ≤ MOST_DECK_BYTES }
     requires untuned { (E.state ear.old).port ≡ None }
 {
-    let (deck, program) = planned(alloc, deck)?;
+    let (deck, program) = deck_and_program(alloc, deck)?;
     match ear_sessions(alloc, &deck, &program, ear, 4000) {
         Ok(sessions) => Ok(Ok(text_of(alloc, sessions)?)),
         Err(fault) => Ok(Err(fault)),

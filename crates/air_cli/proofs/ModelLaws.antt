@@ -5,7 +5,7 @@ use Rattle.air_history.specs.Histories.{EventFits}
 use Rattle.air_history.specs.Tables.{BasesRead}
 use Rattle.air_model.specs.Buckets.{Bucket, bucket_in, spelling}
 use Rattle.air_model.specs.Decks.{Deck, IsDeck, IsLegal, ScriptFits, script_history, values_in}
-use Rattle.air_model.specs.Ethers.{Odds, heard}
+use Rattle.air_model.specs.Ethers.{Odds, heard_list}
 use Rattle.air_model.specs.Aired.{IsAired, air_of, buckets_of}
 use Rattle.air_model.specs.AiredLaws.{CanAir}
 use Rattle.air_model.specs.ReceiverLaws.{IsTrueSession}
@@ -22,7 +22,7 @@ BytesLaw = (deck : Deck) (H : List Event) (heard : List (List ℕ)) → CanAir d
     IsAired (values_in deck) (air_of deck) H (map bucket_in heard) × All (λ bytes. (b : Bucket) × (bucket_in bytes ≡ Some b)) heard
 
 abbrev pub HeardWasPushedLaw : Type 0
-HeardWasPushedLaw = (odds : Odds) (words : List ℕ) (pushed : List (List ℕ)) → All (Contains pushed) (heard odds words pushed)
+HeardWasPushedLaw = (odds : Odds) (words : List ℕ) (pushed : List (List ℕ)) → All (Contains pushed) (heard_list odds words pushed)
 
 abbrev pub ReceiverLaw : Type 0
 ReceiverLaw = (deck : Deck) (H : List Event) (r : ℕ) (heard : List (Option Bucket)) →

@@ -61,7 +61,7 @@ fn buckets(alloc: Global, count: usize) -> Result<Vec<Vec<u8>>, NoMemory>
 }
 
 /// In what a case differs from what is wanted, if it does.
-fn played<R: Threads + Wait + Sync>(
+fn air_difference<R: Threads + Wait + Sync>(
     rt: &R,
     alloc: Global,
     air: &AirCase<'_>,
@@ -94,7 +94,7 @@ fn first_other<'a, R: Threads + Wait + Sync>(
     cases: &[AirCase<'a>],
 ) -> Option<(&'a str, AirOther)> {
     for air in cases {
-        match played(rt, alloc, air) {
+        match air_difference(rt, alloc, air) {
             Ok(None) => {}
             Ok(Some(other)) => return Some((air.case.shows, other)),
             Err(NoMemory) => return Some((air.case.shows, AirOther::Shelf(Other::Unplayed))),
@@ -104,7 +104,7 @@ fn first_other<'a, R: Threads + Wait + Sync>(
 }
 
 /// A call of the mast or of the ear failed, after so many buckets.
-const fn failed(at: u64) -> Status {
+const fn air_fault(at: u64) -> Status {
     Status::AirFault { at }
 }
 
@@ -142,9 +142,9 @@ fn a_cast_sends_the_tape_and_the_end(rt: HostRuntime) {
     let unprinted = cast("a failing print", &[], Status::WriteFault, &[], 72, true);
     let cases = [
         cast("all of it", &[], Status::Ok, start, 72, true),
-        cast("a failing aim", &[1], failed(0), none, 0, false),
-        cast("a failing second send", &[3], failed(1), one, 36, false),
-        cast("a failing end", &[4], failed(2), two, 72, false),
+        cast("a failing aim", &[1], air_fault(0), none, 0, false),
+        cast("a failing second send", &[3], air_fault(1), one, 36, false),
+        cast("a failing end", &[4], air_fault(2), two, 72, false),
         AirCase {
             case: Case {
                 fail: &[4],
@@ -189,8 +189,8 @@ fn who_listens_reports_what_was_heard(rt: HostRuntime) {
     let cases = [
         listen("all of it", 2, &[], Status::Ok, all),
         listen("an early end", 1, &[], Status::Ok, one),
-        listen("a failing tuning", 2, &[1], failed(0), untuned),
-        listen("a failing second", 2, &[3], failed(1), broken),
+        listen("a failing tuning", 2, &[1], air_fault(0), untuned),
+        listen("a failing second", 2, &[3], air_fault(1), broken),
         AirCase {
             case: Case {
                 deck: &[Part::Text(FIRST), Part::Text("set,hears,1\n")],

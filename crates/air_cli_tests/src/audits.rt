@@ -25,7 +25,7 @@ const NO_BASE: Part<'static> = Part::Text(
 );
 
 /// The audit of this report by this deck ends with this status, and prints this text.
-fn audited<'a>(
+fn audit_case<'a>(
     shows: &'a str,
     deck: Parts<'a>,
     report: Parts<'a>,
@@ -63,17 +63,17 @@ fn each_line_is_replayed_by_the_reports_own_history(rt: HostRuntime) {
     let value: Parts<'_> = &[Part::Text("differs,5,value\naudited,1,1\n")];
     let none: Parts<'_> = &[Part::Text("audited,0,0\n")];
     let cases = [
-        audited("as it was printed", two, printed, Status::Ok, agrees),
-        audited("another verdict", two, refused, Status::Differs, verdict),
-        audited("another value", two, another, Status::Differs, value),
-        audited(
+        audit_case("as it was printed", two, printed, Status::Ok, agrees),
+        audit_case("another verdict", two, refused, Status::Differs, verdict),
+        audit_case("another value", two, another, Status::Differs, value),
+        audit_case(
             "both, and the value is told",
             two,
             both,
             Status::Differs,
             value,
         ),
-        audited("no line at all", two, &[], Status::Ok, none),
+        audit_case("no line at all", two, &[], Status::Ok, none),
     ];
     assert_eq!(rt; first_other(&rt, rt.alloc(), &cases), None);
 }
@@ -96,8 +96,8 @@ fn each_finding_has_its_row_and_its_cause(rt: HostRuntime) {
         "differs,6,clash\nagrees,8\ndiffers,9,total\nagrees,10\ndiffers,11,total\naudited,5,3\n",
     )];
     let cases = [
-        audited("all agree", chain, good, Status::Ok, all),
-        audited("three differ", chain, bad, Status::Differs, some),
+        audit_case("all agree", chain, good, Status::Ok, all),
+        audit_case("three differ", chain, bad, Status::Differs, some),
     ];
     assert_eq!(rt; first_other(&rt, rt.alloc(), &cases), None);
 }
@@ -113,9 +113,9 @@ fn a_late_read_passes_under_two_policies(rt: HostRuntime) {
     let agrees: Parts<'_> = &[Part::Text("agrees,4\naudited,1,0\n")];
     let differs: Parts<'_> = &[Part::Text("differs,4,verdict\naudited,1,1\n")];
     let cases = [
-        audited("F-Matrix", f_matrix, late, Status::Ok, agrees),
-        audited("Datacycle", datacycle, late, Status::Ok, agrees),
-        audited("R-Matrix", r_matrix, late, Status::Differs, differs),
+        audit_case("F-Matrix", f_matrix, late, Status::Ok, agrees),
+        audit_case("Datacycle", datacycle, late, Status::Ok, agrees),
+        audit_case("R-Matrix", r_matrix, late, Status::Differs, differs),
     ];
     assert_eq!(rt; first_other(&rt, rt.alloc(), &cases), None);
 }
@@ -143,9 +143,9 @@ fn reports_of_runs_agree_whichever_of_two_updates_lands_first(rt: HostRuntime) {
     )];
     let three: Parts<'_> = &[Part::Text("agrees,4\nagrees,6\nagrees,7\naudited,3,0\n")];
     let cases = [
-        audited("a sum that wraps", top, wrapped, Status::Ok, one),
-        audited("the first before the second", run, first, Status::Ok, three),
-        audited(
+        audit_case("a sum that wraps", top, wrapped, Status::Ok, one),
+        audit_case("the first before the second", run, first, Status::Ok, three),
+        audit_case(
             "the second before the first",
             run,
             second,
@@ -164,7 +164,7 @@ fn no_deck_is_refused_for_its_programs_length(rt: HostRuntime) {
     )];
     let report: Parts<'_> = &[Part::Text("start\naccept,0,0,1,0@1=0\n")];
     let agrees: Parts<'_> = &[Part::Text("agrees,2\naudited,1,0\n")];
-    let cases = [audited("737,856 slots", deck, report, Status::Ok, agrees)];
+    let cases = [audit_case("737,856 slots", deck, report, Status::Ok, agrees)];
     assert_eq!(rt; first_other(&rt, rt.alloc(), &cases), None);
 }
 
@@ -183,8 +183,8 @@ fn a_refusal_of_the_deck_comes_before_one_of_the_report(rt: HostRuntime) {
     let next: Parts<'_> = &[Part::Text("start\ncommit,0,1\n")];
     let not_next = Status::Report { row: 2, kind: 5 };
     let not_next_line: Parts<'_> = &[Part::Text("fault,8,2,5\n")];
-    let missing = audited("no report", two, &[], Status::ReadFault, unread);
-    let faulty = audited("a deck's fault", base, tape, fault, line);
+    let missing = audit_case("no report", two, &[], Status::ReadFault, unread);
+    let faulty = audit_case("a deck's fault", base, tape, fault, line);
     let cases = [
         faulty,
         Case {
@@ -199,8 +199,8 @@ fn a_refusal_of_the_deck_comes_before_one_of_the_report(rt: HostRuntime) {
             words: no_deck,
             ..missing
         },
-        audited("a tape for a report", two, tape, odd, odd_line),
-        audited(
+        audit_case("a tape for a report", two, tape, odd, odd_line),
+        audit_case(
             "a commit that isn't the next",
             two,
             next,
@@ -238,14 +238,14 @@ fn what_is_too_much_to_replay_is_refused_after_a_fault(rt: HostRuntime) {
     };
     let late_line: Parts<'_> = &[Part::Text("fault,8,100503,7\n")];
     let cases = [
-        audited(
+        audit_case(
             "501 lines over 100,000 commits",
             deck,
             report,
             much,
             much_line,
         ),
-        audited("a fault in the last line", deck, faulty, late, late_line),
+        audit_case("a fault in the last line", deck, faulty, late, late_line),
     ];
     assert_eq!(rt; first_other(&rt, rt.alloc(), &cases), None);
 }
@@ -256,7 +256,7 @@ fn a_report_of_more_bytes_than_its_limit_is_too_large(rt: HostRuntime) {
     let large: Parts<'_> = &[Part::Zeros(134_217_729)];
     let status = Status::TooLarge { limit: 134_217_728 };
     let line: Parts<'_> = &[Part::Text("fault,7,134217728\n")];
-    let cases = [audited("one byte more", two, large, status, line)];
+    let cases = [audit_case("one byte more", two, large, status, line)];
     assert_eq!(rt; first_other(&rt, rt.alloc(), &cases), None);
 }
 
@@ -267,11 +267,11 @@ fn what_is_printed_before_a_failure_begins_the_findings(rt: HostRuntime) {
     let all: Parts<'_> = &[Part::Text("differs,2,value\naudited,1,1\n")];
     let some: Parts<'_> = &[Part::Text("differs,2,v")];
     let fault = Status::WriteFault;
-    let whole = audited("all of it", two, report, Status::Differs, all);
-    let part = audited("the first bytes", two, report, fault, some);
-    let none = audited("nothing", two, report, fault, &[]);
+    let whole = audit_case("all of it", two, report, Status::Differs, all);
+    let part = audit_case("the first bytes", two, report, fault, some);
+    let none = audit_case("nothing", two, report, fault, &[]);
     let read = Status::ReadFault;
-    let unread = audited("unread", two, report, read, &[Part::Text("fault,3\n")]);
+    let unread = audit_case("unread", two, report, read, &[Part::Text("fault,3\n")]);
     let cases = [
         Case { room: 28, ..whole },
         Case { room: 11, ..part },

@@ -31,7 +31,7 @@ pub enum Part<'a> {
 pub type Parts<'a> = &'a [Part<'a>];
 
 /// A file of three texts.
-pub fn joined<'a>(first: &'a str, second: &'a str, third: &'a str) -> [Part<'a>; 3] {
+pub fn three_parts<'a>(first: &'a str, second: &'a str, third: &'a str) -> [Part<'a>; 3] {
     [Part::Text(first), Part::Text(second), Part::Text(third)]
 }
 
@@ -174,7 +174,7 @@ pub fn left_other(
 }
 
 /// In what the run of a case differs from what is wanted, if it does.
-fn played<R: Threads + Sync>(
+fn run_difference<R: Threads + Sync>(
     rt: &R,
     alloc: Global,
     case: &Case<'_>,
@@ -190,7 +190,7 @@ fn played<R: Threads + Sync>(
 
 /// In what the run of a case differs from what is wanted, if it does; also where it isn't played.
 pub fn difference<R: Threads + Sync>(rt: &R, alloc: Global, case: &Case<'_>) -> Option<Other> {
-    match played(rt, alloc, case) {
+    match run_difference(rt, alloc, case) {
         Ok(other) => other,
         Err(NoMemory) => Some(Other::Unplayed),
     }

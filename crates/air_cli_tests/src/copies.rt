@@ -3,7 +3,7 @@
 //! The wanted reports are from an independent program.
 
 use crate::cases::{Part, Parts, first_other};
-use crate::first::reported;
+use crate::first::script_case;
 
 /// Two items, of which the second is the hotter, so that the program airs it first; a reader with room for both.
 const TWO: Part<'static> = Part::Text(
@@ -35,9 +35,9 @@ fn a_wanted_item_is_read_from_its_copy_where_that_clashes_with_nothing(rt: HostR
         accept,0,3,1,0@3=10 1@3=20\naccept,0,4,1,0@3=10\ncounts,0,4,5,0,0,0,2\n",
     )];
     let cases = [
-        reported("a copy that clashes", written, written_report),
-        reported("a copy of what was never written", never, never_report),
-        reported("among equals the smaller item", equals, equals_report),
+        script_case("a copy that clashes", written, written_report),
+        script_case("a copy of what was never written", never, never_report),
+        script_case("among equals the smaller item", equals, equals_report),
     ];
     assert_eq!(rt; first_other(&rt, rt.alloc(), &cases), None);
 }

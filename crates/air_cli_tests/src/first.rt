@@ -45,7 +45,7 @@ pub const FIRST_CASE: Case<'static> = Case {
 };
 
 /// A script of this deck prints this report.
-pub fn reported<'a>(shows: &'a str, deck: Parts<'a>, printed: Parts<'a>) -> Case<'a> {
+pub fn script_case<'a>(shows: &'a str, deck: Parts<'a>, printed: Parts<'a>) -> Case<'a> {
     Case {
         shows,
         words: SCRIPT,

@@ -1,6 +1,6 @@
 //! Refusals, each before those that come later in their order; none writes to the output.
 
-use crate::cases::{Case, Other, Part, Parts, difference, first_other, joined};
+use crate::cases::{Case, Other, Part, Parts, difference, first_other, three_parts};
 use crate::first::{FIRST, FIRST_CASE, PLAN, SCRIPT, SCRIPT_TAPE, TUNE};
 use air_cli::Status;
 use std::alloc::Global;
@@ -37,7 +37,7 @@ const LONG_TAPE: Parts<'static> = &[
 const LARGE: Parts<'static> = &[Part::Zeros(67_108_865)];
 
 /// These words over this deck end with the status, and print the line.
-fn refused<'a>(
+fn refusal_case<'a>(
     shows: &'a str,
     words: &'a [&'a str],
     deck: Parts<'a>,
@@ -65,12 +65,12 @@ fn a_fault_of_the_deck_is_told_before_all_else(rt: HostRuntime) {
     let odd_tag = Status::Deck { row: 4, kind: 9 };
     let odd_tag_line: Parts<'_> = &[Part::Text("fault,2,4,9\n")];
     let cases = [
-        refused("by a plan", PLAN, base, fault, line),
-        refused("by a script", SCRIPT, base, fault, line),
-        refused("by a script to a tape", SCRIPT_TAPE, base, fault, line),
-        refused("before a missing tape", TUNE_NONE, base, fault, line),
-        refused("of an empty deck", SCRIPT, &[], empty, empty_line),
-        refused("of an unknown tag", SCRIPT, odd, odd_tag, odd_tag_line),
+        refusal_case("by a plan", PLAN, base, fault, line),
+        refusal_case("by a script", SCRIPT, base, fault, line),
+        refusal_case("by a script to a tape", SCRIPT_TAPE, base, fault, line),
+        refusal_case("before a missing tape", TUNE_NONE, base, fault, line),
+        refusal_case("of an empty deck", SCRIPT, &[], empty, empty_line),
+        refusal_case("of an unknown tag", SCRIPT, odd, odd_tag, odd_tag_line),
     ];
     assert_eq!(rt; first_other(&rt, rt.alloc(), &cases), None);
 }
@@ -84,9 +84,9 @@ fn difference_with<R: Threads + Sync>(
     status: Status,
     text: &str,
 ) -> Option<Other> {
-    let deck = joined("item,0,10,1\ndisk,1,1\n", more, "");
+    let deck = three_parts("item,0,10,1\ndisk,1,1\n", more, "");
     let printed = [Part::Text(text)];
-    let case = refused("one item", words, &deck, status, &printed);
+    let case = refusal_case("one item", words, &deck, status, &printed);
     difference(rt, alloc, &case)
 }
 
@@ -130,12 +130,12 @@ fn a_program_that_is_too_long_is_refused_before_its_tape(rt: HostRuntime) {
     let less_line: Parts<'_> = &[Part::Text("fault,13,20160\n")];
     let copies: Parts<'_> = &[Part::Text(LONG), Part::Text("reader,1,0,1\n")];
     let cases = [
-        refused("by a plan", PLAN, deck, long, line),
-        refused("by a script", SCRIPT, deck, long, line),
-        refused("by a script to a tape", SCRIPT_TAPE, deck, long, line),
-        refused("before a missing tape", TUNE_NONE, deck, long, line),
-        refused("of eight starts", SCRIPT, LONG_SCRIPT, less, less_line),
-        refused("of a reader that keeps copies", SCRIPT, copies, long, line),
+        refusal_case("by a plan", PLAN, deck, long, line),
+        refusal_case("by a script", SCRIPT, deck, long, line),
+        refusal_case("by a script to a tape", SCRIPT_TAPE, deck, long, line),
+        refusal_case("before a missing tape", TUNE_NONE, deck, long, line),
+        refusal_case("of eight starts", SCRIPT, LONG_SCRIPT, less, less_line),
+        refusal_case("of a reader that keeps copies", SCRIPT, copies, long, line),
     ];
     assert_eq!(rt; first_other(&rt, rt.alloc(), &cases), None);
 }
@@ -149,9 +149,9 @@ fn what_is_or_would_be_too_large_is_refused(rt: HostRuntime) {
     let deck = Status::TooLarge { limit: 67_108_864 };
     let deck_line: Parts<'_> = &[Part::Text("fault,7,67108864\n")];
     let cases = [
-        refused("an unwritten tape", SCRIPT, LONG_TAPE, tape, tape_line),
-        refused("a tape", SCRIPT_TAPE, LONG_TAPE, tape, tape_line),
-        refused("a deck", PLAN, LARGE, deck, deck_line),
+        refusal_case("an unwritten tape", SCRIPT, LONG_TAPE, tape, tape_line),
+        refusal_case("a tape", SCRIPT_TAPE, LONG_TAPE, tape, tape_line),
+        refusal_case("a deck", PLAN, LARGE, deck, deck_line),
     ];
     assert_eq!(rt; first_other(&rt, rt.alloc(), &cases), None);
 }
@@ -165,9 +165,9 @@ fn a_missing_file_and_a_deck_for_a_tape_are_told(rt: HostRuntime) {
     let cut = Status::TapeCut { at: 0 };
     let cut_line: Parts<'_> = &[Part::Text("fault,6,0\n")];
     let cases = [
-        refused("no tape", TUNE_NONE, deck, Status::ReadFault, line),
-        refused("no deck", no_deck, deck, Status::ReadFault, line),
-        refused("a deck twice", twice, deck, cut, cut_line),
+        refusal_case("no tape", TUNE_NONE, deck, Status::ReadFault, line),
+        refusal_case("no deck", no_deck, deck, Status::ReadFault, line),
+        refusal_case("a deck twice", twice, deck, cut, cut_line),
     ];
     assert_eq!(rt; first_other(&rt, rt.alloc(), &cases), None);
 }

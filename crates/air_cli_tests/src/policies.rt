@@ -43,7 +43,7 @@ const ONE_ABORTED: Parts<'static> = &[Part::Text(
 )];
 
 /// A command over the deck and the tape, with the report that it prints.
-fn judged<'a>(
+fn policy_case<'a>(
     shows: &'a str,
     words: &'a [&'a str],
     deck: Parts<'a>,
@@ -63,12 +63,12 @@ fn judged<'a>(
 #[test]
 fn each_policy_judges_the_same_script_in_its_way(rt: HostRuntime) {
     let cases = [
-        judged("F, both", SCRIPT, &[TWO, BOTH], &[], BOTH_ACCEPTED),
-        judged("D, both", SCRIPT, &[TWO, BOTH, D], &[], BOTH_ABORTED),
-        judged("R, both", SCRIPT, &[TWO, BOTH, R], &[], BOTH_ABORTED),
-        judged("F, one", SCRIPT, &[TWO, ONE], &[], ONE_ACCEPTED),
-        judged("D, one", SCRIPT, &[TWO, ONE, D], &[], ONE_ABORTED),
-        judged("R, one", SCRIPT, &[TWO, ONE, R], &[], ONE_ACCEPTED),
+        policy_case("F, both", SCRIPT, &[TWO, BOTH], &[], BOTH_ACCEPTED),
+        policy_case("D, both", SCRIPT, &[TWO, BOTH, D], &[], BOTH_ABORTED),
+        policy_case("R, both", SCRIPT, &[TWO, BOTH, R], &[], BOTH_ABORTED),
+        policy_case("F, one", SCRIPT, &[TWO, ONE], &[], ONE_ACCEPTED),
+        policy_case("D, one", SCRIPT, &[TWO, ONE, D], &[], ONE_ABORTED),
+        policy_case("R, one", SCRIPT, &[TWO, ONE, R], &[], ONE_ACCEPTED),
     ];
     assert_eq!(rt; first_other(&rt, rt.alloc(), &cases), None);
 }
@@ -131,13 +131,13 @@ fn an_older_bucket_is_judged_by_the_newer_vector_or_is_late(rt: HostRuntime) {
     let unwanted: Parts<'_> = &[FOURTH, OLD, SECOND];
     let dozed = "R, an older bucket that isn't wanted";
     let cases = [
-        judged("D, never written", TUNE, &[EVEN, D], zeros, TOGETHER),
-        judged("D, written since", TUNE, &[EVEN, D], written, CLASH),
-        judged("R, an older bucket", TUNE, &[EVEN, R], zeros, LATE),
-        judged(dozed, TUNE, &[EVEN, R], unwanted, DOZED_AND_LATE),
-        judged("F, vectors", TUNE, &[EVEN], zeros, ALL_FOREIGN),
-        judged("D, columns", TUNE, &[EVEN, D], COLUMNS, ALL_FOREIGN),
-        judged("R, columns", TUNE, &[EVEN, R], COLUMNS, ALL_FOREIGN),
+        policy_case("D, never written", TUNE, &[EVEN, D], zeros, TOGETHER),
+        policy_case("D, written since", TUNE, &[EVEN, D], written, CLASH),
+        policy_case("R, an older bucket", TUNE, &[EVEN, R], zeros, LATE),
+        policy_case(dozed, TUNE, &[EVEN, R], unwanted, DOZED_AND_LATE),
+        policy_case("F, vectors", TUNE, &[EVEN], zeros, ALL_FOREIGN),
+        policy_case("D, columns", TUNE, &[EVEN, D], COLUMNS, ALL_FOREIGN),
+        policy_case("R, columns", TUNE, &[EVEN, R], COLUMNS, ALL_FOREIGN),
     ];
     assert_eq!(rt; first_other(&rt, rt.alloc(), &cases), None);
 }
@@ -174,8 +174,8 @@ fn below_the_newest_cycle_the_first_vector_heard_of_it_judges(rt: HostRuntime) {
         "accept,0,0,1,0@3=10 1@3=20 2@2=30\ncounts,0,3,0,0,0,0,0\n",
     )];
     let cases = [
-        judged("written", TUNE, written_first, &[IN_2, NEVER, OLDER], clash),
-        judged(
+        policy_case("written", TUNE, written_first, &[IN_2, NEVER, OLDER], clash),
+        policy_case(
             "never written",
             TUNE,
             never_first,

@@ -110,7 +110,7 @@ fn realistic<'a>(deck: Parts<'a>) -> Case<'a> {
 }
 
 /// The status of the run, how many bytes its tape has, and how many of its lines begin with each of these.
-fn told<R: Threads + Wait + Sync>(
+fn run_figures<R: Threads + Wait + Sync>(
     rt: &R,
     alloc: Global,
     monitors: u32,
@@ -129,7 +129,7 @@ fn told<R: Threads + Wait + Sync>(
 #[test]
 fn all_updates_and_cycles_of_a_realistic_deck_are_run(rt: HostRuntime) {
     let fronts = ["commit,", "start", "counts,", "glance,", "look,", "fault,"];
-    let told = told(&rt, rt.alloc(), 0, fronts);
+    let told = run_figures(&rt, rt.alloc(), 0, fronts);
     assert_eq!(rt;
         told,
         Ok((Status::Ok, Some(240_640), [1000, 20, 8, 0, 0, 0]))
@@ -146,7 +146,7 @@ fn each_monitor_sees_the_last_cycle_of_it(rt: HostRuntime) {
         "look,0,20,",
         "look,1,20,",
     ];
-    let told = told(&rt, rt.alloc(), 2, fronts);
+    let told = run_figures(&rt, rt.alloc(), 2, fronts);
     assert_eq!(rt;
         told,
         Ok((Status::Ok, Some(240_640), [1000, 20, 1, 1, 1, 1]))

@@ -4,7 +4,7 @@
 //! in a table of `policies` and in one of `ethers`, and reads from copies in that of `copies`.
 
 use crate::cases::{Case, Part, Parts, first_other};
-use crate::first::{FIRST_CASE, FIRST_TAPE, TUNE, reported};
+use crate::first::{FIRST_CASE, FIRST_TAPE, TUNE, script_case};
 
 /// Three items, updates by which item 1 descends from item 0, and four readers.
 const FOUR_READERS: Part<'static> = Part::Text(
@@ -66,9 +66,9 @@ fn each_kind_of_verdict_has_its_row(rt: HostRuntime) {
         counts,0,0,3,0,0,0,0\ncounts,1,0,3,0,0,0,0\ncounts,2,0,3,0,0,0,0\ncounts,3,2,1,0,0,0,0\n",
     )];
     let cases = [
-        reported("accept", accept, accept_report),
-        reported("abort", abort, abort_report),
-        reported("unfinished", unfinished, unfinished_report),
+        script_case("accept", accept, accept_report),
+        script_case("abort", abort, abort_report),
+        script_case("unfinished", unfinished, unfinished_report),
     ];
     assert_eq!(rt; first_other(&rt, rt.alloc(), &cases), None);
 }
@@ -88,8 +88,8 @@ fn a_report_has_the_history_then_all_verdicts_then_all_counts(rt: HostRuntime) {
     )];
     let nothing: Parts<'_> = &[Part::Text("item,0,10,1\ndisk,1,1\n")];
     let cases = [
-        reported("all three", deck, report),
-        reported("none of them", nothing, &[]),
+        script_case("all three", deck, report),
+        script_case("none of them", nothing, &[]),
         FOUR_COUNTS,
     ];
     assert_eq!(rt; first_other(&rt, rt.alloc(), &cases), None);

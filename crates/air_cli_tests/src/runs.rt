@@ -98,7 +98,7 @@ const WIDE: Parts<'static> = &[
 ];
 
 /// This deck is refused with this line.
-fn refused<'a>(shows: &'a str, deck: Parts<'a>, status: Status, line: Parts<'a>) -> Case<'a> {
+fn refusal_case<'a>(shows: &'a str, deck: Parts<'a>, status: Status, line: Parts<'a>) -> Case<'a> {
     Case {
         deck,
         ..one_cycle(shows, &[], status, line, &[])
@@ -108,19 +108,19 @@ fn refused<'a>(shows: &'a str, deck: Parts<'a>, status: Status, line: Parts<'a>)
 #[test]
 fn a_deck_that_can_not_be_run_is_refused(rt: HostRuntime) {
     let cases = [
-        refused(
+        refusal_case(
             "a field is missing",
             &[Part::Text("item,0,10\n")],
             Status::Deck { row: 1, kind: 1 },
             &[Part::Text("fault,2,1,1\n")],
         ),
-        refused(
+        refusal_case(
             "a program that is too long",
             &[Part::Text("item,0,0,1\nitem,1,0,1\nitem,2,0,1\ndisk,1,64\ndisk,1,63\ndisk,1,61\n")],
             Status::PlanTooLong { slots: 737_856 },
             &[Part::Text("fault,13,737856\n")],
         ),
-        refused(
+        refusal_case(
             "more cycles than a tape may have",
             WIDE,
             Status::TooLong {

@@ -1,7 +1,7 @@
 //! The command `script`: its report and its tape.
 
 use crate::cases::{Case, Part, Parts, first_other};
-use crate::first::{FIRST_CASE, FIRST_REPORT, FIRST_TAPE, SCRIPT_TAPE, reported};
+use crate::first::{FIRST_CASE, FIRST_REPORT, FIRST_TAPE, SCRIPT_TAPE, script_case};
 
 /// Two items, of which the second is the hotter, so that the program airs it first.
 const TWO: Part<'static> = Part::Text(
@@ -58,7 +58,7 @@ const DISKS_REPORT: Parts<'static> = &[Part::Text(
 #[test]
 fn a_script_airs_its_program_and_prints_what_the_reader_hears(rt: HostRuntime) {
     let first: Parts<'_> = &[Part::Bytes(FIRST_REPORT)];
-    let printed = reported("the first deck", FIRST_CASE.deck, first);
+    let printed = script_case("the first deck", FIRST_CASE.deck, first);
     let taped = Case {
         shows: "the first deck's tape",
         words: SCRIPT_TAPE,
@@ -71,10 +71,10 @@ fn a_script_airs_its_program_and_prints_what_the_reader_hears(rt: HostRuntime) {
     let cases = [
         printed,
         taped,
-        reported(order, IN_ORDER, IN_ORDER_REPORT),
-        reported(unfinished, NO_START, NO_START_REPORT),
-        reported("sums go around", SUMS, SUMS_REPORT),
-        reported("disks of any frequency are aired", DISKS, DISKS_REPORT),
+        script_case(order, IN_ORDER, IN_ORDER_REPORT),
+        script_case(unfinished, NO_START, NO_START_REPORT),
+        script_case("sums go around", SUMS, SUMS_REPORT),
+        script_case("disks of any frequency are aired", DISKS, DISKS_REPORT),
     ];
     assert_eq!(rt; first_other(&rt, rt.alloc(), &cases), None);
 }
@@ -102,9 +102,9 @@ fn reads_clash_exactly_where_one_is_overwritten_by_an_ancestor_of_another(rt: Ho
         abort,0,0,1,0@1=10,1@2,0\ncounts,0,2,4,0,0,0,0\n",
     )];
     let cases = [
-        reported("updates that read nothing", both, both_report),
-        reported("an update of the older read", one, one_report),
-        reported("an ancestor of the newer read", clash, clash_report),
+        script_case("updates that read nothing", both, both_report),
+        script_case("an update of the older read", one, one_report),
+        script_case("an ancestor of the newer read", clash, clash_report),
     ];
     assert_eq!(rt; first_other(&rt, rt.alloc(), &cases), None);
 }
@@ -128,8 +128,8 @@ fn no_commit_before_a_try_clashes_with_its_reads(rt: HostRuntime) {
         abort,0,0,1,0@1=10,1@2,0\naccept,0,0,2,0@2=11 1@3=13\ncounts,0,4,5,0,0,0,0\n",
     )];
     let cases = [
-        reported("updates before the first start", early, early_report),
-        reported("a second try holds nothing", again, again_report),
+        script_case("updates before the first start", early, early_report),
+        script_case("a second try holds nothing", again, again_report),
     ];
     assert_eq!(rt; first_other(&rt, rt.alloc(), &cases), None);
 }

@@ -1,6 +1,6 @@
 //! The command `tune` over tapes that are whole, cut or changed in a byte.
 
-use crate::cases::{Case, Other, Part, Parts, difference, joined};
+use crate::cases::{Case, Other, Part, Parts, difference, three_parts};
 use crate::first::{FIRST_CASE, FIRST_TAPE, TUNE};
 use air_cli::Status;
 use std::alloc::Global;
@@ -49,7 +49,7 @@ const FIRST_REFUSED: Parts<'static> = &[Part::Text("unfinished,0,0,1,\ncounts,0,
 const FIRST_FOREIGN: Parts<'static> = &[Part::Text("unfinished,0,0,1,\ncounts,0,0,1,0,0,1,0\n")];
 
 /// The first deck's reader over this tape.
-fn tuned<'a>(tape: Parts<'a>, status: Status, printed: Parts<'a>) -> Case<'a> {
+fn tune_case<'a>(tape: Parts<'a>, status: Status, printed: Parts<'a>) -> Case<'a> {
     Case {
         words: TUNE,
         tape,
@@ -67,7 +67,7 @@ fn first_other_length<R: Threads + Sync>(
 ) -> Option<(usize, Other)> {
     for (tape, length, status, printed) in lengths {
         let front = [Part::Front(*length, tape)];
-        let case = tuned(&front, *status, printed);
+        let case = tune_case(&front, *status, printed);
         if let Some(other) = difference(rt, alloc, &case) {
             return Some((*length, other));
         }
@@ -108,7 +108,7 @@ fn first_other_place<R: Threads + Sync>(
 ) -> Option<(usize, Other)> {
     for (place, status, printed) in changes {
         let tape = [Part::Flipped(*place, TAPE)];
-        let case = tuned(&tape, *status, printed);
+        let case = tune_case(&tape, *status, printed);
         if let Some(other) = difference(rt, alloc, &case) {
             return Some((*place, other));
         }
@@ -165,9 +165,9 @@ fn first_other_read<R: Threads + Sync>(
     reads: &[(usize, &str)],
 ) -> Option<(usize, Other)> {
     for (place, read) in reads {
-        let printed = joined(FRONT, read, BACK);
+        let printed = three_parts(FRONT, read, BACK);
         let tape = [Part::Flipped(*place, TAPE)];
-        let case = tuned(&tape, Status::Ok, &printed);
+        let case = tune_case(&tape, Status::Ok, &printed);
         if let Some(other) = difference(rt, alloc, &case) {
             return Some((*place, other));
         }

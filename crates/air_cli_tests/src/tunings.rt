@@ -30,7 +30,7 @@ const NOT_OURS: [u8; 113] = [
 ];
 
 /// The readers of a deck over a tape print this report.
-fn heard<'a>(shows: &'a str, deck: Parts<'a>, tape: Parts<'a>, printed: Parts<'a>) -> Case<'a> {
+fn tune_case<'a>(shows: &'a str, deck: Parts<'a>, tape: Parts<'a>, printed: Parts<'a>) -> Case<'a> {
     Case {
         shows,
         words: TUNE,
@@ -60,9 +60,9 @@ fn each_reader_hears_the_whole_tape(rt: HostRuntime) {
         "accept,0,0,1,0@1=10 1@1=20\ncounts,0,2,0,0,2,1,0\n",
     )];
     let cases = [
-        heard("the tape of the script", first, tape, report),
-        heard("two readers, the tape twice", two, twice, two_report),
-        heard(
+        tune_case("the tape of the script", first, tape, report),
+        tune_case("two readers, the tape twice", two, twice, two_report),
+        tune_case(
             "refused and foreign records change their counts alone",
             first,
             others,
@@ -80,8 +80,8 @@ fn reads_out_of_cycle_order_are_judged_both_ways(rt: HostRuntime) {
     let written: Parts<'_> = &[Part::Bytes(&FOURTH_WRITTEN), Part::Bytes(&SECOND)];
     let clash: Parts<'_> = &[Part::Text("abort,0,0,1,0@4=10,1@2,0\ncounts,0,2,0,0,0,0,0\n")];
     let cases = [
-        heard("items that were never written", first, never, together),
-        heard("the held column is tested too", first, written, clash),
+        tune_case("items that were never written", first, never, together),
+        tune_case("the held column is tested too", first, written, clash),
     ];
     assert_eq!(rt; first_other(&rt, rt.alloc(), &cases), None);
 }

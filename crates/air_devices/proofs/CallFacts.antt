@@ -4,7 +4,7 @@ use Rattle.std.proofs.Common.{◌≡◌, ◌≢◌, ◌∙◌, ◌-◌, ◌++◌
 use Rattle.std.specs.Prelude.{IfSome}
 use Rattle.air_devices.specs.Calls.{IsNextCall, is_next_listed, next_call}
 use Rattle.air_devices.specs.Unchanged.{KeepsButLeft, KeepsButOutput}
-use Rattle.air_devices.specs.Memory.{added, contents_with, file_bytes, file_named, left_bytes, output_bytes, output_named, told_by}
+use Rattle.air_devices.specs.Memory.{added_bytes, contents_with, file_bytes, file_named, left_bytes, output_bytes, output_named, told_by}
 use Rattle.air_devices.specs.declared.calls.Calls.{Calls}
 use Rattle.air_devices.specs.declared.memory_shelf.MemFile.{MemFile}
 use Rattle.air_devices.specs.declared.memory_shelf.MemOutput.{MemOutput}
@@ -51,7 +51,7 @@ keeps_but_output s outputs n others = record {
 -- What an output holds once a call added to it what fits.
 pub output_added : (before : Option MemOutput) (d : MemOutput) (now : Option (List ℕ)) (calls : Calls) (bytes : List ℕ) → before ≡ Some d → is_next_listed calls ≡ false
     → now ≡ Some (d.written.bytes ++ take (d.written.room - length d.written.bytes) bytes)
-    → IfSome before (λ o. now ≡ Some (o.written.bytes ++ added calls o.written bytes))
+    → IfSome before (λ o. now ≡ Some (o.written.bytes ++ added_bytes calls o.written bytes))
 output_added before d now calls bytes here calm is =
-    let fits : added calls d.written bytes ≡ take (d.written.room - length d.written.bytes) bytes = rw calm refl in
-    subst (λ before. IfSome before (λ o. now ≡ Some (o.written.bytes ++ added calls o.written bytes))) (sym here) (is ∙ ap (λ l. Some (d.written.bytes ++ l)) (sym fits))
+    let fits : added_bytes calls d.written bytes ≡ take (d.written.room - length d.written.bytes) bytes = rw calm refl in
+    subst (λ before. IfSome before (λ o. now ≡ Some (o.written.bytes ++ added_bytes calls o.written bytes))) (sym here) (is ∙ ap (λ l. Some (d.written.bytes ++ l)) (sym fits))

@@ -8,7 +8,7 @@ use Rattle.std.proofs.lemmas.List.Folds.{find_past}
 use Rattle.std.proofs.lemmas.List.Quantifiers.{position-Some}
 use Rattle.std.specs.Cmp.Lexicographic.{same_text}
 use Rattle.std.specs.Global.{Global}
-use Rattle.air_devices.specs.Memory.{empty_output, file_bytes, file_named, given_bytes, given_named, left_bytes, output_bytes, output_named, overflows, spells, unpicked}
+use Rattle.air_devices.specs.Memory.{empty_output, file_bytes, file_named, given_bytes, given_named, left_bytes, output_bytes, output_named, overflows, spells, unpicked_file}
 use Rattle.air_devices.specs.Written.{Written}
 use Rattle.air_devices.specs.declared.memory_shelf.MemFile.{MemFile}
 use Rattle.air_devices.specs.declared.memory_shelf.MemOutput.{MemOutput}
@@ -110,17 +110,17 @@ output_written outputs i to d n place here =
     }
 
 -- The shelf has the given files, and nothing is left of them.
-pub given_file : (given : List (String Global × Vec ℕ Global)) (n : List ℕ) → file_bytes (file_named n (map unpicked given)) ≡ given_bytes (given_named n given)
-given_file given n = ap file_bytes (found_image unpicked (λ (f : MemFile). spells n f.name) given) ∙ by (given_named n given)
+pub given_file : (given : List (String Global × Vec ℕ Global)) (n : List ℕ) → file_bytes (file_named n (map unpicked_file given)) ≡ given_bytes (given_named n given)
+given_file given n = ap file_bytes (found_image unpicked_file (λ (f : MemFile). spells n f.name) given) ∙ by (given_named n given)
   where
-    by : (o : Option (String Global × Vec ℕ Global)) → file_bytes (option_map unpicked o) ≡ given_bytes o
+    by : (o : Option (String Global × Vec ℕ Global)) → file_bytes (option_map unpicked_file o) ≡ given_bytes o
     by None = refl
     by (Some f) = refl
 
-pub given_left : (given : List (String Global × Vec ℕ Global)) (n : List ℕ) → left_bytes (file_named n (map unpicked given)) ≡ []
-given_left given n = ap left_bytes (found_image unpicked (λ (f : MemFile). spells n f.name) given) ∙ by (given_named n given)
+pub given_left : (given : List (String Global × Vec ℕ Global)) (n : List ℕ) → left_bytes (file_named n (map unpicked_file given)) ≡ []
+given_left given n = ap left_bytes (found_image unpicked_file (λ (f : MemFile). spells n f.name) given) ∙ by (given_named n given)
   where
-    by : (o : Option (String Global × Vec ℕ Global)) → left_bytes (option_map unpicked o) ≡ []
+    by : (o : Option (String Global × Vec ℕ Global)) → left_bytes (option_map unpicked_file o) ≡ []
     by None = refl
     by (Some f) = let size : vec_len f.1 ≡ length f.1.items = f.1.ok.0 in drop_all (vec_len f.1) f.1.items (omega arith)
 

@@ -10,5 +10,5 @@ pub record Contents : Type 0 where
   pub printed : Option (List ℕ)
 
 -- A form that tells nothing.
-abbrev pub untold : Contents
-untold = record { file = λ _. None; left = λ _. None; output = λ _. None; printed = None }
+abbrev pub nothing_told : Contents
+nothing_told = record { file = λ _. None; left = λ _. None; output = λ _. None; printed = None }

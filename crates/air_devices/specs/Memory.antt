@@ -64,8 +64,8 @@ abbrev pub told_by : MemShelf → Contents
 told_by s = contents_with s.files.items s.outputs.items s.printed.bytes
 
 -- A given file, of which nothing is left to read before it is picked.
-abbrev pub unpicked : String Global × Vec ℕ Global → MemFile
-unpicked f = record { name = f.0; bytes = f.1; at = vec_len f.1 }
+abbrev pub unpicked_file : String Global × Vec ℕ Global → MemFile
+unpicked_file f = record { name = f.0; bytes = f.1; at = vec_len f.1 }
 
 -- An output with no bytes, and with room for so many.
 abbrev pub empty_output : ℕ → String Global → MemOutput
@@ -89,7 +89,7 @@ output_in name s = output_named name s.outputs.items
 
 -- A shelf has just been made, with these files, these outputs, this room and these numbers of calls that fail.
 pub record IsNewShelf (given : List (String Global × Vec ℕ Global)) (named : List (String Global)) (room : ℕ) (listed : List ℕ) (s : MemShelf) : Type 0 where
-  pub files : s.files.items ≡ map unpicked given
+  pub files : s.files.items ≡ map unpicked_file given
   pub outputs : s.outputs.items ≡ map (empty_output room) named
   pub printed : s.printed ≡ record { bytes = []; room = room }
   pub calls : AreNew listed s.calls
@@ -99,8 +99,8 @@ abbrev pub overflows : Written → List ℕ → Bool
 overflows written bytes = nat_lt written.room (length written.bytes + length bytes)
 
 -- What a call adds of these bytes to those that were written: nothing where it is listed, and else what fits.
-abbrev pub added : Calls → Written → List ℕ → List ℕ
-added calls written bytes = if is_next_listed calls then [] else take (written.room - length written.bytes) bytes
+abbrev pub added_bytes : Calls → Written → List ℕ → List ℕ
+added_bytes calls written bytes = if is_next_listed calls then [] else take (written.room - length written.bytes) bytes
 
 -- Whether there is no output, or it has no room for all of the bytes.
 abbrev pub overflows_output : Option MemOutput → List ℕ → Bool

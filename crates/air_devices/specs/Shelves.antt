@@ -1,7 +1,7 @@
 -- A shelf, as a call finds or leaves it. The trait `Shelf` has this as its one ghost member, and every clause on a
 -- shelf goes by it.
 use Rattle.std.specs.Prelude.{ℕ}
-use Rattle.air_devices.specs.Contents.{Contents, untold}
+use Rattle.air_devices.specs.Contents.{Contents, nothing_told}
 use Rattle.air_devices.specs.Counts.{Faults, one_count}
 
 -- What a shelf tells of what it holds, and how often its calls failed.
@@ -11,4 +11,4 @@ pub record Shelved : Type 0 where
 
 -- A form that tells nothing, with one number for all of its counts.
 abbrev pub untold_with : ℕ → Shelved
-untold_with n = record { told = untold; faults = one_count n }
+untold_with n = record { told = nothing_told; faults = one_count n }

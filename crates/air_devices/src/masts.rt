@@ -4,6 +4,7 @@
 //! only where its count rose, and else leaves the count.
 
 ghost use Rattle.std.specs.Prelude.{◌≡◌, ◌≤◌, [], ◌∷◌, length, Some, None, OnErr, OnOk};
+ghost use Rattle.air_base.specs.declared.limits.TheConstants.{MOST_DATAGRAM_BYTES};
 ghost use Rattle.air_devices.specs.Counts.{HasCause};
 ghost use Rattle.air_devices.specs.Masts.{Changes, Masted, nothing_sent, with_buckets, with_end};
 ghost use Rattle.air_devices.specs.Told.{WhereTold};
@@ -26,7 +27,7 @@ pub trait Mast {
     /// Sends one bucket.
     fn send(&mut self, bytes: &[u8]) -> Result<(), Failed>
         requires some { 1 ≤ length bytes.now }
-        requires few { length bytes.now ≤ 65507 }
+        requires few { length bytes.now ≤ MOST_DATAGRAM_BYTES }
         ensures added { OnOk result (Changes (with_buckets (bytes.now ∷ [])) (state self.old).told (state self.new).told) }
         ensures refused { OnErr result ((state self.new).told ≡ (state self.old).told) }
         ensures port { (state self.new).port ≡ (state self.old).port }

@@ -12,7 +12,7 @@ ghost use Rattle.air_devices.specs.Calls.{is_next_listed};
 ghost use Rattle.air_devices.specs.Counts.{HasCauseIn, printing_of, reading_of, writing_of};
 ghost use Rattle.air_devices.specs.Unchanged.{KeepsButLeft, KeepsButOutput, KeepsButPrinted};
 ghost use Rattle.air_devices.specs.Told.{AppendsPart, Becomes};
-ghost use Rattle.air_devices.specs.Memory.{IsNewShelf, MadeCall, added, empty_output, faults_of, file_in, given_bytes, given_named, output_in, overflows_output, overflows_print, shelved_of, spells, told_by, unpicked};
+ghost use Rattle.air_devices.specs.Memory.{IsNewShelf, MadeCall, added_bytes, empty_output, faults_of, file_in, given_bytes, given_named, output_in, overflows_output, overflows_print, shelved_of, spells, told_by, unpicked_file};
 
 use crate::calls::Calls;
 use crate::fixed_bytes::FixedBytes;
@@ -163,7 +163,7 @@ impl Shelf for MemShelf {
     fn append(&mut self, name: &str, bytes: &[u8]) -> Result<(), Failed>
         ensures fails { IsErr result ↔ IsTrue (is_next_listed self.old.calls || overflows_output (output_in name.now self.old) bytes.now) }
         ensures call { MadeCall self.old self.new }
-        ensures fitting { IfSome (output_in name.now self.old) (λ o. (told_by self.new).output name.now ≡ Some (o.written.bytes ++ added self.old.calls o.written bytes.now)) }
+        ensures fitting { IfSome (output_in name.now self.old) (λ o. (told_by self.new).output name.now ≡ Some (o.written.bytes ++ added_bytes self.old.calls o.written bytes.now)) }
         ensures all { OnOk result (Appends ((told_by self.old).output name.now) ((told_by self.new).output name.now) bytes.now) }
         ensures part { OnErr result (AppendsPart ((told_by self.old).output name.now) ((told_by self.new).output name.now) bytes.now) }
         ensures rest { KeepsButOutput name.now (told_by self.old) (told_by self.new) }
@@ -184,7 +184,7 @@ impl Shelf for MemShelf {
     fn print(&mut self, bytes: &[u8]) -> Result<(), Failed>
         ensures fails { IsErr result ↔ IsTrue (is_next_listed self.old.calls || overflows_print self.old bytes.now) }
         ensures call { MadeCall self.old self.new }
-        ensures fitting { (told_by self.new).printed ≡ Some (self.old.printed.bytes ++ added self.old.calls self.old.printed bytes.now) }
+        ensures fitting { (told_by self.new).printed ≡ Some (self.old.printed.bytes ++ added_bytes self.old.calls self.old.printed bytes.now) }
         ensures all { OnOk result (Appends (told_by self.old).printed (told_by self.new).printed bytes.now) }
         ensures part { OnErr result (AppendsPart (told_by self.old).printed (told_by self.new).printed bytes.now) }
         ensures rest { KeepsButPrinted (told_by self.old) (told_by self.new) }
@@ -214,7 +214,7 @@ fn move_front(bytes: &[u8], at: usize, buf: &mut [u8]) -> usize
 
 /// These files, none of them picked.
 fn unpicked_files(alloc: Global, files: Vec<(String, Vec<u8>)>) -> Result<Vec<MemFile>, NoMemory>
-    ensures { IfOk result (λ v. v.items ≡ map unpicked files.items) }
+    ensures { IfOk result (λ v. v.items ≡ map unpicked_file files.items) }
 {
     let mut shelved = Vec::new(alloc);
     for (name, bytes) in files {

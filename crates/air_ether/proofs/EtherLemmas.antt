@@ -13,7 +13,7 @@ use Rattle.std.specs.Option.{option_map}
 use Rattle.rand_pcg.specs.Lcg.{Lcg}
 use Rattle.rand_pcg.specs.Pcg.{pcg32}
 use Rattle.air_model.specs.Draws.{generator, words_of}
-use Rattle.air_model.specs.Ethers.{Odds, due_at, due_number, heard, heard_by, heard_places, places_due, times_heard}
+use Rattle.air_model.specs.Ethers.{Odds, due_at, due_number, heard_by, heard_list, heard_places, places_due, times_heard}
 use Rattle.air_ether.specs.declared.cursor.Cursor.{Cursor}
 use Rattle.air_ether.specs.HeardPositions.{InWindow, before, copies_at, left_at, of_push, position, row}
 use Rattle.air_ether.specs.HeardSoFar.{Ether, Follows, due_of, limit_of}
@@ -206,7 +206,7 @@ begun seed number e drawn none at = record {
 
 -- ---- the laws
 pub heard_is : (seed number : ℕ) (odds : Odds) (pushed : List (List ℕ)) → due_of seed number odds pushed true ≡ heard_by seed number odds pushed
-unfolding due_of places_due heard_by heard heard_places
+unfolding due_of places_due heard_by heard_list heard_places
 heard_is seed number odds pushed = refl
 
 -- Of the first pushes all places that are due are below their number.

@@ -9,19 +9,19 @@ use Rattle.air_history.specs.Places.{last_place, greatest}
 use Rattle.air_history.specs.Histories.{is_start, reads, writes, cycle_at, front, writer_before, writer}
 use Rattle.air_history.specs.Descents.{descends_in, descends}
 use Rattle.air_history.specs.Columns.{column_entry, vector_entry, policy_entries}
-use Rattle.air_history.specs.Tables.{based, write_of, value_after, table}
+use Rattle.air_history.specs.Tables.{value_on_base, write_of, value_after, table}
 use Rattle.air_history.specs.Reads.{ReadAt, origin, stale, read_value}
-use Rattle.air_history.specs.Consistency.{descends_from, runs_alone, picked, alone, last_alone, consistent}
+use Rattle.air_history.specs.Consistency.{descends_from, runs_alone, picked_events, alone, last_alone, consistent}
 use Rattle.air_history.specs.Clashes.{least, is_late, clash_by_history, Heard, clash_by_entries}
 use Rattle.air_history.specs.ClashLaws.{current_cycle}
-use Rattle.air_history.proofs.HistoryExamples.{set_to, add_to, commit, chained, then_blind, tens}
+use Rattle.air_history.proofs.HistoryExamples.{set_to, add_to, commit, chain_history, then_blind, tens}
 
 abbrev pub at : ℕ → ℕ → ReadAt
 at i c = record { item = i; cycle = c }
 
 -- The read as a receiver hears it.
-abbrev pub heard : Policy → List Event → ℕ → ℕ → Heard
-heard policy H i c = record { item = i; cycle = c; entries = policy_entries policy 2 H c i }
+abbrev pub heard_of_two : Policy → List Event → ℕ → ℕ → Heard
+heard_of_two policy H i c = record { item = i; cycle = c; entries = policy_entries policy 2 H c i }
 
 -- The same of a read, over three items.
 abbrev heard_at : Policy → List Event → ReadAt → Heard
@@ -63,7 +63,7 @@ with_first = Some (record { item = 0; cycle = 1 })
 abbrev Both : Policy → List Event → Option Clash → Type 0
 Both policy H answer =
     (clash_by_history policy H (at 0 1 ∷ []) (at 1 2) ≡ answer)
-    × (clash_by_entries policy (heard policy H 0 1 ∷ []) (heard policy H 1 2) ≡ answer)
+    × (clash_by_entries policy (heard_of_two policy H 0 1 ∷ []) (heard_of_two policy H 1 2) ≡ answer)
 
 -- The clash of item 2 in a cycle with two held reads, by the history and by the entries, over three items.
 abbrev OfTwo : Policy → List Event → ReadAt → ReadAt → ℕ → Option Clash → Type 0
@@ -73,24 +73,24 @@ OfTwo policy H r s c answer =
 
 pub record Consistency : Type 0 where
   -- item 1 of cycle 2 descends from a write of item 0 that the first read has not seen
-  chain : consistent chained (at 0 1 ∷ at 1 2 ∷ []) ≡ false
-  one_cycle : consistent chained (at 0 2 ∷ at 1 2 ∷ []) ≡ true
+  chain : consistent chain_history (at 0 1 ∷ at 1 2 ∷ []) ≡ false
+  one_cycle : consistent chain_history (at 0 2 ∷ at 1 2 ∷ []) ≡ true
   -- no single cycle has both, and yet they are consistent
   no_cycle : consistent apart (at 0 1 ∷ at 1 2 ∷ []) ≡ true
   blind : consistent then_blind (at 0 1 ∷ at 1 3 ∷ []) ≡ true
   -- what runs alone for item 2 of cycle 2: the first two commits
-  alone_for_two : alone chained (at 2 2 ∷ []) ≡ commit 0 [] (set_to 0 11) ∷ commit 1 (0 ∷ []) (add_to 2 0 1) ∷ []
-  value : read_value (Rattle.air_history.specs.Tables.values_of tens) chained (at 2 2) ≡ 12
+  alone_for_two : alone chain_history (at 2 2 ∷ []) ≡ commit 0 [] (set_to 0 11) ∷ commit 1 (0 ∷ []) (add_to 2 0 1) ∷ []
+  value : read_value (Rattle.air_history.specs.Tables.values_of tens) chain_history (at 2 2) ≡ 12
 
 pub consistency : Consistency
-unfolding consistent alone picked last_alone runs_alone descends_from origin table value_after write_of based writer writer_before last_place writes descends descends_in reads front
+unfolding consistent alone picked_events last_alone runs_alone descends_from origin table value_after write_of value_on_base writer writer_before last_place writes descends descends_in reads front
 consistency = record { chain = refl; one_cycle = refl; no_cycle = refl; blind = refl; alone_for_two = refl; value = refl }
 
 pub record Clashes : Type 0 where
   f_matrix_apart : Both FMatrix apart None
   datacycle_apart : Both Datacycle apart with_first
   r_matrix_apart : Both RMatrix apart with_first
-  f_matrix_chain : Both FMatrix chained with_first
+  f_matrix_chain : Both FMatrix chain_history with_first
   f_matrix_one : Both FMatrix one_written None
   datacycle_one : Both Datacycle one_written with_first
   r_matrix_one : Both RMatrix one_written None

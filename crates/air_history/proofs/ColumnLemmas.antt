@@ -66,39 +66,39 @@ writes_fit H n p e all l is = by e (subst (ItemsFit n) (sym is) (all p e l))
 -- ---- the whole scan
 
 -- The entry of i after the first p events of a scan of w's descent.
-unfoldable scanned : List Event → ℕ → ℕ → ℕ → ℕ
-scanned H w p i = greatest p (λ q. descends H w q && writes (event_at H q) i) (cycle_at H)
+unfoldable scan_entry : List Event → ℕ → ℕ → ℕ → ℕ
+scan_entry H w p i = greatest p (λ q. descends H w q && writes (event_at H q) i) (cycle_at H)
 
 -- Where the marks are the descent of w.
-marked_scan : (H : List Event) (marks : List Bool) (w i : ℕ) → marks ≡ map (descends H w) (range_with_len 0 (length H)) → marked_entry H marks (length H) i ≡ scanned H w (length H) i
-unfolding scanned
+marked_scan : (H : List Event) (marks : List Bool) (w i : ℕ) → marks ≡ map (descends H w) (range_with_len 0 (length H)) → marked_entry H marks (length H) i ≡ scan_entry H w (length H) i
+unfolding scan_entry
 marked_scan H marks w i e = greatest_same (length H) _ _ (cycle_at H) (cycle_at H)
     (λ q l. ap (λ b. b && writes (event_at H q) i) (ap (λ ms. get_or ms q false) e ∙ get_or-map-range_with_len (descends H w) 0 (length H) q q false l (omega arith)))
     (λ q l. refl)
 
-scan_suc : (H : List Event) (w p i : ℕ) → scanned H w (p + 1) i ≡ cond (descends H w p && writes (event_at H p) i) (max (cycle_at H p) (scanned H w p i)) (scanned H w p i)
-unfolding scanned
+scan_suc : (H : List Event) (w p i : ℕ) → scan_entry H w (p + 1) i ≡ cond (descends H w p && writes (event_at H p) i) (max (cycle_at H p) (scan_entry H w p i)) (scan_entry H w p i)
+unfolding scan_entry
 scan_suc H w p i = ap (λ m. greatest m (λ q. descends H w q && writes (event_at H q) i) (cycle_at H)) (add-one p) ∙ greatest_suc p _ (cycle_at H)
 
-scan_kept : (H : List Event) (w p i : ℕ) → (descends H w p && writes (event_at H p) i) ≡ false → scanned H w (p + 1) i ≡ scanned H w p i
+scan_kept : (H : List Event) (w p i : ℕ) → (descends H w p && writes (event_at H p) i) ≡ false → scan_entry H w (p + 1) i ≡ scan_entry H w p i
 scan_kept H w p i h = scan_suc H w p i ∙ cond-false _ _ _ h
 
 -- Beyond the writer nothing is counted.
-past : (H : List Event) (w n k i : ℕ) → w < n → scanned H w (n + k) i ≡ scanned H w n i
-past H w n zero i l = ap (λ m. scanned H w m i) (let e : n + zero ≡ n = omega arith in e)
+past : (H : List Event) (w n k i : ℕ) → w < n → scan_entry H w (n + k) i ≡ scan_entry H w n i
+past H w n zero i l = ap (λ m. scan_entry H w m i) (let e : n + zero ≡ n = omega arith in e)
 past H w n (suc k) i l =
-    ap (λ m. scanned H w m i) (let e : n + suc k ≡ n + k + 1 = omega arith in e)
+    ap (λ m. scan_entry H w m i) (let e : n + suc k ≡ n + k + 1 = omega arith in e)
     ∙ scan_kept H w (n + k) i (and_left _ _ (false_from_ne_true _ (λ d. let le = descends_le H w (n + k) d in omega arith)))
     ∙ past H w n k i l
 
-scan_all : (H : List Event) (c item w p i : ℕ) → writer (front H c) item ≡ Some w → length H ≤ p → scanned H w p i ≡ column_entry (front H c) item i
-unfolding origin scanned descends_from
+scan_all : (H : List Event) (c item w p i : ℕ) → writer (front H c) item ≡ Some w → length H ≤ p → scan_entry H w p i ≡ column_entry (front H c) item i
+unfolding origin scan_entry descends_from
 scan_all H c item w p i e l =
     let s : ReadAt = record { item = item; cycle = c } in
     let lt = (origin_some H s w e).0 in
     let n = length (front H c) in
     let split : p ≡ n + (p - n) = omega (arith, front_within H c) in
-    ap (λ m. scanned H w m i) split ∙ past H w n (p - n) i lt
+    ap (λ m. scan_entry H w m i) split ∙ past H w n (p - n) i lt
     ∙ greatest_same n _ _ (cycle_at H) (cycle_at H) (λ q h. ap (λ o. place_and o (λ w. descends H w q) && writes (event_at H q) i) (sym e)) (λ q h. refl)
     ∙ sym (entry_whole H s i)
 

@@ -10,7 +10,7 @@ use Rattle.air_history.specs.Places.{last_place, greatest}
 use Rattle.air_history.specs.Histories.{is_start, reads, writes, writes_of, starts, cycle_at, front, since_start, writer_before, writer}
 use Rattle.air_history.specs.Descents.{descends_in, descends}
 use Rattle.air_history.specs.Columns.{column_entry, vector_entry, column, vector}
-use Rattle.air_history.specs.Tables.{based, write_of, value_after, table, table_list}
+use Rattle.air_history.specs.Tables.{value_on_base, write_of, value_after, table, table_list}
 use Rattle.air_history.specs.Boards.{reply_of, board_of, frame_of}
 
 -- A write of a constant, of a base and an amount more, of a base less an amount.
@@ -28,12 +28,12 @@ abbrev pub commit : ℕ → List ℕ → Write → Event
 commit seq reads write = Commit 0 seq (record { reads = reads; writes = write ∷ [] })
 
 -- Item 0 becomes 11, item 2 that and 1, item 1 that and 1; all in cycle 1.
-abbrev pub chained : List Event
-chained = Start ∷ commit 0 [] (set_to 0 11) ∷ commit 1 (0 ∷ []) (add_to 2 0 1) ∷ commit 2 (2 ∷ []) (add_to 1 2 1) ∷ Start ∷ []
+abbrev pub chain_history : List Event
+chain_history = Start ∷ commit 0 [] (set_to 0 11) ∷ commit 1 (0 ∷ []) (add_to 2 0 1) ∷ commit 2 (2 ∷ []) (add_to 1 2 1) ∷ Start ∷ []
 
 -- Then item 1 is written without a read, in cycle 2.
 abbrev pub then_blind : List Event
-then_blind = chained ++ commit 3 [] (set_to 1 5) ∷ Start ∷ []
+then_blind = chain_history ++ commit 3 [] (set_to 1 5) ∷ Start ∷ []
 
 -- The same chain before the first cycle.
 abbrev pub before_all : List Event
@@ -44,8 +44,8 @@ abbrev counter : List Event
 counter = Start ∷ commit 0 (0 ∷ []) (add_to 0 0 1) ∷ Start ∷ commit 1 (0 ∷ []) (add_to 0 0 1) ∷ Start ∷ []
 
 -- The items 0 and 1 change places, after each was written.
-abbrev exchanged : List Event
-exchanged = Start ∷ commit 0 [] (set_to 0 7) ∷ commit 1 [] (set_to 1 8)
+abbrev exchange_history : List Event
+exchange_history = Start ∷ commit 0 [] (set_to 0 7) ∷ commit 1 [] (set_to 1 8)
     ∷ Commit 0 2 (record { reads = 0 ∷ 1 ∷ []; writes = add_to 0 1 0 ∷ add_to 1 0 0 ∷ [] }) ∷ []
 
 -- So many writes, each of an item of its own.
@@ -86,20 +86,20 @@ rules = record {
 }
 
 pub record Places : Type 0 where
-  first_cycle : cycle_at chained 0 ≡ 0
-  second_cycle : cycle_at chained 4 ≡ 1
-  no_front : front chained 0 ≡ []
+  first_cycle : cycle_at chain_history 0 ≡ 0
+  second_cycle : cycle_at chain_history 4 ≡ 1
+  no_front : front chain_history 0 ≡ []
   -- a commit before the first start is in the front of cycle 1, and not in that of cycle 0
   nothing_before_all : front (commit 0 [] (set_to 0 11) ∷ Start ∷ Start ∷ []) 0 ≡ []
   before_the_first : front (commit 0 [] (set_to 0 11) ∷ Start ∷ Start ∷ []) 1 ≡ commit 0 [] (set_to 0 11) ∷ []
-  front_of_one : front chained 1 ≡ []
-  front_of_two : front chained 2 ≡ Start ∷ commit 0 [] (set_to 0 11) ∷ commit 1 (0 ∷ []) (add_to 2 0 1) ∷ commit 2 (2 ∷ []) (add_to 1 2 1) ∷ []
+  front_of_one : front chain_history 1 ≡ []
+  front_of_two : front chain_history 2 ≡ Start ∷ commit 0 [] (set_to 0 11) ∷ commit 1 (0 ∷ []) (add_to 2 0 1) ∷ commit 2 (2 ∷ []) (add_to 1 2 1) ∷ []
   -- what comes after the last start, or all before the first
-  since_the_last : since_start (chained ++ commit 0 [] (set_to 0 5) ∷ []) ≡ commit 0 [] (set_to 0 5) ∷ []
+  since_the_last : since_start (chain_history ++ commit 0 [] (set_to 0 5) ∷ []) ≡ commit 0 [] (set_to 0 5) ∷ []
   since_none : since_start (commit 0 [] (set_to 0 11) ∷ commit 0 [] (set_to 1 12) ∷ []) ≡ commit 0 [] (set_to 0 11) ∷ commit 0 [] (set_to 1 12) ∷ []
-  nothing_since : since_start chained ≡ []
-  writer_of_one : writer chained 1 ≡ Some 3
-  no_writer : writer (front chained 1) 1 ≡ None
+  nothing_since : since_start chain_history ≡ []
+  writer_of_one : writer chain_history 1 ≡ Some 3
+  no_writer : writer (front chain_history 1) 1 ≡ None
 
 pub places : Places
 unfolding cycle_at is_start front since_start writer writer_before last_place writes
@@ -107,26 +107,26 @@ places = record { since_the_last = refl; since_none = refl; nothing_since = refl
 
 pub record Descents : Type 0 where
   -- the writer of item 1 descends from that of item 0 through that of item 2
-  through_two : descends chained 3 1 ≡ true
+  through_two : descends chain_history 3 1 ≡ true
   -- and not from the start between
-  not_a_start : descends chained 3 0 ≡ false
+  not_a_start : descends chain_history 3 0 ≡ false
   -- the blind write descends from itself alone
   cut : descends then_blind 5 3 ≡ false
   itself : descends then_blind 5 5 ≡ true
   -- an item that is read and written carries the descent on
   counts_on : descends counter 3 1 ≡ true
   -- what reads two items descends from both writers
-  from_both : (descends exchanged 3 1 ≡ true) × (descends exchanged 3 2 ≡ true)
+  from_both : (descends exchange_history 3 1 ≡ true) × (descends exchange_history 3 2 ≡ true)
 
 pub descents : Descents
 unfolding descends descends_in reads writer_before last_place writes
 descents = record { through_two = refl; not_a_start = refl; cut = refl; itself = refl; counts_on = refl; from_both = (refl, refl) }
 
 pub record Entries : Type 0 where
-  column_of_0 : column 3 chained 0 ≡ 1 ∷ 0 ∷ 0 ∷ []
-  column_of_1 : column 3 chained 1 ≡ 1 ∷ 1 ∷ 1 ∷ []
-  column_of_2 : column 3 chained 2 ≡ 1 ∷ 0 ∷ 1 ∷ []
-  all_in_one : vector 3 chained ≡ 1 ∷ 1 ∷ 1 ∷ []
+  column_of_0 : column 3 chain_history 0 ≡ 1 ∷ 0 ∷ 0 ∷ []
+  column_of_1 : column 3 chain_history 1 ≡ 1 ∷ 1 ∷ 1 ∷ []
+  column_of_2 : column 3 chain_history 2 ≡ 1 ∷ 0 ∷ 1 ∷ []
+  all_in_one : vector 3 chain_history ≡ 1 ∷ 1 ∷ 1 ∷ []
   after_blind : column 3 then_blind 1 ≡ 0 ∷ 2 ∷ 0 ∷ []
   vector_after : vector 3 then_blind ≡ 1 ∷ 2 ∷ 1 ∷ []
   before_cycles : column 3 before_all 1 ≡ 0 ∷ 0 ∷ 0 ∷ []
@@ -138,15 +138,15 @@ unfolding column_entry vector_entry greatest writer writer_before last_place wri
 entries = record { column_of_0 = refl; column_of_1 = refl; column_of_2 = refl; all_in_one = refl; after_blind = refl; vector_after = refl; before_cycles = refl; latest = refl }
 
 pub record Values : Type 0 where
-  in_cycle_one : table_list tens (front chained 1) ≡ tens
-  in_cycle_two : table_list tens (front chained 2) ≡ 11 ∷ 13 ∷ 12 ∷ []
+  in_cycle_one : table_list tens (front chain_history 1) ≡ tens
+  in_cycle_two : table_list tens (front chain_history 2) ≡ 11 ∷ 13 ∷ 12 ∷ []
   wraps_up : table_list ((2 ^ 64 - 1) ∷ []) (commit 0 (0 ∷ []) (add_to 0 0 1) ∷ []) ≡ 0 ∷ []
   wraps_down : table_list (0 ∷ []) (commit 0 (0 ∷ []) (take_from 0 0 1) ∷ []) ≡ (2 ^ 64 - 1) ∷ []
   -- two items change places, since all written values come from the values before
   swapped : table_list (7 ∷ 8 ∷ []) (Commit 0 0 (record { reads = 0 ∷ 1 ∷ []; writes = add_to 0 1 0 ∷ add_to 1 0 0 ∷ [] }) ∷ []) ≡ 8 ∷ 7 ∷ []
 
 pub values : Values
-unfolding table value_after write_of based front
+unfolding table value_after write_of value_on_base front
 values = record { in_cycle_one = refl; in_cycle_two = refl; wraps_up = refl; wraps_down = refl; swapped = refl }
 
 pub record Boards : Type 0 where
@@ -154,13 +154,13 @@ pub record Boards : Type 0 where
   reply_raised : reply_of (10 ∷ []) counter 3 ≡ record { number = 3; cycle = 2; read = 11 ∷ []; written = 12 ∷ [] }
   -- and not those at the end of the history: item 0 is raised again later
   reply_before_the_end : reply_of (10 ∷ []) counter 1 ≡ record { number = 1; cycle = 1; read = 10 ∷ []; written = 11 ∷ [] }
-  reply_exchanged : reply_of (0 ∷ 0 ∷ []) exchanged 3 ≡ record { number = 3; cycle = 1; read = 7 ∷ 8 ∷ []; written = 8 ∷ 7 ∷ [] }
+  reply_exchanged : reply_of (0 ∷ 0 ∷ []) exchange_history 3 ≡ record { number = 3; cycle = 1; read = 7 ∷ 8 ∷ []; written = 8 ∷ 7 ∷ [] }
   -- the total of a frame wraps
   frame_wraps : frame_of ((2 ^ 64 - 1) ∷ 3 ∷ []) [] ≡ record { cycle = 0; values = (2 ^ 64 - 1) ∷ 3 ∷ []; columns = (0 ∷ 0 ∷ []) ∷ (0 ∷ 0 ∷ []) ∷ []; total = 2 }
-  reply : reply_of tens chained 2 ≡ record { number = 2; cycle = 1; read = 11 ∷ []; written = 12 ∷ [] }
-  board : board_of tens chained ≡ record { cycle = 2; values = 11 ∷ 13 ∷ 12 ∷ []; columns = (1 ∷ 0 ∷ 0 ∷ []) ∷ (1 ∷ 1 ∷ 1 ∷ []) ∷ (1 ∷ 0 ∷ 1 ∷ []) ∷ []; vector = 1 ∷ 1 ∷ 1 ∷ [] }
-  frame : frame_of tens chained ≡ record { cycle = 2; values = 11 ∷ 13 ∷ 12 ∷ []; columns = (1 ∷ 0 ∷ 0 ∷ []) ∷ (1 ∷ 1 ∷ 1 ∷ []) ∷ (1 ∷ 0 ∷ 1 ∷ []) ∷ []; total = 36 }
+  reply : reply_of tens chain_history 2 ≡ record { number = 2; cycle = 1; read = 11 ∷ []; written = 12 ∷ [] }
+  board : board_of tens chain_history ≡ record { cycle = 2; values = 11 ∷ 13 ∷ 12 ∷ []; columns = (1 ∷ 0 ∷ 0 ∷ []) ∷ (1 ∷ 1 ∷ 1 ∷ []) ∷ (1 ∷ 0 ∷ 1 ∷ []) ∷ []; vector = 1 ∷ 1 ∷ 1 ∷ [] }
+  frame : frame_of tens chain_history ≡ record { cycle = 2; values = 11 ∷ 13 ∷ 12 ∷ []; columns = (1 ∷ 0 ∷ 0 ∷ []) ∷ (1 ∷ 1 ∷ 1 ∷ []) ∷ (1 ∷ 0 ∷ 1 ∷ []) ∷ []; total = 36 }
 
 pub boards : Boards
-unfolding table value_after write_of based starts column_entry vector_entry greatest writer writer_before last_place writes writes_of descends descends_in reads cycle_at is_start
+unfolding table value_after write_of value_on_base starts column_entry vector_entry greatest writer writer_before last_place writes writes_of descends descends_in reads cycle_at is_start
 boards = record { reply_raised = refl; reply_before_the_end = refl; reply_exchanged = refl; frame_wraps = refl; reply = refl; board = refl; frame = refl }

@@ -20,7 +20,7 @@ use Rattle.air_history.specs.Consistency.{descends_from, runs_alone, last_alone,
 use Rattle.air_history.specs.ConsistencyLaws.{SharesCycle}
 use Rattle.air_history.specs.Clashes.{least, is_late, clash_by_history, IsCurrent, Takes}
 use Rattle.air_history.specs.ClashLaws.{IsHeard, IsAllowed, passes, Accepts, current_cycle, SharesItsCycle, IsSound}
-use Rattle.air_history.proofs.HistoryExamples.{add_to, commit, chained}
+use Rattle.air_history.proofs.HistoryExamples.{add_to, commit, chain_history}
 use Rattle.air_history.proofs.ClashExamples.{at, apart, one_written}
 
 -- Item 0 of cycle 1, then item 1 of cycle 2.
@@ -100,23 +100,23 @@ updates = record {
 -- ---- descents
 
 -- The commit at place 3 reads item 2, which the commit at place 2 wrote.
-pub reads_from : ReadsFrom chained 3 2
+pub reads_from : ReadsFrom chain_history 3 2
 unfolding reads writer_before last_place writes
 reads_from = record { nth = 0; within = omega arith; wrote = refl }
 
 -- The commit at place 1 reads nothing.
-pub reads_nothing : ReadsFrom chained 1 0 → ⊥
+pub reads_nothing : ReadsFrom chain_history 1 0 → ⊥
 unfolding reads
 reads_nothing f = omega (arith, f.within)
 
 -- The set of places 1 and 2 is closed: place 2 reads from place 1, which reads nothing.
-pub closed : IsClosed chained one_or_two
+pub closed : IsClosed chain_history one_or_two
 unfolding reads writer_before last_place writes
 closed zero w s f = absurd (false≢true s)
 closed (suc zero) w s f = absurd (omega (arith, f.within))
 closed (suc (suc zero)) w s f =
     let first : f.nth ≡ 0 = omega (arith, f.within) in
-    let wrote : Some 1 ≡ Some w = subst (λ k. writer_before chained 2 (get_or (0 ∷ []) k 0) ≡ Some w) first f.wrote in
+    let wrote : Some 1 ≡ Some w = subst (λ k. writer_before chain_history 2 (get_or (0 ∷ []) k 0) ≡ Some w) first f.wrote in
     let one : 1 ≡ w = cc in
     subst (λ w. one_or_two w ≡ true) one refl
 closed (suc (suc (suc p))) w s f = elim (or_cases (suc (suc (suc p)) == 1) (suc (suc (suc p)) == 2) s) as (λ _. one_or_two w ≡ true) [
@@ -125,7 +125,7 @@ closed (suc (suc (suc p))) w s f = elim (or_cases (suc (suc (suc p)) == 1) (suc 
 ]
 
 -- The set of place 2 alone isn't closed.
-pub not_closed : IsClosed chained two_alone → ⊥
+pub not_closed : IsClosed chain_history two_alone → ⊥
 unfolding reads writer_before last_place writes
 not_closed h = false≢true (h 2 1 refl (record { nth = 0; within = omega arith; wrote = refl }))
 
@@ -143,9 +143,9 @@ pub record Reads : Type 0 where
   -- no single cycle has both, and yet they are consistent
   consistent_apart : IsConsistent apart first_then_next
   -- item 1 of cycle 2 descends from a write of item 0 that the first read has not seen
-  not_consistent : IsConsistent chained first_then_next → ⊥
+  not_consistent : IsConsistent chain_history first_then_next → ⊥
   -- the column of item 1 in cycle 2 has item 0 at cycle 1
-  entry : entry_at chained 2 1 0 ≡ 1
+  entry : entry_at chain_history 2 1 0 ≡ 1
   -- the greatest of cycles 1 and 2
   greatest_cycle : greatest_of (λ r. r.cycle) first_then_next ≡ 2
 

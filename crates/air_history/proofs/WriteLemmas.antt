@@ -8,31 +8,31 @@ use Rattle.air_history.specs.declared.updates.Write.{Write}
 use Rattle.air_history.specs.declared.histories.Event.{Event}
 use Rattle.air_history.specs.declared.histories.Event.TheVariants.{Commit, Start}
 use Rattle.air_history.specs.UpdateLists.{UpdateLists}
-use Rattle.air_history.specs.Tables.{put, written, values_of, write_of, value_after, table, table_list}
+use Rattle.air_history.specs.Tables.{value_after_write, value_of_write, values_of, write_of, value_after, table, table_list}
 use Rattle.air_history.proofs.ScanLemmas.{event_read}
 use Rattle.air_history.proofs.TableLemmas.{table_nil, table_push, value_after_same}
 
 -- One more new value.
-pub fresh_more : (V : List ℕ) (writes : List Write) (fresh : List ℕ) (k : ℕ) (e : Write) (x : ℕ) → k < length writes → k < length fresh → x ≡ written (values_of V) (get_or writes k e) →
-    ((j : ℕ) (d : Write) → j < k → get_or fresh j 0 ≡ written (values_of V) (get_or writes j d)) →
-    (j : ℕ) (d : Write) → j < k + 1 → get_or (set fresh k x) j 0 ≡ written (values_of V) (get_or writes j d)
+pub fresh_more : (V : List ℕ) (writes : List Write) (fresh : List ℕ) (k : ℕ) (e : Write) (x : ℕ) → k < length writes → k < length fresh → x ≡ value_of_write (values_of V) (get_or writes k e) →
+    ((j : ℕ) (d : Write) → j < k → get_or fresh j 0 ≡ value_of_write (values_of V) (get_or writes j d)) →
+    (j : ℕ) (d : Write) → j < k + 1 → get_or (set fresh k x) j 0 ≡ value_of_write (values_of V) (get_or writes j d)
 fresh_more V writes fresh k e x lk lf is before j d h =
-    elim (cases_lt j k) as (λ _. get_or (set fresh k x) j 0 ≡ written (values_of V) (get_or writes j d)) [
+    elim (cases_lt j k) as (λ _. get_or (set fresh k x) j 0 ≡ value_of_write (values_of V) (get_or writes j d)) [
       | inl l ↦ (let ne : j ≡ k → ⊥ = λ s. omega arith in get_or-set_other fresh k j x 0 ne ∙ before j d l)
       | inr g ↦ (let same : j ≡ k = omega arith in
           ap (λ i. get_or (set fresh k x) i 0) same ∙ get_or-set_same fresh k x 0 lf ∙ is
-          ∙ ap (written (values_of V)) (get_or_default writes k e d lk ∙ ap (λ i. get_or writes i d) (sym same)))
+          ∙ ap (value_of_write (values_of V)) (get_or_default writes k e d lk ∙ ap (λ i. get_or writes i d) (sym same)))
     ]
 
 -- ---- one event, and many
 
 -- Where each item below the length has its new value and no write is beyond it, every item has.
 pub put_all : (V now : List ℕ) (ws : List Write) → length now ≡ length V → All (λ w. w.item < length V) ws →
-    ((i : ℕ) → i < length now → get_or now i 0 ≡ put (values_of V) i (find (λ w. w.item == i) ws)) →
-    (i : ℕ) → get_or now i 0 ≡ put (values_of V) i (find (λ w. w.item == i) ws)
-put_all V now ws len fits below i = elim (cases_lt i (length now)) as (λ _. get_or now i 0 ≡ put (values_of V) i (find (λ w. w.item == i) ws)) [
+    ((i : ℕ) → i < length now → get_or now i 0 ≡ value_after_write (values_of V) i (find (λ w. w.item == i) ws)) →
+    (i : ℕ) → get_or now i 0 ≡ value_after_write (values_of V) i (find (λ w. w.item == i) ws)
+put_all V now ws len fits below i = elim (cases_lt i (length now)) as (λ _. get_or now i 0 ≡ value_after_write (values_of V) i (find (λ w. w.item == i) ws)) [
   | inl l ↦ below i l
-  | inr g ↦ get_or_past now i 0 g ∙ sym (get_or_past V i 0 (omega arith)) ∙ ap (put (values_of V) i) (sym (found_none (let past : length V ≤ i = omega arith in past) ws fits))
+  | inr g ↦ get_or_past now i 0 g ∙ sym (get_or_past V i 0 (omega arith)) ∙ ap (value_after_write (values_of V) i) (sym (found_none (let past : length V ≤ i = omega arith in past) ws fits))
 ]
   where
     found_none : length V ≤ i → (ws : List Write) → All (λ w. w.item < length V) ws → find (λ w. w.item == i) ws ≡ None
@@ -41,7 +41,7 @@ put_all V now ws len fits below i = elim (cases_lt i (length now)) as (λ _. get
         let here : w.item < length V = All-head (λ (w : Write). w.item < length V) w ws h in
         cond-false (w.item == i) _ _ (ne_eqb _ _ (λ e. omega arith)) ∙ found_none past ws (All-tail (λ (w : Write). w.item < length V) w ws h)
 
-pub put_commit : (V : ℕ → ℕ) (by seq : ℕ) (u : UpdateLists) (i : ℕ) → put V i (find (λ w. w.item == i) u.writes) ≡ value_after V (Commit by seq u) i
+pub put_commit : (V : ℕ → ℕ) (by seq : ℕ) (u : UpdateLists) (i : ℕ) → value_after_write V i (find (λ w. w.item == i) u.writes) ≡ value_after V (Commit by seq u) i
 unfolding value_after write_of
 put_commit V by seq u i = refl
 

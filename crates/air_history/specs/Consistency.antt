@@ -17,13 +17,13 @@ unfoldable pub runs_alone : List Event → List ReadAt → ℕ → Bool
 runs_alone H R p = list_any (λ r. descends_from H r p) R
 
 -- The events at the places below n that pass, in order.
-unfoldable pub picked : ℕ → List Event → (ℕ → Bool) → List Event
-picked zero H test = []
-picked (suc n) H test = picked n H test ++ cond (test n) (event_at H n ∷ []) []
+unfoldable pub picked_events : ℕ → List Event → (ℕ → Bool) → List Event
+picked_events zero H test = []
+picked_events (suc n) H test = picked_events n H test ++ cond (test n) (event_at H n ∷ []) []
 
 -- The updates that run alone: the commits from which the reads descend, in commit order.
 unfoldable pub alone : List Event → List ReadAt → List Event
-alone H R = picked (length H) H (runs_alone H R)
+alone H R = picked_events (length H) H (runs_alone H R)
 
 -- The last place that runs alone and writes the item.
 unfoldable pub last_alone : List Event → List ReadAt → ℕ → Option ℕ

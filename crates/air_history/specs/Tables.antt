@@ -7,18 +7,18 @@ use Rattle.air_history.specs.declared.histories.Event.{Event}
 use Rattle.air_history.specs.declared.histories.Event.TheVariants.{Commit, Start}
 
 -- The value that a write puts, from the values before it: the amount, or the base's value plus or minus the amount.
-unfoldable pub based : (ℕ → ℕ) → Option ℕ → Bool → ℕ → ℕ
-based V None minus amount = amount
-based V (Some b) minus amount = cond minus ((V b + (2 ^ 64 - amount)) % 2 ^ 64) ((V b + amount) % 2 ^ 64)
+unfoldable pub value_on_base : (ℕ → ℕ) → Option ℕ → Bool → ℕ → ℕ
+value_on_base V None minus amount = amount
+value_on_base V (Some b) minus amount = cond minus ((V b + (2 ^ 64 - amount)) % 2 ^ 64) ((V b + amount) % 2 ^ 64)
 
 -- The value that a write puts.
-abbrev pub written : (ℕ → ℕ) → Write → ℕ
-written V w = based V w.base w.minus w.amount
+abbrev pub value_of_write : (ℕ → ℕ) → Write → ℕ
+value_of_write V w = value_on_base V w.base w.minus w.amount
 
 -- The item's value where this is the write of it, if there is one.
-abbrev pub put : (ℕ → ℕ) → ℕ → Option Write → ℕ
-put V item None = V item
-put V item (Some w) = written V w
+abbrev pub value_after_write : (ℕ → ℕ) → ℕ → Option Write → ℕ
+value_after_write V item None = V item
+value_after_write V item (Some w) = value_of_write V w
 
 -- The event's write of the item.
 unfoldable pub write_of : Event → ℕ → Option Write
@@ -27,7 +27,7 @@ write_of Start item = None
 
 -- The item's value after the event; all written values come from the values before it.
 unfoldable pub value_after : (ℕ → ℕ) → Event → ℕ → ℕ
-value_after V e item = put V item (write_of e item)
+value_after V e item = value_after_write V item (write_of e item)
 
 -- The item's value after running the events in order.
 unfoldable pub table : (ℕ → ℕ) → List Event → ℕ → ℕ

@@ -4,7 +4,7 @@ ghost use Rattle.std.specs.Prelude.{◌≡◌, ◌==◌, ℕ, ◌<◌, ◌≤◌
 ghost use Rattle.air_history.specs.declared.updates.Write.{Write};
 ghost use Rattle.air_history.specs.Histories.{ItemsFit};
 ghost use Rattle.air_history.specs.UpdateRules.{UpdateFits};
-ghost use Rattle.air_history.specs.Tables.{put, written, values_of, WriteFits, value_after, table_list};
+ghost use Rattle.air_history.specs.Tables.{value_after_write, value_of_write, values_of, WriteFits, value_after, table_list};
 
 use crate::histories::{Event, History};
 use crate::updates::{Update, Write};
@@ -35,7 +35,7 @@ pub fn run_event(event: &Event, values: &mut [u64])
 /// Runs one update on the values: first all new values, from those before it, then the writes.
 fn run_update(update: &Update, values: &mut [u64])
     requires { UpdateFits (length values.old) update.now }
-    ensures { (i : ℕ) → slice_index_or values.new i 0 ≡ put (values_of values.old) i (find (λ w. w.item == i) update.now.writes) }
+    ensures { (i : ℕ) → slice_index_or values.new i 0 ≡ value_after_write (values_of values.old) i (find (λ w. w.item == i) update.now.writes) }
 {
     update.keeps_rules();
     let fresh = written_values(values, update.writes());
@@ -46,7 +46,7 @@ fn run_update(update: &Update, values: &mut [u64])
 #[tactic(auto, unfolding(crate::specs::Tables::based))]
 fn written_value(values: &[u64], write: &Write) -> u64
     requires { IfSome write.now.base (λ b. b < length values.now) }
-    ensures { result ≡ written (values_of values.now) write.now }
+    ensures { result ≡ value_of_write (values_of values.now) write.now }
 {
     let Some(base) = write.base else {
         return write.amount;
@@ -65,7 +65,7 @@ fn written_values(values: &[u64], writes: &[Write]) -> [u64; MOST_WRITES]
     requires fits { All (WriteFits (length values.now)) writes.now }
     ensures sized { length result ≡ MOST_WRITES }
     ensures are { (k : ℕ) (d : Write) → k < length writes.now →
-        slice_index result k ≡ written (values_of values.now) (get_or writes.now k d) }
+        slice_index result k ≡ value_of_write (values_of values.now) (get_or writes.now k d) }
 {
     let mut fresh = [0; MOST_WRITES];
     for (k, write) in writes.iter().enumerate() {
@@ -79,9 +79,9 @@ fn write_values(values: &mut [u64], writes: &[Write], fresh: &[u64])
     requires few { length writes.now ≤ length fresh.now }
     requires fits { All (WriteFits (length values.old)) writes.now }
     requires are { (k : ℕ) (d : Write) → k < length writes.now →
-        slice_index fresh.now k ≡ written (values_of values.old) (get_or writes.now k d) }
+        slice_index fresh.now k ≡ value_of_write (values_of values.old) (get_or writes.now k d) }
     ensures { EachIndex values.new
-        (λ i. slice_index values.new i ≡ put (values_of values.old) i (find (λ w. w.item == i) writes.now)) }
+        (λ i. slice_index values.new i ≡ value_after_write (values_of values.old) i (find (λ w. w.item == i) writes.now)) }
 {
     for k in (0..writes.len()).rev() {
         values[writes[k].item as usize] = fresh[k];

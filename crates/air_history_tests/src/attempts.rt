@@ -3,7 +3,7 @@
 //! `held_reads` calls an attempt by hand; `held_lengths` plays it beside a plain program.
 
 ghost use Rattle.std.specs.Prelude.{◌↔◌, ◌≢◌, ◌<◌, All, IsTrue};
-ghost use Rattle.held_entries.specs.HeardReads.{heard};
+ghost use Rattle.held_entries.specs.HeardReads.{heard_read};
 ghost use Rattle.air_history.specs.HeldReads.{IsNew};
 
 use air_base::{Clash, NoMemory};
@@ -73,7 +73,7 @@ impl Attempt {
     /// Whether the read is a new one.
     #[tactic(auto, using(crate::proofs::HeldItems::free_of))]
     fn is_new(&self, item: u16, cycle: u32, column: &[u32]) -> bool
-        ensures { IsTrue result → IsNew self.now (heard item cycle column.now) }
+        ensures { IsTrue result → IsNew self.now (heard_read item cycle column.now) }
     {
         item < self.n
             && column.len() == self.n as usize

@@ -1,6 +1,6 @@
 -- The sentences of the kernels on short rows, computed, and what they refuse.
 use Rattle.std.proofs.Common.{◌≡◌, ◌<◌, ℕ, zero, suc, List, Some, None, [], ◌∷◌, get_or, refl, arith}
-use Rattle.air_lanes.specs.Kernels.{greater_of_each, stamped, IsAnswer}
+use Rattle.air_lanes.specs.Kernels.{greater_of_each, stamp_each, IsAnswer}
 
 the_greater_of_two_rows : greater_of_each (3 ∷ 0 ∷ 7 ∷ []) (1 ∷ 5 ∷ 7 ∷ []) ≡ 3 ∷ 5 ∷ 7 ∷ []
 the_greater_of_two_rows = refl
@@ -8,7 +8,7 @@ the_greater_of_two_rows = refl
 rows_without_a_place : ◌≡◌ {A = List ℕ} (greater_of_each [] []) []
 rows_without_a_place = refl
 
-any_mark_but_zero : stamped 9 (0 ∷ 1 ∷ 4294967295 ∷ 0 ∷ []) (5 ∷ 6 ∷ 7 ∷ 8 ∷ []) ≡ 5 ∷ 9 ∷ 9 ∷ 8 ∷ []
+any_mark_but_zero : stamp_each 9 (0 ∷ 1 ∷ 4294967295 ∷ 0 ∷ []) (5 ∷ 6 ∷ 7 ∷ 8 ∷ []) ≡ 5 ∷ 9 ∷ 9 ∷ 8 ∷ []
 any_mark_but_zero = refl
 
 -- An entry that is equal isn't below, and the first such place is named.

@@ -7,8 +7,8 @@ abbrev pub greater_of_each : List ℕ → List ℕ → List ℕ
 greater_of_each xs ys = zip2 max xs ys
 
 -- The cycle at each place whose mark isn't 0, and the entry itself at the others.
-abbrev pub stamped : ℕ → List ℕ → List ℕ → List ℕ
-stamped cycle marks xs = zip2 (λ mark x. if mark == 0 then x else cycle) marks xs
+abbrev pub stamp_each : ℕ → List ℕ → List ℕ → List ℕ
+stamp_each cycle marks xs = zip2 (λ mark x. if mark == 0 then x else cycle) marks xs
 
 -- At this place the column isn't below what is held, and at each place before it it is.
 pub record IsFirstNotBelow (column held : List ℕ) (place : ℕ) : Type 0 where

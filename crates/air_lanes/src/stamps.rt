@@ -3,7 +3,7 @@
 //! One block of eight, the places after the last whole block, and the row of both. `control_matrix` marks what a commit wrote.
 
 ghost use Rattle.std.specs.Prelude.{◌≡◌, ◌≤◌, ◌<◌, ◌+◌, ◌⊎◌, ◌==◌, ℕ, length, slice_index, if◌then◌else◌};
-ghost use Rattle.air_lanes.specs.Kernels.{stamped};
+ghost use Rattle.air_lanes.specs.Kernels.{stamp_each};
 
 use std::simd::prelude::*;
 use std::simd::u32x8;
@@ -41,7 +41,7 @@ fn stamp_rest(dst: &mut [u32], marks: &[u32], cycle: u32, from: usize)
 /// Puts the cycle into each place whose mark isn't 0, and leaves the others.
 pub fn stamp(dst: &mut [u32], marks: &[u32], cycle: u32)
     requires { length marks.now ≡ length dst.old }
-    ensures { dst.new ≡ stamped cycle marks.now dst.old }
+    ensures { dst.new ≡ stamp_each cycle marks.now dst.old }
 {
     let whole = dst.len() / 8;
     for block in 0..whole {

@@ -18,7 +18,7 @@ use Rattle.air_history.specs.Clashes.{clash_by_history, is_late}
 use Rattle.history_laws.proofs.ClashLemmas.{cond_same}
 use Rattle.air_model.specs.Buckets.{Body, Bucket, Column, Idle, Vector}
 use Rattle.air_model.specs.Reads.{Read}
-use Rattle.air_model.specs.Copies.{goes_before, keep, with_copy, without}
+use Rattle.air_model.specs.Copies.{goes_before, keep, with_copy, without_item}
 use Rattle.air_model.specs.Airings.{carries}
 use Rattle.air_model.specs.Aired.{Air, airs_columns, body_fits, fits}
 use Rattle.air_model.specs.Judges.{Judge, by_history, place_of}
@@ -51,8 +51,8 @@ filter_bare p q (r ∷ R) h = ap (λ b. cond b (bare_read r ∷ filter p (map ba
 count_bare : (p q : Read → Bool) (R : List Read) → ((r : Read) → p (bare_read r) ≡ q r) → count_by p (map bare_read R) ≡ count_by q R
 count_bare p q R h = sym (length-filter p (map bare_read R)) ∙ ap length (filter_bare p q R h) ∙ length-map (filter q R) bare_read ∙ length-filter q R
 
-without_bare : (item : ℕ) (R : List Read) → without item (map bare_read R) ≡ map bare_read (without item R)
-unfolding without bare_read
+without_bare : (item : ℕ) (R : List Read) → without_item item (map bare_read R) ≡ map bare_read (without_item item R)
+unfolding without_item bare_read
 without_bare item R = filter_bare _ _ R (λ r. refl)
 
 with_copy_bare : (x : Read) (R : List Read) → with_copy (bare_read x) (map bare_read R) ≡ map bare_read (with_copy x R)

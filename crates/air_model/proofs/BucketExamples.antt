@@ -50,8 +50,8 @@ fault_alone = (refl, refl)
 -- ---- a bucket whose numbers all differ
 
 -- Of an edition, with a column and with a vector.
-abbrev varied : (ℕ → ℕ → List ℕ → Body) → Bucket
-varied kind = record { edition = 3; cycle = 0x01020304; slot = 5; body = kind 2 0x0102030405060708 (7 ∷ 8 ∷ 9 ∷ []) }
+abbrev varied_bucket : (ℕ → ℕ → List ℕ → Body) → Bucket
+varied_bucket kind = record { edition = 3; cycle = 0x01020304; slot = 5; body = kind 2 0x0102030405060708 (7 ∷ 8 ∷ 9 ∷ []) }
 
 -- Its bytes, with the number of its kind.
 abbrev varied_bytes : ℕ → List ℕ
@@ -59,11 +59,11 @@ varied_bytes kind =
     0x41 ∷ 0x44 ∷ 1 ∷ kind ∷ 0 ∷ 3 ∷ 0 ∷ 3 ∷ 1 ∷ 2 ∷ 3 ∷ 4 ∷ 0 ∷ 5 ∷ 0 ∷ 2 ∷ 1 ∷ 2 ∷ 3 ∷ 4 ∷ 5 ∷ 6 ∷ 7 ∷ 8 ∷ 0 ∷ 0 ∷ 0 ∷ 7 ∷ 0 ∷ 0 ∷ 0 ∷ 8 ∷ 0 ∷ 0 ∷ 0 ∷ 9 ∷ []
 
 -- It is spelled in this order, and read back.
-varied_spelled : (spelling (varied Column) ≡ varied_bytes 1) × (spelling (varied Vector) ≡ varied_bytes 2)
+varied_spelled : (spelling (varied_bucket Column) ≡ varied_bytes 1) × (spelling (varied_bucket Vector) ≡ varied_bytes 2)
 unfolding spelling kind_of count_of item_of value_of entries_of
 varied_spelled = (refl, refl)
 
-varied_read : (reading (varied_bytes 1) ≡ Ok (varied Column)) × (reading (varied_bytes 2) ≡ Ok (varied Vector))
+varied_read : (reading (varied_bytes 1) ≡ Ok (varied_bucket Column)) × (reading (varied_bytes 2) ≡ Ok (varied_bucket Vector))
 unfolding reading is_shaped is_placed entry_count entries_at bucket_at body_at
 varied_read = (refl, refl)
 

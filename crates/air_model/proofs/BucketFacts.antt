@@ -10,12 +10,12 @@ use Rattle.std.proofs.lemmas.List.Elements.{All-head, All-tail}
 use Rattle.byteorder.specs.Endian.{big_number}
 use Rattle.air_model.specs.Buckets.{Body, Bucket, Idle, Column, Vector, IsBucket, IsInRange, body_at, bucket_at, count_of, entries_at, entries_of, entry_count, is_placed, is_shaped, item_of, kind_of, number_at, reading, spelling, value_of, AreBytes}
 use Rattle.air_model.proofs.ByteFacts.{AllBytes, all_bytes}
-use Rattle.air_model.proofs.FieldFacts.{AreInRange, Fields, IsWhole, are_shaped, bounds, bytes_of, entries_long, fields_of, in_range, made, read_back, same_fields, shaped_is, spelled, whole_bytes}
+use Rattle.air_model.proofs.FieldFacts.{AreInRange, Fields, IsWhole, are_shaped, bounds, bytes_of, entries_long, fields_of, fields_with, in_range, read_back, same_fields, shaped_is, spelled, whole_bytes}
 
 -- ---- a bucket and its fields
 -- the fields of a bucket.
-abbrev pub said : Bucket → Fields
-said b = made (kind_of b.body) b.edition (count_of b.body) b.cycle b.slot (item_of b.body) (value_of b.body) (entries_of b.body)
+abbrev pub bucket_fields : Bucket → Fields
+bucket_fields b = fields_with (kind_of b.body) b.edition (count_of b.body) b.cycle b.slot (item_of b.body) (value_of b.body) (entries_of b.body)
 
 -- The body with these fields.
 unfoldable pub body_from : ℕ → ℕ → ℕ → ℕ → List ℕ → Body
@@ -28,7 +28,7 @@ abbrev pub bucket_from : Fields → Bucket
 bucket_from f = record { edition = f.edition; cycle = f.cycle; slot = f.slot; body = body_from f.kind f.count f.item f.value f.entries }
 
 -- A bucket is spelled as its fields.
-pub spelling_is : (b : Bucket) → spelling b ≡ bytes_of (said b)
+pub spelling_is : (b : Bucket) → spelling b ≡ bytes_of (bucket_fields b)
 unfolding spelling bytes_of
 spelling_is b = refl
 
@@ -38,7 +38,7 @@ body_back (Idle count) = refl
 body_back (Column item value entries) = refl
 body_back (Vector item value entries) = refl
 
-bucket_back : (b : Bucket) → bucket_from (said b) ≡ b
+bucket_back : (b : Bucket) → bucket_from (bucket_fields b) ≡ b
 bucket_back b = ap (λ (body : Body). let t : Bucket = record { edition = b.edition; cycle = b.cycle; slot = b.slot; body = body } in t) (body_back b.body)
 
 -- The bucket of the bytes is that of their fields.
@@ -79,7 +79,7 @@ placed_test (Vector item value entries) (inl never) = absurd (omega arith)
 placed_test (Vector item value entries) (inr below) = lt-ltb item (length entries) below
 
 -- A bucket in range has fields in range.
-pub fields_in_range : (b : Bucket) → IsInRange b → AreInRange (said b)
+pub fields_in_range : (b : Bucket) → IsInRange b → AreInRange (bucket_fields b)
 unfolding are_shaped
 fields_in_range b r = record {
   kind = kind_small b.body;
@@ -91,12 +91,12 @@ fields_in_range b r = record {
   shaped = and_from _ _ (and_from _ _ (and_from _ _ (and_from _ _ (le-leb 1 (count_of b.body) r.some) (le-leb (count_of b.body) 256 r.count)) (le-leb 1 b.cycle r.started)) (placed_test b.body r.placed)) (all_tests b.cycle (entries_of b.body) r.entries);
 }
 
-said_back : (f : Fields) → f.kind ≤ 2 → length f.entries ≡ entry_count f.kind f.count → are_shaped f ≡ true → said (bucket_from f) ≡ f
+fields_of_back : (f : Fields) → f.kind ≤ 2 → length f.entries ≡ entry_count f.kind f.count → are_shaped f ≡ true → bucket_fields (bucket_from f) ≡ f
 unfolding body_from kind_of count_of item_of value_of entries_of entry_count is_placed
-said_back f kind entries shaped = by f.kind f.count f.item f.value f.entries kind entries (bounds f shaped).placed
+fields_of_back f kind entries shaped = by f.kind f.count f.item f.value f.entries kind entries (bounds f shaped).placed
   where
     by : (k count item value : ℕ) (entries : List ℕ) → k ≤ 2 → length entries ≡ entry_count k count → is_placed k item value count ≡ true
-        → said (bucket_from (made k f.edition count f.cycle f.slot item value entries)) ≡ made k f.edition count f.cycle f.slot item value entries
+        → bucket_fields (bucket_from (fields_with k f.edition count f.cycle f.slot item value entries)) ≡ fields_with k f.edition count f.cycle f.slot item value entries
     by zero count item value entries small long placed =
         let t = and_parts (item == 65535) (value == 0) placed in
         same_fields _ _ _ _ _ _ _ _ _ _ _ _ _ _ _ _ refl refl refl refl refl (sym (eqb-true item 65535 t.0)) (sym (eqb-true value 0 t.1)) (sym (nil_from_length entries long))
@@ -118,7 +118,7 @@ placed_from (suc (suc more)) count item value entries long placed =
 pub bucket_in_range : (f : Fields) → AreInRange f → IsInRange (bucket_from f)
 bucket_in_range f r =
     let b = bounds f r.shaped in
-    let e = said_back f r.kind r.entries r.shaped in
+    let e = fields_of_back f r.kind r.entries r.shaped in
     record {
       edition = r.edition;
       some = subst (λ n. 1 ≤ n) (sym (ap (λ (g : Fields). g.count) e)) b.some;
@@ -135,18 +135,18 @@ bucket_in_range f r =
 pub whole_from_bucket : (bytes : List ℕ) (b : Bucket) → IsBucket bytes b → IsWhole bytes × (bucket_at bytes ≡ b)
 whole_from_bucket bytes b h =
     let r = fields_in_range b h.0 in
-    let e : bytes ≡ bytes_of (said b) = h.1 ∙ spelling_is b in
-    (subst IsWhole (sym e) (whole_bytes (said b) r), bucket_is bytes ∙ ap bucket_from (ap fields_of e ∙ read_back (said b) r) ∙ bucket_back b)
+    let e : bytes ≡ bytes_of (bucket_fields b) = h.1 ∙ spelling_is b in
+    (subst IsWhole (sym e) (whole_bytes (bucket_fields b) r), bucket_is bytes ∙ ap bucket_from (ap fields_of e ∙ read_back (bucket_fields b) r) ∙ bucket_back b)
 
 -- The bucket of bytes without a fault has the fields at their places: so its numbers can be read there.
-pub fields_back : (bytes : List ℕ) → IsWhole bytes → said (bucket_at bytes) ≡ fields_of bytes
+pub fields_back : (bytes : List ℕ) → IsWhole bytes → bucket_fields (bucket_at bytes) ≡ fields_of bytes
 unfolding fields_of
-fields_back bytes w = ap said (bucket_is bytes) ∙ said_back (fields_of bytes) w.kind (entries_long bytes) (sym (shaped_is bytes) ∙ w.shaped)
+fields_back bytes w = ap bucket_fields (bucket_is bytes) ∙ fields_of_back (fields_of bytes) w.kind (entries_long bytes) (sym (shaped_is bytes) ∙ w.shaped)
 
 pub bucket_from_whole : (bytes : List ℕ) → AllBytes bytes → IsWhole bytes → IsBucket bytes (bucket_at bytes)
 bucket_from_whole bytes all w =
     let r = in_range bytes all w in
-    subst (IsBucket bytes) (sym (bucket_is bytes)) (bucket_in_range (fields_of bytes) r, spelled bytes all w ∙ ap bytes_of (sym (said_back (fields_of bytes) r.kind r.entries r.shaped)) ∙ sym (spelling_is (bucket_from (fields_of bytes))))
+    subst (IsBucket bytes) (sym (bucket_is bytes)) (bucket_in_range (fields_of bytes) r, spelled bytes all w ∙ ap bytes_of (sym (fields_of_back (fields_of bytes) r.kind r.entries r.shaped)) ∙ sym (spelling_is (bucket_from (fields_of bytes))))
 
 -- ---- the reading and whole bytes
 ok_of : {A F : Type 0} (a b c d e g : Bool) (s m v k l h : F) (x y : A)

@@ -113,47 +113,47 @@ IsCommon disks k = (n : ℕ) (d : Disk) → slice_get disks n ≡ Some d → k %
 chain : (a b c : ℕ) → b % a ≡ 0 → c % b ≡ 0 → c % a ≡ 0
 chain a b c x y = mod-eq-zero_of_dvd a (dvd_trans a (dvd_of_mod-eq-zero a x) (dvd_of_mod-eq-zero b y))
 
-abbrev joined : ℕ → List Disk → ℕ
-joined a disks = fold (λ m d. least_common_multiple m d.freq) a disks
+abbrev multiple_over : ℕ → List Disk → ℕ
+multiple_over a disks = fold (λ m d. least_common_multiple m d.freq) a disks
 
-joined_pos : (a : ℕ) (disks : List Disk) → 0 < a → AllAired disks → 0 < joined a disks
-joined_pos a [] some aired = some
-joined_pos a (d ∷ ds) some aired = joined_pos (least_common_multiple a d.freq) ds (least_common_pos a d.freq some (aired 0 d refl)) (λ n. aired (suc n))
+multiple_over_pos : (a : ℕ) (disks : List Disk) → 0 < a → AllAired disks → 0 < multiple_over a disks
+multiple_over_pos a [] some aired = some
+multiple_over_pos a (d ∷ ds) some aired = multiple_over_pos (least_common_multiple a d.freq) ds (least_common_pos a d.freq some (aired 0 d refl)) (λ n. aired (suc n))
 
-joined_first : (a : ℕ) (disks : List Disk) → 0 < a → AllAired disks → joined a disks % a ≡ 0
-joined_first a [] some aired = mod_self a
-joined_first a (d ∷ ds) some aired =
+multiple_over_first : (a : ℕ) (disks : List Disk) → 0 < a → AllAired disks → multiple_over a disks % a ≡ 0
+multiple_over_first a [] some aired = mod_self a
+multiple_over_first a (d ∷ ds) some aired =
     let l = least_common_multiple a d.freq in
-    chain a l (joined l ds) (least_common_first a d.freq (aired 0 d refl)) (joined_first l ds (least_common_pos a d.freq some (aired 0 d refl)) (λ n. aired (suc n)))
+    chain a l (multiple_over l ds) (least_common_first a d.freq (aired 0 d refl)) (multiple_over_first l ds (least_common_pos a d.freq some (aired 0 d refl)) (λ n. aired (suc n)))
 
-joined_common : (a : ℕ) (disks : List Disk) → 0 < a → AllAired disks → IsCommon disks (joined a disks)
-joined_common a [] some aired n d at = cc at
-joined_common a (e ∷ ds) some aired zero d at =
+multiple_over_common : (a : ℕ) (disks : List Disk) → 0 < a → AllAired disks → IsCommon disks (multiple_over a disks)
+multiple_over_common a [] some aired n d at = cc at
+multiple_over_common a (e ∷ ds) some aired zero d at =
     let l = least_common_multiple a e.freq in let pos = aired 0 e refl in
-    subst (λ (x : Disk). joined l ds % x.freq ≡ 0) (same_Some e d at)
-    (chain e.freq l (joined l ds) (least_common_second a e.freq pos) (joined_first l ds (least_common_pos a e.freq some pos) (λ n. aired (suc n))))
-joined_common a (e ∷ ds) some aired (suc n) d at =
-    joined_common (least_common_multiple a e.freq) ds (least_common_pos a e.freq some (aired 0 e refl)) (λ n. aired (suc n)) n d at
+    subst (λ (x : Disk). multiple_over l ds % x.freq ≡ 0) (same_Some e d at)
+    (chain e.freq l (multiple_over l ds) (least_common_second a e.freq pos) (multiple_over_first l ds (least_common_pos a e.freq some pos) (λ n. aired (suc n))))
+multiple_over_common a (e ∷ ds) some aired (suc n) d at =
+    multiple_over_common (least_common_multiple a e.freq) ds (least_common_pos a e.freq some (aired 0 e refl)) (λ n. aired (suc n)) n d at
 
-joined_divides : (a : ℕ) (disks : List Disk) (k : ℕ) → 0 < a → AllAired disks → k % a ≡ 0 → IsCommon disks k → k % joined a disks ≡ 0
-joined_divides a [] k some aired first each = first
-joined_divides a (d ∷ ds) k some aired first each =
+multiple_over_divides : (a : ℕ) (disks : List Disk) (k : ℕ) → 0 < a → AllAired disks → k % a ≡ 0 → IsCommon disks k → k % multiple_over a disks ≡ 0
+multiple_over_divides a [] k some aired first each = first
+multiple_over_divides a (d ∷ ds) k some aired first each =
     let pos = aired 0 d refl in
-    joined_divides (least_common_multiple a d.freq) ds k (least_common_pos a d.freq some pos) (λ n. aired (suc n))
+    multiple_over_divides (least_common_multiple a d.freq) ds k (least_common_pos a d.freq some pos) (λ n. aired (suc n))
     (least_common_divides a d.freq k some pos first (each 0 d refl)) (λ n. each (suc n))
 
 -- The number of minor cycles is above zero, a common multiple, and divides each.
 pub num_minors_pos : (disks : List Disk) → AllAired disks → 0 < num_minors disks
 unfolding num_minors
-num_minors_pos disks aired = joined_pos 1 disks (omega arith) aired
+num_minors_pos disks aired = multiple_over_pos 1 disks (omega arith) aired
 
 pub num_minors_common : (disks : List Disk) → AllAired disks → IsCommon disks (num_minors disks)
 unfolding num_minors
-num_minors_common disks aired = joined_common 1 disks (omega arith) aired
+num_minors_common disks aired = multiple_over_common 1 disks (omega arith) aired
 
 pub num_minors_divides : (disks : List Disk) (k : ℕ) → AllAired disks → IsCommon disks k → k % num_minors disks ≡ 0
 unfolding num_minors
-num_minors_divides disks k aired each = joined_divides 1 disks k (omega arith) aired (omega arith) each
+num_minors_divides disks k aired each = multiple_over_divides 1 disks k (omega arith) aired (omega arith) each
 
 -- Each frequency divides the number.
 abbrev pub IsCommonMultiple : List Disk → ℕ → Type 0

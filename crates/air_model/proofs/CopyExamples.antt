@@ -1,6 +1,6 @@
 -- A newcomer is placed where there is room, evicts the least copy where it is not the least itself, and is declined else.
 use Rattle.std.specs.Prelude.{◌≡◌, ℕ, List, [], ◌∷◌, refl}
-use Rattle.air_model.specs.Copies.{keep, with_copy, without}
+use Rattle.air_model.specs.Copies.{keep, with_copy, without_item}
 use Rattle.air_model.specs.Reads.{Read}
 
 -- A copy of the item.
@@ -40,6 +40,6 @@ unfolding keep with_copy
 no_room = refl
 
 -- The copies of the other items stay where one is dropped.
-dropped : without 1 (copy 0 5 ∷ copy 1 6 ∷ copy 3 6 ∷ []) ≡ copy 0 5 ∷ copy 3 6 ∷ []
-unfolding without
+dropped : without_item 1 (copy 0 5 ∷ copy 1 6 ∷ copy 3 6 ∷ []) ≡ copy 0 5 ∷ copy 3 6 ∷ []
+unfolding without_item
 dropped = refl

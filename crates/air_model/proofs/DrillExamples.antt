@@ -24,18 +24,18 @@ all_rates = refl
 abbrev set_to : ℕ → ℕ → Write
 set_to item amount = record { item = item; base = None; minus = false; amount = amount }
 
-abbrev added : ℕ → ℕ → ℕ → Write
-added item base amount = record { item = item; base = Some base; minus = false; amount = amount }
+abbrev add_to : ℕ → ℕ → ℕ → Write
+add_to item base amount = record { item = item; base = Some base; minus = false; amount = amount }
 
 -- The updates of the updaters 0 and 2: the first update, the third, the fifth, the seventh and the ninth of all.
 first_updates : get_or (drill_deck 1 1).updates 0 []
     ≡ record { reads = []; writes = set_to 6 20 ∷ set_to 7 22 ∷ [] } ∷ record { reads = []; writes = set_to 0 12 ∷ set_to 1 29 ∷ [] }
-    ∷ record { reads = 9 ∷ []; writes = added 13 9 81 ∷ [] } ∷ []
+    ∷ record { reads = 9 ∷ []; writes = add_to 13 9 81 ∷ [] } ∷ []
 unfolding draw draw_each draw_update draw_query drill_deck
 first_updates = refl
 
 third_updates : get_or (drill_deck 1 1).updates 2 []
-    ≡ record { reads = 5 ∷ []; writes = added 9 5 16 ∷ [] } ∷ record { reads = 8 ∷ 9 ∷ []; writes = added 0 8 24 ∷ added 1 9 19 ∷ [] } ∷ []
+    ≡ record { reads = 5 ∷ []; writes = add_to 9 5 16 ∷ [] } ∷ record { reads = 8 ∷ 9 ∷ []; writes = add_to 0 8 24 ∷ add_to 1 9 19 ∷ [] } ∷ []
 unfolding draw draw_each draw_update draw_query drill_deck
 third_updates = refl
 

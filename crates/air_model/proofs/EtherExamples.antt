@@ -1,33 +1,33 @@
 -- Four pushed buckets heard through ethers of each kind, and the first words of a generator.
 use Rattle.std.specs.Prelude.{◌≡◌, ℕ, List, [], ◌∷◌, refl}
 use Rattle.air_model.specs.Draws.{words_by, words_of}
-use Rattle.air_model.specs.Ethers.{due_at, due_number, heard, heard_by, heard_places, places_due, times_heard}
+use Rattle.air_model.specs.Ethers.{due_at, due_number, heard_by, heard_list, heard_places, places_due, times_heard}
 
 -- Four buckets of one byte.
-abbrev pushed : List (List ℕ)
-pushed = (10 ∷ []) ∷ (11 ∷ []) ∷ (12 ∷ []) ∷ (13 ∷ []) ∷ []
+abbrev four_buckets : List (List ℕ)
+four_buckets = (10 ∷ []) ∷ (11 ∷ []) ∷ (12 ∷ []) ∷ (13 ∷ []) ∷ []
 
 -- Three words for each; with 51 late of a hundred, the last word of push 1 makes it due at 4, and that of push 2 at 3.
 abbrev words : List ℕ
 words = 0 ∷ 30 ∷ 99 ∷ 0 ∷ 99 ∷ 250 ∷ 99 ∷ 99 ∷ 50 ∷ 50 ∷ 99 ∷ 99 ∷ []
 
-all_lost : heard (record { loss = 100; again = 0; late = 0 }) words pushed ≡ []
-unfolding heard heard_places places_due due_at due_number times_heard
+all_lost : heard_list (record { loss = 100; again = 0; late = 0 }) words four_buckets ≡ []
+unfolding heard_list heard_places places_due due_at due_number times_heard
 all_lost = refl
 
-all_twice : heard (record { loss = 0; again = 100; late = 0 }) words pushed
+all_twice : heard_list (record { loss = 0; again = 100; late = 0 }) words four_buckets
     ≡ (10 ∷ []) ∷ (10 ∷ []) ∷ (11 ∷ []) ∷ (11 ∷ []) ∷ (12 ∷ []) ∷ (12 ∷ []) ∷ (13 ∷ []) ∷ (13 ∷ []) ∷ []
-unfolding heard heard_places places_due due_at due_number times_heard
+unfolding heard_list heard_places places_due due_at due_number times_heard
 all_twice = refl
 
 -- Push 1 is heard behind the pushes 2 and 3; of these, both due at 3, push 2 is first.
-one_late : heard (record { loss = 0; again = 0; late = 51 }) words pushed ≡ (10 ∷ []) ∷ (12 ∷ []) ∷ (13 ∷ []) ∷ (11 ∷ []) ∷ []
-unfolding heard heard_places places_due due_at due_number times_heard
+one_late : heard_list (record { loss = 0; again = 0; late = 51 }) words four_buckets ≡ (10 ∷ []) ∷ (12 ∷ []) ∷ (13 ∷ []) ∷ (11 ∷ []) ∷ []
+unfolding heard_list heard_places places_due due_at due_number times_heard
 one_late = refl
 
 -- The pushes 0, 1 and 3 have a first word below 51 of a hundred; a push that is lost is not heard again or late.
-some_lost : heard (record { loss = 51; again = 100; late = 51 }) words pushed ≡ (12 ∷ []) ∷ (12 ∷ []) ∷ []
-unfolding heard heard_places places_due due_at due_number times_heard
+some_lost : heard_list (record { loss = 51; again = 100; late = 51 }) words four_buckets ≡ (12 ∷ []) ∷ (12 ∷ []) ∷ []
+unfolding heard_list heard_places places_due due_at due_number times_heard
 some_lost = refl
 
 -- The third word: below 50 of a hundred it isn't late; with 51, 850 makes push 0 one late, and 750 push 1 eight.
@@ -54,8 +54,8 @@ unfolding times_heard
 heard_at_the_odds = (refl, refl, refl, refl)
 
 -- By the words that the seed 3 gives to reader 3.
-by_seed : heard_by 3 3 (record { loss = 30; again = 30; late = 60 }) pushed ≡ (11 ∷ []) ∷ (12 ∷ []) ∷ (10 ∷ []) ∷ (10 ∷ []) ∷ []
-unfolding heard_by words_by heard heard_places places_due due_at due_number times_heard
+by_seed : heard_by 3 3 (record { loss = 30; again = 30; late = 60 }) four_buckets ≡ (11 ∷ []) ∷ (12 ∷ []) ∷ (10 ∷ []) ∷ (10 ∷ []) ∷ []
+unfolding heard_by words_by heard_list heard_places places_due due_at due_number times_heard
 by_seed = refl
 
 -- The first three words of the reference generator.

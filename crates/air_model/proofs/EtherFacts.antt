@@ -11,7 +11,7 @@ use Rattle.std.proofs.lemmas.List.Elements.{All-append, All-cons, All-map, Conta
 use Rattle.std.proofs.lemmas.List.FromFn.{get_or-map-range_with_len, length-map-range_with_len}
 use Rattle.std.proofs.lemmas.List.Kept.{AllPairs-cons}
 use Rattle.std.proofs.lemmas.List.Sums.{sum_by-append, sum_by-cons}
-use Rattle.air_model.specs.Ethers.{Odds, due_at, due_number, heard, heard_places, places_due, times_heard, word_of}
+use Rattle.air_model.specs.Ethers.{Odds, due_at, due_number, heard_list, heard_places, places_due, times_heard, word_of}
 
 -- ---- lists over a range
 pub range_join : (a n m : ℕ) → range_with_len a (n + m) ≡ range_with_len a n ++ range_with_len (a + n) m
@@ -221,8 +221,8 @@ pub heard_order : (odds : Odds) (words : List ℕ) (n : ℕ) →
     AllPairs (λ p q. (due_number odds words p < due_number odds words q) ⊎ ((due_number odds words p ≡ due_number odds words q) × (p ≤ q))) (heard_places odds words n)
 heard_order odds words n = in_order odds words n
 
-pub heard_was_pushed : (odds : Odds) (words : List ℕ) (pushed : List (List ℕ)) → All (Contains pushed) (heard odds words pushed)
-unfolding heard
+pub heard_was_pushed : (odds : Odds) (words : List ℕ) (pushed : List (List ℕ)) → All (Contains pushed) (heard_list odds words pushed)
+unfolding heard_list
 heard_was_pushed odds words pushed =
     All-map (Contains pushed) (λ place. slice_index_or pushed place []) (heard_places odds words (length pushed)) (λ k d l. Contains-get_or pushed _ [] (places_below odds words (length pushed) k d l))
 
@@ -266,8 +266,8 @@ places_clear words n =
     ∙ append-nil (flat_map (due_at clear words n) (range_with_len 0 n))
     ∙ flat_self (due_at clear words n) 0 n (λ number low high. due_alone words n number (omega arith))
 
-pub clear_ether : (words : List ℕ) (pushed : List (List ℕ)) → heard (record { loss = 0; again = 0; late = 0 }) words pushed ≡ pushed
-unfolding heard
+pub clear_ether : (words : List ℕ) (pushed : List (List ℕ)) → heard_list (record { loss = 0; again = 0; late = 0 }) words pushed ≡ pushed
+unfolding heard_list
 clear_ether words pushed =
     let read : ℕ → List ℕ = λ place. slice_index_or pushed place [] in
     ap (map read) (places_clear words (length pushed))

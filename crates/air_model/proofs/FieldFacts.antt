@@ -23,13 +23,13 @@ pub record Fields : Type 0 where
   pub value : ℕ
   pub entries : List ℕ
 
-abbrev pub made : ℕ → ℕ → ℕ → ℕ → ℕ → ℕ → ℕ → List ℕ → Fields
-made kind edition count cycle slot item value entries =
+abbrev pub fields_with : ℕ → ℕ → ℕ → ℕ → ℕ → ℕ → ℕ → List ℕ → Fields
+fields_with kind edition count cycle slot item value entries =
     record { kind = kind; edition = edition; count = count; cycle = cycle; slot = slot; item = item; value = value; entries = entries }
 
 -- Fields alike are the same.
 pub same_fields : (a a2 b b2 c c2 d d2 e e2 g g2 h h2 : ℕ) (l l2 : List ℕ) → a ≡ a2 → b ≡ b2 → c ≡ c2 → d ≡ d2 → e ≡ e2 → g ≡ g2 → h ≡ h2 → l ≡ l2
-    → made a b c d e g h l ≡ made a2 b2 c2 d2 e2 g2 h2 l2
+    → fields_with a b c d e g h l ≡ fields_with a2 b2 c2 d2 e2 g2 h2 l2
 same_fields a a2 b b2 c c2 d d2 e e2 g g2 h h2 l l2 p1 p2 p3 p4 p5 p6 p7 p8 = rw (p1, p2, p3, p4, p5, p6, p7, p8) refl
 
 -- The bytes before the entries.

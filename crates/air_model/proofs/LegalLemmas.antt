@@ -19,20 +19,20 @@ dropped (x ∷ us) zero u e = let same : x ≡ u = cc in ap (λ y. y ∷ us) sam
 dropped (x ∷ us) (suc n) u e = dropped us n u e
 
 -- How many commits of the updater there are.
-abbrev made : ℕ → List Event → ℕ
-made by H = length (made_by by H)
+abbrev number_made : ℕ → List Event → ℕ
+number_made by H = length (made_by by H)
 
 -- From place 0 on, each commit of the updater is its next, where n were made before.
 abbrev Follows : ℕ → List UpdateLists → ℕ → List Event → Type 0
-Follows by us n H = (p seq : ℕ) (u : UpdateLists) → slice_get H p ≡ Some (Commit by seq u) → (seq ≡ n + made by (take p H)) × (slice_get us seq ≡ Some u)
+Follows by us n H = (p seq : ℕ) (u : UpdateLists) → slice_get H p ≡ Some (Commit by seq u) → (seq ≡ n + number_made by (take p H)) × (slice_get us seq ≡ Some u)
 
-made_from : (by : ℕ) (us : List UpdateLists) (H : List Event) (n : ℕ) → Follows by us n H → made_by by H ≡ commits_from by n (take (made by H) (drop n us))
+made_from : (by : ℕ) (us : List UpdateLists) (H : List Event) (n : ℕ) → Follows by us n H → made_by by H ≡ commits_from by n (take (number_made by H) (drop n us))
 unfolding made_by commits_from is_by
 made_from by us [] n h = refl
 made_from by us (Start ∷ H) n h = made_from by us H n (λ p seq u e. h (suc p) seq u e)
 made_from by us (Commit who seq u ∷ H) n h = step (who == by) refl (λ m f. made_from by us H m f)
   where
-    step : (b : Bool) → (who == by) ≡ b → ((m : ℕ) → Follows by us m H → made_by by H ≡ commits_from by m (take (made by H) (drop m us))) →
+    step : (b : Bool) → (who == by) ≡ b → ((m : ℕ) → Follows by us m H → made_by by H ≡ commits_from by m (take (number_made by H) (drop m us))) →
         cond b (Commit who seq u ∷ made_by by H) (made_by by H) ≡ commits_from by n (take (length (cond b (Commit who seq u ∷ made_by by H) (made_by by H))) (drop n us))
     step true t rest =
         let same : who ≡ by = eqb-true who by t in
@@ -42,16 +42,16 @@ made_from by us (Commit who seq u ∷ H) n h = step (who == by) refl (λ m f. ma
         ap (λ w. Commit w seq u ∷ made_by by H) same ∙ ap (λ k. Commit by k u ∷ made_by by H) number
         ∙ ap (λ l. Commit by n u ∷ l) (rest (suc n) (λ p k v e.
         let both = h (suc p) k v e in
-        let count : made by (take (suc p) (Commit who seq u ∷ H)) ≡ length (Commit who seq u ∷ made_by by (take p H)) = ap (λ b. length (cond b (Commit who seq u ∷ made_by by (take p H)) (made_by by (take p H)))) t in
+        let count : number_made by (take (suc p) (Commit who seq u ∷ H)) ≡ length (Commit who seq u ∷ made_by by (take p H)) = ap (λ b. length (cond b (Commit who seq u ∷ made_by by (take p H)) (made_by by (take p H)))) t in
         (omega (arith, both.0, count), both.1)))
-        ∙ ap (λ l. commits_from by n (take (suc (made by H)) l)) (sym (dropped us n u given))
+        ∙ ap (λ l. commits_from by n (take (suc (number_made by H)) l)) (sym (dropped us n u given))
     step false f rest = rest n (λ p k v e.
         let both = h (suc p) k v e in
-        let count : made by (take (suc p) (Commit who seq u ∷ H)) ≡ made by (take p H) = ap (λ b. length (cond b (Commit who seq u ∷ made_by by (take p H)) (made_by by (take p H)))) f in
+        let count : number_made by (take (suc p) (Commit who seq u ∷ H)) ≡ number_made by (take p H) = ap (λ b. length (cond b (Commit who seq u ∷ made_by by (take p H)) (made_by by (take p H)))) f in
         (omega (arith, both.0, count), both.1))
 
 -- The commit at a place is that of its number among its updater's.
-at_made : (by : ℕ) (H : List Event) (p : ℕ) (e : Event) → slice_get H p ≡ Some e → is_by by e ≡ true → slice_get (made_by by H) (made by (take p H)) ≡ Some e
+at_made : (by : ℕ) (H : List Event) (p : ℕ) (e : Event) → slice_get H p ≡ Some e → is_by by e ≡ true → slice_get (made_by by H) (number_made by (take p H)) ≡ Some e
 unfolding made_by
 at_made by [] p e s t = cc
 at_made by (x ∷ H) zero e s t =
@@ -59,7 +59,7 @@ at_made by (x ∷ H) zero e s t =
     ap (λ b. slice_get (cond b (x ∷ made_by by H) (made_by by H)) 0) (ap (is_by by) same ∙ t) ∙ ap Some same
 at_made by (x ∷ H) (suc p) e s t = step (is_by by x) refl (at_made by H p e s t)
   where
-    step : (b : Bool) → is_by by x ≡ b → slice_get (made_by by H) (made by (take p H)) ≡ Some e →
+    step : (b : Bool) → is_by by x ≡ b → slice_get (made_by by H) (number_made by (take p H)) ≡ Some e →
         slice_get (cond b (x ∷ made_by by H) (made_by by H)) (length (cond b (x ∷ made_by by (take p H)) (made_by by (take p H)))) ≡ Some e
     step true _ rest = rest
     step false _ rest = rest
@@ -80,7 +80,7 @@ in_take (suc c) [] n u e = cc
 in_take (suc c) (x ∷ us) zero u e = e
 in_take (suc c) (x ∷ us) (suc n) u e = in_take c us n u e
 
-count_of_made : (by : ℕ) (H : List Event) → made by H ≡ count_made by H
+count_of_made : (by : ℕ) (H : List Event) → number_made by H ≡ count_made by H
 unfolding made_by
 count_of_made by H = length-filter (is_by by) H
 
@@ -93,7 +93,7 @@ legal_made deck H h by = made_from by (updates_by deck by) H 0 (λ p seq u e.
 made_legal : (deck : Deck) (H : List Event) → ((by : ℕ) → made_by by H ≡ commits_from by 0 (take (count_made by H) (updates_by deck by))) → IsLegal deck H
 unfolding is_by
 made_legal deck H h p by seq u e =
-    let n = made by (take p H) in
+    let n = number_made by (take p H) in
     let us = take (count_made by H) (updates_by deck by) in
     let there : slice_get (made_by by H) n ≡ Some (Commit by seq u) = at_made by H p (Commit by seq u) e (eq-eqb by by refl) in
     let is : (seq ≡ 0 + n) × (slice_get us n ≡ Some u) = commits_at by 0 us n by seq u (subst (λ l. slice_get l n ≡ Some (Commit by seq u)) (h by) there) in

@@ -6,14 +6,14 @@ use Rattle.air_base.specs.declared.verdicts.Policy.TheVariants.{FMatrix, Datacyc
 use Rattle.air_base.specs.declared.verdicts.VerdictKind.TheVariants.{Accept, Abort, Unfinished}
 use Rattle.air_history.specs.Clashes.{clash_by_entries, is_late, least}
 use Rattle.air_history.specs.Columns.{scheme_of, column_entry}
-use Rattle.air_history.specs.Consistency.{alone, consistent, descends_from, last_alone, picked, runs_alone}
+use Rattle.air_history.specs.Consistency.{alone, consistent, descends_from, last_alone, picked_events, runs_alone}
 use Rattle.air_history.specs.Descents.{descends, descends_in}
 use Rattle.air_history.specs.Histories.{cycle_at, front, is_start, reads, starts, writer, writer_before, writes}
 use Rattle.air_history.specs.Places.{greatest, last_place}
 use Rattle.air_history.specs.Reads.{origin, stale}
-use Rattle.air_history.specs.Tables.{BasesRead, based, table, value_after, write_of}
+use Rattle.air_history.specs.Tables.{BasesRead, table, value_after, value_on_base, write_of}
 use Rattle.air_model.specs.Buckets.{Column}
-use Rattle.air_model.specs.Copies.{keep, with_copy, without}
+use Rattle.air_model.specs.Copies.{keep, with_copy, without_item}
 use Rattle.air_model.specs.Decks.{Deck, event_of, script_history, values_in}
 use Rattle.air_model.specs.Disks.{cut, order, order_with}
 use Rattle.air_model.specs.Programs.{chunk, chunk_len, least_common_multiple, minor_cycle, num_chunks, num_minors, program}
@@ -27,7 +27,7 @@ use Rattle.air_model.proofs.AiredLemmas.{aired}
 use Rattle.air_model.proofs.NameLemmas.{names}
 use Rattle.air_model.proofs.ReceiverLemmas.{receiver}
 use Rattle.air_model.proofs.RelationExamples.{pair_is_deck}
-use Rattle.air_model.proofs.SessionExamples.{all_of, chained, line, pair, read, s, swapped, u}
+use Rattle.air_model.proofs.SessionExamples.{all_of, chained_deck, line, pair, read, s, swapped_deck, u}
 
 -- The script's history aired all of its own buckets.
 pub own_buckets_aired : IsAired (values_in pair) (air_of pair) (script_history pair) (all_of pair)
@@ -40,35 +40,35 @@ pub true_session : IsTrueSession pair (script_history pair) 0 (all_of pair)
 true_session = receiver pair (script_history pair) 0 (all_of pair) pair_is_deck (omega arith) own_buckets_aired
 
 -- Its one line accepts the query.
-abbrev accepted : Line
-accepted = line 0 1 Accept (read 0 1 10 ∷ read 1 1 20 ∷ [])
+abbrev accept_line : Line
+accept_line = line 0 1 Accept (read 0 1 10 ∷ read 1 1 20 ∷ [])
 
-one_line : (session_of (by_entries (scheme_of FMatrix)) pair 0 (all_of pair)).lines ≡ accepted ∷ []
-unfolding column_entry front greatest starts is_start table event_of script_history cut order order_with chunk chunk_len least_common_multiple minor_cycle num_chunks num_minors program chunks_of disk_number pix_number body_fits body_of bucket_of buckets_of fits by_entries clash_by_entries is_late least keep with_copy without abort accept_if_whole copy_of count_copied count_dozed count_foreign count_late count_opened count_refused decide drop_copy end end_query hear hear_all hear_read hold is_unusable line_of next_attempt next_query offer open_bucket query_of session settle turn turn_with wanted with_line
+one_line : (session_of (by_entries (scheme_of FMatrix)) pair 0 (all_of pair)).lines ≡ accept_line ∷ []
+unfolding column_entry front greatest starts is_start table event_of script_history cut order order_with chunk chunk_len least_common_multiple minor_cycle num_chunks num_minors program chunks_of disk_number pix_number body_fits body_of bucket_of buckets_of fits by_entries clash_by_entries is_late least keep with_copy without_item abort accept_if_whole copy_of count_copied count_dozed count_foreign count_late count_opened count_refused decide drop_copy end end_query hear hear_all hear_read hold is_unusable line_of next_attempt next_query offer open_bucket query_of session settle turn turn_with wanted with_line
 one_line = refl
 
 -- What the session's lines keep, that line keeps: it is sound, the reader's own, and exact.
-kept : (P : Line → Type 0) → All P ((session_of (by_entries (scheme_of FMatrix)) pair 0 (all_of pair)).lines) → P accepted
-kept P h = subst (All P) one_line h 0 accepted (omega arith)
+kept : (P : Line → Type 0) → All P ((session_of (by_entries (scheme_of FMatrix)) pair 0 (all_of pair)).lines) → P accept_line
+kept P h = subst (All P) one_line h 0 accept_line (omega arith)
 
-pub sound_line : IsSoundLine (values_in pair) FMatrix (script_history pair) accepted
+pub sound_line : IsSoundLine (values_in pair) FMatrix (script_history pair) accept_line
 sound_line = kept (IsSoundLine (values_in pair) FMatrix (script_history pair)) true_session.sound
 
-pub own_line : IsOfReader (reader_of pair 0) accepted
+pub own_line : IsOfReader (reader_of pair 0) accept_line
 own_line = kept (IsOfReader (reader_of pair 0)) true_session.own
 
-pub exact_line : IsExactLine (script_history pair) (reader_of pair 0) accepted
+pub exact_line : IsExactLine (script_history pair) (reader_of pair 0) accept_line
 exact_line = kept (IsExactLine (script_history pair) (reader_of pair 0)) (true_session.exact refl)
 
 -- ---- lines that aren't so
 
 -- The chain's history, in which item 0 of cycle 1 and item 1 of cycle 2 aren't consistent.
 abbrev chain : Deck
-chain = chained 1 (s ∷ u ∷ u ∷ u ∷ s ∷ [])
+chain = chained_deck 1 (s ∷ u ∷ u ∷ u ∷ s ∷ [])
 
 -- A history in which the reads of item 0 of cycle 1 and item 1 of cycle 2 are consistent and share no cycle.
 abbrev apart : Deck
-apart = swapped (s ∷ u ∷ u ∷ s ∷ [])
+apart = swapped_deck (s ∷ u ∷ u ∷ s ∷ [])
 
 pub record NoLines : Type 0 where
   -- reads that aren't consistent are neither accepted nor unfinished
@@ -87,7 +87,7 @@ pub record NoLines : Type 0 where
   wrong_value : IsSoundLine (values_in pair) FMatrix (script_history pair) (line 0 1 Accept (read 0 1 10 ∷ read 1 1 21 ∷ [])) → ⊥
 
 pub no_lines : NoLines
-unfolding script_history event_of consistent alone picked last_alone runs_alone descends_from origin stale writer writer_before last_place writes descends descends_in reads front cycle_at is_start starts table value_after write_of based BasesRead
+unfolding script_history event_of consistent alone picked_events last_alone runs_alone descends_from origin stale writer writer_before last_place writes descends descends_in reads front cycle_at is_start starts table value_after write_of value_on_base BasesRead
 no_lines = record {
   accepted_not_consistent = λ h. let e : false ≡ true = (h.accepted.0 refl).1 in false≢true e;
   unfinished_not_consistent = λ h. let e : false ≡ true = (h.unfinished.0 refl).0 in false≢true e;
@@ -100,7 +100,7 @@ no_lines = record {
 }
 
 -- A line that stands before those of a state.
-lines_after : (after (accepted ∷ []) (record start { lines = line 1 1 Unfinished [] ∷ [] })).lines ≡ accepted ∷ line 1 1 Unfinished [] ∷ []
+lines_after : (after (accept_line ∷ []) (record start { lines = line 1 1 Unfinished [] ∷ [] })).lines ≡ accept_line ∷ line 1 1 Unfinished [] ∷ []
 lines_after = refl
 
 -- Attempts 0 and 2 aren't the reader's, which has one try.

@@ -13,7 +13,7 @@ use Rattle.air_base.specs.declared.verdicts.VerdictKind.TheVariants.{Accept, Abo
 use Rattle.air_history.specs.Clashes.{is_late}
 use Rattle.air_model.specs.Buckets.{Bucket}
 use Rattle.air_model.specs.Reads.{Read}
-use Rattle.air_model.specs.Copies.{keep, without, with_copy}
+use Rattle.air_model.specs.Copies.{keep, without_item, with_copy}
 use Rattle.air_model.specs.Aired.{Air, fits}
 use Rattle.air_model.specs.Judges.{Judge, place_of}
 use Rattle.air_model.specs.Sessions.{Reader, Line, State, start, read_in, is_wanted, query_of, wanted, comes_late, next_query, next_attempt, copy_of, drop_copy, offer, line_of, with_line, count_copied, count_opened, count_dozed, count_late, count_refused, count_foreign, accept_if_whole, hold, abort, is_unusable, turn_with, turn, settle, decide, open_bucket, hear_read, hear, hear_all, end_query, end, session}
@@ -101,12 +101,12 @@ module _ (judge : Judge) (air : Air) (reader : Reader) (Q : Read → Type 0) (K 
       (λ f. next_query_good _ g.copies (All-push L s.lines _ g.lines (rules.accepted s.query s.attempt (s.held ++ x ∷ []) more (omega (arith, length_push s.held x)) (none_from _ f))))
 
   abort_good : (x : Read) (i : Clash) (s : State) → Good reader Q K L s → Q x → wanted reader s ≡ Some x.item → comes_late air s x ≡ false → judge.clash s.held x ≡ Some i → Good reader Q K L (abort judge air reader x i.item s)
-  unfolding abort with_line drop_copy without wanted query_of
+  unfolding abort with_line drop_copy without_item wanted query_of
   abort_good x i s g qx w late some = next_attempt_good _ g.held (All-filter _ Q s.copies g.copies)
       (All-push L s.lines _ g.lines (rules.aborted s.query s.attempt s.held x i g.held qx (record { wanted = w; in_time = late }) some))
 
   turn_with_good : (o : Option Read) (s : State) → Good reader Q K L s → IfSome o (λ x. Q x × (wanted reader s ≡ Some x.item)) → Good reader Q K L (turn_with judge air reader o s)
-  unfolding turn_with is_unusable drop_copy without count_copied wanted query_of
+  unfolding turn_with is_unusable drop_copy without_item count_copied wanted query_of
   turn_with_good None s g h = g
   turn_with_good (Some x) s g h = cond_keeps (Good reader Q K L) (nat_lt reader.plan.age (s.now - x.cycle) || comes_late air s x || is_some (judge.clash s.held x)) _ _
       (λ _. record { held = g.held; copies = All-filter _ Q s.copies g.copies; lines = g.lines; unread = g.unread })

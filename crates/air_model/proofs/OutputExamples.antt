@@ -9,15 +9,15 @@ use Rattle.air_history.specs.Places.{last_place, greatest}
 use Rattle.air_history.specs.Histories.{cycle_at, front, starts, writer, writer_before, writes, reads, is_start}
 use Rattle.air_history.specs.Descents.{descends, descends_in}
 use Rattle.air_history.specs.Columns.{column_entry, vector_entry}
-use Rattle.air_history.specs.Tables.{based, write_of, value_after, table}
+use Rattle.air_history.specs.Tables.{value_on_base, write_of, value_after, table}
 use Rattle.air_history.specs.Reads.{origin, stale}
 use Rattle.air_history.specs.Consistency.{descends_from, runs_alone, last_alone, consistent}
 use Rattle.air_history.specs.Clashes.{least, is_late, clash_by_history, clash_by_entries}
 use Rattle.air_model.specs.Buckets.{Column, body_at, bucket_at, count_of, entries_at, entries_of, entry_count, is_placed, is_shaped, item_of, kind_of, reading, spelling, value_of}
 use Rattle.air_model.specs.Tapes.{record_bytes, tape_of}
 use Rattle.air_model.specs.Draws.{words_by}
-use Rattle.air_model.specs.Ethers.{due_at, due_number, heard, heard_by, heard_places, places_due, times_heard}
-use Rattle.air_model.specs.Copies.{keep, without, with_copy}
+use Rattle.air_model.specs.Ethers.{due_at, due_number, heard_by, heard_list, heard_places, places_due, times_heard}
+use Rattle.air_model.specs.Copies.{keep, without_item, with_copy}
 use Rattle.air_model.specs.Disks.{order, order_with, cut}
 use Rattle.air_model.specs.Programs.{program, least_common_multiple, num_minors, num_chunks, chunk_len, chunk, minor_cycle, minor_len}
 use Rattle.air_model.specs.Airings.{disk_number, chunks_of, gap_of, next_wake, pix_number}
@@ -29,7 +29,7 @@ use Rattle.air_model.specs.Sessions.{session, query_of, wanted, line_of, with_li
 use Rattle.air_model.specs.Rows.{rows_text}
 use Rattle.air_model.specs.Reports.{AirFault, DeckFault, PlanTooLong, ReadFault, ReportFault, TapeCut, TooLarge, TooLong, TooMuch, Words, fault_line, report_text, total_at}
 use Rattle.air_model.specs.Outputs.{cast_output, plan_output, run_output, run_tape, script_output, script_tape, true_sessions, tune_output}
-use Rattle.air_model.proofs.SessionExamples.{chained, judged_by, pair, s, set_to, swapped, u, update}
+use Rattle.air_model.proofs.SessionExamples.{chained_deck, judged_by, pair, s, set_to, swapped_deck, u, update}
 
 -- The deck with this seed and these odds.
 abbrev through : ℕ → ℕ → ℕ → ℕ → Deck → Deck
@@ -49,7 +49,7 @@ two_readers first second = record pair { readers = record { room = 0; age = 0; t
 
 -- The chain's deck with two readers of one query, the first of one try and the second of two.
 abbrev two_plans : Deck
-two_plans = record (chained 1 (s ∷ u ∷ u ∷ u ∷ s ∷ [])) {
+two_plans = record (chained_deck 1 (s ∷ u ∷ u ∷ u ∷ s ∷ [])) {
   readers = record { room = 0; age = 0; tries = 1 } ∷ record { room = 0; age = 0; tries = 2 } ∷ [];
   queries = ((0 ∷ 1 ∷ []) ∷ []) ∷ ((0 ∷ 1 ∷ []) ∷ []) ∷ [];
 }
@@ -73,7 +73,7 @@ raised_first = Commit 0 0 (record { reads = []; writes = set_to 0 11 ∷ [] }) �
 pub record Printed : Type 0 where
   script : script_output pair ≡ codes "start\naccept,0,0,1,0@1=10 1@1=20\ncounts,0,2,0,0,0,0,0\n"
   tape : script_tape pair ≡ 0 ∷ 0 ∷ 0 ∷ 32 ∷ first ++ 0 ∷ 0 ∷ 0 ∷ 32 ∷ second
-  abort : script_output (judged_by Datacycle (swapped (s ∷ u ∷ u ∷ s ∷ [])))
+  abort : script_output (judged_by Datacycle (swapped_deck (s ∷ u ∷ u ∷ s ∷ [])))
       ≡ codes "start\ncommit,0,0\ncommit,0,1\nstart\nabort,0,0,1,0@1=10,1@2,0\ncounts,0,2,2,0,0,0,0\n"
   all_lost : script_output (through 0 100 0 0 pair) ≡ codes "start\nunfinished,0,0,1,\ncounts,0,0,0,0,0,0,0\n"
   heard_twice : script_output (through 0 0 100 0 pair) ≡ codes "start\naccept,0,0,1,0@1=10 1@1=20\ncounts,0,2,2,0,0,0,0\n"
@@ -122,7 +122,7 @@ pub record Printed : Type 0 where
 
 -- And it is.
 pub printed : Printed
-unfolding number_text escaped fields_text is_blank last_place greatest cycle_at front starts writer writer_before writes reads is_start descends descends_in column_entry vector_entry based write_of value_after table origin stale descends_from runs_alone last_alone consistent least is_late clash_by_history clash_by_entries body_at bucket_at count_of entries_at entries_of entry_count is_placed is_shaped item_of kind_of reading spelling value_of record_bytes tape_of words_by due_at due_number heard heard_by heard_places places_due times_heard keep without with_copy order order_with cut program least_common_multiple num_minors num_chunks chunk_len chunk minor_cycle minor_len disk_number chunks_of gap_of next_wake pix_number plan_rows plan_text event_of script_history body_of bucket_of buckets_of body_fits fits by_history by_entries session query_of wanted line_of with_line count_copied count_opened count_dozed count_late count_refused count_foreign next_query next_attempt accept_if_whole hold abort is_unusable drop_copy copy_of turn_with turn settle decide offer open_bucket hear_read hear hear_all end_query end rows_text report_text true_sessions total_at
+unfolding number_text escaped fields_text is_blank last_place greatest cycle_at front starts writer writer_before writes reads is_start descends descends_in column_entry vector_entry value_on_base write_of value_after table origin stale descends_from runs_alone last_alone consistent least is_late clash_by_history clash_by_entries body_at bucket_at count_of entries_at entries_of entry_count is_placed is_shaped item_of kind_of reading spelling value_of record_bytes tape_of words_by due_at due_number heard_list heard_by heard_places places_due times_heard keep without_item with_copy order order_with cut program least_common_multiple num_minors num_chunks chunk_len chunk minor_cycle minor_len disk_number chunks_of gap_of next_wake pix_number plan_rows plan_text event_of script_history body_of bucket_of buckets_of body_fits fits by_history by_entries session query_of wanted line_of with_line count_copied count_opened count_dozed count_late count_refused count_foreign next_query next_attempt accept_if_whole hold abort is_unusable drop_copy copy_of turn_with turn settle decide offer open_bucket hear_read hear hear_all end_query end rows_text report_text true_sessions total_at
 printed = record {
   script = refl;
   tape = refl;

@@ -17,7 +17,7 @@ use Rattle.air_history.specs.declared.histories.Event.TheVariants.{Commit, Start
 use Rattle.air_history.specs.Histories.{cycle_at, front, starts, writer, writes_of}
 use Rattle.air_history.specs.Columns.{policy_entries, column_entry, vector_entry}
 use Rattle.history_laws.proofs.StaleLemmas.{cycle_of}
-use Rattle.air_history.specs.Tables.{based, put, table, value_after, values_of, write_of}
+use Rattle.air_history.specs.Tables.{table, value_after, value_after_write, value_on_base, values_of, write_of}
 use Rattle.air_history.specs.Reads.{read_value}
 use Rattle.air_history.proofs.PlaceLemmas.{greatest_below}
 use Rattle.air_history.proofs.HistoryLemmas.{front_cycle, front_cycle_same, front_prefix, writer_before_some}
@@ -75,20 +75,20 @@ unfolding write_of writes_of
 write_fits (Commit by seq u) i h = find_has (λ w. w.amount < 2 ^ 64) (λ w. w.item == i) u.writes h
 write_fits Start i h = tt
 
-based_below : (V : ℕ → ℕ) (o : Option ℕ) (minus : Bool) (amount : ℕ) → amount < 2 ^ 64 → based V o minus amount < 2 ^ 64
-unfolding based
-based_below V None minus amount l = l
-based_below V (Some b) true amount l = mod_below (V b + (2 ^ 64 - amount)) (2 ^ 64) (omega arith)
-based_below V (Some b) false amount l = mod_below (V b + amount) (2 ^ 64) (omega arith)
+on_base_below : (V : ℕ → ℕ) (o : Option ℕ) (minus : Bool) (amount : ℕ) → amount < 2 ^ 64 → value_on_base V o minus amount < 2 ^ 64
+unfolding value_on_base
+on_base_below V None minus amount l = l
+on_base_below V (Some b) true amount l = mod_below (V b + (2 ^ 64 - amount)) (2 ^ 64) (omega arith)
+on_base_below V (Some b) false amount l = mod_below (V b + amount) (2 ^ 64) (omega arith)
 
 table_below : (V : ℕ → ℕ) → ((i : ℕ) → V i < 2 ^ 64) → (G : List Event) → All AmountsFit G → (i : ℕ) → table V G i < 2 ^ 64
 unfolding table value_after
 table_below V low [] h i = low i
 table_below V low (e ∷ G) h i = table_below (value_after V e) (λ i. by i (write_of e i) (write_fits e i (All-head AmountsFit e G h))) G (All-tail AmountsFit e G h) i
   where
-    by : (i : ℕ) (o : Option Write) → IfSome o (λ w. w.amount < 2 ^ 64) → put V i o < 2 ^ 64
+    by : (i : ℕ) (o : Option Write) → IfSome o (λ w. w.amount < 2 ^ 64) → value_after_write V i o < 2 ^ 64
     by i None h = low i
-    by i (Some w) h = based_below V w.base w.minus w.amount h
+    by i (Some w) h = on_base_below V w.base w.minus w.amount h
 
 amounts_fit : (deck : Deck) (H : List Event) → IsDeck deck → IsLegal deck H → All AmountsFit H
 unfolding writes_of

@@ -29,7 +29,7 @@ use Rattle.air_model.proofs.BucketExamples.{first_bytes}
 use Rattle.air_model.proofs.DeckLemmas.{air}
 use Rattle.air_model.proofs.ScriptLemmas.{script}
 use Rattle.air_model.proofs.ReceiverLemmas.{receiver}
-use Rattle.air_model.proofs.SessionExamples.{pair, s, swapped, u}
+use Rattle.air_model.proofs.SessionExamples.{pair, s, swapped_deck, u}
 use Rattle.air_model.proofs.TapeExamples.{both}
 
 -- ---- decks and their histories
@@ -55,33 +55,33 @@ pair_is_deck = record {
 }
 
 -- Two items that change between two cycles, which are all that its settings ask for.
-abbrev turned : Deck
-turned = record (swapped (s ∷ u ∷ u ∷ s ∷ [])) { settings = record ((swapped []).settings) { cycles = 2 } }
+abbrev turned_deck : Deck
+turned_deck = record (swapped_deck (s ∷ u ∷ u ∷ s ∷ [])) { settings = record ((swapped_deck []).settings) { cycles = 2 } }
 
 -- Updater 0 is no other one.
 no_other : (by : ℕ) → (0 == suc by) ≡ false
 no_other by = grind arith
 
 -- Its script commits just what its updater has.
-turned_fits : ScriptFits turned
+turned_fits : ScriptFits turned_deck
 turned_fits zero = omega arith
 turned_fits (suc by) = rw no_other (omega arith)
 
 -- So its script's history is legal, and whole.
-pub turned_is_whole : IsWhole turned (script_history turned)
+pub turned_is_whole : IsWhole turned_deck (script_history turned_deck)
 unfolding script_history event_of is_by starts is_start
 turned_is_whole = record {
-  legal = script turned turned_fits;
+  legal = script turned_deck turned_fits;
   all = by_updater;
   cycles = refl;
 }
   where
-    by_updater : (by : ℕ) → count_made by (script_history turned) ≡ length (updates_by turned by)
+    by_updater : (by : ℕ) → count_made by (script_history turned_deck) ≡ length (updates_by turned_deck by)
     by_updater zero = refl
     by_updater (suc by) = rw no_other refl
 
 -- The updater's commits are of its updates in order.
-pub made_in_order : made_by 0 (script_history turned) ≡ commits_from 0 0 (updates_by turned 0)
+pub made_in_order : made_by 0 (script_history turned_deck) ≡ commits_from 0 0 (updates_by turned_deck 0)
 unfolding script_history event_of is_by made_by commits_from
 made_in_order = refl
 
@@ -97,11 +97,11 @@ is_update = record {
   amounts = All-from_recursion (λ w. w.amount < 2 ^ 64) second_update.writes (omega arith, tt);
 }
 
-next : IsNext turned (take 2 (script_history turned)) 0 1 second_update
+next : IsNext turned_deck (take 2 (script_history turned_deck)) 0 1 second_update
 unfolding script_history event_of is_by
 next = record { number = refl; given = refl }
 
-not_at_once : IsNext turned [] 0 1 second_update → ⊥
+not_at_once : IsNext turned_deck [] 0 1 second_update → ⊥
 unfolding is_by
 not_at_once h = absurd (let one : 1 ≡ 0 = h.number in omega arith)
 

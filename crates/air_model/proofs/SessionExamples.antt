@@ -13,12 +13,12 @@ use Rattle.air_history.specs.Places.{last_place, greatest}
 use Rattle.air_history.specs.Histories.{cycle_at, front, starts, writer, writer_before, writes, reads, is_start}
 use Rattle.air_history.specs.Descents.{descends, descends_in}
 use Rattle.air_history.specs.Columns.{scheme_of, column_entry, vector_entry}
-use Rattle.air_history.specs.Tables.{based, write_of, value_after, table}
+use Rattle.air_history.specs.Tables.{value_on_base, write_of, value_after, table}
 use Rattle.air_history.specs.Reads.{origin, stale}
 use Rattle.air_history.specs.Consistency.{descends_from, runs_alone, last_alone, consistent}
 use Rattle.air_history.specs.Clashes.{least, is_late, clash_by_history, clash_by_entries}
 use Rattle.air_model.specs.Buckets.{Bucket, Body, Column, Vector}
-use Rattle.air_model.specs.Copies.{keep, without, with_copy}
+use Rattle.air_model.specs.Copies.{keep, without_item, with_copy}
 use Rattle.air_model.specs.Disks.{order, order_with, cut}
 use Rattle.air_model.specs.Programs.{program, least_common_multiple, num_minors, num_chunks, chunk_len, chunk, minor_cycle}
 use Rattle.air_model.specs.Airings.{disk_number, chunks_of, pix_number}
@@ -74,21 +74,21 @@ abbrev pub pair : Deck
 pair = deck (item 10 1 ∷ item 20 1 ∷ []) [] (0, 0, 1) ((0 ∷ 1 ∷ []) ∷ []) (s ∷ [])
 
 -- The second item is hotter, so the program airs 1, then 0; item 0 becomes 11, item 1 becomes 21.
-abbrev pub swapped : List (Option ℕ) → Deck
-swapped script = deck (item 10 1 ∷ item 20 2 ∷ []) (update [] (set_to 0 11 ∷ []) ∷ update [] (set_to 1 21 ∷ []) ∷ []) (0, 0, 1) ((0 ∷ 1 ∷ []) ∷ []) script
+abbrev pub swapped_deck : List (Option ℕ) → Deck
+swapped_deck script = deck (item 10 1 ∷ item 20 2 ∷ []) (update [] (set_to 0 11 ∷ []) ∷ update [] (set_to 1 21 ∷ []) ∷ []) (0, 0, 1) ((0 ∷ 1 ∷ []) ∷ []) script
 
 -- Item 0 becomes 11, item 2 that and 1, item 1 that and 1.
-abbrev pub chained : ℕ → List (Option ℕ) → Deck
-chained tries script = deck (item 10 2 ∷ item 20 3 ∷ item 30 1 ∷ [])
+abbrev pub chained_deck : ℕ → List (Option ℕ) → Deck
+chained_deck tries script = deck (item 10 2 ∷ item 20 3 ∷ item 30 1 ∷ [])
     (update [] (set_to 0 11 ∷ []) ∷ update (0 ∷ []) (add_to 2 0 1 ∷ []) ∷ update (2 ∷ []) (add_to 1 2 1 ∷ []) ∷ []) (0, 0, tries) ((0 ∷ 1 ∷ []) ∷ []) script
 
 -- Item 0 becomes 11, item 1 that and 5; the reader keeps copies.
-abbrev pub copied : List (Option ℕ) → Deck
-copied script = deck (item 10 1 ∷ item 20 2 ∷ []) (update [] (set_to 0 11 ∷ []) ∷ update (0 ∷ []) (add_to 1 0 5 ∷ []) ∷ []) (2, 9, 1) ((0 ∷ []) ∷ (1 ∷ 0 ∷ []) ∷ []) script
+abbrev pub copying_deck : List (Option ℕ) → Deck
+copying_deck script = deck (item 10 1 ∷ item 20 2 ∷ []) (update [] (set_to 0 11 ∷ []) ∷ update (0 ∷ []) (add_to 1 0 5 ∷ []) ∷ []) (2, 9, 1) ((0 ∷ []) ∷ (1 ∷ 0 ∷ []) ∷ []) script
 
 -- Three items of one rate, and room for one copy.
-abbrev crowded : Deck
-crowded = deck (item 10 1 ∷ item 20 1 ∷ item 30 1 ∷ []) [] (1, 9, 1) ((2 ∷ []) ∷ (1 ∷ []) ∷ (0 ∷ []) ∷ (0 ∷ 1 ∷ []) ∷ (0 ∷ []) ∷ []) (s ∷ s ∷ s ∷ [])
+abbrev crowded_deck : Deck
+crowded_deck = deck (item 10 1 ∷ item 20 1 ∷ item 30 1 ∷ []) [] (1, 9, 1) ((2 ∷ []) ∷ (1 ∷ []) ∷ (0 ∷ []) ∷ (0 ∷ 1 ∷ []) ∷ (0 ∷ []) ∷ []) (s ∷ s ∷ s ∷ [])
 
 -- ---- what is heard, and what comes of it
 
@@ -118,56 +118,56 @@ abbrev pub line : ℕ → ℕ → VerdictKind → List ReadOf → Line
 line q a kind reads = record { verdict = record { query = q; attempt = a; kind = kind }; reads = reads }
 
 -- The counts with these opened, dozed and copied.
-abbrev pub counted : ℕ → ℕ → ℕ → Counts
-counted opened dozed copied = record { opened = opened; dozed = dozed; late = 0; refused = 0; foreign = 0; copied = copied }
+abbrev pub counts_with : ℕ → ℕ → ℕ → Counts
+counts_with opened dozed copied = record { opened = opened; dozed = dozed; late = 0; refused = 0; foreign = 0; copied = copied }
 
 -- What the sessions come to.
 pub record Sessions : Type 0 where
-  accepts : by_both pair (all_of pair) (line 0 1 Accept (read 0 1 10 ∷ read 1 1 20 ∷ []) ∷ [], counted 2 0 0)
+  accepts : by_both pair (all_of pair) (line 0 1 Accept (read 0 1 10 ∷ read 1 1 20 ∷ []) ∷ [], counts_with 2 0 0)
   -- F-Matrix accepts reads of two cycles that no single cycle has; the other policies abort.
-  f_matrix_accepts : let d = swapped (s ∷ u ∷ u ∷ s ∷ []) in by_both d (all_of d) (line 0 1 Accept (read 0 1 10 ∷ read 1 2 21 ∷ []) ∷ [], counted 2 2 0)
-  datacycle_aborts : let d = judged_by Datacycle (swapped (s ∷ u ∷ u ∷ s ∷ [])) in by_both d (all_of d) (line 0 1 (Abort 1 2 0) (read 0 1 10 ∷ []) ∷ [], counted 2 2 0)
-  r_matrix_aborts : let d = judged_by RMatrix (swapped (s ∷ u ∷ u ∷ s ∷ [])) in by_both d (all_of d) (line 0 1 (Abort 1 2 0) (read 0 1 10 ∷ []) ∷ [], counted 2 2 0)
+  f_matrix_accepts : let d = swapped_deck (s ∷ u ∷ u ∷ s ∷ []) in by_both d (all_of d) (line 0 1 Accept (read 0 1 10 ∷ read 1 2 21 ∷ []) ∷ [], counts_with 2 2 0)
+  datacycle_aborts : let d = judged_by Datacycle (swapped_deck (s ∷ u ∷ u ∷ s ∷ [])) in by_both d (all_of d) (line 0 1 (Abort 1 2 0) (read 0 1 10 ∷ []) ∷ [], counts_with 2 2 0)
+  r_matrix_aborts : let d = judged_by RMatrix (swapped_deck (s ∷ u ∷ u ∷ s ∷ [])) in by_both d (all_of d) (line 0 1 (Abort 1 2 0) (read 0 1 10 ∷ []) ∷ [], counts_with 2 2 0)
   -- Without the second commit R-Matrix accepts by the first cycle; Datacycle aborts still.
-  r_matrix_accepts : let d = judged_by RMatrix (swapped (s ∷ u ∷ s ∷ [])) in by_both d (all_of d) (line 0 1 Accept (read 0 1 10 ∷ read 1 2 20 ∷ []) ∷ [], counted 2 2 0)
-  datacycle_aborts_on_stale_read : let d = judged_by Datacycle (swapped (s ∷ u ∷ s ∷ [])) in by_both d (all_of d) (line 0 1 (Abort 1 2 0) (read 0 1 10 ∷ []) ∷ [], counted 2 2 0)
+  r_matrix_accepts : let d = judged_by RMatrix (swapped_deck (s ∷ u ∷ s ∷ [])) in by_both d (all_of d) (line 0 1 Accept (read 0 1 10 ∷ read 1 2 20 ∷ []) ∷ [], counts_with 2 2 0)
+  datacycle_aborts_on_stale_read : let d = judged_by Datacycle (swapped_deck (s ∷ u ∷ s ∷ [])) in by_both d (all_of d) (line 0 1 (Abort 1 2 0) (read 0 1 10 ∷ []) ∷ [], counts_with 2 2 0)
   -- Item 1 descends from the write of item 0 through item 2.
-  chain_aborts : let d = chained 1 (s ∷ u ∷ u ∷ u ∷ s ∷ []) in by_both d (all_of d) (line 0 1 (Abort 1 2 0) (read 0 1 10 ∷ []) ∷ [], counted 2 4 0)
+  chain_aborts : let d = chained_deck 1 (s ∷ u ∷ u ∷ u ∷ s ∷ []) in by_both d (all_of d) (line 0 1 (Abort 1 2 0) (read 0 1 10 ∷ []) ∷ [], counts_with 2 4 0)
   -- Before the first start all commits are of cycle 0.
-  commits_before_the_first_cycle : let d = chained 1 (u ∷ u ∷ u ∷ s ∷ s ∷ []) in by_both d (all_of d) (line 0 1 Accept (read 0 1 11 ∷ read 1 2 13 ∷ []) ∷ [], counted 2 4 0)
+  commits_before_the_first_cycle : let d = chained_deck 1 (u ∷ u ∷ u ∷ s ∷ s ∷ []) in by_both d (all_of d) (line 0 1 Accept (read 0 1 11 ∷ read 1 2 13 ∷ []) ∷ [], counts_with 2 4 0)
   -- With a second try the query is accepted a cycle later.
-  tries_again : let d = chained 2 (s ∷ u ∷ u ∷ u ∷ s ∷ s ∷ []) in
-      by_both d (all_of d) (line 0 1 (Abort 1 2 0) (read 0 1 10 ∷ []) ∷ line 0 2 Accept (read 0 2 11 ∷ read 1 3 13 ∷ []) ∷ [], counted 4 5 0)
+  tries_again : let d = chained_deck 2 (s ∷ u ∷ u ∷ u ∷ s ∷ s ∷ []) in
+      by_both d (all_of d) (line 0 1 (Abort 1 2 0) (read 0 1 10 ∷ []) ∷ line 0 2 Accept (read 0 2 11 ∷ read 1 3 13 ∷ []) ∷ [], counts_with 4 5 0)
   -- The kept copy of item 0 clashes with the new item 1; it is dropped, and the air gives item 0 anew.
-  copy_dropped : let d = copied (s ∷ u ∷ u ∷ s ∷ []) in
-      by_both d (all_of d) (line 0 1 Accept (read 0 1 10 ∷ []) ∷ line 1 1 Accept (read 1 2 16 ∷ read 0 2 11 ∷ []) ∷ [], counted 3 1 0)
+  copy_dropped : let d = copying_deck (s ∷ u ∷ u ∷ s ∷ []) in
+      by_both d (all_of d) (line 0 1 Accept (read 0 1 10 ∷ []) ∷ line 1 1 Accept (read 1 2 16 ∷ read 0 2 11 ∷ []) ∷ [], counts_with 3 1 0)
   -- Without the commits the copy is used.
-  copy_used : let d = copied (s ∷ s ∷ []) in by_both d (all_of d) (line 0 1 Accept (read 0 1 10 ∷ []) ∷ line 1 1 Accept (read 1 2 20 ∷ read 0 1 10 ∷ []) ∷ [], counted 2 2 1)
+  copy_used : let d = copying_deck (s ∷ s ∷ []) in by_both d (all_of d) (line 0 1 Accept (read 0 1 10 ∷ []) ∷ line 1 1 Accept (read 1 2 20 ∷ read 0 1 10 ∷ []) ∷ [], counts_with 2 2 1)
   -- Room for one copy: placed, in place of item 2, in place of item 1, declined.
-  copies_compete : by_both crowded (all_of crowded) (
+  copies_compete : by_both crowded_deck (all_of crowded_deck) (
     line 0 1 Accept (read 2 1 30 ∷ []) ∷ line 1 1 Accept (read 1 2 20 ∷ []) ∷ line 2 1 Accept (read 0 3 10 ∷ []) ∷ line 3 1 Accept (read 0 3 10 ∷ read 1 3 20 ∷ [])
         ∷ line 4 1 Accept (read 0 3 10 ∷ []) ∷ [],
-    counted 4 5 2,
+    counts_with 4 5 2,
   )
   -- Where all is lost, and where each bucket comes twice.
-  nothing_heard : by_both pair [] (line 0 1 Unfinished [] ∷ [], counted 0 0 0)
-  heard_twice : by_both pair (flat_map (λ b. b ∷ b ∷ []) (all_of pair)) (line 0 1 Accept (read 0 1 10 ∷ read 1 1 20 ∷ []) ∷ [], counted 2 2 0)
+  nothing_heard : by_both pair [] (line 0 1 Unfinished [] ∷ [], counts_with 0 0 0)
+  heard_twice : by_both pair (flat_map (λ b. b ∷ b ∷ []) (all_of pair)) (line 0 1 Accept (read 0 1 10 ∷ read 1 1 20 ∷ []) ∷ [], counts_with 2 2 0)
   -- Bytes that are no bucket, and a bucket with too many entries, change their counts alone.
   refused_and_foreign : by_both pair (None ∷ None ∷ bucket 1 0 (Column 0 10 (0 ∷ 0 ∷ 0 ∷ [])) ∷ all_of pair)
       (line 0 1 Accept (read 0 1 10 ∷ read 1 1 20 ∷ []) ∷ [], record { opened = 2; dozed = 0; late = 0; refused = 2; foreign = 1; copied = 0 })
   -- Cycles may fall: under F-Matrix it is the entries that clash, and under R-Matrix the older read is late.
   cycles_fall : over (by_entries (scheme_of FMatrix)) pair (bucket 4 0 (Column 0 10 (0 ∷ 0 ∷ [])) ∷ bucket 2 1 (Column 1 20 (0 ∷ 0 ∷ [])) ∷ [])
-      ≡ (line 0 1 Accept (read 0 4 10 ∷ read 1 2 20 ∷ []) ∷ [], counted 2 0 0)
+      ≡ (line 0 1 Accept (read 0 4 10 ∷ read 1 2 20 ∷ []) ∷ [], counts_with 2 0 0)
   held_column_clashes : over (by_entries (scheme_of FMatrix)) pair (bucket 4 0 (Column 0 10 (3 ∷ 3 ∷ [])) ∷ bucket 2 1 (Column 1 20 (0 ∷ 0 ∷ [])) ∷ [])
-      ≡ (line 0 1 (Abort 1 2 0) (read 0 4 10 ∷ []) ∷ [], counted 2 0 0)
+      ≡ (line 0 1 (Abort 1 2 0) (read 0 4 10 ∷ []) ∷ [], counts_with 2 0 0)
   held_vector_clashes : over (by_entries (scheme_of Datacycle)) (judged_by Datacycle pair) (bucket 4 0 (Vector 0 10 (3 ∷ 3 ∷ [])) ∷ bucket 2 1 (Vector 1 20 (3 ∷ 3 ∷ [])) ∷ [])
-      ≡ (line 0 1 (Abort 1 2 0) (read 0 4 10 ∷ []) ∷ [], counted 2 0 0)
+      ≡ (line 0 1 (Abort 1 2 0) (read 0 4 10 ∷ []) ∷ [], counts_with 2 0 0)
   comes_late : over (by_entries (scheme_of RMatrix)) (judged_by RMatrix pair) (bucket 4 0 (Vector 0 10 (0 ∷ 0 ∷ [])) ∷ bucket 2 1 (Vector 1 20 (0 ∷ 0 ∷ [])) ∷ [])
       ≡ (line 0 1 Unfinished (read 0 4 10 ∷ []) ∷ [], record { opened = 1; dozed = 0; late = 1; refused = 0; foreign = 0; copied = 0 })
 
 -- And they do.
 pub sessions : Sessions
-unfolding last_place greatest cycle_at front starts writer writer_before writes reads is_start descends descends_in column_entry vector_entry based write_of value_after table origin stale descends_from runs_alone last_alone consistent least is_late clash_by_history clash_by_entries keep without with_copy order order_with cut program least_common_multiple num_minors num_chunks chunk_len chunk minor_cycle disk_number chunks_of pix_number event_of script_history body_of bucket_of buckets_of body_fits fits by_history by_entries session query_of wanted line_of with_line count_copied count_opened count_dozed count_late count_refused count_foreign next_query next_attempt accept_if_whole hold abort is_unusable drop_copy copy_of turn_with turn settle decide offer open_bucket hear_read hear hear_all end_query end
+unfolding last_place greatest cycle_at front starts writer writer_before writes reads is_start descends descends_in column_entry vector_entry value_on_base write_of value_after table origin stale descends_from runs_alone last_alone consistent least is_late clash_by_history clash_by_entries keep without_item with_copy order order_with cut program least_common_multiple num_minors num_chunks chunk_len chunk minor_cycle disk_number chunks_of pix_number event_of script_history body_of bucket_of buckets_of body_fits fits by_history by_entries session query_of wanted line_of with_line count_copied count_opened count_dozed count_late count_refused count_foreign next_query next_attempt accept_if_whole hold abort is_unusable drop_copy copy_of turn_with turn settle decide offer open_bucket hear_read hear hear_all end_query end
 sessions = record {
   accepts = (refl, refl);
   f_matrix_accepts = (refl, refl);

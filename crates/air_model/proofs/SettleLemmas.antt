@@ -8,7 +8,7 @@ use Rattle.std.proofs.lemmas.List.Sums.{sum_by-cons}
 use Rattle.std.proofs.lemmas.Bool.{eqb-true, cases_lt, cond-false}
 use Rattle.std.proofs.lemmas.List.{get_or_past, length_push}
 use Rattle.air_model.specs.Reads.{Read}
-use Rattle.air_model.specs.Copies.{without}
+use Rattle.air_model.specs.Copies.{without_item}
 use Rattle.air_model.specs.Aired.{Air}
 use Rattle.air_model.specs.Judges.{Judge}
 use Rattle.air_model.specs.Sessions.{Reader, State, wanted, query_of, copy_of, drop_copy, next_query, with_line, count_copied, accept_if_whole, hold, is_unusable, turn_with, turn, settle}
@@ -40,11 +40,11 @@ abbrev IsSettled : Reader → State → Type 0
 IsSettled reader s = copy_of (wanted reader s) s ≡ None
 
 -- The items that are left to read.
-abbrev left : Reader → State → ℕ
-left reader s = total (drop s.query reader.queries) - length s.held
+abbrev reads_left : Reader → State → ℕ
+reads_left reader s = total (drop s.query reader.queries) - length s.held
 
-find_without : (i : ℕ) (R : List Read) → find (λ r. r.item == i) (without i R) ≡ None
-unfolding without
+find_without : (i : ℕ) (R : List Read) → find (λ r. r.item == i) (without_item i R) ≡ None
+unfolding without_item
 find_without i [] = refl
 find_without i (r ∷ R) = by (r.item == i) refl (find_without i R)
   where
@@ -68,7 +68,7 @@ wanted_within reader s w =
 drop_settles : (s : State) (x : Read) (w : Option ℕ) → copy_of w s ≡ Some x → copy_of w (drop_copy x.item s) ≡ None
 unfolding copy_of drop_copy
 drop_settles s x None e = cc
-drop_settles s x (Some i) e = subst (λ k. find (λ r. r.item == i) (without k s.copies) ≡ None) (sym (found_item i s.copies x e)) (find_without i s.copies)
+drop_settles s x (Some i) e = subst (λ k. find (λ r. r.item == i) (without_item k s.copies) ≡ None) (sym (found_item i s.copies x e)) (find_without i s.copies)
 
 copy_wanted : (s : State) (x : Read) (w : Option ℕ) → copy_of w s ≡ Some x → is_some w ≡ true
 unfolding copy_of
@@ -96,25 +96,25 @@ module _ (judge : Judge) (air : Air) (reader : Reader) where
   iterate_settled (suc n) s e = ap (iterate (turn judge air reader) n) (turn_settled s e) ∙ iterate_settled n s e
 
   -- a read that is held leaves one item less
-  hold_left : (x : Read) (s : State) → is_some (wanted reader s) ≡ true → left reader (hold judge air reader x s) + 1 ≡ left reader s
+  hold_left : (x : Read) (s : State) → is_some (wanted reader s) ≡ true → reads_left reader (hold judge air reader x s) + 1 ≡ reads_left reader s
   unfolding hold accept_if_whole next_query with_line wanted query_of
   hold_left x s w =
       let has = wanted_within reader s w in
       let next = total_next reader.queries s.query has.0 in
       let more = length_push s.held x in
       let low = has.1 in
-      cond_keeps (λ t. left reader t + 1 ≡ left reader s) (is_some (slice_get (get_or reader.queries s.query []) (length (s.held ++ x ∷ [])))) _ _
+      cond_keeps (λ t. reads_left reader t + 1 ≡ reads_left reader s) (is_some (slice_get (get_or reader.queries s.query []) (length (s.held ++ x ∷ [])))) _ _
       (λ _. omega arith)
       (λ f. let whole = whole_query (get_or reader.queries s.query []) (length (s.held ++ x ∷ [])) (none_from _ f) in omega arith)
 
-  nothing_left : (s : State) → left reader s ≤ 0 → IsSettled reader s
+  nothing_left : (s : State) → reads_left reader s ≤ 0 → IsSettled reader s
   nothing_left s l = by (is_some (wanted reader s)) refl
     where
       by : (b : Bool) → is_some (wanted reader s) ≡ b → IsSettled reader s
       by true w = let has = wanted_within reader s w in let next = total_next reader.queries s.query has.0 in let low = has.1 in absurd (omega arith)
       by false f = ap (λ o. copy_of o s) (none_from (wanted reader s) f) ∙ copy_none s
 
-  used : (n : ℕ) (s : State) (x : Read) → copy_of (wanted reader s) s ≡ Some x → left reader s ≤ suc n → ((t : State) → left reader t ≤ n → IsSettled reader (iterate (turn judge air reader) n t)) →
+  used : (n : ℕ) (s : State) (x : Read) → copy_of (wanted reader s) s ≡ Some x → reads_left reader s ≤ suc n → ((t : State) → reads_left reader t ≤ n → IsSettled reader (iterate (turn judge air reader) n t)) →
       IsSettled reader (iterate (turn judge air reader) n (turn judge air reader s))
   unfolding turn turn_with drop_copy count_copied wanted query_of
   used n s x e l rest =
@@ -124,15 +124,15 @@ module _ (judge : Judge) (air : Air) (reader : Reader) where
       (cond_keeps (λ t. IsSettled reader (iterate (turn judge air reader) n t)) (is_unusable judge air reader x s) (drop_copy x.item s) (hold judge air reader x (count_copied s))
       (λ _. let gone : IsSettled reader (drop_copy x.item s) = drop_settles s x (wanted reader s) e in
       subst (IsSettled reader) (sym (iterate_settled n (drop_copy x.item s) gone)) gone)
-      (λ _. let less : left reader (hold judge air reader x (count_copied s)) + 1 ≡ left reader s = hold_left x (count_copied s) w in
+      (λ _. let less : reads_left reader (hold judge air reader x (count_copied s)) + 1 ≡ reads_left reader s = hold_left x (count_copied s) w in
       rest (hold judge air reader x (count_copied s)) (omega arith)))
 
   -- enough turns settle
-  settles : (n : ℕ) (s : State) → left reader s ≤ n → IsSettled reader (iterate (turn judge air reader) n s)
+  settles : (n : ℕ) (s : State) → reads_left reader s ≤ n → IsSettled reader (iterate (turn judge air reader) n s)
   settles zero s l = nothing_left s l
   settles (suc n) s l = by (copy_of (wanted reader s) s) refl (λ t m. settles n t m)
     where
-      by : (o : Option Read) → copy_of (wanted reader s) s ≡ o → ((t : State) → left reader t ≤ n → IsSettled reader (iterate (turn judge air reader) n t)) → IsSettled reader (iterate (turn judge air reader) n (turn judge air reader s))
+      by : (o : Option Read) → copy_of (wanted reader s) s ≡ o → ((t : State) → reads_left reader t ≤ n → IsSettled reader (iterate (turn judge air reader) n t)) → IsSettled reader (iterate (turn judge air reader) n (turn judge air reader s))
       by None e rest = subst (IsSettled reader) (sym (iterate_settled (suc n) s e)) e
       by (Some x) e rest = used n s x e l rest
 

@@ -17,8 +17,8 @@ unfoldable pub keep : ℕ → List ℕ → List Read → List Read
 keep room pix copies = filter (λ a. nat_lt (count_by (λ b. goes_before pix b a) copies) room) copies
 
 -- The copies of all other items.
-unfoldable pub without : ℕ → List Read → List Read
-without item copies = filter (λ r. not (r.item == item)) copies
+unfoldable pub without_item : ℕ → List Read → List Read
+without_item item copies = filter (λ r. not (r.item == item)) copies
 
 -- The copies with a new one in place of that of the same item: they stand by rising item number.
 unfoldable pub with_copy : Read → List Read → List Read

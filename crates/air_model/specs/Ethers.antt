@@ -42,9 +42,9 @@ unfoldable pub heard_places : Odds → List ℕ → ℕ → List ℕ
 heard_places odds words n = places_due odds words n (n + 8)
 
 -- The heard list of a pushed list.
-unfoldable pub heard : Odds → List ℕ → List (List ℕ) → List (List ℕ)
-heard odds words pushed = map (λ place. slice_index_or pushed place []) (heard_places odds words (length pushed))
+unfoldable pub heard_list : Odds → List ℕ → List (List ℕ) → List (List ℕ)
+heard_list odds words pushed = map (λ place. slice_index_or pushed place []) (heard_places odds words (length pushed))
 
 -- What the receiver of this number hears, by the words of its own stream.
 unfoldable pub heard_by : ℕ → ℕ → Odds → List (List ℕ) → List (List ℕ)
-heard_by seed number odds pushed = heard odds (words_of seed number (3 * length pushed)) pushed
+heard_by seed number odds pushed = heard_list odds (words_of seed number (3 * length pushed)) pushed

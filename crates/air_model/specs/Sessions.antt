@@ -15,7 +15,7 @@ use Rattle.air_history.specs.Clashes.{is_late}
 use Rattle.air_model.specs.declared.deck.ReaderPlan.{ReaderPlan}
 use Rattle.air_model.specs.Buckets.{Bucket, Body, Idle, Column, Vector}
 use Rattle.air_model.specs.Reads.{Read}
-use Rattle.air_model.specs.Copies.{keep, without, with_copy}
+use Rattle.air_model.specs.Copies.{keep, without_item, with_copy}
 use Rattle.air_model.specs.Decks.{Deck}
 use Rattle.air_model.specs.Aired.{Air, fits}
 use Rattle.air_model.specs.Judges.{Judge, place_of}
@@ -94,7 +94,7 @@ copy_of (Some item) s = find (λ r. r.item == item) s.copies
 
 -- The copy of the item is dropped.
 unfoldable pub drop_copy : ℕ → State → State
-drop_copy item s = record s { copies = without item s.copies }
+drop_copy item s = record s { copies = without_item item s.copies }
 
 -- The read is offered to the copies.
 unfoldable pub offer : Air → Reader → Read → State → State

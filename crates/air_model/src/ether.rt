@@ -3,18 +3,18 @@
 //! `specs/Ethers.antt` has the words, `specs/Draws.antt` those on the words that are drawn. The ether of a reader stands on them.
 
 ghost use Rattle.std.specs.Prelude.{◌≡◌, ℕ, ◌+◌, ◌<◌, ◌≤◌, ◌⊎◌, ◌==◌, List, count_by, All, AllPairs, Contains};
-ghost use Rattle.air_model.specs.Ethers.{Odds, due_number, heard, heard_places, places_due, times_heard};
+ghost use Rattle.air_model.specs.Ethers.{Odds, due_number, heard_list, heard_places, places_due, times_heard};
 
 /// Where nothing is lost, heard again or late, the pushed list is heard.
 pub fn clear_ether_law()
     ensures { (words : List ℕ) (pushed : List (List ℕ)) →
-        heard (record { loss = 0; again = 0; late = 0 }) words pushed ≡ pushed }
+        heard_list (record { loss = 0; again = 0; late = 0 }) words pushed ≡ pushed }
 {}
 
 /// Each heard bucket was pushed.
 pub fn heard_was_pushed_law()
     ensures { (odds : Odds) (words : List ℕ) (pushed : List (List ℕ)) →
-        All (Contains pushed) (heard odds words pushed) }
+        All (Contains pushed) (heard_list odds words pushed) }
 {}
 
 /// Each push is heard as often as its words say.

@@ -8,7 +8,7 @@ use Rattle.text_records.proofs.PlaceFacts.{along}
 use Rattle.air_model.specs.Decks.{Deck}
 use Rattle.report_reading.specs.Kinds.{code_of}
 use Rattle.report_reading.specs.LineTexts.{line_of}
-use Rattle.report_reading.specs.ReportFaults.{comes_late, comes_next, filled, is_begun, is_known, kinds_after, kinds_at, lines_of, tests_of}
+use Rattle.report_reading.specs.ReportFaults.{comes_late, comes_next, is_begun, is_filled, is_known, kinds_after, kinds_at, lines_of, tests_of}
 use Rattle.report_reading.specs.ReportGrammar.{RowsSpellLines}
 use Rattle.report_reading.specs.ReportLines.{ReportLines, sections_of, starts_in}
 use Rattle.report_reading.specs.Steps.Answers.{with_line}
@@ -22,9 +22,9 @@ use Rattle.report_reading.proofs.PlaceFacts.{judge, lines_more, sections_more}
 abbrev pub together : ReportLines → List Line
 together r = map l.Event r.events ++ map l.Verdict r.verdicts ++ map l.Counts r.counts ++ map l.Glance r.glances ++ map l.Look r.looks
 
-empty : {A : Type 0} (xs : List A) → filled xs ≡ false → xs ≡ []
+empty : {A : Type 0} (xs : List A) → is_filled xs ≡ false → xs ≡ []
 empty [] h = refl
-empty (x ∷ xs) h = let some : filled (x ∷ xs) ≡ true = grind arith in cc (sym some ∙ h)
+empty (x ∷ xs) h = let some : is_filled (x ∷ xs) ≡ true = grind arith in cc (sym some ∙ h)
 
 either : (a b : Bool) → (a || b) ≡ false → (a ≡ false) × (b ≡ false)
 either true b h = cc h
@@ -34,7 +34,7 @@ first_fails : {K : Type 0} (kind : K) (p : Bool) (tests : List (K × Bool)) → 
 first_fails kind true tests h = cc h
 first_fails kind false tests h = refl
 
-section_empty : {A : Type 0} (wrap : A → Line) (xs : List A) → filled xs ≡ false → map wrap xs ≡ []
+section_empty : {A : Type 0} (wrap : A → Line) (xs : List A) → is_filled xs ≡ false → map wrap xs ≡ []
 section_empty wrap xs h = ap (map wrap) (empty xs h)
 
 nothing_behind : (front back : List Line) → back ≡ [] → front ++ back ≡ front
@@ -53,23 +53,23 @@ module _ (C G K : List Line) (c : C ≡ []) (g : G ≡ []) (k : K ≡ []) where
 
 one_more : (r : ReportLines) (x : Line) → comes_late r x ≡ false → together (with_line r x) ≡ together r ++ x ∷ []
 one_more r (l.Event line) late =
-    let a = either (filled r.verdicts || filled r.counts || filled r.glances) (filled r.looks) late in
-    let b = either (filled r.verdicts || filled r.counts) (filled r.glances) a.0 in
-    let d = either (filled r.verdicts) (filled r.counts) b.0 in
+    let a = either (is_filled r.verdicts || is_filled r.counts || is_filled r.glances) (is_filled r.looks) late in
+    let b = either (is_filled r.verdicts || is_filled r.counts) (is_filled r.glances) a.0 in
+    let d = either (is_filled r.verdicts) (is_filled r.counts) b.0 in
     let V = map l.Verdict r.verdicts in let C = map l.Counts r.counts in let G = map l.Glance r.glances in let K = map l.Look r.looks in
     let four : (front : List Line) → front ++ V ++ C ++ G ++ K ≡ front =
     λ front. three_behind C G K (section_empty l.Counts r.counts d.1) (section_empty l.Glance r.glances b.1) (section_empty l.Look r.looks a.1) (front ++ V)
     ∙ nothing_behind front V (section_empty l.Verdict r.verdicts d.0) in
     four (map l.Event (r.events ++ line ∷ [])) ∙ at_end l.Event [] r.events line ∙ ap (λ m. m ++ l.Event line ∷ []) (sym (four (map l.Event r.events)))
 one_more r (l.Verdict line) late =
-    let a = either (filled r.counts || filled r.glances) (filled r.looks) late in
-    let b = either (filled r.counts) (filled r.glances) a.0 in
+    let a = either (is_filled r.counts || is_filled r.glances) (is_filled r.looks) late in
+    let b = either (is_filled r.counts) (is_filled r.glances) a.0 in
     let E = map l.Event r.events in
     let three = three_behind (map l.Counts r.counts) (map l.Glance r.glances) (map l.Look r.looks)
     (section_empty l.Counts r.counts b.0) (section_empty l.Glance r.glances b.1) (section_empty l.Look r.looks a.1) in
     three (E ++ map l.Verdict (r.verdicts ++ line ∷ [])) ∙ at_end l.Verdict E r.verdicts line ∙ ap (λ m. m ++ l.Verdict line ∷ []) (sym (three (E ++ map l.Verdict r.verdicts)))
 one_more r (l.Counts line) late =
-    let a = either (filled r.glances) (filled r.looks) late in
+    let a = either (is_filled r.glances) (is_filled r.looks) late in
     let F = map l.Event r.events ++ map l.Verdict r.verdicts in
     let two = two_behind [] (map l.Glance r.glances) (map l.Look r.looks) refl (section_empty l.Glance r.glances a.0) (section_empty l.Look r.looks a.1) in
     two (F ++ map l.Counts (r.counts ++ line ∷ [])) ∙ at_end l.Counts F r.counts line ∙ ap (λ m. m ++ l.Counts line ∷ []) (sym (two (F ++ map l.Counts r.counts)))

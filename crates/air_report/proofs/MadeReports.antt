@@ -9,7 +9,7 @@ use Rattle.text_records.specs.Records.{records_of}
 use Rattle.air_model.specs.Decks.{Deck, IsLegal, updates_by}
 use Rattle.air_model.specs.Reports.{Report}
 use Rattle.report_reading.specs.ReportGrammar.{SpellsReport}
-use Rattle.report_reading.specs.ReportLines.{ReportLines, event_in, lines_in, named, report_in}
+use Rattle.report_reading.specs.ReportLines.{ReportLines, event_in, its_line, lines_in, report_in}
 use Rattle.report_reading.specs.declared.limits.TheConstants.{MOST_REPORT_BYTES}
 use Rattle.report_reading.specs.declared.lines.EventLine.{EventLine}
 use Rattle.report_reading.specs.declared.lines.EventLine.TheVariants.{Commit, Start}
@@ -49,7 +49,7 @@ spelled_named deck text lines spelled = next_named deck [] lines.events (spelled
 -- ---- the report
 
 -- Each event of a line is named by the line.
-named_back : (deck : Deck) (lines : List EventLine) → map named (map (event_in deck) lines) ≡ lines
+named_back : (deck : Deck) (lines : List EventLine) → map its_line (map (event_in deck) lines) ≡ lines
 named_back deck [] = refl
 named_back deck (Commit by seq ∷ lines) = ap (λ es. Commit by seq ∷ es) (named_back deck lines)
 named_back deck (Start ∷ lines) = ap (λ es. Start ∷ es) (named_back deck lines)

@@ -144,7 +144,7 @@ fn verdicts(alloc: Global, lines: &[Line<'_>]) -> Result<Vec<VerdictLine>, Fail>
 }
 
 /// The text with the case's report behind the text before it.
-fn written(rt: &impl Abort, alloc: Global, case: &Case<'_>) -> Result<Vec<u8>, Fail> {
+fn case_text(rt: &impl Abort, alloc: Global, case: &Case<'_>) -> Result<Vec<u8>, Fail> {
     let report = Report {
         history: history(rt, alloc, case.events)?,
         verdicts: verdicts(alloc, case.verdicts)?,
@@ -164,7 +164,7 @@ pub fn first_other<'a>(
     cases: &[Case<'a>],
 ) -> Result<Option<(&'a str, Vec<u8>)>, Fail> {
     for case in cases {
-        let text = written(rt, alloc, case)?;
+        let text = case_text(rt, alloc, case)?;
         if text.as_slice() != case.text.as_bytes() {
             return Ok(Some((case.shows, text)));
         }

@@ -7,7 +7,7 @@ use Rattle.csv.specs.declared.writer.Writer.{Writer}
 use Rattle.csv.specs.Writing.{field_text, fields_written, has_written, is_blank, next_sep, row_body, writer_setup}
 use Rattle.csv.proofs.WriteFacts.{blank-more, row-more}
 use Rattle.air_model.specs.Rows.{row_writer}
-use Rattle.air_rows.specs.RowWriters.{IsReady, written}
+use Rattle.air_rows.specs.RowWriters.{IsReady, written_text}
 use Rattle.air_rows.specs.BegunRows.{IsBegun}
 
 -- Reports have no style that looks at numbers.
@@ -16,7 +16,7 @@ plain_style e = cc e
 
 -- One field more.
 pub one_more : (before : List ℕ) (fields : List (List ℕ)) (field : List ℕ) (old now : Writer (Vec ℕ Global)) → length fields + 1 < 2 ^ 64 → IsBegun before fields old
-    → ((writer_setup old).style ≢ style.NonNumeric → written now ≡ written old ++ (next_sep (writer_setup old) (fields_written old) ++ field_text (writer_setup old) field))
+    → ((writer_setup old).style ≢ style.NonNumeric → written_text now ≡ written_text old ++ (next_sep (writer_setup old) (fields_written old) ++ field_text (writer_setup old) field))
     → writer_setup now ≡ writer_setup old
     → fields_written now ≡ min (fields_written old + 1) (2 ^ 64 - 1)
     → (has_written old ≡ false → (writer_setup old).style ≢ style.NonNumeric → has_written now ≡ not (length (field_text (writer_setup old) field) == 0))
@@ -37,12 +37,12 @@ one_more before fields field old now few begun text same count wrote stays =
     }
 
 -- Between two rows a row of no fields is begun.
-pub none_yet : (wtr : Writer (Vec ℕ Global)) → IsReady wtr → IsBegun (written wtr) [] wtr
+pub none_yet : (wtr : Writer (Vec ℕ Global)) → IsReady wtr → IsBegun (written_text wtr) [] wtr
 unfolding is_blank
 none_yet wtr ready = record {
   setup = ready.setup;
   count = ready.no_field;
-  text = sym (append-nil (written wtr));
+  text = sym (append-nil (written_text wtr));
   blank = rw ready.no_byte refl;
 }
 

@@ -13,5 +13,5 @@ pub record IsReady (wtr : Writer (Vec ℕ Global)) : Type 0 where
   pub no_byte : has_written wtr ≡ false
 
 -- The text that a writer has made: what stands in the vector, then what it still buffers.
-abbrev pub written : Writer (Vec ℕ Global) → List ℕ
-written wtr = (writer_under wtr).items ++ writer_pending wtr
+abbrev pub written_text : Writer (Vec ℕ Global) → List ℕ
+written_text wtr = (writer_under wtr).items ++ writer_pending wtr

@@ -8,7 +8,7 @@ ghost use Rattle.std.specs.Prelude.{◌≡◌, ◌+◌, ◌<◌, ◌^◌, ◌++�
 ghost use Rattle.csv.specs.Writing.{row_text};
 ghost use Rattle.air_base.specs.Numbers.{number_text};
 ghost use Rattle.air_model.specs.Rows.{row_writer};
-ghost use Rattle.air_rows.specs.RowWriters.{IsReady, written};
+ghost use Rattle.air_rows.specs.RowWriters.{IsReady, written_text};
 ghost use Rattle.air_rows.specs.BegunRows.{IsBegun};
 
 use air_base::{NoMemory, write_u64};
@@ -18,7 +18,7 @@ use std::alloc::Global;
 /// A writer of rows behind a text.
 pub fn row_writer(text: Vec<u8>) -> Writer<Vec<u8>>
     ensures ready { IsReady result }
-    ensures text { written result ≡ text.items }
+    ensures text { written_text result ≡ text.items }
 {
     WriterBuilder::new().flexible(true).from_writer(text)
 }
@@ -28,7 +28,7 @@ pub fn put_row<'a>(wtr: &mut Writer<Vec<u8>>, fields: &[&'a [u8]]) -> Result<(),
     requires { IsReady wtr.old }
     ensures ready { OnOk result (IsReady wtr.new) }
     ensures text { OnOk result
-        (written wtr.new ≡ written wtr.old ++ row_text row_writer (map (λ f. f.now) fields.now)) }
+        (written_text wtr.new ≡ written_text wtr.old ++ row_text row_writer (map (λ f. f.now) fields.now)) }
 {
     wtr.write_fields(fields).map_err(|_| NoMemory)
 }
@@ -43,7 +43,7 @@ pub fn put_numbers(
     requires { IsReady wtr.old }
     ensures ready { OnOk result (IsReady wtr.new) }
     ensures text { OnOk result
-        (written wtr.new ≡ written wtr.old ++ row_text row_writer (tag.now ∷ map number_text ns.now)) }
+        (written_text wtr.new ≡ written_text wtr.old ++ row_text row_writer (tag.now ∷ map number_text ns.now)) }
 {
     put_field(wtr, tag)?;
     let mut text = Vec::new(alloc);
@@ -58,7 +58,7 @@ pub fn put_numbers(
 
 /// The text of all rows.
 pub fn finish(wtr: Writer<Vec<u8>>) -> Result<Vec<u8>, NoMemory>
-    ensures { IfOk result (λ text. text.items ≡ written wtr) }
+    ensures { IfOk result (λ text. text.items ≡ written_text wtr) }
 {
     wtr.into_inner().map_err(|_| NoMemory)
 }
@@ -78,7 +78,7 @@ pub fn put_field(wtr: &mut Writer<Vec<u8>>, field: &[u8]) -> Result<(), NoMemory
 pub fn end_row(wtr: &mut Writer<Vec<u8>>) -> Result<(), NoMemory>
     ensures ready { OnOk result ((before : List ℕ) (fields : List (List ℕ)) → IsBegun before fields wtr.old → IsReady wtr.new) }
     ensures text { OnOk result ((before : List ℕ) (fields : List (List ℕ)) → IsBegun before fields wtr.old
-        → written wtr.new ≡ before ++ row_text row_writer fields) }
+        → written_text wtr.new ≡ before ++ row_text row_writer fields) }
 {
     wtr.end_record().map_err(|_| NoMemory)
 }

@@ -17,7 +17,7 @@ pub(crate) struct Sights {
 }
 
 /// The line, with the monitor's number.
-fn numbered(line: LookLine, number: u32) -> LookLine
+fn with_number(line: LookLine, number: u32) -> LookLine
     ensures { result ≡ record line { monitor = number } }
 {
     LookLine {
@@ -40,7 +40,7 @@ fn sights_of(
         return Err(NoMemory);
     };
     let look = last_look(&mut run.monitor, source)?;
-    Ok((numbered(glance, number), numbered(look, number)))
+    Ok((with_number(glance, number), with_number(look, number)))
 }
 
 /// The glances and the last looks of all watchers.

@@ -77,7 +77,7 @@ pub enum Other {
 }
 
 /// The event by its numbers.
-fn named(event: &Event) -> Named {
+fn name_of(event: &Event) -> Named {
     match event {
         Event::Commit { by, seq, .. } => Some((*by, *seq)),
         Event::Start => None,
@@ -100,8 +100,8 @@ fn other_event(history: &History, told: Events<'_>) -> Option<Other> {
         _ => return Some(Other::Events(commits, starts)),
     };
     for (place, (event, told)) in events.iter().zip(listed).enumerate() {
-        if named(event) != *told {
-            return Some(Other::Event(place, named(event)));
+        if name_of(event) != *told {
+            return Some(Other::Event(place, name_of(event)));
         }
     }
     None

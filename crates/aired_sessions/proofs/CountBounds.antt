@@ -19,10 +19,10 @@ use Rattle.air_model.specs.Sessions.{Reader, State, abort, accept_if_whole, come
 use Rattle.receiver_core.specs.Receivers.{heard_count}
 
 -- All that a state counts: heard members and used copies.
-abbrev pub counted : State → ℕ
-counted s = heard_count s.counts + s.counts.copied
+abbrev pub state_count : State → ℕ
+state_count s = heard_count s.counts + s.counts.copied
 
-either : (b : Bool) (s t : State) (n : ℕ) → counted s ≤ n → counted t ≤ n → counted (cond b s t) ≤ n
+either : (b : Bool) (s t : State) (n : ℕ) → state_count s ≤ n → state_count t ≤ n → state_count (cond b s t) ≤ n
 either true s t n first second = first
 either false s t n first second = second
 
@@ -31,78 +31,78 @@ pub more : (n m before here all : ℕ) → here ≤ before + m → all ≤ here 
 more n m before here all one rest = omega (arith, suc-mul n m)
 
 module _ (judge : Judge) (air : Air) (reader : Reader) where
-  hold_counts : (x : Read) (s : State) → counted (hold judge air reader x s) ≤ counted s
+  hold_counts : (x : Read) (s : State) → state_count (hold judge air reader x s) ≤ state_count s
   unfolding hold accept_if_whole next_query with_line
   hold_counts x s =
       let t : State = record s { held = s.held ++ x ∷ [] } in
-      either (is_some (wanted reader t)) t (next_query (with_line judge Accept t)) (counted s) (omega arith) (omega arith)
+      either (is_some (wanted reader t)) t (next_query (with_line judge Accept t)) (state_count s) (omega arith) (omega arith)
 
-  abort_counts : (x : Read) (item : ℕ) (s : State) → counted (abort judge air reader x item s) ≤ counted s
+  abort_counts : (x : Read) (item : ℕ) (s : State) → state_count (abort judge air reader x item s) ≤ state_count s
   unfolding abort next_attempt next_query drop_copy with_line
   abort_counts x item s =
       let t = drop_copy item (with_line judge (Abort x.item x.cycle item) s) in
-      either (nat_lt t.attempt reader.plan.tries) (record t { attempt = t.attempt + 1; held = [] }) (next_query t) (counted s) (omega arith) (omega arith)
+      either (nat_lt t.attempt reader.plan.tries) (record t { attempt = t.attempt + 1; held = [] }) (next_query t) (state_count s) (omega arith) (omega arith)
 
-  turn_counts : (o : Option Read) (s : State) → counted (turn_with judge air reader o s) ≤ counted s + 1
+  turn_counts : (o : Option Read) (s : State) → state_count (turn_with judge air reader o s) ≤ state_count s + 1
   unfolding turn_with drop_copy count_copied
   turn_counts None s = omega arith
   turn_counts (Some x) s =
       let taken = hold_counts x (count_copied s) in
-      either (is_unusable judge air reader x s) (drop_copy x.item s) (hold judge air reader x (count_copied s)) (counted s + 1) (omega arith) (omega arith)
+      either (is_unusable judge air reader x s) (drop_copy x.item s) (hold judge air reader x (count_copied s)) (state_count s + 1) (omega arith) (omega arith)
 
-  turns_count : (n : ℕ) (s : State) → counted (iterate (turn judge air reader) n s) ≤ counted s + n
+  turns_count : (n : ℕ) (s : State) → state_count (iterate (turn judge air reader) n s) ≤ state_count s + n
   unfolding turn
   turns_count zero s = omega arith
   turns_count (suc n) s = let one = turn_counts (copy_of (wanted reader s) s) s in let rest = turns_count n (turn judge air reader s) in omega arith
 
-  settle_counts : (s : State) → counted (settle judge air reader s) ≤ counted s + sum_by length reader.queries
+  settle_counts : (s : State) → state_count (settle judge air reader s) ≤ state_count s + sum_by length reader.queries
   unfolding settle
   settle_counts s = turns_count (sum_by length reader.queries) s
 
-  decide_counts : (x : Read) (c : Option Clash) (s : State) → counted (decide judge air reader x c s) ≤ counted s
+  decide_counts : (x : Read) (c : Option Clash) (s : State) → state_count (decide judge air reader x c s) ≤ state_count s
   unfolding decide
   decide_counts x None s = hold_counts x s
   decide_counts x (Some c) s = abort_counts x c.item s
 
-  open_counts : (x : Read) (s : State) → counted (open_bucket judge air reader x s) ≤ counted s + 1
+  open_counts : (x : Read) (s : State) → state_count (open_bucket judge air reader x s) ≤ state_count s + 1
   unfolding open_bucket offer count_opened
   open_counts x s = let one = decide_counts x (judge.clash s.held x) (count_opened s) in omega arith
 
-  read_counts : (o : Option Read) (s : State) → counted (hear_read judge air reader o s) ≤ counted s + 1
+  read_counts : (o : Option Read) (s : State) → state_count (hear_read judge air reader o s) ≤ state_count s + 1
   unfolding hear_read count_dozed count_late
   read_counts None s = omega arith
   read_counts (Some x) s =
-      either (is_wanted (wanted reader s) x.item) (cond (comes_late air s x) (count_late s) (open_bucket judge air reader x s)) (count_dozed s) (counted s + 1)
-      (either (comes_late air s x) (count_late s) (open_bucket judge air reader x s) (counted s + 1) (omega arith) (open_counts x s)) (omega arith)
+      either (is_wanted (wanted reader s) x.item) (cond (comes_late air s x) (count_late s) (open_bucket judge air reader x s)) (count_dozed s) (state_count s + 1)
+      (either (comes_late air s x) (count_late s) (open_bucket judge air reader x s) (state_count s + 1) (omega arith) (open_counts x s)) (omega arith)
 
-  hear_counts : (o : Option Bucket) (s : State) → counted (hear judge air reader o s) ≤ counted s + 1
+  hear_counts : (o : Option Bucket) (s : State) → state_count (hear judge air reader o s) ≤ state_count s + 1
   unfolding hear count_refused count_foreign
   hear_counts None s = omega arith
   hear_counts (Some b) s =
       let t : State = record s { now = max s.now b.cycle } in
       let one = read_counts (read_in b.cycle b.body) t in
-      either (fits air b) (hear_read judge air reader (read_in b.cycle b.body) t) (count_foreign s) (counted s + 1) (omega arith) (omega arith)
+      either (fits air b) (hear_read judge air reader (read_in b.cycle b.body) t) (count_foreign s) (state_count s + 1) (omega arith) (omega arith)
 
-  all_counts : (heard : List (Option Bucket)) (s : State) → counted (hear_all judge air reader heard s) ≤ counted s + suc (length heard) * (sum_by length reader.queries + 1)
+  all_counts : (heard : List (Option Bucket)) (s : State) → state_count (hear_all judge air reader heard s) ≤ state_count s + suc (length heard) * (sum_by length reader.queries + 1)
   unfolding hear_all
   all_counts [] s = let one = settle_counts s in omega arith
   all_counts (o ∷ heard) s =
       let settled = settle judge air reader s in
       let one = settle_counts s in
       let two = hear_counts o settled in
-      more (suc (length heard)) (sum_by length reader.queries + 1) (counted s) (counted (hear judge air reader o settled)) (counted (hear_all judge air reader heard (hear judge air reader o settled)))
+      more (suc (length heard)) (sum_by length reader.queries + 1) (state_count s) (state_count (hear judge air reader o settled)) (state_count (hear_all judge air reader heard (hear judge air reader o settled)))
       (omega arith) (all_counts heard (hear judge air reader o settled))
 
-  ends_count : (n : ℕ) (s : State) → counted (iterate (end_query judge air reader) n s) ≤ counted s
+  ends_count : (n : ℕ) (s : State) → state_count (iterate (end_query judge air reader) n s) ≤ state_count s
   unfolding end_query next_query with_line
   ends_count zero s = omega arith
   ends_count (suc n) s =
-      let one = either (nat_lt s.query (length reader.queries)) (next_query (with_line judge Unfinished s)) s (counted s) (omega arith) (omega arith) in
+      let one = either (nat_lt s.query (length reader.queries)) (next_query (with_line judge Unfinished s)) s (state_count s) (omega arith) (omega arith) in
       let rest = ends_count n (end_query judge air reader s) in
       omega arith
 
   -- A session counts no more than a settling's turns and one more for each heard member, and once more.
-  pub session_counts : (heard : List (Option Bucket)) → counted (session judge air reader heard) ≤ (length heard + 1) * (sum_by length reader.queries + 1)
+  pub session_counts : (heard : List (Option Bucket)) → state_count (session judge air reader heard) ≤ (length heard + 1) * (sum_by length reader.queries + 1)
   unfolding session end
   session_counts heard =
       let ended = ends_count (length reader.queries) (hear_all judge air reader heard start) in

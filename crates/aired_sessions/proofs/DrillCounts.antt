@@ -15,7 +15,7 @@ use Rattle.air_model.specs.Buckets.{bucket_in}
 use Rattle.air_model.specs.Decks.{script_history, values_in}
 use Rattle.air_model.specs.Draws.{words_of}
 use Rattle.air_model.specs.Drills.{drill_deck}
-use Rattle.air_model.specs.Ethers.{Odds, due_at, due_number, heard, heard_by, heard_places, places_due, times_heard, word_of}
+use Rattle.air_model.specs.Ethers.{Odds, due_at, due_number, heard_by, heard_list, heard_places, places_due, times_heard, word_of}
 use Rattle.air_model.specs.Judges.{Judge, by_history}
 use Rattle.air_model.specs.Outputs.{ether_of, odds_in, true_sessions}
 use Rattle.air_model.specs.ReceiverLaws.{session_of}
@@ -26,7 +26,7 @@ use Rattle.item_catalog.proofs.DrillFacts.{drill_made}
 use Rattle.script_run.specs.AiredBytes.{aired_bytes}
 use Rattle.aired_sessions.specs.DrillLines.{sum_of}
 use Rattle.aired_sessions.specs.DrillSums.{SumsFit}
-use Rattle.aired_sessions.proofs.CountBounds.{asked_few, counted, session_counts}
+use Rattle.aired_sessions.proofs.CountBounds.{asked_few, session_counts, state_count}
 use Rattle.aired_sessions.proofs.DrillTapes.{drill_buckets}
 
 -- ---- how much is heard
@@ -64,7 +64,7 @@ module _ (odds : Odds) (words : List ℕ) (n : ℕ) where
       omega (arith, length-flat_map (due_at odds words n) numbers, ap (λ k. k * (n * 2)) (length-range_with_len 0 (n + 8)))
 
 ether_few : (seed number : ℕ) (odds : Odds) (pushed : List (List ℕ)) → length (heard_by seed number odds pushed) ≤ (length pushed + 8) * (length pushed * 2)
-unfolding heard_by heard
+unfolding heard_by heard_list
 ether_few seed number odds pushed =
     let words = words_of seed number (3 * length pushed) in
     omega (arith, length-map (heard_places odds words (length pushed)) (λ place. slice_index_or pushed place []), places_few odds words (length pushed))
@@ -73,7 +73,7 @@ ether_few seed number odds pushed =
 
 -- What one of its readers counts.
 reader_few : (seed size r : ℕ) (judge : Judge) → WithinLimits (drill_deck seed size) → 1 ≤ size → size ≤ 100
-    → counted (session_of judge (drill_deck seed size) r (map bucket_in (ether_of (drill_deck seed size) (script_history (drill_deck seed size)) r))) ≤ 239360426364034817
+    → state_count (session_of judge (drill_deck seed size) r (map bucket_in (ether_of (drill_deck seed size) (script_history (drill_deck seed size)) r))) ≤ 239360426364034817
 reader_few seed size r judge limits some few =
     let deck = drill_deck seed size in
     let pushed = aired_bytes deck (script_history deck) in

@@ -3,7 +3,7 @@
 ghost use Rattle.std.specs.Prelude.{◌≡◌, ◌++◌, ◌≤◌, IfOk, OnOk, count_by, length, map};
 ghost use Rattle.csv.specs.Writing.{row_text};
 ghost use Rattle.air_model.specs.Rows.{row_writer, rows_text};
-ghost use Rattle.air_rows.specs.RowWriters.{IsReady, written};
+ghost use Rattle.air_rows.specs.RowWriters.{IsReady, written_text};
 ghost use Rattle.audited_reports.specs.FindingTexts.{cause_word, differs, finding_row, findings_text};
 
 use air_base::{NoMemory, write_u64};
@@ -42,7 +42,7 @@ fn put_findings(alloc: Global, wtr: &mut Writer<Vec<u8>>, found: &[Finding]) -> 
     requires { IsReady wtr.old }
     ensures ready { OnOk result (IsReady wtr.new) }
     ensures text { OnOk result
-        (written wtr.new ≡ written wtr.old ++ rows_text (map finding_row found.now)) }
+        (written_text wtr.new ≡ written_text wtr.old ++ rows_text (map finding_row found.now)) }
 {
     for finding in found {
         put_finding(alloc, wtr, *finding)?;
@@ -55,7 +55,7 @@ fn put_finding(alloc: Global, wtr: &mut Writer<Vec<u8>>, finding: Finding) -> Re
     requires { IsReady wtr.old }
     ensures ready { OnOk result (IsReady wtr.new) }
     ensures text { OnOk result
-        (written wtr.new ≡ written wtr.old ++ row_text row_writer (finding_row finding)) }
+        (written_text wtr.new ≡ written_text wtr.old ++ row_text row_writer (finding_row finding)) }
 {
     let mut row = Vec::new(alloc);
     write_u64(u64::from(finding.row), &mut row)?;

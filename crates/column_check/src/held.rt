@@ -11,7 +11,7 @@ ghost use Rattle.air_history.specs.Consistency.{IsConsistent};
 ghost use Rattle.air_history.specs.Clashes.{read_at, clash_by_history, clash_by_entries};
 ghost use Rattle.air_history.specs.ClashLaws.{IsHeard};
 ghost use Rattle.air_history.specs.Columns.{scheme_of};
-ghost use Rattle.held_entries.specs.HeardReads.{heard};
+ghost use Rattle.held_entries.specs.HeardReads.{heard_read};
 ghost use Rattle.air_history.specs.HeldReads.{IsNew};
 ghost use Rattle.held_entries.specs.HeldCycles.{cycles_of};
 ghost use Rattle.column_check.specs.Steps.LesserOfTwo.{lesser_of_both};
@@ -70,16 +70,16 @@ impl Held {
 
     /// The held read of least item number that clashes with the new one.
     pub fn clashes(&self, item: u16, cycle: u32, column: &[u32]) -> Option<Clash>
-        requires { IsNew self.now (heard item cycle column.now) }
+        requires { IsNew self.now (heard_read item cycle column.now) }
 
         // By the entries, for every order of reads.
-        ensures entries { result ≡ clash_by_entries FMatrix self.now.reads (heard item cycle column.now) }
+        ensures entries { result ≡ clash_by_entries FMatrix self.now.reads (heard_read item cycle column.now) }
 
         // By each history that has these columns at their cycles.
-        ensures history { let x = heard item cycle column.now in (H : List Event) →
+        ensures history { let x = heard_read item cycle column.now in (H : List Event) →
             All (IsHeard (scheme_of FMatrix) self.now.n H) self.now.reads → IsHeard (scheme_of FMatrix) self.now.n H x →
             result ≡ clash_by_history FMatrix H (map read_at self.now.reads) (read_at x) }
-        ensures consistent { let x = heard item cycle column.now in (H : List Event) →
+        ensures consistent { let x = heard_read item cycle column.now in (H : List Event) →
             All (IsHeard (scheme_of FMatrix) self.now.n H) self.now.reads → IsHeard (scheme_of FMatrix) self.now.n H x →
             IsConsistent H (map read_at self.now.reads) →
             (result ≡ None) ↔ IsConsistent H (map read_at self.now.reads ++ read_at x ∷ []) }
@@ -90,8 +90,8 @@ impl Held {
     /// The held read of least item number that clashes by its column or by the new one.
     #[tactic(auto, using(crate::proofs::BothLemmas::both_is))]
     fn clash_by_columns(&self, item: u16, cycle: u32, column: &[u32]) -> Option<Clash>
-        requires { IsNew self.now (heard item cycle column.now) }
-        ensures { result ≡ clash_by_entries FMatrix self.now.reads (heard item cycle column.now) }
+        requires { IsNew self.now (heard_read item cycle column.now) }
+        ensures { result ≡ clash_by_entries FMatrix self.now.reads (heard_read item cycle column.now) }
     {
         self.held.held_once();
         let clash = self.held.least_reached(column);
@@ -101,9 +101,9 @@ impl Held {
     /// Holds the new read too, after those before it, where `clashes` answered none for it; `len` tells whether there is room.
     pub fn hold(&mut self, item: u16, cycle: u32, column: &[u32])
         requires room { length self.old.reads < ROOM }
-        requires new { IsNew self.old (heard item cycle column.now) }
-        requires clear { clash_by_entries FMatrix self.old.reads (heard item cycle column.now) ≡ None }
-        ensures { self.new ≡ record self.old { reads = self.old.reads ++ heard item cycle column.now ∷ [] } }
+        requires new { IsNew self.old (heard_read item cycle column.now) }
+        requires clear { clash_by_entries FMatrix self.old.reads (heard_read item cycle column.now) ≡ None }
+        ensures { self.new ≡ record self.old { reads = self.old.reads ++ heard_read item cycle column.now ∷ [] } }
     {
         self.held.hold(item, cycle, column);
     }

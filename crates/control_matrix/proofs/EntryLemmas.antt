@@ -8,8 +8,8 @@ use Rattle.air_history.specs.declared.histories.Event.{Event}
 use Rattle.air_history.specs.declared.histories.Event.TheVariants.{Commit, Start}
 use Rattle.air_history.specs.Places.{greatest_of}
 use Rattle.air_history.specs.Histories.{writes, writes_of, reads, ItemsFit}
-use Rattle.air_lanes.specs.Kernels.{stamped}
-use Rattle.air_lanes.proofs.PlaceLemmas.{stamped_at}
+use Rattle.air_lanes.specs.Kernels.{stamp_each}
+use Rattle.air_lanes.proofs.PlaceLemmas.{stamp_each_at}
 use Rattle.control_matrix.specs.Columns.{column_in, columns_in, entry_in, written_entry, next_column, next_columns}
 
 greatest_of_push : {X : Type 0} (f : X → ℕ) (xs : List X) (x : X) → greatest_of f (xs ++ x ∷ []) ≡ max (greatest_of f xs) (f x)
@@ -77,8 +77,8 @@ columns_whole n m k cycle old was new now e mn kn before after stepped =
 
 -- A row stamped by the marks of what an event writes has the cycle there, and elsewhere what it had.
 pub marked_stamp : (e : Event) (cycle : ℕ) (marks xs : List ℕ) (i : ℕ) → length marks ≡ length xs → i < length xs → get_or marks i 0 ≡ cond (writes e i) 1 0 →
-    get_or (stamped cycle marks xs) i 0 ≡ cond (writes e i) cycle (get_or xs i 0)
-marked_stamp e cycle marks xs i same l is = stamped_at cycle marks xs i same l ∙ by (writes e i) is
+    get_or (stamp_each cycle marks xs) i 0 ≡ cond (writes e i) cycle (get_or xs i 0)
+marked_stamp e cycle marks xs i same l is = stamp_each_at cycle marks xs i same l ∙ by (writes e i) is
   where
     by : (b : Bool) → get_or marks i 0 ≡ cond b 1 0 → (if get_or marks i 0 == 0 then get_or xs i 0 else cycle) ≡ cond b cycle (get_or xs i 0)
     by true is = rw is refl

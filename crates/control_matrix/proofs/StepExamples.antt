@@ -3,7 +3,7 @@ use Rattle.std.specs.Prelude.{◌≡◌, [], ◌∷◌, refl}
 use Rattle.air_history.specs.declared.histories.Event.TheVariants.{Start}
 use Rattle.air_history.specs.Places.{greatest_of}
 use Rattle.air_history.specs.Histories.{is_start, reads, writes}
-use Rattle.air_history.specs.Tables.{based, write_of, value_after, table}
+use Rattle.air_history.specs.Tables.{value_on_base, write_of, value_after, table}
 use Rattle.air_history.specs.Boards.{Board}
 use Rattle.air_history.proofs.HistoryExamples.{set_to, add_to, commit}
 use Rattle.control_matrix.specs.Columns.{columns_in}
@@ -31,7 +31,7 @@ a_blind_write_clears_its_column : step_board pair (commit 0 [] (set_to 1 5)) ≡
   columns = (1 ∷ 0 ∷ []) ∷ (0 ∷ 2 ∷ []) ∷ [];
   vector = 1 ∷ 2 ∷ [];
 }
-unfolding step_board is_start reads writes greatest_of table value_after write_of based
+unfolding step_board is_start reads writes greatest_of table value_after write_of value_on_base
 a_blind_write_clears_its_column = refl
 
 an_update_may_read_what_it_writes : step_board pair (commit 0 (1 ∷ []) (add_to 1 1 1)) ≡ record {
@@ -40,5 +40,5 @@ an_update_may_read_what_it_writes : step_board pair (commit 0 (1 ∷ []) (add_to
   columns = (1 ∷ 0 ∷ []) ∷ (1 ∷ 2 ∷ []) ∷ [];
   vector = 1 ∷ 2 ∷ [];
 }
-unfolding step_board is_start reads writes greatest_of table value_after write_of based
+unfolding step_board is_start reads writes greatest_of table value_after write_of value_on_base
 an_update_may_read_what_it_writes = refl

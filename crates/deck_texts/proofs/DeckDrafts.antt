@@ -54,15 +54,15 @@ no_lists {A} (suc n) m = let same : suc n + m ≡ suc (n + m) = omega arith in a
 -- ---- updates
 
 -- One more than the number of the last updater that has an update, where the first has this number; else 0.
-abbrev pub named : ℕ → List UpdateLists → ℕ
-named by [] = 0
-named by (u ∷ own) = by + 1
+abbrev pub updaters_named : ℕ → List UpdateLists → ℕ
+updaters_named by [] = 0
+updaters_named by (u ∷ own) = by + 1
 
 abbrev pub all_named : ℕ → List (List UpdateLists) → ℕ
 all_named from [] = 0
-all_named from (own ∷ others) = max (named from own) (all_named (from + 1) others)
+all_named from (own ∷ others) = max (updaters_named from own) (all_named (from + 1) others)
 
-named_again : (last by : ℕ) (own : List UpdateLists) → max (max last (by + 1)) (named by own) ≡ max last (by + 1)
+named_again : (last by : ℕ) (own : List UpdateLists) → max (max last (by + 1)) (updaters_named by own) ≡ max last (by + 1)
 named_again last by [] = omega arith
 named_again last by (u ∷ own) = omega arith
 
@@ -75,7 +75,7 @@ module _ (items : List ItemPart) (disks : List DiskPart) where
 
   own_added : (front rest : List (List UpdateLists)) (old : List UpdateLists) (last count : ℕ) (own : List UpdateLists)
       → with_all (at_updates (front ++ old ∷ rest) last count) (map (update_entry (length front)) own)
-      ≡ at_updates (front ++ (old ++ own) ∷ rest) (max last (named (length front) own)) (count + length own)
+      ≡ at_updates (front ++ (old ++ own) ∷ rest) (max last (updaters_named (length front) own)) (count + length own)
   own_added front rest old last count [] = updates_same (ap (λ l. front ++ l ∷ rest) (sym (append-nil old))) (omega arith) (omega arith)
   own_added front rest old last count (u ∷ own) =
       ap (λ ls. with_all (at_updates ls (max last (length front + 1)) (count + 1)) (map (update_entry (length front)) own)) (push_here front old rest u)
@@ -90,15 +90,15 @@ module _ (items : List ItemPart) (disks : List DiskPart) where
       let rest = replicate (length lists) [] ++ pad in
       let more = update_entries (from + 1) lists in
       let next = front ++ own ∷ [] in
-      let one = max last (named (length front) own) in
+      let one = max last (updaters_named (length front) own) in
       let here : length front ≡ from = sym e in
       with_both (at_updates (front ++ [] ∷ rest) last count) (map (update_entry from) own) more
       ∙ ap (λ k. with_all (with_all (at_updates (front ++ [] ∷ rest) last count) (map (update_entry k) own)) more) e
       ∙ ap (λ d. with_all d more) (own_added front rest [] last count own ∙ updates_same (sym (append_assoc front (own ∷ []) rest)) refl refl)
       ∙ updates_added lists next pad (from + 1) one (count + length own) (omega (arith, length-append front (own ∷ [])))
-      ∙ updates_same (append_assoc front (own ∷ []) (lists ++ pad)) (last_same (ap (λ k. named k own) here)) (omega (arith, sum_by-cons (λ (l : List UpdateLists). length l) own lists))
+      ∙ updates_same (append_assoc front (own ∷ []) (lists ++ pad)) (last_same (ap (λ k. updaters_named k own) here)) (omega (arith, sum_by-cons (λ (l : List UpdateLists). length l) own lists))
     where
-      last_same : named (length front) own ≡ named from own → max (max last (named (length front) own)) (all_named (from + 1) lists) ≡ max last (max (named from own) (all_named (from + 1) lists))
+      last_same : updaters_named (length front) own ≡ updaters_named from own → max (max last (updaters_named (length front) own)) (all_named (from + 1) lists) ≡ max last (max (updaters_named from own) (all_named (from + 1) lists))
       last_same f = omega (arith, f)
 
 -- The updaters that are named are all, where the last one has an update.
@@ -111,16 +111,16 @@ pub last_named : (from : ℕ) (lists : List (List UpdateLists)) (last : ℕ) →
 last_named from [] last e some = absurd (omega arith)
 last_named from (own ∷ []) last e some = by last own (let z : last ≡ 0 = omega arith in z) some
   where
-    by : (last : ℕ) (own : List UpdateLists) → last ≡ 0 → 0 < length (get_or (own ∷ []) last []) → max (named from own) 0 ≡ from + 1
+    by : (last : ℕ) (own : List UpdateLists) → last ≡ 0 → 0 < length (get_or (own ∷ []) last []) → max (updaters_named from own) 0 ≡ from + 1
     by zero [] z some = absurd (omega arith)
     by zero (u ∷ own) z some = omega arith
     by (suc last) own z some = absurd (omega arith)
 last_named from (own ∷ next ∷ others) zero e some = absurd (omega arith)
 last_named from (own ∷ next ∷ others) (suc last) e some =
     let rest = last_named (from + 1) (next ∷ others) last (omega arith) some in
-    at (named from own) (all_named (from + 1) (next ∷ others)) (first own) rest
+    at (updaters_named from own) (all_named (from + 1) (next ∷ others)) (first own) rest
   where
-    first : (own : List UpdateLists) → named from own ≤ from + 1
+    first : (own : List UpdateLists) → updaters_named from own ≤ from + 1
     first [] = omega arith
     first (u ∷ own) = omega arith
 
@@ -277,5 +277,5 @@ deck_same : {i j : List Item} {d c : List DiskSpec} {u v : List (List UpdateList
 deck_same h1 h2 h3 h4 = cc
 
 pub deck_back : (deck : Deck) → all_named 0 deck.updates ≡ length deck.updates → length deck.queries ≡ length deck.readers → deck_from (whole_draft deck) ≡ deck
-deck_back deck named asked =
+deck_back deck updaters_named asked =
     deck_same (items_same 0 deck.items) (disks_same 0 deck.disks) (front_taken deck.updates (more_updaters deck) (max 0 (all_named 0 deck.updates)) (omega arith)) (front_taken deck.queries (more_readers deck) (length deck.readers) (sym asked))

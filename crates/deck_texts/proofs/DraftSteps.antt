@@ -6,7 +6,7 @@ use Rattle.text_records.specs.FirstFaults.{NoneBefore}
 use Rattle.text_records.specs.Kinds.{first_of}
 use Rattle.item_catalog.specs.DeckEntries.{Entry, entry_of}
 use Rattle.item_catalog.specs.DeckEntries as e
-use Rattle.item_catalog.specs.Drafts.{DraftValue, deck_from, draft_of, draft_tests, judged, with_entry}
+use Rattle.item_catalog.specs.Drafts.{DraftValue, deck_from, draft_of, draft_tests, record_kind, with_entry}
 use Rattle.item_catalog.specs.Faults.{end_tests, entries_in, kinds_at}
 use Rattle.item_catalog.specs.Grammar.{Spells}
 use Rattle.item_catalog.specs.Parts.{disks_in, items_in}
@@ -14,9 +14,9 @@ use Rattle.item_catalog.specs.declared.deck.draft.settings.Setting.TheVariants a
 use Rattle.item_catalog.proofs.DraftFacts.{draft_more}
 use Rattle.item_catalog.proofs.PlaceFacts.{end_of, entries_more, none_added}
 use Rattle.item_catalog.proofs.ReadingFacts.{read_deck_is}
+use Rattle.report_laws.proofs.WrittenRows.{Plain, plain_map, written_rows}
 use Rattle.deck_texts.specs.DeckTexts.{entry_row}
 use Rattle.deck_texts.proofs.EntryTexts.{Fits, entry_spelled}
-use Rattle.deck_texts.proofs.WrittenRows.{Plain, plain_map, written_rows}
 
 -- ---- drafts
 
@@ -56,7 +56,7 @@ step : (es : List Entry) (x : Entry) → Stands es → Fits x → first_of (draf
 step es x s fits none =
     let rows = map entry_row es in let row = entry_row x in
     let spelled = entry_spelled x fits in
-    let judge : judged (draft_of (entries_in rows)) (entry_of row) ≡ None = ap (λ l. judged (draft_of l) (entry_of row)) s.entries ∙ ap (judged (draft_of es)) spelled ∙ none in
+    let judge : record_kind (draft_of (entries_in rows)) (entry_of row) ≡ None = ap (λ l. record_kind (draft_of l) (entry_of row)) s.entries ∙ ap (record_kind (draft_of es)) spelled ∙ none in
     let more : map entry_row (es ++ x ∷ []) ≡ rows ++ row ∷ [] = map-append entry_row es (x ∷ []) in
     let P : List (List (List ℕ)) → Type 0 = λ rows. NoneBefore (kinds_at rows) (length rows) in
     record {

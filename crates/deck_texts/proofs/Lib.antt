@@ -1,5 +1,4 @@
 mod EntryTexts
-mod WrittenRows
 mod DraftSteps
 mod DeckDrafts
 mod TestFacts

@@ -13,7 +13,7 @@ pub fn id_note<'a>(seen: &Seen, record: &'a Record) -> Said<'a> {
 }
 
 /// The first part of a list that fails by an item that isn't declared; none where each keeps this.
-fn undeclared<'a>(list: &str, test: Test<'_>, name: &'a str, items: u64) -> Option<Said<'a>> {
+fn first_undeclared<'a>(list: &str, test: Test<'_>, name: &'a str, items: u64) -> Option<Said<'a>> {
     let (_, item) = first_failing(list, test)?;
     let form = "has item #first# among its #text#, and up to here the deck has ";
     let said = Said::words(form, name, "", "").with(item, 0, "");
@@ -25,13 +25,13 @@ pub fn undeclared_note(seen: &Seen, record: &Record, tag: Tag) -> Option<Said<'s
     let items = seen.items;
     let writes = record.field(3);
     if tag == Tag::Update {
-        return undeclared(record.field(2), Test::Item(items), "reads", items)
-            .or(undeclared(writes, Test::Item(items), "writes", items))
-            .or(undeclared(writes, Test::Base(items), "bases", items));
+        return first_undeclared(record.field(2), Test::Item(items), "reads", items)
+            .or(first_undeclared(writes, Test::Item(items), "writes", items))
+            .or(first_undeclared(writes, Test::Base(items), "bases", items));
     }
     let reader = record.number(1);
     if reader < seen.readers {
-        return undeclared(record.field(2), Test::Item(items), "items", items);
+        return first_undeclared(record.field(2), Test::Item(items), "items", items);
     }
     let form = "is of reader #first#, and up to here the deck has ";
     Some(Said::numbers(form, reader, 0, 0).only(seen.readers, "reader", "readers"))

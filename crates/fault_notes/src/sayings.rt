@@ -29,7 +29,7 @@ pub fn range(least: u64) -> &'static str {
 }
 
 /// So many things with numbers from 0: `why` is the name of one of them, `name` that of several, and `second` the last one's number.
-fn numbered(count: u64) -> &'static str {
+fn range_form(count: u64) -> &'static str {
     match count {
         0 => "no #why#",
         1 => "only #why# 0",
@@ -82,7 +82,7 @@ impl<'a> Said<'a> {
 
     /// The same, with so many things that have numbers from 0.
     pub fn only(mut self, count: u64, one: &'static str, several: &'static str) -> Said<'a> {
-        self.tail = numbered(count);
+        self.tail = range_form(count);
         self.why = one;
         self.name = several;
         self.second = count.saturating_sub(1);

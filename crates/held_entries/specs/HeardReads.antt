@@ -8,5 +8,5 @@ abbrev pub heard_of : HeldRead → Heard
 heard_of r = record { item = r.item; cycle = r.cycle; entries = r.entries.items }
 
 -- The read of an item in a cycle, with the entries that were heard with it.
-abbrev pub heard : ℕ → ℕ → List ℕ → Heard
-heard item cycle entries = record { item = item; cycle = cycle; entries = entries }
+abbrev pub heard_read : ℕ → ℕ → List ℕ → Heard
+heard_read item cycle entries = record { item = item; cycle = cycle; entries = entries }

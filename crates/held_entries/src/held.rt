@@ -7,7 +7,7 @@ ghost use Rattle.std.specs.Prelude.{◌≡◌, ◌↔◌, ◌<◌, ◌≤◌, �
 ghost use Rattle.air_history.specs.Reads.{last_cycle};
 ghost use Rattle.air_history.specs.Clashes.{read_at, entry_in, heard_clash, newest_heard, first_heard};
 ghost use Rattle.air_history.specs.HeldReads.{IsNew};
-ghost use Rattle.held_entries.specs.HeardReads.{heard};
+ghost use Rattle.held_entries.specs.HeardReads.{heard_read};
 ghost use Rattle.held_entries.specs.Searches.{has_since, is_reached};
 ghost use Rattle.held_entries.specs.HeldCycles.{cycles_of, AreHeldOnce};
 
@@ -146,8 +146,8 @@ impl HeldEntries {
     /// Holds the new read too, after those before it.
     pub fn hold(&mut self, item: u16, cycle: u32, entries: &[u32])
         requires room { length self.old.reads < ROOM }
-        requires new { IsNew self.old (heard item cycle entries.now) }
-        ensures { self.new ≡ record self.old { reads = self.old.reads ++ heard item cycle entries.now ∷ [] } }
+        requires new { IsNew self.old (heard_read item cycle entries.now) }
+        ensures { self.new ≡ record self.old { reads = self.old.reads ++ heard_read item cycle entries.now ∷ [] } }
     {
         let place = &mut self.places[self.len];
         place.item = item;

@@ -36,12 +36,12 @@ module _ (G : List Event) (e : Event) where
       ∙ ap (cond (writes e j) (Some (length G))) (last_place_same (length G) (λ q. writes (event_at (G ++ e ∷ []) q) j) (λ q. writes (event_at G q) j) (λ k l. ap (λ x. writes x j) (same_below k l)))
 
   -- what a column counts
-  counted : ℕ → ℕ → ℕ → Bool
-  counted j i p = place_and (writer (G ++ e ∷ []) j) (λ w. descends (G ++ e ∷ []) w p) && writes (event_at (G ++ e ∷ []) p) i
+  column_counts : ℕ → ℕ → ℕ → Bool
+  column_counts j i p = place_and (writer (G ++ e ∷ []) j) (λ w. descends (G ++ e ∷ []) w p) && writes (event_at (G ++ e ∷ []) p) i
 
-  entry_new : (j i : ℕ) → column_entry (G ++ e ∷ []) j i ≡ greatest (suc (length G)) (counted j i) (cycle_at (G ++ e ∷ []))
-  unfolding column_entry counted
-  entry_new j i = ap (λ m. greatest m (counted j i) (cycle_at (G ++ e ∷ []))) length_suc
+  entry_new : (j i : ℕ) → column_entry (G ++ e ∷ []) j i ≡ greatest (suc (length G)) (column_counts j i) (cycle_at (G ++ e ∷ []))
+  unfolding column_entry column_counts
+  entry_new j i = ap (λ m. greatest m (column_counts j i) (cycle_at (G ++ e ∷ []))) length_suc
 
   pub old_writer_below : (j w : ℕ) → writer G j ≡ Some w → w < length G
   unfolding writer
@@ -59,39 +59,39 @@ module _ (G : List Event) (e : Event) where
 
   -- where the event doesn't write j, the column stays
   step_other : (j i : ℕ) → writes e j ≡ false → column_entry (G ++ e ∷ []) j i ≡ column_entry G j i
-  unfolding column_entry counted
+  unfolding column_entry column_counts
   step_other j i miss =
       let same : writer (G ++ e ∷ []) j ≡ writer G j = writer_after j ∙ cond-false (writes e j) (Some (length G)) (writer G j) miss in
-      let not_new : counted j i (length G) ≡ false = false_from_ne_true _ (λ t.
+      let not_new : column_counts j i (length G) ≡ false = false_from_ne_true _ (λ t.
       let v = place_at (writer (G ++ e ∷ []) j) (λ w. descends (G ++ e ∷ []) w (length G)) (and_parts _ _ t).0 in
       let lt = old_writer_below j v.0 (sym same ∙ v.1) in
       let le = descends_le (G ++ e ∷ []) v.0 (length G) v.2 in
       omega arith) in
       entry_new j i
-      ∙ greatest_suc (length G) (counted j i) (cycle_at (G ++ e ∷ []))
-      ∙ cond-false (counted j i (length G)) _ _ not_new
-      ∙ greatest_same (length G) (counted j i) (λ p. place_and (writer G j) (λ w. descends G w p) && writes (event_at G p) i) (cycle_at (G ++ e ∷ [])) (cycle_at G)
+      ∙ greatest_suc (length G) (column_counts j i) (cycle_at (G ++ e ∷ []))
+      ∙ cond-false (column_counts j i (length G)) _ _ not_new
+      ∙ greatest_same (length G) (column_counts j i) (λ p. place_and (writer G j) (λ w. descends G w p) && writes (event_at G p) i) (cycle_at (G ++ e ∷ [])) (cycle_at G)
       (λ p l. ap (λ o. place_and o (λ w. descends (G ++ e ∷ []) w p) && writes (event_at (G ++ e ∷ []) p) i) same
       ∙ ap (λ b. b && writes (event_at (G ++ e ∷ []) p) i) (old_place j p)
       ∙ ap (λ x. place_and (writer G j) (λ w. descends G w p) && writes x i) (same_below p l))
       (λ p l. old_cycle p (omega arith))
 
   -- where it writes j, the column counts the descent of the new place
-  counted_new : (j i p : ℕ) → writes e j ≡ true → counted j i p ≡ (descends (G ++ e ∷ []) (length G) p && writes (event_at (G ++ e ∷ []) p) i)
-  unfolding counted
-  counted_new j i p hit =
+  column_counts_new : (j i p : ℕ) → writes e j ≡ true → column_counts j i p ≡ (descends (G ++ e ∷ []) (length G) p && writes (event_at (G ++ e ∷ []) p) i)
+  unfolding column_counts
+  column_counts_new j i p hit =
       ap (λ o. place_and o (λ w. descends (G ++ e ∷ []) w p) && writes (event_at (G ++ e ∷ []) p) i)
       (writer_after j ∙ cond-true (writes e j) (Some (length G)) (writer G j) hit)
 
   step_both : (j i : ℕ) → writes e j ≡ true → writes e i ≡ true → column_entry (G ++ e ∷ []) j i ≡ cycle_at G (length G)
   step_both j i hit also =
-      let new : counted j i (length G) ≡ true = counted_new j i (length G) hit ∙ and_from _ _ (descends_self (G ++ e ∷ []) (length G)) (ap (λ x. writes x i) newest ∙ also) in
-      let rest : greatest (length G) (counted j i) (cycle_at (G ++ e ∷ [])) ≤ cycle_at (G ++ e ∷ []) (length G) = greatest_upto (length G) (counted j i) (cycle_at (G ++ e ∷ [])) _ (λ p l _. cycle_mono (G ++ e ∷ []) p (length G) (omega arith)) in
+      let new : column_counts j i (length G) ≡ true = column_counts_new j i (length G) hit ∙ and_from _ _ (descends_self (G ++ e ∷ []) (length G)) (ap (λ x. writes x i) newest ∙ also) in
+      let rest : greatest (length G) (column_counts j i) (cycle_at (G ++ e ∷ [])) ≤ cycle_at (G ++ e ∷ []) (length G) = greatest_upto (length G) (column_counts j i) (cycle_at (G ++ e ∷ [])) _ (λ p l _. cycle_mono (G ++ e ∷ []) p (length G) (omega arith)) in
       let at : cycle_at (G ++ e ∷ []) (length G) ≡ cycle_at G (length G) = old_cycle (length G) (omega arith) in
-      let top : max (cycle_at (G ++ e ∷ []) (length G)) (greatest (length G) (counted j i) (cycle_at (G ++ e ∷ []))) ≡ cycle_at G (length G) = omega arith in
+      let top : max (cycle_at (G ++ e ∷ []) (length G)) (greatest (length G) (column_counts j i) (cycle_at (G ++ e ∷ []))) ≡ cycle_at G (length G) = omega arith in
       entry_new j i
-      ∙ greatest_suc (length G) (counted j i) (cycle_at (G ++ e ∷ []))
-      ∙ cond-true (counted j i (length G)) _ _ new
+      ∙ greatest_suc (length G) (column_counts j i) (cycle_at (G ++ e ∷ []))
+      ∙ cond-true (column_counts j i (length G)) _ _ new
       ∙ top
 
   -- an old place is in the descent of the new one exactly if it is in that of the last writer of an item that the event reads
@@ -107,12 +107,12 @@ module _ (G : List Event) (e : Event) where
   step_read : (j i : ℕ) → writes e j ≡ true → writes e i ≡ false → column_entry (G ++ e ∷ []) j i ≡ greatest_of (λ r. column_entry G r i) (reads e)
   unfolding column_entry
   step_read j i hit miss =
-      let old : counted j i (length G) ≡ false = counted_new j i (length G) hit ∙ and_right _ _ (ap (λ x. writes x i) newest ∙ miss) in
+      let old : column_counts j i (length G) ≡ false = column_counts_new j i (length G) hit ∙ and_right _ _ (ap (λ x. writes x i) newest ∙ miss) in
       entry_new j i
-      ∙ greatest_suc (length G) (counted j i) (cycle_at (G ++ e ∷ []))
-      ∙ cond-false (counted j i (length G)) _ _ old
-      ∙ greatest_same (length G) (counted j i) (λ p. list_any (λ item. place_and (writer G item) (λ w. descends G w p)) (reads e) && writes (event_at G p) i) (cycle_at (G ++ e ∷ [])) (cycle_at G)
-      (λ p l. counted_new j i p hit
+      ∙ greatest_suc (length G) (column_counts j i) (cycle_at (G ++ e ∷ []))
+      ∙ cond-false (column_counts j i (length G)) _ _ old
+      ∙ greatest_same (length G) (column_counts j i) (λ p. list_any (λ item. place_and (writer G item) (λ w. descends G w p)) (reads e) && writes (event_at G p) i) (cycle_at (G ++ e ∷ [])) (cycle_at G)
+      (λ p l. column_counts_new j i p hit
       ∙ ap (λ b. b && writes (event_at (G ++ e ∷ []) p) i) (new_descent p l)
       ∙ ap (λ x. list_any (λ item. place_and (writer G item) (λ w. descends G w p)) (reads e) && writes x i) (same_below p l))
       (λ p l. old_cycle p (omega arith))

@@ -11,7 +11,7 @@ use Rattle.air_history.specs.declared.updates.Write.{Write}
 use Rattle.air_history.specs.UpdateRules.{base_holds, base_is_read, has_repeat, item_of, update_fault}
 use Rattle.item_catalog.specs.DeckEntries.{Entry, entry_of, query_by, script_by, update_by}
 use Rattle.item_catalog.specs.DeckEntries as e
-use Rattle.update_texts.specs.Writes.{changed, constant, value_of, write_by, write_from, write_of}
+use Rattle.update_texts.specs.Writes.{constant, value_of, write_by, write_from, write_of, write_on_base}
 use Rattle.air_base.specs.Pieces.{cut_at, two_of}
 use Rattle.item_catalog.specs.Fields.{event_of}
 use Rattle.item_catalog.specs.declared.faults.FaultKind.{FaultKind}
@@ -59,11 +59,11 @@ abbrev pub sign_holds : Bool → Option ℕ → Bool
 sign_holds minus None = not minus
 sign_holds minus (Some base) = true
 
-changed_signed : (minus : Bool) (item base amount : Option ℕ) (w : Write) → changed minus item base amount ≡ Some w → sign_holds w.minus w.base ≡ true
-changed_signed minus None base amount w h = cc h
-changed_signed minus (Some i) None amount w h = cc h
-changed_signed minus (Some i) (Some b) None w h = cc h
-changed_signed minus (Some i) (Some b) (Some a) w h = let same : record { item = i; base = Some b; minus = minus; amount = a } ≡ w = cc h in rw (← same) refl
+on_base_signed : (minus : Bool) (item base amount : Option ℕ) (w : Write) → write_on_base minus item base amount ≡ Some w → sign_holds w.minus w.base ≡ true
+on_base_signed minus None base amount w h = cc h
+on_base_signed minus (Some i) None amount w h = cc h
+on_base_signed minus (Some i) (Some b) None w h = cc h
+on_base_signed minus (Some i) (Some b) (Some a) w h = let same : record { item = i; base = Some b; minus = minus; amount = a } ≡ w = cc h in rw (← same) refl
 
 constant_signed : (item amount : Option ℕ) (w : Write) → constant item amount ≡ Some w → sign_holds w.minus w.base ≡ true
 constant_signed None amount w h = cc h
@@ -75,8 +75,8 @@ unfolding write_of value_of
 write_signed text w h = by (two_of (cut_at 61 text)) h
   where
     value : (item : Option ℕ) (v : List ℕ) (a b : Option (List ℕ × List ℕ)) → write_by item a b v ≡ Some w → sign_holds w.minus w.base ≡ true
-    value item v (Some f) b h = changed_signed false item (number_of f.0) (number_of f.1) w h
-    value item v None (Some f) h = changed_signed true item (number_of f.0) (number_of f.1) w h
+    value item v (Some f) b h = on_base_signed false item (number_of f.0) (number_of f.1) w h
+    value item v None (Some f) h = on_base_signed true item (number_of f.0) (number_of f.1) w h
     value item v None None h = constant_signed item (number_of v) w h
 
     by : (sides : Option (List ℕ × List ℕ)) → write_from sides ≡ Some w → sign_holds w.minus w.base ≡ true
@@ -84,10 +84,10 @@ write_signed text w h = by (two_of (cut_at 61 text)) h
     by (Some s) h = value (number_of s.0) s.1 (two_of (cut_at 43 s.1)) (two_of (cut_at 45 s.1)) h
 
 -- Its amount fits 64 bits.
-changed_fits : (minus : Bool) (item base : Option ℕ) (text : List ℕ) (w : Write) → changed minus item base (number_of text) ≡ Some w → w.amount < 2 ^ 64
-changed_fits minus item base text w h = by item base (number_of text) refl h
+on_base_fits : (minus : Bool) (item base : Option ℕ) (text : List ℕ) (w : Write) → write_on_base minus item base (number_of text) ≡ Some w → w.amount < 2 ^ 64
+on_base_fits minus item base text w h = by item base (number_of text) refl h
   where
-    by : (item base amount : Option ℕ) → number_of text ≡ amount → changed minus item base amount ≡ Some w → w.amount < 2 ^ 64
+    by : (item base amount : Option ℕ) → number_of text ≡ amount → write_on_base minus item base amount ≡ Some w → w.amount < 2 ^ 64
     by None base amount e h = cc h
     by (Some i) None amount e h = cc h
     by (Some i) (Some b) None e h = cc h
@@ -110,8 +110,8 @@ unfolding write_of value_of
 write_fits text w h = by (two_of (cut_at 61 text)) h
   where
     value : (item : Option ℕ) (v : List ℕ) (a b : Option (List ℕ × List ℕ)) → write_by item a b v ≡ Some w → w.amount < 2 ^ 64
-    value item v (Some f) b h = changed_fits false item (number_of f.0) f.1 w h
-    value item v None (Some f) h = changed_fits true item (number_of f.0) f.1 w h
+    value item v (Some f) b h = on_base_fits false item (number_of f.0) f.1 w h
+    value item v None (Some f) h = on_base_fits true item (number_of f.0) f.1 w h
     value item v None None h = constant_fits item v w h
 
     by : (sides : Option (List ℕ × List ℕ)) → write_from sides ≡ Some w → w.amount < 2 ^ 64

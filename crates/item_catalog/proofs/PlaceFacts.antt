@@ -8,7 +8,7 @@ use Rattle.text_records.specs.FirstFaults.{IsLeast, NoneBefore}
 use Rattle.text_records.specs.Kinds.{first_of, least_kind, with_spelled}
 use Rattle.text_records.proofs.KindFacts.{least_applies, least_spelled, none_apply, none_spelled, rising}
 use Rattle.text_records.proofs.PlaceFacts as places
-use Rattle.item_catalog.specs.Drafts.{draft_of, judged, with_entry}
+use Rattle.item_catalog.specs.Drafts.{draft_of, record_kind, with_entry}
 use Rattle.item_catalog.specs.DeckEntries.{Entry, entry_of}
 use Rattle.item_catalog.specs.DeckEntries as e
 use Rattle.item_catalog.specs.Faults.{end_tests, entries_in, kinds_after, kinds_at, place_kinds, tests_of}
@@ -33,28 +33,28 @@ tests_rise before (e.Script events) = refl
 tests_rise before (e.Set setting) = refl
 
 -- A draft judges as the entries do that it was made of.
-judged_same : (es : List Entry) (spelled : Result Entry FaultKind) → judged (draft_of es) spelled ≡ least_kind (tests_of es) spelled
-judged_same es (Err kind) = refl
-judged_same es (Ok x) = ap first_of (tests_same es x)
+record_kind_same : (es : List Entry) (spelled : Result Entry FaultKind) → record_kind (draft_of es) spelled ≡ least_kind (tests_of es) spelled
+record_kind_same es (Err kind) = refl
+record_kind_same es (Ok x) = ap first_of (tests_same es x)
 
 pub entries_more : (rows : List (List (List ℕ))) (row : List (List ℕ)) (x : Entry) → entry_of row ≡ Ok x → entries_in (rows ++ row ∷ []) ≡ entries_in rows ++ x ∷ []
 entries_more rows row x h = filter_map-append (λ row. result_ok (entry_of row)) rows (row ∷ []) ∙ rw h refl
 
 -- One more record to which no kind applies, and one to which some kind does.
 module _ (rows : List (List (List ℕ))) (row : List (List ℕ)) where
-  pub added : judged (draft_of (entries_in rows)) (entry_of row) ≡ None → with_spelled with_entry (draft_of (entries_in rows)) (entry_of row) ≡ draft_of (entries_in (rows ++ row ∷ []))
+  pub added : record_kind (draft_of (entries_in rows)) (entry_of row) ≡ None → with_spelled with_entry (draft_of (entries_in rows)) (entry_of row) ≡ draft_of (entries_in (rows ++ row ∷ []))
   added h = by (entry_of row) refl h
     where
-      by : (r : Result Entry FaultKind) → entry_of row ≡ r → judged (draft_of (entries_in rows)) r ≡ None → with_spelled with_entry (draft_of (entries_in rows)) r ≡ draft_of (entries_in (rows ++ row ∷ []))
+      by : (r : Result Entry FaultKind) → entry_of row ≡ r → record_kind (draft_of (entries_in rows)) r ≡ None → with_spelled with_entry (draft_of (entries_in rows)) r ≡ draft_of (entries_in (rows ++ row ∷ []))
       by (Err kind) e h = cc h
       by (Ok x) e h = sym (ap draft_of (entries_more rows row x e) ∙ draft_more (entries_in rows) x)
 
-  pub none_added : NoneBefore (kinds_at rows) (length rows) → judged (draft_of (entries_in rows)) (entry_of row) ≡ None → NoneBefore (kinds_at (rows ++ row ∷ [])) (length (rows ++ row ∷ []))
+  pub none_added : NoneBefore (kinds_at rows) (length rows) → record_kind (draft_of (entries_in rows)) (entry_of row) ≡ None → NoneBefore (kinds_at (rows ++ row ∷ [])) (length (rows ++ row ∷ []))
   unfolding kinds_at
-  none_added before h = places.none_more judge rows row before (none_spelled code_of (tests_of (entries_in rows)) (entry_of row) (sym (judged_same (entries_in rows) (entry_of row)) ∙ h))
+  none_added before h = places.none_more judge rows row before (none_spelled code_of (tests_of (entries_in rows)) (entry_of row) (sym (record_kind_same (entries_in rows) (entry_of row)) ∙ h))
 
-  pub least_after : (kind : FaultKind) → judged (draft_of (entries_in rows)) (entry_of row) ≡ Some kind → IsLeast (code_of kind) (kinds_after (entries_in rows) (entry_of row))
-  least_after kind h = least_spelled code_of (tests_of (entries_in rows)) (tests_rise (entries_in rows)) (entry_of row) kind (sym (judged_same (entries_in rows) (entry_of row)) ∙ h)
+  pub least_after : (kind : FaultKind) → record_kind (draft_of (entries_in rows)) (entry_of row) ≡ Some kind → IsLeast (code_of kind) (kinds_after (entries_in rows) (entry_of row))
+  least_after kind h = least_spelled code_of (tests_of (entries_in rows)) (tests_rise (entries_in rows)) (entry_of row) kind (sym (record_kind_same (entries_in rows) (entry_of row)) ∙ h)
 
 -- The first kind at the end of records.
 abbrev pub end_of : List (List (List ℕ)) → Option FaultKind

@@ -7,7 +7,7 @@ use Rattle.text_records.specs.FirstFaults.{NoneBefore}
 use Rattle.text_records.specs.Kinds.{first_of}
 use Rattle.text_records.specs.Records.{records_of}
 use Rattle.text_records.proofs.PlaceFacts.{refused}
-use Rattle.item_catalog.specs.Drafts.{DraftValue, deck_from, draft_of, judged}
+use Rattle.item_catalog.specs.Drafts.{DraftValue, deck_from, draft_of, record_kind}
 use Rattle.item_catalog.specs.Steps.ReadEnds.{CanEnd, EndsBy}
 use Rattle.item_catalog.specs.DeckEntries.{entry_of}
 use Rattle.item_catalog.specs.Faults.{end_tests, entries_in, kinds_at}
@@ -27,7 +27,7 @@ can_end rows before none =
 
 module _ (text : List ℕ) (rows : List (List (List ℕ))) (before : NoneBefore (kinds_at rows) (length rows)) where
   pub read_fault : (row : List (List ℕ)) (left : List (List (List ℕ))) (kind : FaultKind) → records_of text ≡ rows ++ row ∷ left
-      → judged (draft_of (entries_in rows)) (entry_of row) ≡ Some kind → HasFault text (length rows + 1) (code_of kind)
+      → record_kind (draft_of (entries_in rows)) (entry_of row) ≡ Some kind → HasFault text (length rows + 1) (code_of kind)
   unfolding HasFault kinds_at
   read_fault row left kind all h =
       let P : List (List (List ℕ)) → Type 0 = λ all. RowsFail all (length rows) (code_of kind) in

@@ -88,17 +88,17 @@ deck_from d = record {
 }
 
 -- The least kind that applies to what a record spells, after the parts so far.
-abbrev pub judged : DraftValue → Result Entry FaultKind → Option FaultKind
-judged d spelled = least_kind (draft_tests d) spelled
+abbrev pub record_kind : DraftValue → Result Entry FaultKind → Option FaultKind
+record_kind d spelled = least_kind (draft_tests d) spelled
 
 -- A call adds what a record spells, where no kind applies; else it tells the least. What it leaves then is not told.
 abbrev pub Adds : {A : Type 0} → Result A (Refusal FaultKind) → Result Entry FaultKind → DraftValue → DraftValue → Type 0
-Adds result spelled old new = Answers result (judged old spelled) (λ _. new ≡ with_spelled with_entry old spelled)
+Adds result spelled old new = Answers result (record_kind old spelled) (λ _. new ≡ with_spelled with_entry old spelled)
 
 -- A call reads what an update spells, and adds nothing.
 abbrev pub UpdateRead : Result (ℕ × UpdateLists) (Refusal FaultKind) → Result Entry FaultKind → DraftValue → Type 0
-UpdateRead result spelled d = Answers result (judged d spelled) (λ read. spelled ≡ Ok (e.Update read.0 read.1.reads read.1.writes))
+UpdateRead result spelled d = Answers result (record_kind d spelled) (λ read. spelled ≡ Ok (e.Update read.0 read.1.reads read.1.writes))
 
 -- The same for a query.
 abbrev pub QueryRead : Result (ℕ × List ℕ) (Refusal FaultKind) → Result Entry FaultKind → DraftValue → Type 0
-QueryRead result spelled d = Answers result (judged d spelled) (λ read. spelled ≡ Ok (e.Query read.0 read.1))
+QueryRead result spelled d = Answers result (record_kind d spelled) (λ read. spelled ≡ Ok (e.Query read.0 read.1))

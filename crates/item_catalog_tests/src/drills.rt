@@ -17,7 +17,7 @@ fn set(item: u16, amount: u64) -> Write {
 }
 
 /// A write that adds to a base.
-fn added(item: u16, base: u16, amount: u64) -> Write {
+fn add_to(item: u16, base: u16, amount: u64) -> Write {
     Write {
         item,
         base: Some(base),
@@ -73,11 +73,11 @@ fn items_disks_and_readers_of_a_drill(rt: HostRuntime) -> Result<(), Fail> {
 #[test]
 fn updates_of_a_drill_go_to_four_updaters_in_turn(rt: HostRuntime) -> Result<(), Fail> {
     let first = [set(6, 20), set(7, 22)];
-    let second = [added(4, 8, 33), added(5, 8, 53)];
-    let third = [added(9, 5, 16)];
-    let fourth = [added(13, 5, 55)];
+    let second = [add_to(4, 8, 33), add_to(5, 8, 53)];
+    let third = [add_to(9, 5, 16)];
+    let fourth = [add_to(13, 5, 55)];
     let fifth = [set(0, 12), set(1, 29)];
-    let last = [added(1, 5, 59), added(2, 6, 57)];
+    let last = [add_to(1, 5, 59), add_to(2, 6, 57)];
     let parts = [
         Part::Updaters(4),
         Part::Updates(0, 3),
@@ -143,8 +143,8 @@ fn the_drill_of_seed_0(rt: HostRuntime) -> Result<(), Fail> {
 
 #[test]
 fn updates_go_around_the_catalog(rt: HostRuntime) -> Result<(), Fail> {
-    let around = [added(17, 13, 35), added(0, 13, 37)];
-    let two_bases = [added(7, 4, 46), added(8, 5, 38)];
+    let around = [add_to(17, 13, 35), add_to(0, 13, 37)];
+    let two_bases = [add_to(7, 4, 46), add_to(8, 5, 38)];
     let parts = [
         Part::Update(1, 1, &[13], &around),
         Part::Update(1, 2, &[4, 5], &two_bases),
@@ -174,8 +174,8 @@ fn a_drill_of_size_2(rt: HostRuntime) -> Result<(), Fail> {
 
 #[test]
 fn the_last_updates_of_size_2(rt: HostRuntime) -> Result<(), Fail> {
-    let around = [added(18, 19, 78), added(19, 0, 85)];
-    let last = [added(13, 11, 84), added(14, 12, 29)];
+    let around = [add_to(18, 19, 78), add_to(19, 0, 85)];
+    let last = [add_to(13, 11, 84), add_to(14, 12, 29)];
     let parts = [
         Part::Update(0, 4, &[19, 0], &around),
         Part::Update(3, 4, &[11, 12], &last),

@@ -15,7 +15,7 @@ use Rattle.air_model.specs.SessionLaws.{after}
 use Rattle.air_model.proofs.LineLemmas.{lines}
 use Rattle.receiver_core.specs.Receivers.{Receiver}
 use Rattle.listeners.specs.Steps.Endings.{lines_and_counts}
-use Rattle.listeners.specs.Listeners.{ChangesNoAttempt, Listener, ended, hears, hears_one, listener_of}
+use Rattle.listeners.specs.Listeners.{ChangesNoAttempt, Listener, end_state, hears, hears_one, listener_of}
 use Rattle.listeners.specs.Listeners as listener
 use Rattle.listeners.proofs.CountLemmas.{heard_by, hear_counts, settle_counts}
 use Rattle.listeners.proofs.EndLemmas.{end_like}
@@ -60,8 +60,8 @@ refused_alone (Ok b) before now heard = λ foreign.
 -- A receiver whose last verdicts were taken and whose queries were ended has its session's lines and counts.
 pub listener_ended : (n : ℕ) {old mid : Receiver} {L M : List Line} (last : Receiver) (N : List Line) → Took old L mid M
     → lines_and_counts (after N last.state) ≡ lines_and_counts (end (judge_of mid) mid.air mid.reader (after M mid.state)) → last.state.lines ≡ []
-    → (N, last.state.counts) ≡ lines_and_counts (ended (listening n old L))
-unfolding ended
+    → (N, last.state.counts) ≡ lines_and_counts (end_state (listening n old L))
+unfolding end_state
 listener_ended n {old} {mid} {L} {M} last N took over given =
     let mine : (N, last.state.counts) ≡ lines_and_counts (after N last.state) = ap (λ ls. (ls, last.state.counts)) (sym (ap (λ ls. N ++ ls) given ∙ append-nil N)) in
     mine ∙ over ∙ ap lines_and_counts (sym (end_like mid old (after M mid.state) took.air took.reader)) ∙ ap (λ s. lines_and_counts (end (judge_of old) old.air old.reader s)) took.state
@@ -84,12 +84,12 @@ counted_all [] l = omega arith
 counted_all (o ∷ members) l = let one = counted_one o l in let more = counted_all members (hears_one o l) in omega arith
 
 -- A listener that ends here has heard all, and then settled.
-ended_all : (members : List (Option Bucket)) (l : Listener) → ended (hears members l) ≡ end (listener.judge_of l) l.air l.reader (hear_all (listener.judge_of l) l.air l.reader members l.state)
-unfolding ended hears hears_one hear_all
+ended_all : (members : List (Option Bucket)) (l : Listener) → end_state (hears members l) ≡ end (listener.judge_of l) l.air l.reader (hear_all (listener.judge_of l) l.air l.reader members l.state)
+unfolding end_state hears hears_one hear_all
 ended_all [] l = refl
 ended_all (o ∷ members) l = ended_all members (hears_one o l)
 
-pub session_is : (deck : Deck) (r : ℕ) (members : List (Option Bucket)) → ended (hears members (listener_of deck r)) ≡ session_of (by_entries (scheme_in deck)) deck r members
+pub session_is : (deck : Deck) (r : ℕ) (members : List (Option Bucket)) → end_state (hears members (listener_of deck r)) ≡ session_of (by_entries (scheme_in deck)) deck r members
 unfolding session
 session_is deck r members = ended_all members (listener_of deck r)
 

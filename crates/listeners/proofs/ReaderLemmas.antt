@@ -18,7 +18,7 @@ use Rattle.air_model.specs.Outputs.{sessions_over}
 use Rattle.air_model.specs.Reports.{line_by}
 use Rattle.air_model.specs.ReceiverLaws.{session_of}
 use Rattle.air_model.specs.Tapes.{TapeRead, ends_inside, read_from}
-use Rattle.listeners.specs.Listeners.{AreNumbered, Listener, ended, hears, hears_one, listener_of}
+use Rattle.listeners.specs.Listeners.{AreNumbered, Listener, end_state, hears, hears_one, listener_of}
 use Rattle.listeners.proofs.CountLemmas.{heard_by}
 use Rattle.listeners.proofs.HearLemmas.{counted_one, session_is}
 
@@ -96,10 +96,10 @@ one_more_reader made r before after x so_far is grew =
 
 -- The verdict lines of a listener that ends here, and its counts.
 abbrev pub verdicts_of : Listener → List VerdictLine
-verdicts_of l = map (line_by l.number) (ended l).lines
+verdicts_of l = map (line_by l.number) (end_state l).lines
 
 abbrev pub counts_of : Listener → CountsLine
-counts_of l = record { reader = l.number; counts = (ended l).counts }
+counts_of l = record { reader = l.number; counts = (end_state l).counts }
 
 -- Listeners that are numbered from n on.
 abbrev NumberedFrom : ℕ → List Listener → Type 0
@@ -108,23 +108,23 @@ NumberedFrom n A = map (λ l. l.number) A ≡ range_with_len n (length A)
 numbers : (n : ℕ) (l : Listener) (A : List Listener) → NumberedFrom n (l ∷ A) → (l.number ≡ n) × NumberedFrom (n + 1) A
 numbers n l A e = (cc, cc)
 
-verdicts_from : (n : ℕ) (A : List Listener) → NumberedFrom n A → flat_map verdicts_of A ≡ flat_map (λ p. map (line_by p.0) p.1.lines) (enumerate_from n (map ended A))
+verdicts_from : (n : ℕ) (A : List Listener) → NumberedFrom n A → flat_map verdicts_of A ≡ flat_map (λ p. map (line_by p.0) p.1.lines) (enumerate_from n (map end_state A))
 verdicts_from n [] e = refl
 verdicts_from n (l ∷ A) e =
     let own = numbers n l A e in
-    ap (λ k. map (line_by k) (ended l).lines ++ flat_map verdicts_of A) own.0 ∙ ap (λ rest. map (line_by n) (ended l).lines ++ rest) (verdicts_from (n + 1) A own.1)
+    ap (λ k. map (line_by k) (end_state l).lines ++ flat_map verdicts_of A) own.0 ∙ ap (λ rest. map (line_by n) (end_state l).lines ++ rest) (verdicts_from (n + 1) A own.1)
 
-pub all_verdicts : (A : List Listener) → AreNumbered A → flat_map verdicts_of A ≡ flat_map (λ p. map (line_by p.0) p.1.lines) (enumerate_from 0 (map ended A))
+pub all_verdicts : (A : List Listener) → AreNumbered A → flat_map verdicts_of A ≡ flat_map (λ p. map (line_by p.0) p.1.lines) (enumerate_from 0 (map end_state A))
 all_verdicts A e = verdicts_from 0 A e
 
-counts_from : (n : ℕ) (A : List Listener) → NumberedFrom n A → map counts_of A ≡ map (λ p. let l : CountsLine = record { reader = p.0; counts = p.1.counts } in l) (enumerate_from n (map ended A))
+counts_from : (n : ℕ) (A : List Listener) → NumberedFrom n A → map counts_of A ≡ map (λ p. let l : CountsLine = record { reader = p.0; counts = p.1.counts } in l) (enumerate_from n (map end_state A))
 counts_from n [] e = refl
 counts_from n (l ∷ A) e =
     let own = numbers n l A e in
-    ap (λ k. let c : CountsLine = record { reader = k; counts = (ended l).counts } in c ∷ map counts_of A) own.0
-    ∙ ap (λ rest. let c : CountsLine = record { reader = n; counts = (ended l).counts } in c ∷ rest) (counts_from (n + 1) A own.1)
+    ap (λ k. let c : CountsLine = record { reader = k; counts = (end_state l).counts } in c ∷ map counts_of A) own.0
+    ∙ ap (λ rest. let c : CountsLine = record { reader = n; counts = (end_state l).counts } in c ∷ rest) (counts_from (n + 1) A own.1)
 
-pub all_counts : (A : List Listener) → AreNumbered A → map counts_of A ≡ map (λ p. let l : CountsLine = record { reader = p.0; counts = p.1.counts } in l) (enumerate_from 0 (map ended A))
+pub all_counts : (A : List Listener) → AreNumbered A → map counts_of A ≡ map (λ p. let l : CountsLine = record { reader = p.0; counts = p.1.counts } in l) (enumerate_from 0 (map end_state A))
 all_counts A e = counts_from 0 A e
 
 -- All readers of a deck that have heard these members.
@@ -150,12 +150,12 @@ are_numbered deck members =
     numbers_of deck members 0 n ∙ ap (range_with_len 0) (sym long)
 
 -- So their sessions are those over the members.
-pub sessions_are : (deck : Deck) (records : List (List ℕ)) → map ended (heard_readers deck (map bucket_in records)) ≡ sessions_over (by_entries (scheme_in deck)) deck (λ r. records)
+pub sessions_are : (deck : Deck) (records : List (List ℕ)) → map end_state (heard_readers deck (map bucket_in records)) ≡ sessions_over (by_entries (scheme_in deck)) deck (λ r. records)
 sessions_are deck records = same (range_with_len 0 (length deck.readers))
   where
-    same : (readers : List ℕ) → map ended (map (hears (map bucket_in records)) (map (listener_of deck) readers)) ≡ map (λ r. session_of (by_entries (scheme_in deck)) deck r (map bucket_in records)) readers
+    same : (readers : List ℕ) → map end_state (map (hears (map bucket_in records)) (map (listener_of deck) readers)) ≡ map (λ r. session_of (by_entries (scheme_in deck)) deck r (map bucket_in records)) readers
     same [] = refl
-    same (r ∷ readers) = ap (λ s. s ∷ map ended (map (hears (map bucket_in records)) (map (listener_of deck) readers))) (session_is deck r (map bucket_in records))
+    same (r ∷ readers) = ap (λ s. s ∷ map end_state (map (hears (map bucket_in records)) (map (listener_of deck) readers))) (session_is deck r (map bucket_in records))
         ∙ ap (λ l. session_of (by_entries (scheme_in deck)) deck r (map bucket_in records) ∷ l) (same readers)
 
 -- What was heard through a slice of all of them stands in their vector.

@@ -18,7 +18,7 @@ use Rattle.air_model.proofs.EtherFacts.{clear_ether}
 use Rattle.air_model.specs.Draws.{words_of}
 use Rattle.listeners.specs.declared.runs.ReaderRun.{ReaderRun}
 use Rattle.listeners.specs.EtherListeners.{IsFresh}
-use Rattle.listeners.specs.Listeners.{AreNumbered, Listener, ended, hears, listener_of}
+use Rattle.listeners.specs.Listeners.{AreNumbered, Listener, end_state, hears, listener_of}
 use Rattle.listeners.specs.Steps.ReaderRuns.{EachDone, IsClear, IsDone, IsReady}
 use Rattle.listeners.proofs.HearLemmas.{session_is}
 use Rattle.listeners.proofs.ReaderLemmas.{keeps_number}
@@ -102,7 +102,7 @@ numbered_over deck heard =
     numbers_over deck heard 0 n ∙ ap (range_with_len 0) (sym (length-map-range_with_len (λ r. hears (map bucket_in (heard r)) (listener_of deck r)) 0 n))
 
 -- So their sessions are those over what they heard.
-pub sessions_over_each : (deck : Deck) (heard : ℕ → List (List ℕ)) → map ended (readers_over deck heard) ≡ sessions_over (by_entries (scheme_in deck)) deck heard
+pub sessions_over_each : (deck : Deck) (heard : ℕ → List (List ℕ)) → map end_state (readers_over deck heard) ≡ sessions_over (by_entries (scheme_in deck)) deck heard
 sessions_over_each deck heard = same (range_with_len 0 (length deck.readers))
   where
     over : ℕ → Listener
@@ -111,9 +111,9 @@ sessions_over_each deck heard = same (range_with_len 0 (length deck.readers))
     session : ℕ → State
     session r = session_of (by_entries (scheme_in deck)) deck r (map bucket_in (heard r))
 
-    same : (readers : List ℕ) → map ended (map over readers) ≡ map session readers
+    same : (readers : List ℕ) → map end_state (map over readers) ≡ map session readers
     same [] = refl
-    same (r ∷ readers) = ap (λ s. s ∷ map ended (map over readers)) (session_is deck r (map bucket_in (heard r))) ∙ ap (λ l. session r ∷ l) (same readers)
+    same (r ∷ readers) = ap (λ s. s ∷ map end_state (map over readers)) (session_is deck r (map bucket_in (heard r))) ∙ ap (λ l. session r ∷ l) (same readers)
 
 -- ---- where nothing is lost, heard again or late
 

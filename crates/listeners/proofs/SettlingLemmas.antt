@@ -14,7 +14,7 @@ use Rattle.receiver_core.specs.declared.receivers.Step.{Step}
 use Rattle.receiver_core.specs.declared.receivers.Step.TheVariants as step
 use Rattle.receiver_core.specs.LinesGiven.{StepTells, lines_given}
 use Rattle.receiver_core.specs.ReceiverSteps
-use Rattle.receiver_core.specs.Receivers.{IsSettled, Receiver, stepped}
+use Rattle.receiver_core.specs.Receivers.{IsSettled, Receiver, state_after_step}
 
 -- A state with these lines in place of its own.
 abbrev pub with_lines : List Line → State → State
@@ -30,7 +30,7 @@ after_given L given s none = ap (λ ls. with_lines ls s) (ap (λ ls. (L ++ given
 
 module _ (r : Receiver) where
   -- a step leaves what settling comes to
-  stepped_settles : settle (judge_of r) r.air r.reader (stepped r) ≡ settle (judge_of r) r.air r.reader r.state
+  stepped_settles : settle (judge_of r) r.air r.reader (state_after_step r) ≡ settle (judge_of r) r.air r.reader r.state
   stepped_settles = by (nat_lt 0 (length r.state.lines))
     where
       by : (b : Bool) → settle (judge_of r) r.air r.reader (cond b r.state (ReceiverSteps.step (judge_of r) r.air r.reader r.state)) ≡ settle (judge_of r) r.air r.reader r.state
@@ -38,7 +38,7 @@ module _ (r : Receiver) where
       by false = (on_the_way (judge_of r) r.air r.reader r.state).steps
 
   -- a step without a line settles
-  no_line_settles : (stepped r).lines ≡ [] → stepped r ≡ settle (judge_of r) r.air r.reader r.state
+  no_line_settles : (state_after_step r).lines ≡ [] → state_after_step r ≡ settle (judge_of r) r.air r.reader r.state
   no_line_settles none = by (nat_lt 0 (length r.state.lines)) refl none
     where
       by : (b : Bool) → nat_lt 0 (length r.state.lines) ≡ b → (cond b r.state (ReceiverSteps.step (judge_of r) r.air r.reader r.state)).lines ≡ []
@@ -47,15 +47,15 @@ module _ (r : Receiver) where
       by false waits none = (on_the_way (judge_of r) r.air r.reader r.state).no_line none
 
   -- the same with lines that were handed out
-  given_settles : (L given : List Line) (s : State) → with_lines given s ≡ stepped r → s.lines ≡ []
+  given_settles : (L given : List Line) (s : State) → with_lines given s ≡ state_after_step r → s.lines ≡ []
       → settle (judge_of r) r.air r.reader (after (L ++ given) s) ≡ settle (judge_of r) r.air r.reader (after L r.state)
   given_settles L given s told none =
       ap (settle (judge_of r) r.air r.reader) (after_given L given s none ∙ ap (after L) told)
-      ∙ (lines (judge_of r) r.air r.reader L (stepped r)).settle ∙ ap (after L) stepped_settles ∙ sym ((lines (judge_of r) r.air r.reader L r.state).settle)
+      ∙ (lines (judge_of r) r.air r.reader L (state_after_step r)).settle ∙ ap (after L) stepped_settles ∙ sym ((lines (judge_of r) r.air r.reader L r.state).settle)
 
-  none_settles : (L : List Line) (s : State) → with_lines [] s ≡ stepped r → s.lines ≡ [] → after L s ≡ settle (judge_of r) r.air r.reader (after L r.state)
+  none_settles : (L : List Line) (s : State) → with_lines [] s ≡ state_after_step r → s.lines ≡ [] → after L s ≡ settle (judge_of r) r.air r.reader (after L r.state)
   none_settles L s told none =
-      let same : s ≡ stepped r = ap (λ ls. with_lines ls s) none ∙ told in
+      let same : s ≡ state_after_step r = ap (λ ls. with_lines ls s) none ∙ told in
       ap (after L) (same ∙ no_line_settles (ap (λ (t : State). t.lines) (sym same) ∙ none)) ∙ sym ((lines (judge_of r) r.air r.reader L r.state).settle)
 
 -- From one receiver with lines to another with more, settling comes to the same.
@@ -70,7 +70,7 @@ settle_like r before s air reader = ap (λ a. settle (by_entries a.scheme) a bef
 
 -- One more line was handed out.
 pub settles_more : {before : Receiver} {L : List Line} {r : Receiver} {M : List Line} (now : Receiver) (given all : List Line) → Settles before L r M → now.air ≡ r.air → now.reader ≡ r.reader
-    → with_lines given now.state ≡ stepped r → now.state.lines ≡ [] → all ≡ M ++ given → Settles before L now all
+    → with_lines given now.state ≡ state_after_step r → now.state.lines ≡ [] → all ≡ M ++ given → Settles before L now all
 settles_more {before} {L} {r} {M} now given all h air reader told none e = record {
   air = air ∙ h.air;
   reader = reader ∙ h.reader;
@@ -80,7 +80,7 @@ settles_more {before} {L} {r} {M} now given all h air reader told none e = recor
 
 -- No line was left.
 pub settles_last : {before : Receiver} {L : List Line} {r : Receiver} {M : List Line} (now : Receiver) → Settles before L r M → now.air ≡ r.air → now.reader ≡ r.reader
-    → with_lines [] now.state ≡ stepped r → now.state.lines ≡ [] → after M now.state ≡ settle (judge_of before) before.air before.reader (after L before.state)
+    → with_lines [] now.state ≡ state_after_step r → now.state.lines ≡ [] → after M now.state ≡ settle (judge_of before) before.air before.reader (after L before.state)
 settles_last {before} {L} {r} {M} now h air reader told none =
     none_settles r M now.state told none ∙ sym (settle_like r before (after M r.state) h.air h.reader) ∙ h.state
 

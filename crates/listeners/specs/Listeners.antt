@@ -41,8 +41,8 @@ hears [] l = l
 hears (member ∷ members) l = hears members (hears_one member l)
 
 -- The state of its session, where that ends here: the listener settles, and what is left stays unfinished.
-unfoldable pub ended : Listener → State
-ended l = end (judge_of l) l.air l.reader (settle (judge_of l) l.air l.reader l.state)
+unfoldable pub end_state : Listener → State
+end_state l = end (judge_of l) l.air l.reader (settle (judge_of l) l.air l.reader l.state)
 
 -- Each listener has the number of its place.
 abbrev pub AreNumbered : List Listener → Type 0

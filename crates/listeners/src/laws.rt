@@ -9,12 +9,12 @@ ghost use Rattle.air_model.specs.Decks.{Deck};
 ghost use Rattle.air_model.specs.Judges.{by_entries};
 ghost use Rattle.air_model.specs.ReceiverLaws.{session_of};
 ghost use Rattle.receiver_core.specs.Receivers.{heard_count};
-ghost use Rattle.listeners.specs.Listeners.{Listener, ended, hears, listener_of};
+ghost use Rattle.listeners.specs.Listeners.{Listener, end_state, hears, listener_of};
 
 /// Where a listener that has heard all these members ends, its session is the one over all of them, by the entries.
 pub fn session_law()
     ensures { (deck : Deck) (r : ℕ) (members : List (Option Bucket)) →
-        ended (hears members (listener_of deck r)) ≡ session_of (by_entries (scheme_in deck)) deck r members }
+        end_state (hears members (listener_of deck r)) ≡ session_of (by_entries (scheme_in deck)) deck r members }
 {}
 
 /// To hear a list is to hear its pieces, one after another.

@@ -8,7 +8,7 @@ ghost use Rattle.air_model.specs.Buckets.{IsInRange};
 ghost use Rattle.air_model.specs.Decks.{disks_in};
 ghost use Rattle.air_model.specs.Reports.{line_by};
 ghost use Rattle.receiver_core.specs.Receivers.{heard_count};
-ghost use Rattle.listeners.specs.Listeners.{ChangesNoAttempt, ended, hears, hears_one, listener_of};
+ghost use Rattle.listeners.specs.Listeners.{ChangesNoAttempt, end_state, hears, hears_one, listener_of};
 
 use crate::verdicts::{Line, end_queries, take_verdicts};
 use air_base::NoMemory;
@@ -81,8 +81,8 @@ impl Listener {
         verdicts: &mut Vec<VerdictLine>,
         counts: &mut Vec<CountsLine>,
     ) -> Result<(), NoMemory>
-        ensures verdicts { OnOk result (verdicts.new.items ≡ verdicts.old.items ++ map (line_by self.number) (ended self).lines) }
-        ensures counts { OnOk result (counts.new.items ≡ counts.old.items ++ record { reader = self.number; counts = (ended self).counts } ∷ []) }
+        ensures verdicts { OnOk result (verdicts.new.items ≡ verdicts.old.items ++ map (line_by self.number) (end_state self).lines) }
+        ensures counts { OnOk result (counts.new.items ≡ counts.old.items ++ record { reader = self.number; counts = (end_state self).counts } ∷ []) }
     {
         let reader = self.number;
         let mut receiver = self.receiver;

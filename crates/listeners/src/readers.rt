@@ -14,7 +14,7 @@ ghost use Rattle.air_model.specs.Outputs.{sessions_over};
 ghost use Rattle.air_model.specs.Reports.{counts_lines, verdict_lines};
 ghost use Rattle.air_model.specs.Tapes.{tape_read};
 ghost use Rattle.receiver_core.specs.Receivers.{heard_count};
-ghost use Rattle.listeners.specs.Listeners.{AreNumbered, ended, hears, hears_one, listener_of};
+ghost use Rattle.listeners.specs.Listeners.{AreNumbered, end_state, hears, hears_one, listener_of};
 
 use crate::listener::Listener;
 use air_base::NoMemory;
@@ -79,8 +79,8 @@ pub fn all_hear_tape(alloc: Global, listeners: &mut [Listener], tape: &[u8]) -> 
 /// Ends the sessions of all, one after another.
 pub fn end_all(alloc: Global, listeners: Vec<Listener>) -> Result<Sessions, NoMemory>
     requires { AreNumbered listeners.items }
-    ensures verdicts { IfOk result (λ s. s.verdicts.items ≡ verdict_lines (map ended listeners.items)) }
-    ensures counts { IfOk result (λ s. s.counts.items ≡ counts_lines (map ended listeners.items)) }
+    ensures verdicts { IfOk result (λ s. s.verdicts.items ≡ verdict_lines (map end_state listeners.items)) }
+    ensures counts { IfOk result (λ s. s.counts.items ≡ counts_lines (map end_state listeners.items)) }
 {
     let mut verdicts = Vec::new(alloc);
     let mut counts = Vec::new(alloc);

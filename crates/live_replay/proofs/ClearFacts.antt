@@ -19,19 +19,19 @@ use Rattle.history_laws.proofs.ConsistencyLemmas.{alone_from, same_place_decides
 use Rattle.live_replay.specs.declared.writes.ItemWrite.{ItemWrite}
 use Rattle.live_replay.specs.Steps.Commits.{MarksAlone, count_at, number_at, write_at, writes_from}
 use Rattle.live_replay.proofs.WriteFacts.{some_write, split_writes, write_passes}
-use Rattle.live_replay.proofs.LastFacts.{written}
+use Rattle.live_replay.proofs.LastFacts.{item_writes}
 
 -- The write's commit is marked.
 abbrev pub is_marked : List Bool → ItemWrite → Bool
 is_marked marks w = get_or marks w.commit false
 
 -- The writes of an item from a cycle on.
-pub writes_since : (V : List ℕ) (H : List Event) (i c : ℕ) → drop (count_at V H i c) (written V H i (length H)) ≡ writes_from V H i (0 + length (front H c)) (length H - length (front H c))
+pub writes_since : (V : List ℕ) (H : List Event) (i c : ℕ) → drop (count_at V H i c) (item_writes V H i (length H)) ≡ writes_from V H i (0 + length (front H c)) (length H - length (front H c))
 writes_since V H i c =
     let m = length (front H c) in
     let e : length H ≡ m + (length H - m) = omega (arith, front_within H c) in
-    ap (drop (count_at V H i c)) (ap (written V H i) e ∙ split_writes V H i 0 m (length H - m))
-    ∙ drop_at (written V H i m) (writes_from V H i (0 + m) (length H - m)) (count_at V H i c) refl
+    ap (drop (count_at V H i c)) (ap (item_writes V H i) e ∙ split_writes V H i 0 m (length H - m))
+    ∙ drop_at (item_writes V H i m) (writes_from V H i (0 + m) (length H - m)) (count_at V H i c) refl
 
 module _ (V : List ℕ) (H : List Event) (R : List ReadAt) (marks : List Bool) (m : MarksAlone H R marks) (r : ReadAt) where
   -- No commit that runs alone writes the item from the read's cycle on.
@@ -86,7 +86,7 @@ module _ (V : List ℕ) (H : List Event) (R : List ReadAt) (marks : List Bool) (
   )
 
   pub read_is_last : (j : ℕ) (d : ReadAt) → j < length R → get_or R j d ≡ r →
-      same_place (last_alone H R r.item) (origin H r) ≡ not (list_any (is_marked marks) (drop (count_at V H r.item r.cycle) (written V H r.item (length H))))
+      same_place (last_alone H R r.item) (origin H r) ≡ not (list_any (is_marked marks) (drop (count_at V H r.item r.cycle) (item_writes V H r.item (length H))))
   read_is_last j d l at =
       same_from_decides {P = Clear} (same_place (last_alone H R r.item) (origin H r)) (not (list_any (is_marked marks) later))
       (λ e. last_clear (origin H r) refl ((same_place_decides (last_alone H R r.item) (origin H r)).0 e), λ c. (same_place_decides (last_alone H R r.item) (origin H r)).1 (clear_last j d l at c (origin H r) refl))

@@ -7,14 +7,14 @@ use Rattle.air_base.specs.declared.verdicts.VerdictKind.TheVariants.{Accept, Abo
 use Rattle.air_history.specs.Places.{last_place}
 use Rattle.air_history.specs.Histories.{front, writer, writer_before, writes, reads, is_start}
 use Rattle.air_history.specs.Descents.{descends, descends_in}
-use Rattle.air_history.specs.Tables.{based, write_of, value_after, table}
+use Rattle.air_history.specs.Tables.{value_on_base, write_of, value_after, table}
 use Rattle.air_history.specs.Reads.{origin, stale}
 use Rattle.air_history.specs.Consistency.{descends_from, runs_alone, last_alone, consistent}
 use Rattle.air_history.specs.Clashes.{least, is_late, clash_by_history}
 use Rattle.air_history.specs.ClashLaws.{passes}
 use Rattle.air_model.specs.Decks.{Deck, event_of, script_history}
 use Rattle.air_model.specs.Reports.{total_at}
-use Rattle.air_model.proofs.SessionExamples.{chained, judged_by, s, swapped, u}
+use Rattle.air_model.proofs.SessionExamples.{chained_deck, judged_by, s, swapped_deck, u}
 use Rattle.live_replay.specs.declared.findings.Cause.{Cause}
 use Rattle.live_replay.specs.declared.findings.Cause.TheVariants.{Value, Verdict, Clash, Total}
 use Rattle.live_replay.specs.Findings.{all_pass, is_refused, is_clash, verdict_cause, look_cause}
@@ -24,36 +24,36 @@ abbrev r : ℕ → ℕ → ℕ → ReadOf
 r item cycle value = record { item = item; cycle = cycle; value = value }
 
 -- The finding of a verdict on the first query, over the deck's script.
-abbrev told : Deck → VerdictKind → List ReadOf → Option Cause
-told deck kind reads = verdict_cause deck (script_history deck) (record { reader = 0; verdict = record { query = 0; attempt = 1; kind = kind }; reads = reads })
+abbrev verdict_finding : Deck → VerdictKind → List ReadOf → Option Cause
+verdict_finding deck kind reads = verdict_cause deck (script_history deck) (record { reader = 0; verdict = record { query = 0; attempt = 1; kind = kind }; reads = reads })
 
 -- The finding of a look at a cycle, over the deck's script.
-abbrev seen : Deck → ℕ → ℕ → Option Cause
-seen deck cycle total = look_cause deck (script_history deck) (record { monitor = 0; cycle = cycle; total = total })
+abbrev look_finding : Deck → ℕ → ℕ → Option Cause
+look_finding deck cycle total = look_cause deck (script_history deck) (record { monitor = 0; cycle = cycle; total = total })
 
 -- Item 0 becomes 11 and item 1 becomes 21, both in cycle 1.
 abbrev both : Deck
-both = swapped (s ∷ u ∷ u ∷ s ∷ [])
+both = swapped_deck (s ∷ u ∷ u ∷ s ∷ [])
 
 pub record Verdicts : Type 0 where
-  agrees : told both Accept (r 0 1 10 ∷ r 1 2 21 ∷ []) ≡ None
-  aborted : told both (Abort 1 2 0) (r 0 1 10 ∷ []) ≡ Some Verdict
-  value : told both Accept (r 0 1 10 ∷ r 1 2 22 ∷ []) ≡ Some Value
+  agrees : verdict_finding both Accept (r 0 1 10 ∷ r 1 2 21 ∷ []) ≡ None
+  aborted : verdict_finding both (Abort 1 2 0) (r 0 1 10 ∷ []) ≡ Some Verdict
+  value : verdict_finding both Accept (r 0 1 10 ∷ r 1 2 22 ∷ []) ≡ Some Value
   -- The value goes before the verdict.
-  value_first : told both (Abort 1 2 0) (r 0 1 11 ∷ []) ≡ Some Value
-  unfinished : told both Unfinished (r 0 2 11 ∷ []) ≡ None
-  nothing_read : told both Unfinished [] ≡ None
+  value_first : verdict_finding both (Abort 1 2 0) (r 0 1 11 ∷ []) ≡ Some Value
+  unfinished : verdict_finding both Unfinished (r 0 2 11 ∷ []) ≡ None
+  nothing_read : verdict_finding both Unfinished [] ≡ None
   -- Under the other policies the same reads don't go together.
-  stale : told (judged_by Datacycle both) Accept (r 0 1 10 ∷ r 1 2 21 ∷ []) ≡ Some Verdict
-  refused : told (judged_by Datacycle both) (Abort 1 2 0) (r 0 1 10 ∷ []) ≡ None
-  other_clash : told (judged_by Datacycle both) (Abort 1 2 1) (r 0 1 10 ∷ []) ≡ Some Clash
-  taken : told (judged_by RMatrix both) Accept (r 0 1 10 ∷ r 1 1 20 ∷ []) ≡ None
+  stale : verdict_finding (judged_by Datacycle both) Accept (r 0 1 10 ∷ r 1 2 21 ∷ []) ≡ Some Verdict
+  refused : verdict_finding (judged_by Datacycle both) (Abort 1 2 0) (r 0 1 10 ∷ []) ≡ None
+  other_clash : verdict_finding (judged_by Datacycle both) (Abort 1 2 1) (r 0 1 10 ∷ []) ≡ Some Clash
+  taken : verdict_finding (judged_by RMatrix both) Accept (r 0 1 10 ∷ r 1 1 20 ∷ []) ≡ None
   -- A read that comes too late passes under R-Matrix in no place.
-  late : told (judged_by RMatrix both) Accept (r 0 2 11 ∷ r 1 1 20 ∷ []) ≡ Some Verdict
-  late_named : told (judged_by RMatrix both) (Abort 1 1 0) (r 0 2 11 ∷ []) ≡ Some Verdict
+  late : verdict_finding (judged_by RMatrix both) Accept (r 0 2 11 ∷ r 1 1 20 ∷ []) ≡ Some Verdict
+  late_named : verdict_finding (judged_by RMatrix both) (Abort 1 1 0) (r 0 2 11 ∷ []) ≡ Some Verdict
 
 verdicts : Verdicts
-unfolding verdict_cause all_pass is_refused is_clash passes is_late clash_by_history least stale origin consistent last_alone runs_alone descends_from descends descends_in writer writer_before writes reads is_start front last_place table value_after write_of based script_history event_of
+unfolding verdict_cause all_pass is_refused is_clash passes is_late clash_by_history least stale origin consistent last_alone runs_alone descends_from descends descends_in writer writer_before writes reads is_start front last_place table value_after write_of value_on_base script_history event_of
 verdicts = record {
   agrees = refl;
   aborted = refl;
@@ -71,18 +71,18 @@ verdicts = record {
 
 -- Item 0 becomes 11, item 2 that and 1, item 1 that and 1, all in cycle 1.
 abbrev chain : Deck
-chain = chained 1 (s ∷ u ∷ u ∷ u ∷ s ∷ [])
+chain = chained_deck 1 (s ∷ u ∷ u ∷ u ∷ s ∷ [])
 
 pub record Chain : Type 0 where
-  apart : told chain Accept (r 0 1 10 ∷ r 1 2 13 ∷ []) ≡ Some Verdict
-  abort : told chain (Abort 1 2 0) (r 0 1 10 ∷ []) ≡ None
-  passes : told chain (Abort 1 1 0) (r 0 1 10 ∷ []) ≡ Some Verdict
-  together : told chain Accept (r 0 2 11 ∷ r 1 2 13 ∷ []) ≡ None
-  at_start : seen chain 1 60 ≡ None
-  later : seen chain 2 36 ≡ None
-  other_cycle : seen chain 1 36 ≡ Some Total
-  catalog : seen chain 0 60 ≡ None
+  apart : verdict_finding chain Accept (r 0 1 10 ∷ r 1 2 13 ∷ []) ≡ Some Verdict
+  abort : verdict_finding chain (Abort 1 2 0) (r 0 1 10 ∷ []) ≡ None
+  passes : verdict_finding chain (Abort 1 1 0) (r 0 1 10 ∷ []) ≡ Some Verdict
+  together : verdict_finding chain Accept (r 0 2 11 ∷ r 1 2 13 ∷ []) ≡ None
+  at_start : look_finding chain 1 60 ≡ None
+  later : look_finding chain 2 36 ≡ None
+  other_cycle : look_finding chain 1 36 ≡ Some Total
+  catalog : look_finding chain 0 60 ≡ None
 
 chain_is : Chain
-unfolding verdict_cause look_cause total_at all_pass is_refused is_clash passes is_late clash_by_history least stale origin consistent last_alone runs_alone descends_from descends descends_in writer writer_before writes reads is_start front last_place table value_after write_of based script_history event_of
+unfolding verdict_cause look_cause total_at all_pass is_refused is_clash passes is_late clash_by_history least stale origin consistent last_alone runs_alone descends_from descends descends_in writer writer_before writes reads is_start front last_place table value_after write_of value_on_base script_history event_of
 chain_is = record { apart = refl; abort = refl; passes = refl; together = refl; at_start = refl; later = refl; other_cycle = refl; catalog = refl }

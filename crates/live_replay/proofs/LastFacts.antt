@@ -22,108 +22,108 @@ use Rattle.live_replay.proofs.WriteFacts.{before_next, no_places, one_more, spli
 
 module _ (V : List ℕ) (H : List Event) (i : ℕ) where
   -- The writes of the item before place n.
-  abbrev pub written : ℕ → List ItemWrite
-  written n = writes_from V H i 0 n
+  abbrev pub item_writes : ℕ → List ItemWrite
+  item_writes n = writes_from V H i 0 n
 
-  pub written_next : (n : ℕ) → written (n + 1) ≡ written n ++ cond (writes (event_at H n) i) (write_at V H i n ∷ []) []
-  written_next n = one_more V H i 0 n ∙ ap (λ p. written n ++ cond (writes (event_at H p) i) (write_at V H i p ∷ []) []) (zero-add n)
+  pub written_next : (n : ℕ) → item_writes (n + 1) ≡ item_writes n ++ cond (writes (event_at H n) i) (write_at V H i n ∷ []) []
+  written_next n = one_more V H i 0 n ∙ ap (λ p. item_writes n ++ cond (writes (event_at H p) i) (write_at V H i p ∷ []) []) (zero-add n)
 
   -- Writes end with that of the last writer; there are none where there is none.
   abbrev pub EndWith : Option ℕ → List ItemWrite → Type 0
   EndWith None ws = ws ≡ []
-  EndWith (Some w) ws = ws ≡ written w ++ write_at V H i w ∷ []
+  EndWith (Some w) ws = ws ≡ item_writes w ++ write_at V H i w ∷ []
 
-  end_with : (n : ℕ) → EndWith (writer_before H n i) (written n)
-  end_with zero = subst (λ o. EndWith o (written 0)) (sym (writer_before_none H i)) (no_places V H i 0)
-  end_with (suc n) = subst (λ k. EndWith (writer_before H k i) (written k)) (add-one n)
-      (subst (λ o. EndWith o (written (n + 1))) (sym (before_next H n i)) (more (writes (event_at H n) i) (writer_before H n i) refl (end_with n)))
+  end_with : (n : ℕ) → EndWith (writer_before H n i) (item_writes n)
+  end_with zero = subst (λ o. EndWith o (item_writes 0)) (sym (writer_before_none H i)) (no_places V H i 0)
+  end_with (suc n) = subst (λ k. EndWith (writer_before H k i) (item_writes k)) (add-one n)
+      (subst (λ o. EndWith o (item_writes (n + 1))) (sym (before_next H n i)) (more (writes (event_at H n) i) (writer_before H n i) refl (end_with n)))
     where
-      more : (b : Bool) (o : Option ℕ) → writes (event_at H n) i ≡ b → EndWith o (written n) → EndWith (cond b (Some n) o) (written (n + 1))
-      more true o e rest = written_next n ∙ ap (λ b. written n ++ cond b (write_at V H i n ∷ []) []) e
-      more false None e rest = written_next n ∙ ap (λ b. written n ++ cond b (write_at V H i n ∷ []) []) e ∙ append-nil (written n) ∙ rest
-      more false (Some w) e rest = written_next n ∙ ap (λ b. written n ++ cond b (write_at V H i n ∷ []) []) e ∙ append-nil (written n) ∙ rest
+      more : (b : Bool) (o : Option ℕ) → writes (event_at H n) i ≡ b → EndWith o (item_writes n) → EndWith (cond b (Some n) o) (item_writes (n + 1))
+      more true o e rest = written_next n ∙ ap (λ b. item_writes n ++ cond b (write_at V H i n ∷ []) []) e
+      more false None e rest = written_next n ∙ ap (λ b. item_writes n ++ cond b (write_at V H i n ∷ []) []) e ∙ append-nil (item_writes n) ∙ rest
+      more false (Some w) e rest = written_next n ∙ ap (λ b. item_writes n ++ cond b (write_at V H i n ∷ []) []) e ∙ append-nil (item_writes n) ∙ rest
 
-  pub ends : (n : ℕ) (o : Option ℕ) → writer_before H n i ≡ o → EndWith o (written n)
-  ends n o e = subst (λ o. EndWith o (written n)) e (end_with n)
+  pub ends : (n : ℕ) (o : Option ℕ) → writer_before H n i ≡ o → EndWith o (item_writes n)
+  ends n o e = subst (λ o. EndWith o (item_writes n)) e (end_with n)
 
   -- The value that a place left, or the first one.
-  abbrev left : Option ℕ → ℕ
-  left None = values_of V i
-  left (Some w) = table (values_of V) (take (w + 1) H) i
+  abbrev value_left_by : Option ℕ → ℕ
+  value_left_by None = values_of V i
+  value_left_by (Some w) = table (values_of V) (take (w + 1) H) i
 
-  value_left : (n : ℕ) → n ≤ length H → table (values_of V) (take n H) i ≡ left (writer_before H n i)
-  value_left zero l = table_nil (values_of V) i ∙ ap left (sym (writer_before_none H i))
+  value_left : (n : ℕ) → n ≤ length H → table (values_of V) (take n H) i ≡ value_left_by (writer_before H n i)
+  value_left zero l = table_nil (values_of V) i ∙ ap value_left_by (sym (writer_before_none H i))
   value_left (suc n) l =
       let e : suc n ≡ n + 1 = sym (add-one n) in
-      ap (λ k. table (values_of V) (take k H) i) e ∙ more (writes (event_at H n) i) refl (value_left n (omega arith)) ∙ ap left (sym (before_next H n i)) ∙ ap (λ k. left (writer_before H k i)) (sym e)
+      ap (λ k. table (values_of V) (take k H) i) e ∙ more (writes (event_at H n) i) refl (value_left n (omega arith)) ∙ ap value_left_by (sym (before_next H n i)) ∙ ap (λ k. value_left_by (writer_before H k i)) (sym e)
     where
-      more : (b : Bool) → writes (event_at H n) i ≡ b → table (values_of V) (take n H) i ≡ left (writer_before H n i) → table (values_of V) (take (n + 1) H) i ≡ left (cond b (Some n) (writer_before H n i))
+      more : (b : Bool) → writes (event_at H n) i ≡ b → table (values_of V) (take n H) i ≡ value_left_by (writer_before H n i) → table (values_of V) (take (n + 1) H) i ≡ value_left_by (cond b (Some n) (writer_before H n i))
       more true e rest = refl
       more false e rest =
           ap (λ G. table (values_of V) G i) (take_next H n (omega arith)) ∙ table_push (values_of V) (take n H) (event_at H n) i
           ∙ not_written (table (values_of V) (take n H)) (event_at H n) i e ∙ rest
 
   -- The number of writes before a cycle.
-  abbrev counted : ℕ → ℕ
-  counted c = count_at V H i c
+  abbrev count_before : ℕ → ℕ
+  count_before c = count_at V H i c
 
-  pub count_within : (c : ℕ) → counted c ≤ length (written (length H))
+  pub count_within : (c : ℕ) → count_before c ≤ length (item_writes (length H))
   count_within c =
       let whole : length H ≡ length (front H c) + (length H - length (front H c)) = omega (arith, front_within H c) in
-      omega (arith, ap (λ n. length (written n)) whole, ap length (split_writes V H i 0 (length (front H c)) (length H - length (front H c))), length-append (written (length (front H c))) (writes_from V H i (0 + length (front H c)) (length H - length (front H c))))
+      omega (arith, ap (λ n. length (item_writes n)) whole, ap length (split_writes V H i 0 (length (front H c)) (length H - length (front H c))), length-append (item_writes (length (front H c))) (writes_from V H i (0 + length (front H c)) (length H - length (front H c))))
 
   at_origin : (c : ℕ) → origin H (read_of i c) ≡ writer_before H (length (front H c)) i
   at_origin c = origin_whole H (read_of i c)
 
-  value_at : (c : ℕ) → read_value (values_of V) H (read_of i c) ≡ left (writer_before H (length (front H c)) i)
+  value_at : (c : ℕ) → read_value (values_of V) H (read_of i c) ≡ value_left_by (writer_before H (length (front H c)) i)
   value_at c = ap (λ G. table (values_of V) G i) (front_prefix H c) ∙ value_left (length (front H c)) (front_within H c)
 
   -- Where nothing was written, the read has no origin, and the catalog's value.
-  pub none_written : (c : ℕ) → counted c ≡ 0 → (origin H (read_of i c) ≡ None) × (read_value (values_of V) H (read_of i c) ≡ values_of V i)
-  none_written c e = let o = none (writer_before H (length (front H c)) i) refl in (at_origin c ∙ o, value_at c ∙ ap left o)
+  pub none_written : (c : ℕ) → count_before c ≡ 0 → (origin H (read_of i c) ≡ None) × (read_value (values_of V) H (read_of i c) ≡ values_of V i)
+  none_written c e = let o = none (writer_before H (length (front H c)) i) refl in (at_origin c ∙ o, value_at c ∙ ap value_left_by o)
     where
       none : (o : Option ℕ) → writer_before H (length (front H c)) i ≡ o → writer_before H (length (front H c)) i ≡ None
       none None f = f
-      none (Some w) f = absurd (let len = length_push (written w) (write_at V H i w) in let same = ap length (ends (length (front H c)) (Some w) f) in omega arith)
+      none (Some w) f = absurd (let len = length_push (item_writes w) (write_at V H i w) in let same = ap length (ends (length (front H c)) (Some w) f) in omega arith)
 
   -- Else the last write is the origin's, and has left the read's value.
-  pub last_written : (c : ℕ) (d : ItemWrite) → 0 < counted c → (w : ℕ) × (origin H (read_of i c) ≡ Some w) × (get_or (written (length H)) (counted c - 1) d ≡ write_at V H i w) × (read_value (values_of V) H (read_of i c) ≡ (write_at V H i w).value)
+  pub last_written : (c : ℕ) (d : ItemWrite) → 0 < count_before c → (w : ℕ) × (origin H (read_of i c) ≡ Some w) × (get_or (item_writes (length H)) (count_before c - 1) d ≡ write_at V H i w) × (read_value (values_of V) H (read_of i c) ≡ (write_at V H i w).value)
   unfolding write_at
   last_written c d pos = some (writer_before H (length (front H c)) i) refl
     where
       m : ℕ
       m = length (front H c)
 
-      whole : written (length H) ≡ written m ++ writes_from V H i (0 + m) (length H - m)
-      whole = let e : length H ≡ m + (length H - m) = omega (arith, front_within H c) in ap written e ∙ split_writes V H i 0 m (length H - m)
+      whole : item_writes (length H) ≡ item_writes m ++ writes_from V H i (0 + m) (length H - m)
+      whole = let e : length H ≡ m + (length H - m) = omega (arith, front_within H c) in ap item_writes e ∙ split_writes V H i 0 m (length H - m)
 
-      some : (o : Option ℕ) → writer_before H m i ≡ o → (w : ℕ) × (origin H (read_of i c) ≡ Some w) × (get_or (written (length H)) (counted c - 1) d ≡ write_at V H i w) × (read_value (values_of V) H (read_of i c) ≡ (write_at V H i w).value)
+      some : (o : Option ℕ) → writer_before H m i ≡ o → (w : ℕ) × (origin H (read_of i c) ≡ Some w) × (get_or (item_writes (length H)) (count_before c - 1) d ≡ write_at V H i w) × (read_value (values_of V) H (read_of i c) ≡ (write_at V H i w).value)
       some None f = absurd (let same = ap length (ends m None f) in omega arith)
       some (Some w) f =
           let tail = ends m (Some w) f in
-          let len : counted c ≡ length (written w) + 1 = ap length tail ∙ length_push (written w) (write_at V H i w) in (
+          let len : count_before c ≡ length (item_writes w) + 1 = ap length tail ∙ length_push (item_writes w) (write_at V H i w) in (
             w,
             at_origin c ∙ f,
-            ap (λ ws. get_or ws (counted c - 1) d) whole ∙ get_or_append_left (written m) (writes_from V H i (0 + m) (length H - m)) d (counted c - 1) (omega arith)
-                ∙ ap (λ ws. get_or ws (counted c - 1) d) tail ∙ get_or_push (written w) (write_at V H i w) d (counted c - 1) (omega arith),
-            value_at c ∙ ap left f,
+            ap (λ ws. get_or ws (count_before c - 1) d) whole ∙ get_or_append_left (item_writes m) (writes_from V H i (0 + m) (length H - m)) d (count_before c - 1) (omega arith)
+                ∙ ap (λ ws. get_or ws (count_before c - 1) d) tail ∙ get_or_push (item_writes w) (write_at V H i w) d (count_before c - 1) (omega arith),
+            value_at c ∙ ap value_left_by f,
           )
 
   -- Two places have one last writer exactly if there are as many writes before both.
-  same_ends : (m n : ℕ) → writer_before H m i ≡ writer_before H n i → length (written m) ≡ length (written n)
+  same_ends : (m n : ℕ) → writer_before H m i ≡ writer_before H n i → length (item_writes m) ≡ length (item_writes n)
   same_ends m n e = by (writer_before H n i) refl
     where
-      by : (o : Option ℕ) → writer_before H n i ≡ o → length (written m) ≡ length (written n)
+      by : (o : Option ℕ) → writer_before H n i ≡ o → length (item_writes m) ≡ length (item_writes n)
       by None f = ap length (ends m None (e ∙ f)) ∙ sym (ap length (ends n None f))
       by (Some w) f = ap length (ends m (Some w) (e ∙ f)) ∙ sym (ap length (ends n (Some w) f))
 
-  one_writer : (m n : ℕ) → m ≤ n → length (written m) ≡ length (written n) → writer_before H m i ≡ writer_before H n i
+  one_writer : (m n : ℕ) → m ≤ n → length (item_writes m) ≡ length (item_writes n) → writer_before H m i ≡ writer_before H n i
   one_writer m n le e = by (writer_before H n i) refl (writer_before_is H n i)
     where
       longer : (w : ℕ) → m ≤ w → writer_before H n i ≡ Some w → ⊥
       longer w mw f =
           let whole : w ≡ m + (w - m) = omega arith in
-          omega (arith, ap length (ends n (Some w) f), length_push (written w) (write_at V H i w), ap (λ k. length (written k)) whole, ap length (split_writes V H i 0 m (w - m)), length-append (written m) (writes_from V H i (0 + m) (w - m)))
+          omega (arith, ap length (ends n (Some w) f), length_push (item_writes w) (write_at V H i w), ap (λ k. length (item_writes k)) whole, ap length (split_writes V H i 0 m (w - m)), length-append (item_writes m) (writes_from V H i (0 + m) (w - m)))
 
       by : (o : Option ℕ) → writer_before H n i ≡ o → IsLast n (λ q. writes (event_at H q) i) (writer_before H n i) → writer_before H m i ≡ writer_before H n i
       by None f is =
@@ -136,7 +136,7 @@ module _ (V : List ℕ) (H : List Event) (i : ℕ) where
             | inr g ↦ absurd (longer w g f)
           ]
 
-  one_end : (m n : ℕ) → length (written m) ≡ length (written n) → writer_before H m i ≡ writer_before H n i
+  one_end : (m n : ℕ) → length (item_writes m) ≡ length (item_writes n) → writer_before H m i ≡ writer_before H n i
   one_end m n e = elim (cases_lt n m) as (λ _. writer_before H m i ≡ writer_before H n i) [
     | inl l ↦ sym (one_writer n m (omega arith) (sym e))
     | inr g ↦ one_writer m n g e
@@ -146,8 +146,8 @@ module _ (V : List ℕ) (H : List Event) (i : ℕ) where
   whole_writer c = sym (origin_of H i c) ∙ at_origin c
 
   -- An item has one origin at two cycles exactly if it was written as often before both.
-  pub same_origin_is : (c d : ℕ) → same_origin H i c d ≡ (counted c == counted d)
-  same_origin_is c d = same_from_decides {P = counted c ≡ counted d} (same_origin H i c d) (counted c == counted d) (
+  pub same_origin_is : (c d : ℕ) → same_origin H i c d ≡ (count_before c == count_before d)
+  same_origin_is c d = same_from_decides {P = count_before c ≡ count_before d} (same_origin H i c d) (count_before c == count_before d) (
     λ h. same_ends (length (front H c)) (length (front H d)) (sym (whole_writer c) ∙ (same_place_decides (writer (front H c) i) (writer (front H d) i)).0 h ∙ whole_writer d),
     λ h. (same_place_decides (writer (front H c) i) (writer (front H d) i)).1 (whole_writer c ∙ one_end (length (front H c)) (length (front H d)) h ∙ sym (whole_writer d)),
-  ) (λ h. eqb-true (counted c) (counted d) h, λ h. eq-eqb (counted c) (counted d) h)
+  ) (λ h. eqb-true (count_before c) (count_before d) h, λ h. eq-eqb (count_before c) (count_before d) h)

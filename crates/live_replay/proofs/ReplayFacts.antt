@@ -17,7 +17,7 @@ use Rattle.live_replay.specs.declared.replay.Replay.TheInside.{Inside}
 use Rattle.live_replay.specs.declared.writes.ItemWrite.{ItemWrite}
 use Rattle.live_replay.specs.Findings.{read_of}
 use Rattle.live_replay.specs.Steps.Commits.{is_commit, number_at, writes_from}
-use Rattle.live_replay.specs.Steps.Replays.{IsReplay, replayed}
+use Rattle.live_replay.specs.Steps.Replays.{IsReplay, replay_of}
 use Rattle.live_replay.specs.Steps.Runs.{IsRun}
 use Rattle.live_replay.proofs.SourceFacts.{sources_count}
 
@@ -45,7 +45,7 @@ run_few V H n run r l = (
 
 -- The writes of an item that a replay keeps.
 pub kept_writes : (r : Inside) → IsReplay r → (i : ℕ) (d : List ItemWrite) → i < length r.deck.now.items →
-    get_or r.writes.items i d ≡ writes_from (values_in r.deck.now) (replayed r).history i 0 (length (replayed r).history)
+    get_or r.writes.items i d ≡ writes_from (values_in r.deck.now) (replay_of r).history i 0 (length (replay_of r).history)
 kept_writes r is i d l =
     let within : i < length (values_in r.deck.now) = omega (arith, values_length r.deck.now) in
     get_or_default r.writes.items i d [] (let s = is.sized in omega arith) ∙ is.writes i within

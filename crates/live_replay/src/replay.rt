@@ -30,11 +30,11 @@ pub struct Replay<'a> {
 }
 
 impl<'a> Model for Replay<'a> {
-    ghost use Rattle.live_replay.specs.Steps.Replays.{IsReplay, Replayed, replayed};
+    ghost use Rattle.live_replay.specs.Steps.Replays.{IsReplay, Replayed, replay_of};
 
     ghost Value = { Replayed };
 
-    ghost view = { replayed };
+    ghost view = { replay_of };
 
     ghost invariant = { IsReplay };
 }

@@ -47,7 +47,7 @@ pub fn deck_of(alloc: Global, text: &[u8]) -> Option<Deck> {
 }
 
 /// What the audit of a report says, by the deck of a text.
-pub fn audited(alloc: Global, deck: &[u8], report: &[u8]) -> Audit {
+pub fn audit_of(alloc: Global, deck: &[u8], report: &[u8]) -> Audit {
     match deck_of(alloc, deck) {
         Some(deck) => audit_by(alloc, &deck, report),
         None => Audit::Other,
@@ -67,7 +67,7 @@ fn are(found: &[Finding], told: Told<'_>) -> bool {
 /// The place of the first row of which something else is found than told.
 pub fn first_other(alloc: Global, rows: &[(&[u8], &[u8], Told<'_>)]) -> Option<usize> {
     for (place, (deck, report, told)) in rows.iter().enumerate() {
-        match audited(alloc, deck, report) {
+        match audit_of(alloc, deck, report) {
             Audit::Found(found) if are(&found, told) => {}
             _ => return Some(place),
         }

@@ -1,6 +1,6 @@
 //! Lines over one small history, at each triple of the cycles of three reads.
 
-use crate::audits::{Audit, audited};
+use crate::audits::{Audit, audit_of};
 use live_replay::{Cause, Finding};
 use std::alloc::{AllocError, Global};
 use std::test::Fail;
@@ -76,7 +76,7 @@ fn letters(alloc: Global, policy: &[u8], reads: Reads<'_>) -> Result<Vec<u8>, Al
     deck.extend_from_slice(policy)?;
     let report = report(alloc, reads)?;
     let mut letters = Vec::new(alloc);
-    if let Audit::Found(found) = audited(alloc, &deck, &report) {
+    if let Audit::Found(found) = audit_of(alloc, &deck, &report) {
         for finding in &found {
             letters.push(letter(*finding))?;
         }

@@ -23,7 +23,7 @@ enum Said {
 }
 
 /// The text behind a front, so often.
-fn repeated(alloc: Global, front: &[u8], text: &[u8], times: usize) -> Result<Vec<u8>, AllocError> {
+fn repeat(alloc: Global, front: &[u8], text: &[u8], times: usize) -> Result<Vec<u8>, AllocError> {
     let mut all = Vec::from_slice(alloc, front)?;
     for _ in 0..times {
         all.extend_from_slice(text)?;
@@ -44,7 +44,7 @@ fn history(alloc: Global) -> Result<Vec<u8>, NoMemory> {
 }
 
 /// What is said of a report in which each of these lines stands so often, in their order.
-fn tried(
+fn audit_summary(
     alloc: Global,
     deck: &Deck,
     history: &[u8],
@@ -52,7 +52,7 @@ fn tried(
 ) -> Result<Said, NoMemory> {
     let mut report = Vec::from_slice(alloc, history)?;
     for (line, times) in lines {
-        report = repeated(alloc, &report, line, *times)?;
+        report = repeat(alloc, &report, line, *times)?;
     }
     Ok(match audit_by(alloc, deck, &report) {
         Audit::Found(found) => {
@@ -76,12 +76,12 @@ fn first_other(
     alloc: Global,
     rows: &[(&[(&[u8], usize)], Said)],
 ) -> Result<Option<usize>, NoMemory> {
-    let Some(deck) = deck_of(alloc, &repeated(alloc, DECK, b"update,0,,0=1\n", COMMITS)?) else {
+    let Some(deck) = deck_of(alloc, &repeat(alloc, DECK, b"update,0,,0=1\n", COMMITS)?) else {
         return Ok(Some(rows.len()));
     };
     let history = history(alloc)?;
     for (place, (lines, told)) in rows.iter().enumerate() {
-        if tried(alloc, &deck, &history, lines)? != *told {
+        if audit_summary(alloc, &deck, &history, lines)? != *told {
             return Ok(Some(place));
         }
     }

@@ -7,7 +7,7 @@ use Rattle.std.proofs.lemmas.Bool.{cases_eq, false≢true}
 use Rattle.std.proofs.lemmas.List.{get_or-map, get_or-set_other, get_or-set_same, length-map, set-set}
 use Rattle.std.proofs.lemmas.List.Sums.{sum_by-cons, sum_by-set}
 use Rattle.pix_cache.specs.declared.leaf.Leaf.{Leaf}
-use Rattle.pix_cache.specs.Leaves.{copy_leaf, empty_leaf, nowhere, renumbered}
+use Rattle.pix_cache.specs.Leaves.{copy_leaf, empty_leaf, nowhere, renumbered_leaf}
 use Rattle.pix_cache.specs.CacheFields.{Agree}
 
 -- The leaf of a room with an item's copy.
@@ -167,23 +167,23 @@ agree_none pix places leaves none empty = record {
 
 -- ---- other PIX numbers
 -- So they do once each leaf has its item's new number.
-pub agree_renumbered : (was pix : List ℕ) (places : List (Option ℕ)) (leaves now : List Leaf) → Agree was places leaves → length now ≡ length leaves → ((s : ℕ) → s < length leaves → get_or now s nowhere ≡ renumbered pix (get_or leaves s nowhere)) → Agree pix places now
+pub agree_renumbered : (was pix : List ℕ) (places : List (Option ℕ)) (leaves now : List Leaf) → Agree was places leaves → length now ≡ length leaves → ((s : ℕ) → s < length leaves → get_or now s nowhere ≡ renumbered_leaf pix (get_or leaves s nowhere)) → Agree pix places now
 agree_renumbered was pix places leaves now a same each = record {
   within = λ i s l e. (let w = a.within i s l e in omega arith);
-  leaf = λ i s l e. each s (a.within i s l e) ∙ ap (renumbered pix) (a.leaf i s l e);
+  leaf = λ i s l e. each s (a.within i s l e) ∙ ap (renumbered_leaf pix) (a.leaf i s l e);
   item = λ s l k. subst (λ (x : Leaf). x.item < length places) (sym (each s (omega arith))) (subst (λ i. i < length places) (sym (its_item (get_or leaves s nowhere))) (a.item s (omega arith) (was_kept s (omega arith) k)));
   place = λ s l k. ap (λ (x : Leaf). get_or places x.item None) (each s (omega arith)) ∙ ap (λ i. get_or places i None) (its_item (get_or leaves s nowhere)) ∙ a.place s (omega arith) (was_kept s (omega arith) k);
   counted = a.counted ∙ sym (count_alike (λ (x : Leaf). x.kept) now leaves nowhere same (λ s l. ap (λ (x : Leaf). x.kept) (each s (omega arith)) ∙ its_kept (get_or leaves s nowhere)));
 }
   where
-    its_item : (x : Leaf) → (renumbered pix x).item ≡ x.item
+    its_item : (x : Leaf) → (renumbered_leaf pix x).item ≡ x.item
     its_item x = by x.kept
       where
         by : (b : Bool) → (if b then copy_leaf x.slot (get_or pix x.item 0) x.item else x).item ≡ x.item
         by true = refl
         by false = refl
 
-    its_kept : (x : Leaf) → (renumbered pix x).kept ≡ x.kept
+    its_kept : (x : Leaf) → (renumbered_leaf pix x).kept ≡ x.kept
     its_kept x = by x.kept refl
       where
         by : (b : Bool) → x.kept ≡ b → (if b then copy_leaf x.slot (get_or pix x.item 0) x.item else x).kept ≡ x.kept
@@ -194,5 +194,5 @@ agree_renumbered was pix places leaves now a same each = record {
     was_kept s l k = sym (ap (λ (x : Leaf). x.kept) (each s l) ∙ its_kept (get_or leaves s nowhere)) ∙ k
 
 -- Where each leaf gets its item's number, rooms and items agree by the new numbers.
-pub agree_reordered : (was pix : List ℕ) (places : List (Option ℕ)) (leaves : List Leaf) → Agree was places leaves → Agree pix places (map (renumbered pix) leaves)
-agree_reordered was pix places leaves a = agree_renumbered was pix places leaves (map (renumbered pix) leaves) a (length-map leaves (renumbered pix)) (λ s l. get_or-map (renumbered pix) leaves s nowhere nowhere l)
+pub agree_reordered : (was pix : List ℕ) (places : List (Option ℕ)) (leaves : List Leaf) → Agree was places leaves → Agree pix places (map (renumbered_leaf pix) leaves)
+agree_reordered was pix places leaves a = agree_renumbered was pix places leaves (map (renumbered_leaf pix) leaves) a (length-map leaves (renumbered_leaf pix)) (λ s l. get_or-map (renumbered_leaf pix) leaves s nowhere nowhere l)

@@ -8,7 +8,7 @@ use Rattle.std.proofs.lemmas.List.{get_or-set_other, get_or-set_same, get_or_def
 use Rattle.std.proofs.lemmas.List.FromFn.{get_or-map-range_with_len, length-map-range_with_len}
 use Rattle.std.proofs.lemmas.List.Sums.{sum_by-cons}
 use Rattle.air_model.specs.Reads.{Read}
-use Rattle.air_model.specs.Copies.{without}
+use Rattle.air_model.specs.Copies.{without_item}
 use Rattle.pix_cache.specs.Stores.{Stored, no_store}
 use Rattle.pix_cache.specs.Caches.{copy, copy_of}
 use Rattle.pix_cache.specs.CacheFields.{copies_at, read_in, somes}
@@ -125,12 +125,12 @@ read_place places item r o l e f = get_or_default places item None r l ∙ sym e
 
 -- ---- a copy dropped
 -- Without its room an item's copy is gone.
-pub dropped : (stores : List Stored) (places : List (Option ℕ)) (item : ℕ) → item < length places → somes (copies_at stores (set places item None)) ≡ without item (somes (copies_at stores places))
+pub dropped : (stores : List Stored) (places : List (Option ℕ)) (item : ℕ) → item < length places → somes (copies_at stores (set places item None)) ≡ without_item item (somes (copies_at stores places))
 dropped stores places item l =
     ap somes (cleared_is stores places item l) ∙ sym (without_is (copies_at stores places) item (omega (arith, long stores places)) (placed stores places))
 
 -- Where an item has no copy, to drop it changes nothing.
-pub none_dropped : (stores : List Stored) (places : List (Option ℕ)) (item : ℕ) → item < length places → get_or places item None ≡ None → somes (copies_at stores places) ≡ without item (somes (copies_at stores places))
+pub none_dropped : (stores : List Stored) (places : List (Option ℕ)) (item : ℕ) → item < length places → get_or places item None ≡ None → somes (copies_at stores places) ≡ without_item item (somes (copies_at stores places))
 none_dropped stores places item l e =
     ap (λ p. somes (copies_at stores p)) (sym (ap (set places item) (sym e) ∙ set-get_or places item None)) ∙ dropped stores places item l
 

@@ -2,7 +2,7 @@
 use Rattle.std.proofs.Common.{◌≡◌, ℕ, ◌<◌, ◌≤◌, if◌then◌else◌, List, length, get_or, All, Option, Some, None, refl, sym, ◌∙◌, ap, subst, arith, length-set}
 use Rattle.std.proofs.Math.ListN.{set}
 use Rattle.air_model.specs.Reads.{Read}
-use Rattle.air_model.specs.Copies.{keep, with_copy, without}
+use Rattle.air_model.specs.Copies.{keep, with_copy, without_item}
 use Rattle.pix_cache.specs.declared.leaf.Leaf.{Leaf}
 use Rattle.pix_cache.specs.declared.cache.PixCache.TheInside.{Inside}
 use Rattle.pix_cache.specs.declared.cache.KeepAnswer.{KeepAnswer}
@@ -52,10 +52,10 @@ module _ (i : Inside) (k : KeepsCopies i) (self : Cache) (view : cache_of i ≡ 
   with_copies new copies e = ap {B = Cache} (λ (c : List Read). record { room = length stores; pix = i.pix.items; copies = c }) e
 
   -- The clause of a drop, by the places that are left.
-  pub drop_form : (rest : List (Option ℕ)) → somes (copies_at i.store.stores rest) ≡ without item (somes (copies_at i.store.stores i.places.items)) →
-      ◌≡◌ {A = Cache} (record { room = length i.store.stores; pix = i.pix.items; copies = somes (copies_at i.store.stores rest) }) (record { room = self.room; pix = self.pix; copies = without item self.copies })
-  drop_form rest e = with_copies (somes (copies_at stores rest)) (without item (somes (copies_at stores places))) e
-      ∙ ap {B = Cache} (λ (s : Cache). record { room = s.room; pix = s.pix; copies = without item s.copies }) view
+  pub drop_form : (rest : List (Option ℕ)) → somes (copies_at i.store.stores rest) ≡ without_item item (somes (copies_at i.store.stores i.places.items)) →
+      ◌≡◌ {A = Cache} (record { room = length i.store.stores; pix = i.pix.items; copies = somes (copies_at i.store.stores rest) }) (record { room = self.room; pix = self.pix; copies = without_item item self.copies })
+  drop_form rest e = with_copies (somes (copies_at stores rest)) (without_item item (somes (copies_at stores places))) e
+      ∙ ap {B = Cache} (λ (s : Cache). record { room = s.room; pix = s.pix; copies = without_item item s.copies }) view
 
   -- A copy over that of its item.
   module _ (st : Stored) where

@@ -9,7 +9,7 @@ use Rattle.std.proofs.lemmas.List.Elements.{All-cons, All-head, All-tail, All-we
 use Rattle.std.proofs.lemmas.List.Folds.{find-append}
 use Rattle.std.proofs.lemmas.List.Sums.{sum_by-cons}
 use Rattle.air_model.specs.Reads.{Read}
-use Rattle.air_model.specs.Copies.{with_copy, without}
+use Rattle.air_model.specs.Copies.{with_copy, without_item}
 use Rattle.air_model.proofs.CopyOrders.{filter_all}
 use Rattle.pix_cache.specs.Caches.{copy_of}
 use Rattle.pix_cache.specs.CacheFields.{somes}
@@ -155,8 +155,8 @@ module _ (os : List (Option Read)) (i : ℕ) (within : i < length os) where
       ∙ sym (ap somes (set_split os i (Some x) within) ∙ somes-append f (Some x ∷ b))
 
   -- The copies without an item's are those with its place empty.
-  pub without_is : Placed 0 os → without i (somes os) ≡ somes (set os i None)
-  unfolding without
+  pub without_is : Placed 0 os → without_item i (somes os) ≡ somes (set os i None)
+  unfolding without_item
   without_is h =
       let f = take i os in
       let b = drop (suc i) os in

@@ -7,7 +7,7 @@ use Rattle.std.proofs.lemmas.List.FromFn.{get_or-map-range_with_len, length-map-
 use Rattle.std.proofs.lemmas.Slice.{take-put_mid_below, between-put_mid, drop-put_mid}
 use borrow.Rule.Slice.PartMut.{put_mid}
 use Rattle.pix_cache.specs.declared.store.Slot.{Slot}
-use Rattle.pix_cache.specs.Stores.{Stored, stored}
+use Rattle.pix_cache.specs.Stores.{Stored, stored_copy}
 use Rattle.pix_cache.specs.Steps.StoreFields.{column_of, no_slot, stored_in, stored_of}
 
 -- The column of a room ends before that of a later one begins.
@@ -46,7 +46,7 @@ store_at n slots entries k d l = get_or-map-range_with_len (stored_in n slots en
 
 -- A slot and a column overwritten change what that room holds, and nothing else.
 pub store_put : (n : ℕ) (slots : List Slot) (entries column : List ℕ) (m k : ℕ) (s : Slot) → k ≡ n → m < length slots → length entries ≡ length slots * n → length column ≡ n →
-    stored_of n (set slots m s) (put_mid (m * n) k entries column) ≡ set (stored_of n slots entries) m (stored s.cycle s.value column)
+    stored_of n (set slots m s) (put_mid (m * n) k entries column) ≡ set (stored_of n slots entries) m (stored_copy s.cycle s.value column)
 store_put n slots entries column m k s kn lm square sized =
     same_lists _ _
     (stores_len n (set slots m s) new ∙ length-set slots m s ∙ sym (length-set (stored_of n slots entries) m it ∙ stores_len n slots entries))
@@ -57,7 +57,7 @@ store_put n slots entries column m k s kn lm square sized =
     new = put_mid (m * n) k entries column
 
     it : Stored
-    it = stored s.cycle s.value column
+    it = stored_copy s.cycle s.value column
 
     ends : m * n + n ≤ length entries
     ends = let e = column_before m (length slots) n lm in omega arith
@@ -72,10 +72,10 @@ store_put n slots entries column m k s kn lm square sized =
     by : (j : ℕ) (d : Stored) → j < length slots → (j ≡ m) ⊎ (j ≡ m → ⊥) → stored_in n (set slots m s) new j ≡ get_or (set (stored_of n slots entries) m it) j d
     by j d l (inl same) =
         ap (stored_in n (set slots m s) new) same
-        ∙ ap (λ (t : Slot). stored t.cycle t.value (column_of n new m)) (get_or-set_same slots m s no_slot lm)
-        ∙ ap (stored s.cycle s.value) (column_here m n k entries column kn ends sized)
+        ∙ ap (λ (t : Slot). stored_copy t.cycle t.value (column_of n new m)) (get_or-set_same slots m s no_slot lm)
+        ∙ ap (stored_copy s.cycle s.value) (column_here m n k entries column kn ends sized)
         ∙ sym (ap (λ i. get_or (set (stored_of n slots entries) m it) i d) same ∙ get_or-set_same (stored_of n slots entries) m it d (omega (arith, stores_len n slots entries)))
     by j d l (inr other) =
-        ap (λ (t : Slot). stored t.cycle t.value (column_of n new j)) (get_or-set_other slots m j s no_slot other)
-        ∙ ap (stored (get_or slots j no_slot).cycle (get_or slots j no_slot).value) (column_there m n k j entries column kn ends sized (apart j other))
+        ap (λ (t : Slot). stored_copy t.cycle t.value (column_of n new j)) (get_or-set_other slots m j s no_slot other)
+        ∙ ap (stored_copy (get_or slots j no_slot).cycle (get_or slots j no_slot).value) (column_there m n k j entries column kn ends sized (apart j other))
         ∙ sym (get_or-set_other (stored_of n slots entries) m j it d other ∙ store_at n slots entries j d l)

@@ -23,5 +23,5 @@ abbrev pub lighter : Leaf → Leaf → Leaf
 lighter a b = if nat_lt (weight b) (weight a) then b else a
 
 -- The leaf with its item's PIX number.
-abbrev pub renumbered : List ℕ → Leaf → Leaf
-renumbered pix a = if a.kept then copy_leaf a.slot (get_or pix a.item 0) a.item else a
+abbrev pub renumbered_leaf : List ℕ → Leaf → Leaf
+renumbered_leaf pix a = if a.kept then copy_leaf a.slot (get_or pix a.item 0) a.item else a

@@ -8,12 +8,12 @@ pub record Stored : Type 0 where
   pub entries : List ℕ
 
 -- A copy as a room holds it.
-abbrev pub stored : ℕ → ℕ → List ℕ → Stored
-stored cycle value entries = record { cycle = cycle; value = value; entries = entries }
+abbrev pub stored_copy : ℕ → ℕ → List ℕ → Stored
+stored_copy cycle value entries = record { cycle = cycle; value = value; entries = entries }
 
 -- What is read where there is no room.
 abbrev pub no_store : Stored
-no_store = stored 0 0 []
+no_store = stored_copy 0 0 []
 
 -- The rooms, and how many entries each has room for.
 pub record Store : Type 0 where

@@ -5,7 +5,7 @@
 ghost use Rattle.std.specs.Prelude.{◌≡◌, ◌≢◌, ◌↔◌, ◌<◌, ◌≤◌, ◌++◌, ℕ, true, [], List, length, sum_by, None, if◌then◌else◌, IfOk, MatchOption, IsPermutation, slice_set};
 ghost use Rattle.air_base.specs.declared.limits.TheConstants.{MOST_ROOM};
 ghost use Rattle.air_model.specs.Reads.{Read};
-ghost use Rattle.air_model.specs.Copies.{keep, pix_of, with_copy, without};
+ghost use Rattle.air_model.specs.Copies.{keep, pix_of, with_copy, without_item};
 ghost use Rattle.pix_cache.specs.Caches.{FindsRoom, GivesWay, HasCopy, IsLeast, copy, copy_of};
 ghost use Rattle.pix_cache.specs.Steps.Answers.{IsAnswer};
 ghost use Rattle.pix_cache.specs.declared.store.TheConstants.{ITEM_NUMBERS};
@@ -164,7 +164,7 @@ impl PixCache {
     /// Drops the copy of an item, if there is one.
     pub fn drop_copy(&mut self, item: u16)
         requires { item < length self.old.pix }
-        ensures { self.new ≡ record self.old { copies = without item self.old.copies } }
+        ensures { self.new ≡ record self.old { copies = without_item item self.old.copies } }
     {
         if let Some(slot) = self.places[item as usize] {
             self.places[item as usize] = None;

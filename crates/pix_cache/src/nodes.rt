@@ -4,7 +4,7 @@
 
 ghost use Rattle.std.specs.Prelude.{◌≡◌, ◌≢◌, ◌*◌, ◌+◌, ◌≤◌, ◌<◌, ℕ, true, false, length, drop, IfOk, slice_set, get_or, map, All};
 ghost use Rattle.air_base.specs.declared.limits.TheConstants.{MOST_ROOM};
-ghost use Rattle.pix_cache.specs.Leaves.{nowhere, renumbered};
+ghost use Rattle.pix_cache.specs.Leaves.{nowhere, renumbered_leaf};
 ghost use Rattle.pix_cache.specs.Steps.Trees.{IsTree};
 
 use crate::leaf::{Leaf, lighter_of};
@@ -49,7 +49,7 @@ pub fn renumber(nodes: &mut [Leaf], rooms: usize, pix: &[u64])
     requires items { (s : ℕ) → s < rooms → (get_or (drop rooms nodes.old) s nowhere).kept ≡ true → (get_or (drop rooms nodes.old) s nowhere).item < length pix.now }
     requires tree { IsTree rooms nodes.old }
     ensures tree { IsTree rooms nodes.new }
-    ensures leaves { (s : ℕ) → s < rooms → get_or (drop rooms nodes.new) s nowhere ≡ renumbered pix.now (get_or (drop rooms nodes.old) s nowhere) }
+    ensures leaves { (s : ℕ) → s < rooms → get_or (drop rooms nodes.new) s nowhere ≡ renumbered_leaf pix.now (get_or (drop rooms nodes.old) s nowhere) }
 {
     for slot in 0..rooms {
         let leaf = nodes[rooms + slot];

@@ -5,7 +5,7 @@
 ghost use Rattle.std.specs.Prelude.{◌≡◌, ◌<◌, ◌≤◌, length, get_or, IfOk, slice_set};
 ghost use Rattle.air_base.specs.declared.limits.TheConstants.{MOST_ROOM};
 ghost use Rattle.pix_cache.specs.declared.store.TheConstants.{ITEM_NUMBERS};
-ghost use Rattle.pix_cache.specs.Stores.{no_store, stored};
+ghost use Rattle.pix_cache.specs.Stores.{no_store, stored_copy};
 
 use air_base::NoMemory;
 use std::alloc::Global;
@@ -68,7 +68,7 @@ impl Store {
     /// The copy in a room.
     pub fn get(&self, slot: u16) -> Kept<'_>
         requires { slot < length self.now.stores }
-        ensures { get_or self.now.stores slot no_store ≡ stored result.cycle result.value result.column.now }
+        ensures { get_or self.now.stores slot no_store ≡ stored_copy result.cycle result.value result.column.now }
     {
         let from = slot as usize * self.n;
         let held = self.slots[slot as usize];
@@ -83,7 +83,7 @@ impl Store {
     pub fn put(&mut self, slot: u16, cycle: u32, value: u64, column: &[u32])
         requires within { slot < length self.old.stores }
         requires sized { length column.now ≡ self.old.width }
-        ensures { self.new ≡ record self.old { stores = slice_set self.old.stores slot (stored cycle value column.now) } }
+        ensures { self.new ≡ record self.old { stores = slice_set self.old.stores slot (stored_copy cycle value column.now) } }
     {
         let from = slot as usize * self.n;
         self.slots[slot as usize] = Slot { cycle, value };

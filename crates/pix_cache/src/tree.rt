@@ -4,7 +4,7 @@
 
 ghost use Rattle.std.specs.Prelude.{◌≡◌, ◌<◌, ◌≤◌, ℕ, true, length, get_or, map, All, IfOk, MatchOption, slice_set};
 ghost use Rattle.air_base.specs.declared.limits.TheConstants.{MOST_ROOM};
-ghost use Rattle.pix_cache.specs.Leaves.{copy_leaf, empty_leaf, nowhere, renumbered, weight};
+ghost use Rattle.pix_cache.specs.Leaves.{copy_leaf, empty_leaf, nowhere, renumbered_leaf, weight};
 
 use crate::leaf::Leaf;
 use crate::nodes::{blank, place, renumber};
@@ -77,7 +77,7 @@ impl Tree {
     /// Gives each copy its item's PIX number.
     pub fn reorder(&mut self, pix: &[u64])
         requires { All (λ a. a.kept ≡ true → a.item < length pix.now) self.old }
-        ensures { self.new ≡ map (renumbered pix.now) self.old }
+        ensures { self.new ≡ map (renumbered_leaf pix.now) self.old }
     {
         renumber(&mut self.nodes, self.rooms, pix);
     }

@@ -27,16 +27,16 @@ heard_from (h ∷ R) [] e = absurd (omega arith)
 heard_from (h ∷ R) (v ∷ V) e = ap (λ S. h ∷ S) (heard_from R V (omega arith))
 
 -- The read with both parts.
-abbrev joined : Heard → ReadOf → Read
-joined h v = record { item = h.item; cycle = h.cycle; value = v.value; entries = h.entries }
+abbrev both_parts : Heard → ReadOf → Read
+both_parts h v = record { item = h.item; cycle = h.cycle; value = v.value; entries = h.entries }
 
 with_values-push : (R : List Heard) (V : List ReadOf) (h : Heard) (v : ReadOf) → length V ≡ length R →
-    with_values (R ++ h ∷ []) (V ++ v ∷ []) ≡ with_values R V ++ joined h v ∷ []
+    with_values (R ++ h ∷ []) (V ++ v ∷ []) ≡ with_values R V ++ both_parts h v ∷ []
 unfolding with_values
 with_values-push [] [] h v e = refl
 with_values-push [] (w ∷ V) h v e = absurd (omega arith)
 with_values-push (g ∷ R) [] h v e = absurd (omega arith)
-with_values-push (g ∷ R) (w ∷ V) h v e = ap (λ S. joined g w ∷ S) (with_values-push R V h v (omega arith))
+with_values-push (g ∷ R) (w ∷ V) h v e = ap (λ S. both_parts g w ∷ S) (with_values-push R V h v (omega arith))
 
 columns_are : (a : Inside) → KeepsBoth a → columns_of (held_values a) ≡ held_of a.held
 columns_are a k = ap (λ R. let t : HeldReads = record { n = (held_of a.held).n; reads = R } in t) (heard_from (held_of a.held).reads a.line_reads k.even)

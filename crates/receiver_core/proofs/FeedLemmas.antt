@@ -11,7 +11,7 @@ use Rattle.air_model.specs.Judges.{Judge}
 use Rattle.air_model.specs.Reads.{Read}
 use Rattle.air_model.specs.Sessions.{State, abort, accept_if_whole, comes_late, count_dozed, count_foreign, count_late, count_opened, count_refused, decide, drop_copy, hear, hear_read, hold, is_wanted, next_attempt, next_query, offer, open_bucket, query_of, read_in, wanted, with_line}
 use Rattle.air_model.proofs.MomentLemmas.{cond_keeps}
-use Rattle.receiver_core.specs.FeedAnswers.{ChangesItsCountAlone, counted, fed_of, fed_read}
+use Rattle.receiver_core.specs.FeedAnswers.{ChangesItsCountAlone, count_fed, fed_of, fed_read}
 use Rattle.receiver_core.specs.LastReads.{in_state}
 use Rattle.receiver_core.specs.Receivers.{Receiver}
 use Rattle.receiver_core.specs.declared.receivers.Fed.TheVariants as fed
@@ -25,30 +25,30 @@ module _ (judge : Judge) (r : Receiver) where
   decide_counts x None s = cond_keeps (λ t. t.counts ≡ s.counts) (is_some (wanted r.reader (record s { held = s.held ++ x ∷ [] }))) _ _ (λ _. refl) (λ _. refl)
   decide_counts x (Some c) s = cond_keeps (λ t. t.counts ≡ s.counts) (nat_lt s.attempt r.reader.plan.tries) _ _ (λ _. refl) (λ _. refl)
 
-  open_counts : (x : Read) (s : State) → (open_bucket judge r.air r.reader x s).counts ≡ counted fed.Opened s.counts
+  open_counts : (x : Read) (s : State) → (open_bucket judge r.air r.reader x s).counts ≡ count_fed fed.Opened s.counts
   unfolding open_bucket offer count_opened
   open_counts x s = decide_counts x (judge.clash s.held x) (count_opened s)
 
-  read_counts : (o : Option Read) (m : ℕ) → (hear_read judge r.air r.reader o (at_cycle m r.state)).counts ≡ counted (fed_read r o) r.state.counts
+  read_counts : (o : Option Read) (m : ℕ) → (hear_read judge r.air r.reader o (at_cycle m r.state)).counts ≡ count_fed (fed_read r o) r.state.counts
   unfolding hear_read fed_read count_dozed count_late wanted query_of
   read_counts None m = refl
   read_counts (Some x) m = by (is_wanted (wanted r.reader r.state) x.item) (comes_late r.air r.state x)
     where
       by : (w l : Bool) →
           (cond w (cond l (count_late (at_cycle m r.state)) (open_bucket judge r.air r.reader x (at_cycle m r.state))) (count_dozed (at_cycle m r.state))).counts
-          ≡ counted (cond w (cond l fed.Late fed.Opened) fed.Dozed) r.state.counts
+          ≡ count_fed (cond w (cond l fed.Late fed.Opened) fed.Dozed) r.state.counts
       by true true = refl
       by true false = open_counts x (at_cycle m r.state)
       by false l = refl
 
-  pub hear_counts : (h : Result Bucket BucketFault) → (hear judge r.air r.reader (result_ok h) r.state).counts ≡ counted (fed_of r h) r.state.counts
+  pub hear_counts : (h : Result Bucket BucketFault) → (hear judge r.air r.reader (result_ok h) r.state).counts ≡ count_fed (fed_of r h) r.state.counts
   unfolding hear fed_of count_refused count_foreign
   hear_counts (Err fault) = refl
   hear_counts (Ok b) = by (fits r.air b) (read_counts (read_in b.cycle b.body))
     where
-      by : (f : Bool) → ((m : ℕ) → (hear_read judge r.air r.reader (read_in b.cycle b.body) (at_cycle m r.state)).counts ≡ counted (fed_read r (read_in b.cycle b.body)) r.state.counts) →
+      by : (f : Bool) → ((m : ℕ) → (hear_read judge r.air r.reader (read_in b.cycle b.body) (at_cycle m r.state)).counts ≡ count_fed (fed_read r (read_in b.cycle b.body)) r.state.counts) →
           (cond f (hear_read judge r.air r.reader (read_in b.cycle b.body) (at_cycle (max r.state.now b.cycle) r.state)) (count_foreign r.state)).counts
-          ≡ counted (cond f (fed_read r (read_in b.cycle b.body)) fed.Foreign) r.state.counts
+          ≡ count_fed (cond f (fed_read r (read_in b.cycle b.body)) fed.Foreign) r.state.counts
       by true rest = rest (max r.state.now b.cycle)
       by false rest = refl
 

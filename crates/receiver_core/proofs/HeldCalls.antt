@@ -9,7 +9,7 @@ use Rattle.air_model.specs.Sessions.{Line, Reader, State, end_query, hear, query
 use Rattle.air_model.proofs.MomentLemmas.{cond_keeps}
 use Rattle.receiver_core.specs.HeldTruths.{HearsTruly, HoldsTruly, StaysTrue}
 use Rattle.receiver_core.specs.ReceiverSteps.{step}
-use Rattle.receiver_core.specs.Receivers.{Receiver, stepped}
+use Rattle.receiver_core.specs.Receivers.{Receiver, state_after_step}
 use Rattle.receiver_core.proofs.HeldLemmas.{ends_truly, hears_truly, steps_truly}
 
 -- Air and reader stay.
@@ -29,11 +29,11 @@ hears member before now state air reader = record {
 }
 
 -- A step goes on, or hands out what waits.
-stepped_truly : (before : Receiver) (H : List Event) → QueriesFilled before.reader → HoldsTruly before.air H before.reader before.state → HoldsTruly before.air H before.reader (stepped before)
+stepped_truly : (before : Receiver) (H : List Event) → QueriesFilled before.reader → HoldsTruly before.air H before.reader before.state → HoldsTruly before.air H before.reader (state_after_step before)
 stepped_truly before H filled truly = cond_keeps (HoldsTruly before.air H before.reader) (nat_lt 0 (length before.state.lines)) before.state (step (by_entries before.air.scheme) before.air before.reader before.state) (λ _. truly)
     (λ _. steps_truly before.air H before.reader filled before.state truly)
 
-pub steps : (before now : Receiver) (L : List Line) → (let t : State = record now.state { lines = L } in t) ≡ stepped before → now.air ≡ before.air → now.reader ≡ before.reader → StaysTrue before now
+pub steps : (before now : Receiver) (L : List Line) → (let t : State = record now.state { lines = L } in t) ≡ state_after_step before → now.air ≡ before.air → now.reader ≡ before.reader → StaysTrue before now
 steps before now L state air reader = record {
   keeps = λ H filled truly.
       moved before now H air reader (lined before.air H before.reader now.state L (subst (HoldsTruly before.air H before.reader) (sym state) (stepped_truly before H filled truly)));

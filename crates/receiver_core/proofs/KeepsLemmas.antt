@@ -8,7 +8,7 @@ use Rattle.std.proofs.lemmas.List.{length_push, map-append, take_more}
 use Rattle.std.proofs.lemmas.List.Elements.{All-append, All-cons, All-contains, All-filter, All-head, All-nil, All-tail, All-take}
 use Rattle.std.proofs.lemmas.Option.{get_or_from_slice_get, slice_get_within}
 use Rattle.air_model.specs.Aired.{Air}
-use Rattle.air_model.specs.Copies.{keep, with_copy, without}
+use Rattle.air_model.specs.Copies.{keep, with_copy, without_item}
 use Rattle.air_base.specs.declared.verdicts.Clash.{Clash}
 use Rattle.air_model.specs.Judges.{by_entries}
 use Rattle.air_model.proofs.NameLemmas.{names}
@@ -25,7 +25,7 @@ use Rattle.receiver_core.proofs.StateLemmas.{left}
 -- ---- the cache
 
 whole_without : (n : ℕ) (clash : Option Clash) (R : List Read) → All (IsWholeRead n) R → All (IsWholeRead n) (without_clash clash R)
-unfolding without
+unfolding without_item
 whole_without n None R h = h
 whole_without n (Some clash) R h = All-filter _ (IsWholeRead n) R h
 
@@ -42,8 +42,8 @@ offered air reader before now clash x k whole e =
           (All-cons (IsWholeRead air.items) x _ whole (All-filter _ (IsWholeRead air.items) R rest)));
     })
 
-pub dropped_one : (air : Air) (reader : Reader) (before now : Cache) (i : ℕ) → IsCacheOf air reader before → now ≡ record before { copies = without i before.copies } → IsCacheOf air reader now
-unfolding without
+pub dropped_one : (air : Air) (reader : Reader) (before now : Cache) (i : ℕ) → IsCacheOf air reader before → now ≡ record before { copies = without_item i before.copies } → IsCacheOf air reader now
+unfolding without_item
 dropped_one air reader before now i k e = subst (IsCacheOf air reader) (sym e) (record { room = k.room; pix = k.pix; copies = All-filter _ (IsWholeRead air.items) before.copies k.copies })
 
 -- ---- the held reads
@@ -118,8 +118,8 @@ some_got f p (Some k) e = sym (ap is_some e)
 
 -- ---- all copies are dropped
 
-pub from_next : (i : ℕ) (R : List Read) → All (λ r. i ≤ r.item) R → All (λ r. i + 1 ≤ r.item) (without i R)
-unfolding without
+pub from_next : (i : ℕ) (R : List Read) → All (λ r. i ≤ r.item) R → All (λ r. i + 1 ≤ r.item) (without_item i R)
+unfolding without_item
 from_next i [] h = All-nil (λ r. i + 1 ≤ r.item)
 from_next i (r ∷ R) h = by (r.item == i) refl (from_next i R (All-tail (λ r. i ≤ r.item) r R h))
   where

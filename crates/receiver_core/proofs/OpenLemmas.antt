@@ -10,7 +10,7 @@ use Rattle.held_entries.specs.declared.held.TheConstants.{ROOM}
 use Rattle.air_history.specs.UpdateRules.{has_repeat}
 use Rattle.air_history.specs.Clashes.{is_late}
 use Rattle.air_model.specs.Buckets.{Body, Bucket, Column, Idle, IsInRange, Vector, count_of, entries_of, item_of, kind_of, value_of}
-use Rattle.air_model.specs.Copies.{keep, with_copy, without}
+use Rattle.air_model.specs.Copies.{keep, with_copy, without_item}
 use Rattle.air_model.specs.Judges.{by_entries, heard_of, place_of}
 use Rattle.air_model.specs.Reads.{Read}
 use Rattle.air_model.specs.Sessions.{accept_if_whole, comes_late, next_attempt, open_bucket, query_of, wanted, with_line}
@@ -138,8 +138,8 @@ opened_clear r held cache x k e f none =
     ∙ ap (in_state (receiver_in r)) (open_clear r.air r.reader x (receiver_in r).state none)
 
 -- The receiver after the abort, with these copies.
-abbrev ended : Inside → Read → Clash → List Read → Receiver
-ended r x c cs = in_state (receiver_in r) (next_attempt r.reader (with_line (by_entries r.air.scheme) (Abort x.item x.cycle c.item) (record (with_opened (receiver_in r).state) { copies = cs })))
+abbrev after_abort : Inside → Read → Clash → List Read → Receiver
+after_abort r x c cs = in_state (receiver_in r) (next_attempt r.reader (with_line (by_entries r.air.scheme) (Abort x.item x.cycle c.item) (record (with_opened (receiver_in r).state) { copies = cs })))
 
 pub opened_clash : (r : Inside) (held : HeldValues) (cache : Cache) (x : Read) (c : Clash) → IsReceiver r → held ≡ r.held →
     cache ≡ offered_to r x (Some c) → (by_entries r.air.scheme).clash r.held.reads x ≡ Some c →
@@ -147,5 +147,5 @@ pub opened_clash : (r : Inside) (held : HeldValues) (cache : Cache) (x : Read) (
     ≡ in_state (receiver_in r) (open_bucket (by_entries r.air.scheme) r.air r.reader x (receiver_in r).state)
 opened_clash r held cache x c k e f some =
     ap (λ h. in_state (receiver_in (opened_with r h cache)) (next_attempt r.reader (with_line (by_entries r.air.scheme) (Abort x.item x.cycle c.item) (receiver_in (opened_with r h cache)).state))) e
-    ∙ ap (λ (t : Cache). ended r x c t.copies) f ∙ ap (ended r x c) (kept_at r (without c.item r.copies.copies) x k)
+    ∙ ap (λ (t : Cache). after_abort r x c t.copies) f ∙ ap (after_abort r x c) (kept_at r (without_item c.item r.copies.copies) x k)
     ∙ ap (in_state (receiver_in r)) (open_clash r.air r.reader x c (receiver_in r).state some)

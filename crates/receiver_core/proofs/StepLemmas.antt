@@ -17,7 +17,7 @@ use Rattle.air_model.proofs.MomentLemmas.{cond_keeps}
 use Rattle.pix_cache.specs.Caches.{Cache}
 use Rattle.receiver_core.specs.LinesGiven.{lines_given, lines_of}
 use Rattle.receiver_core.specs.LastReads.{in_state, last_reads}
-use Rattle.receiver_core.specs.Receivers.{IsSettled, Receiver, heard_count, stepped, steps_left}
+use Rattle.receiver_core.specs.Receivers.{IsSettled, Receiver, heard_count, state_after_step, steps_left}
 use Rattle.receiver_core.specs.ReceiverView.{receiver_in}
 use Rattle.receiver_core.specs.declared.receivers.Receiver.TheInside.{Inside}
 use Rattle.receiver_core.specs.declared.receivers.Step.{Step}
@@ -30,10 +30,10 @@ use Rattle.receiver_core.proofs.WordLemmas.{end_left, end_past}
 -- ---- a step
 
 -- What a step gives: the verdict that waited, or what settling came to.
-pub stepped_waits : (old : Receiver) → 0 < length old.state.lines → stepped old ≡ old.state
+pub stepped_waits : (old : Receiver) → 0 < length old.state.lines → state_after_step old ≡ old.state
 stepped_waits old l = cond-true (nat_lt 0 (length old.state.lines)) _ _ (lt-ltb 0 (length old.state.lines) l)
 
-pub stepped_free : (old : Receiver) → old.state.lines ≡ [] → stepped old ≡ step (by_entries old.air.scheme) old.air old.reader old.state
+pub stepped_free : (old : Receiver) → old.state.lines ≡ [] → state_after_step old ≡ step (by_entries old.air.scheme) old.air old.reader old.state
 stepped_free old e = cond-false (nat_lt 0 (length old.state.lines)) _ _ (ap (λ L. nat_lt 0 (length L)) e)
 
 -- A turn leaves no more steps than before it, and counts nothing that was heard.
@@ -114,7 +114,7 @@ module _ (old : Receiver) (r : Inside) (free : old.state.lines ≡ []) (is : rec
   now_is = ap (λ (t : Receiver). t.state) is
 
   -- The line that settling came to is given.
-  pub stepped_given : (s : Step) → lines_given s r.last ≡ lines_of r.waiting r.last → (let t : State = record (receiver_in r).state { lines = lines_given s r.last } in t) ≡ stepped old
+  pub stepped_given : (s : Step) → lines_given s r.last ≡ lines_of r.waiting r.last → (let t : State = record (receiver_in r).state { lines = lines_given s r.last } in t) ≡ state_after_step old
   stepped_given s e = ap (λ L. let t : State = record (receiver_in r).state { lines = L } in t) e ∙ now_is ∙ sym (stepped_free old free)
 
   pub last_stepped : (s : Step) → lines_given s r.last ≡ lines_of r.waiting r.last → r.last ≡ last_reads (lines_given s r.last) old.last
@@ -152,8 +152,8 @@ last_ended None last before same = same refl
 last_ended (Some v) last before same = refl
 
 -- The receiver without copies.
-abbrev pub bared : Receiver → Receiver
-bared old = record old { state = record old.state { copies = [] } }
+abbrev pub without_copies : Receiver → Receiver
+without_copies old = record old { state = record old.state { copies = [] } }
 
 -- Without copies the wanted item has none.
 none_kept : (w : Option ℕ) (s : State) → s.copies ≡ [] → copy_of w s ≡ None
@@ -164,17 +164,17 @@ none_kept (Some i) s e = ap (λ cs. find (λ r. r.item == i) cs) e
 pub bare_settled : (r : Receiver) → r.state.lines ≡ [] → r.state.copies ≡ [] → IsSettled r
 bare_settled r given bare = record { given = given; free = none_kept (wanted r.reader r.state) r.state bare }
 
-pub bare_at : (r : Inside) (old : Receiver) (cache : Cache) → receiver_in r ≡ old → cache ≡ record r.copies { copies = [] } → receiver_in (record r { copies = cache }) ≡ bared old
-bare_at r old cache is e = ap (λ (c : Cache). receiver_in (record r { copies = c })) e ∙ ap bared is
+pub bare_at : (r : Inside) (old : Receiver) (cache : Cache) → receiver_in r ≡ old → cache ≡ record r.copies { copies = [] } → receiver_in (record r { copies = cache }) ≡ without_copies old
+bare_at r old cache is e = ap (λ (c : Cache). receiver_in (record r { copies = c })) e ∙ ap without_copies is
 
-pub ended_copies : (old now : Receiver) → now ≡ in_state (bared old) (next_query (with_line (by_entries old.air.scheme) Unfinished (bared old).state)) → now.state.copies ≡ []
+pub ended_copies : (old now : Receiver) → now ≡ in_state (without_copies old) (next_query (with_line (by_entries old.air.scheme) Unfinished (without_copies old).state)) → now.state.copies ≡ []
 unfolding next_query with_line
 ended_copies old now e = ap (λ (t : Receiver). t.state.copies) e
 
 -- The verdict at the end is that of the receiver without copies.
 pub given_bare : (r : Inside) (old given : Receiver) (cache : Cache) → receiver_in r ≡ old → cache ≡ record r.copies { copies = [] } →
     given ≡ in_state (receiver_in (record r { copies = cache })) (with_line (by_entries r.air.scheme) Unfinished (receiver_in (record r { copies = cache })).state) →
-    given ≡ in_state (bared old) (with_line (by_entries old.air.scheme) Unfinished (bared old).state)
+    given ≡ in_state (without_copies old) (with_line (by_entries old.air.scheme) Unfinished (without_copies old).state)
 given_bare r old given cache is e g = g ∙ ap (λ (t : Receiver). in_state t (with_line (by_entries t.air.scheme) Unfinished t.state)) (bare_at r old cache is e)
 
 pub ended_past : (old : Receiver) → IsSettled old → length old.reader.queries ≤ old.state.query →
@@ -187,7 +187,7 @@ pub ended : (old given now : Receiver) → given ≡ in_state old (with_line (by
     now ≡ in_state old (next_query (with_line (by_entries old.air.scheme) Unfinished old.state))
 ended old given now g n = goes_on old given now (λ reader s. next_query s) (with_line (by_entries old.air.scheme) Unfinished old.state) _ g n (next_query_lines (with_line (by_entries old.air.scheme) Unfinished old.state)) refl
 
-pub ended_left : (old now : Receiver) → now ≡ in_state (bared old) (next_query (with_line (by_entries old.air.scheme) Unfinished (bared old).state)) →
+pub ended_left : (old now : Receiver) → now ≡ in_state (without_copies old) (next_query (with_line (by_entries old.air.scheme) Unfinished (without_copies old).state)) →
     old.state.query < length old.reader.queries → now.state ≡ end_query (by_entries old.air.scheme) old.air old.reader old.state
 ended_left old now e here =
     ap (λ (r : Receiver). r.state) e ∙ end_left (by_entries old.air.scheme) old.air old.reader old.state here

@@ -7,7 +7,7 @@ use Rattle.std.proofs.lemmas.List.{length_push}
 use Rattle.air_base.specs.declared.verdicts.VerdictKind.TheVariants.{Accept}
 use Rattle.air_history.specs.Clashes.{is_late}
 use Rattle.air_model.specs.Aired.{Air}
-use Rattle.air_model.specs.Copies.{without}
+use Rattle.air_model.specs.Copies.{without_item}
 use Rattle.air_model.specs.Judges.{Judge, by_entries, place_of}
 use Rattle.air_model.specs.Reads.{Read}
 use Rattle.air_model.specs.Sessions
@@ -61,7 +61,7 @@ taken_with r held = record r { counts = record r.counts { copied = r.counts.copi
 
 module _ (r : Inside) (x : Read) (kept : Sessions.copy_of (wanted (receiver_in r).reader (receiver_in r).state) (receiver_in r).state ≡ Some x) where
   pub dropped_at : (held : HeldValues) (cache : Cache) → (receiver_in r).state.lines ≡ [] → is_unusable (J r.air) r.air r.reader x (receiver_in r).state ≡ true → held ≡ r.held →
-      cache ≡ record r.copies { copies = without x.item r.copies.copies } →
+      cache ≡ record r.copies { copies = without_item x.item r.copies.copies } →
       receiver_in (record r { held = held; copies = cache }) ≡ in_state (receiver_in r) (turn (J r.air) r.air r.reader (receiver_in r).state)
   unfolding drop_copy
   dropped_at held cache free unusable same e =
@@ -86,8 +86,8 @@ pub later : (old : Receiver) (s t : State) → s.lines ≡ [] → in_state (in_s
 unfolding last_reads
 later old s t free = ap (λ L. in_state (record old { last = last_reads L old.last }) t) free
 
-find_without : (i : ℕ) (R : List Read) → find (λ r. r.item == i) (without i R) ≡ None
-unfolding without
+find_without : (i : ℕ) (R : List Read) → find (λ r. r.item == i) (without_item i R) ≡ None
+unfolding without_item
 find_without i [] = refl
 find_without i (r ∷ R) = by (r.item == i) refl (find_without i R)
   where
@@ -100,7 +100,7 @@ unfolding Sessions.copy_of drop_copy
 drop_settles s x None e = cc
 drop_settles s x (Some i) e =
     let its : x.item ≡ i = eqb-true x.item i (find_is (λ _. Unit {0}) (λ r. r.item == i) s.copies (λ k d l. tt) (Some x) e).1 in
-    subst (λ k. find (λ r. r.item == i) (without k s.copies) ≡ None) (sym its) (find_without i s.copies)
+    subst (λ k. find (λ r. r.item == i) (without_item k s.copies) ≡ None) (sym its) (find_without i s.copies)
 
 dropped_gone : (reader : Reader) (s : State) (x : Read) → Sessions.copy_of (wanted reader s) s ≡ Some x → Sessions.copy_of (wanted reader (drop_copy x.item s)) (drop_copy x.item s) ≡ None
 unfolding wanted query_of drop_copy

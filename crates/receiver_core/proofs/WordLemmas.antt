@@ -6,7 +6,7 @@ use Rattle.std.proofs.lemmas.Bool.{cond-false, cond-true, le-ltb, lt-ltb}
 use Rattle.air_base.specs.declared.verdicts.Clash.{Clash}
 use Rattle.air_base.specs.declared.verdicts.VerdictKind.TheVariants.{Abort, Accept, Unfinished}
 use Rattle.air_model.specs.Aired.{Air}
-use Rattle.air_model.specs.Copies.{keep, with_copy, without}
+use Rattle.air_model.specs.Copies.{keep, with_copy, without_item}
 use Rattle.air_model.specs.Judges.{Judge, by_entries}
 use Rattle.air_model.specs.Reads.{Read}
 use Rattle.air_model.specs.Sessions.{Reader, State, abort, accept_if_whole, comes_late, copy_of, count_copied, count_opened, decide, drop_copy, end_query, hold, is_unusable, next_attempt, next_query, offer, open_bucket, query_of, turn, turn_with, wanted, with_line}
@@ -36,7 +36,7 @@ open_clear air reader x s e =
 
 -- The clash's copy is dropped and the read offered, and then the attempt ends.
 pub open_clash : (air : Air) (reader : Reader) (x : Read) (c : Clash) (s : State) → (J air).clash s.held x ≡ Some c →
-    next_attempt reader (with_line (J air) (Abort x.item x.cycle c.item) (record (with_opened s) { copies = keep reader.plan.room air.pix (with_copy x (without c.item s.copies)) })) ≡ open_bucket (J air) air reader x s
+    next_attempt reader (with_line (J air) (Abort x.item x.cycle c.item) (record (with_opened s) { copies = keep reader.plan.room air.pix (with_copy x (without_item c.item s.copies)) })) ≡ open_bucket (J air) air reader x s
 unfolding open_bucket decide abort offer with_line drop_copy next_attempt next_query count_opened
 open_clash air reader x c s e =
     let t = drop_copy c.item (with_line (J air) (Abort x.item x.cycle c.item) (count_opened s)) in

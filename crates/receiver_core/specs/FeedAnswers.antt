@@ -23,17 +23,17 @@ fed_of r (Err fault) = fed.Refused fault
 fed_of r (Ok b) = cond (fits r.air b) (fed_read r (read_in b.cycle b.body)) fed.Foreign
 
 -- One more of the count of that name.
-abbrev pub counted : Fed → Counts → Counts
-counted (fed.Refused fault) c = record c { refused = c.refused + 1 }
-counted fed.Foreign c = record c { foreign = c.foreign + 1 }
-counted fed.Dozed c = record c { dozed = c.dozed + 1 }
-counted fed.Late c = record c { late = c.late + 1 }
-counted fed.Opened c = record c { opened = c.opened + 1 }
+abbrev pub count_fed : Fed → Counts → Counts
+count_fed (fed.Refused fault) c = record c { refused = c.refused + 1 }
+count_fed fed.Foreign c = record c { foreign = c.foreign + 1 }
+count_fed fed.Dozed c = record c { dozed = c.dozed + 1 }
+count_fed fed.Late c = record c { late = c.late + 1 }
+count_fed fed.Opened c = record c { opened = c.opened + 1 }
 
 -- A refused and a foreign member change that count alone: so they change no attempt.
 abbrev pub ChangesItsCountAlone : Fed → Receiver → Receiver → Type 0
-ChangesItsCountAlone (fed.Refused fault) before now = now ≡ record before { state = record before.state { counts = counted (fed.Refused fault) before.state.counts } }
-ChangesItsCountAlone fed.Foreign before now = now ≡ record before { state = record before.state { counts = counted fed.Foreign before.state.counts } }
+ChangesItsCountAlone (fed.Refused fault) before now = now ≡ record before { state = record before.state { counts = count_fed (fed.Refused fault) before.state.counts } }
+ChangesItsCountAlone fed.Foreign before now = now ≡ record before { state = record before.state { counts = count_fed fed.Foreign before.state.counts } }
 ChangesItsCountAlone fed.Dozed before now = ⊤
 ChangesItsCountAlone fed.Late before now = ⊤
 ChangesItsCountAlone fed.Opened before now = ⊤

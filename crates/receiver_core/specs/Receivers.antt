@@ -30,8 +30,8 @@ abbrev pub heard_count : Counts → ℕ
 heard_count c = c.opened + c.dozed + c.late + c.refused + c.foreign
 
 -- The state after a step: as it is where a verdict waits, else after the rule's step, judged by the entries.
-abbrev pub stepped : Receiver → State
-stepped r = cond (nat_lt 0 (length r.state.lines)) r.state (ReceiverSteps.step (by_entries r.air.scheme) r.air r.reader r.state)
+abbrev pub state_after_step : Receiver → State
+state_after_step r = cond (nat_lt 0 (length r.state.lines)) r.state (ReceiverSteps.step (by_entries r.air.scheme) r.air r.reader r.state)
 
 -- Fewer verdicts than this can still be handed out before the next heard member.
 abbrev pub steps_left : Receiver → ℕ

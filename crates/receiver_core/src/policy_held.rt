@@ -10,7 +10,7 @@ ghost use Rattle.air_history.specs.ClashLaws.{IsHeard};
 ghost use Rattle.air_history.specs.Columns.{scheme_of};
 ghost use Rattle.air_history.specs.HeldReads.{IsNew};
 ghost use Rattle.air_history.specs.Reads.{last_cycle};
-ghost use Rattle.held_entries.specs.HeardReads.{heard};
+ghost use Rattle.held_entries.specs.HeardReads.{heard_read};
 ghost use Rattle.receiver_core.specs.Steps.PolicyReads.{held_of, policy_of};
 
 use air_base::{Clash, NoMemory, Policy};
@@ -67,10 +67,10 @@ impl PolicyHeld {
 
     /// The held read of least item number that clashes with the new one.
     pub fn clashes(&self, item: u16, cycle: u32, entries: &[u32]) -> Option<Clash>
-        requires new { IsNew (held_of self.now) (heard item cycle entries.now) }
-        requires in_time { is_late (policy_of self.now) (map read_at (held_of self.now).reads) (read_at (heard item cycle entries.now)) ≡ false }
-        ensures entries { result ≡ clash_by_entries (policy_of self.now) (held_of self.now).reads (heard item cycle entries.now) }
-        ensures history { let x = heard item cycle entries.now in (H : List Event) →
+        requires new { IsNew (held_of self.now) (heard_read item cycle entries.now) }
+        requires in_time { is_late (policy_of self.now) (map read_at (held_of self.now).reads) (read_at (heard_read item cycle entries.now)) ≡ false }
+        ensures entries { result ≡ clash_by_entries (policy_of self.now) (held_of self.now).reads (heard_read item cycle entries.now) }
+        ensures history { let x = heard_read item cycle entries.now in (H : List Event) →
             All (IsHeard (scheme_of (policy_of self.now)) (held_of self.now).n H) (held_of self.now).reads →
             IsHeard (scheme_of (policy_of self.now)) (held_of self.now).n H x →
             result ≡ clash_by_history (policy_of self.now) H (map read_at (held_of self.now).reads) (read_at x) }
@@ -85,11 +85,11 @@ impl PolicyHeld {
     /// Holds the new read too, after those before it.
     pub fn hold(&mut self, item: u16, cycle: u32, entries: &[u32])
         requires room { length (held_of self.old).reads < ROOM }
-        requires new { IsNew (held_of self.old) (heard item cycle entries.now) }
-        requires in_time { is_late (policy_of self.old) (map read_at (held_of self.old).reads) (read_at (heard item cycle entries.now)) ≡ false }
-        requires clear { clash_by_entries (policy_of self.old) (held_of self.old).reads (heard item cycle entries.now) ≡ None }
+        requires new { IsNew (held_of self.old) (heard_read item cycle entries.now) }
+        requires in_time { is_late (policy_of self.old) (map read_at (held_of self.old).reads) (read_at (heard_read item cycle entries.now)) ≡ false }
+        requires clear { clash_by_entries (policy_of self.old) (held_of self.old).reads (heard_read item cycle entries.now) ≡ None }
         ensures policy { policy_of self.new ≡ policy_of self.old }
-        ensures held { held_of self.new ≡ record (held_of self.old) { reads = (held_of self.old).reads ++ heard item cycle entries.now ∷ [] } }
+        ensures held { held_of self.new ≡ record (held_of self.old) { reads = (held_of self.old).reads ++ heard_read item cycle entries.now ∷ [] } }
     {
         match self {
             PolicyHeld::FMatrix(held) => held.hold(item, cycle, entries),

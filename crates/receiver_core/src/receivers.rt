@@ -9,10 +9,10 @@ ghost use Rattle.air_model.specs.Decks.{disks_in};
 ghost use Rattle.air_model.specs.Judges.{by_entries};
 ghost use Rattle.air_model.specs.Sessions.{end_query, hear, wanted};
 ghost use Rattle.receiver_core.specs.LinesGiven.{StepTells, lines_given, lines_of};
-ghost use Rattle.receiver_core.specs.FeedAnswers.{ChangesItsCountAlone, counted, fed_of};
+ghost use Rattle.receiver_core.specs.FeedAnswers.{ChangesItsCountAlone, count_fed, fed_of};
 ghost use Rattle.receiver_core.specs.HeldTruths.{HearsTruly, StaysTrue, first_unheld};
 ghost use Rattle.receiver_core.specs.LastReads.{last_reads};
-ghost use Rattle.receiver_core.specs.Receivers.{IsSettled, heard_count, receiver_of, stepped};
+ghost use Rattle.receiver_core.specs.Receivers.{IsSettled, heard_count, receiver_of, state_after_step};
 
 mod rules;
 mod settling;
@@ -143,7 +143,7 @@ impl Receiver {
         // The answer is the first rule that applies, and that count rises. What is refused or foreign changes no attempt.
         ensures fed { result ≡ fed_of self.old (reading bytes.now) }
         ensures refused { (fault : BucketFault) → (result ≡ Fed.Refused fault) ↔ (reading bytes.now ≡ Err fault) }
-        ensures counted { self.new.state.counts ≡ counted result self.old.state.counts }
+        ensures counted { self.new.state.counts ≡ count_fed result self.old.state.counts }
         ensures alone { ChangesItsCountAlone result self.old self.new }
         ensures held { HearsTruly (bucket_in bytes.now) self.old self.new }
     {
@@ -164,7 +164,7 @@ impl Receiver {
         // The answer is the first rule that applies, and that count rises. What is refused or foreign changes no attempt.
         ensures fed { result ≡ fed_of self.old heard.now }
         ensures refused { (fault : BucketFault) → (result ≡ Fed.Refused fault) ↔ (heard.now ≡ Err fault) }
-        ensures counted { self.new.state.counts ≡ counted result self.old.state.counts }
+        ensures counted { self.new.state.counts ≡ count_fed result self.old.state.counts }
         ensures alone { ChangesItsCountAlone result self.old self.new }
         ensures held { HearsTruly (result_ok heard.now) self.old self.new }
     {
@@ -179,7 +179,7 @@ impl Receiver {
 
     /// Hands out the verdict that waits, or goes on up to the next one.
     pub fn step(&mut self) -> Step
-        ensures state { record self.new.state { lines = lines_given result self.new.last } ≡ stepped self.old }
+        ensures state { record self.new.state { lines = lines_given result self.new.last } ≡ state_after_step self.old }
         ensures given { self.new.state.lines ≡ [] }
         ensures tells { StepTells result self.old self.new }
         ensures air { self.new.air ≡ self.old.air }

@@ -2,7 +2,7 @@
 //! hand from the rules of docs/MODEL.md.
 
 use crate::buckets::{COLDER, HOTTER, with};
-use crate::calls::{Call, Other, accepted, counted, first_other, read};
+use crate::calls::{Call, Other, accept_of, counts_call, first_other, read};
 use receiver_core::{Fed, Step};
 use std::alloc::Global;
 use std::test::Fail;
@@ -23,15 +23,15 @@ fn at_an_age_of_0_copies_are_used_in_their_own_cycle(rt: HostRuntime) -> Result<
     let zero = with(&COLDER, &[(11, 2)]);
     let calls = [
         Call::Hear(&HOTTER, Fed::Opened, Step::Waiting),
-        Call::Hear(&COLDER, Fed::Opened, accepted(0)),
+        Call::Hear(&COLDER, Fed::Opened, accept_of(0)),
         Call::Reads(&[read(1, 1, 20), read(0, 1, 10)]),
-        Call::Step(accepted(1)),
+        Call::Step(accept_of(1)),
         Call::Reads(&[read(0, 1, 10), read(1, 1, 20)]),
-        Call::Step(accepted(2)),
+        Call::Step(accept_of(2)),
         Call::Reads(&[read(1, 1, 20), read(0, 1, 10)]),
         Call::Hear(&one, Fed::Dozed, Step::Done),
         Call::Hear(&zero, Fed::Dozed, Step::Done),
-        counted(2, 2, 4),
+        counts_call(2, 2, 4),
     ];
     assert_eq!(rt; first_other(rt.alloc(), THRICE, 0, &calls)?, None);
     Ok(())
@@ -48,9 +48,9 @@ fn other_after(
     let zero = with(&COLDER, &[(11, cycle)]);
     let one = with(&HOTTER, &[(11, 3)]);
     let (step, fed, last) = if copied {
-        (accepted(1), Fed::Dozed, Step::Done)
+        (accept_of(1), Fed::Dozed, Step::Done)
     } else {
-        (Step::Waiting, Fed::Opened, accepted(1))
+        (Step::Waiting, Fed::Opened, accept_of(1))
     };
     let reads = [
         read(0, u32::from(cycle), 10),
@@ -58,13 +58,13 @@ fn other_after(
     ];
     let counts = if copied { (2, 1, 1) } else { (3, 0, 0) };
     let calls = [
-        Call::Hear(&HOTTER, Fed::Opened, accepted(0)),
+        Call::Hear(&HOTTER, Fed::Opened, accept_of(0)),
         Call::Step(Step::Waiting),
         Call::Hear(&zero, Fed::Opened, step),
         Call::Wanted(if copied { None } else { Some(1) }),
         Call::Hear(&one, fed, last),
         Call::Reads(&reads),
-        counted(counts.0, counts.1, counts.2),
+        counts_call(counts.0, counts.1, counts.2),
     ];
     first_other(alloc, text, 0, &calls)
 }

@@ -33,7 +33,7 @@ pub struct Case<'a> {
 }
 
 /// The text's receiver of this number has these calls.
-pub fn asked<'a>(text: &'a [u8], number: u32, calls: &'a [Call<'a>]) -> Case<'a> {
+pub fn case_of<'a>(text: &'a [u8], number: u32, calls: &'a [Call<'a>]) -> Case<'a> {
     Case {
         text,
         number,
@@ -85,12 +85,12 @@ pub fn verdict(query: u32, attempt: u32, kind: VerdictKind) -> Verdict {
 }
 
 /// The query is accepted at its first attempt.
-pub fn accepted(query: u32) -> Step {
+pub fn accept_of(query: u32) -> Step {
     Step::Verdict(verdict(query, 1, VerdictKind::Accept))
 }
 
 /// So many buckets were opened and dozed through, and so many reads taken from copies.
-pub fn counted(opened: u64, dozed: u64, copied: u64) -> Call<'static> {
+pub fn counts_call(opened: u64, dozed: u64, copied: u64) -> Call<'static> {
     Call::Counts(Counts {
         opened,
         dozed,

@@ -2,7 +2,7 @@
 //! script: what comes of the buckets is worked by hand from the rules of docs/MODEL.md.
 
 use crate::buckets::{COLDER, HOTTER, with};
-use crate::calls::{Call, Other, accepted, counted, first_other, read, verdict};
+use crate::calls::{Call, Other, accept_of, counts_call, first_other, read, verdict};
 use air_base::VerdictKind;
 use receiver_core::{Fed, Step};
 use std::alloc::Global;
@@ -39,7 +39,7 @@ const THREE: &[u8] =
 
 /// The buckets of the items 1 and 0 in cycle 1, and then in cycle 2: item 1 with the value 16, where both items were written in
 /// cycle 1, and item 0 with the value 11.
-fn written() -> [[u8; 32]; 4] {
+fn written_buckets() -> [[u8; 32]; 4] {
     [
         HOTTER,
         COLDER,
@@ -58,17 +58,17 @@ fn of_three(item: u8, cycle: u8, value: u8) -> [u8; 36] {
 
 #[test]
 fn a_copy_that_clashes_is_dropped_and_the_air_awaited(rt: HostRuntime) -> Result<(), Fail> {
-    let heard = written();
+    let heard = written_buckets();
     let calls = [
         Call::Hear(&heard[0], Fed::Dozed, Step::Waiting),
-        Call::Hear(&heard[1], Fed::Opened, accepted(0)),
+        Call::Hear(&heard[1], Fed::Opened, accept_of(0)),
         Call::Reads(&[read(0, 1, 10)]),
         Call::Step(Step::Waiting),
         Call::Hear(&heard[2], Fed::Opened, Step::Waiting),
         Call::Wanted(Some(0)),
-        Call::Hear(&heard[3], Fed::Opened, accepted(1)),
+        Call::Hear(&heard[3], Fed::Opened, accept_of(1)),
         Call::Reads(&[read(1, 2, 16), read(0, 2, 11)]),
-        counted(3, 1, 0),
+        counts_call(3, 1, 0),
     ];
     assert_eq!(rt; first_other(rt.alloc(), TWO, 0, &calls)?, None);
     Ok(())
@@ -88,20 +88,20 @@ fn other_of_both(
     let third = with(&HOTTER, &[(3, kind), (11, 2)]);
     let fourth = with(&COLDER, &[(3, kind), (11, 2)]);
     let (step, fed, last) = if copied {
-        (accepted(1), Fed::Dozed, Step::Done)
+        (accept_of(1), Fed::Dozed, Step::Done)
     } else {
-        (Step::Waiting, Fed::Opened, accepted(1))
+        (Step::Waiting, Fed::Opened, accept_of(1))
     };
     let reads = [read(1, 2, 20), read(0, if copied { 1 } else { 2 }, 10)];
     let counts = if copied { (2, 2, 1) } else { (3, 1, 0) };
     let calls = [
         Call::Hear(&first, Fed::Dozed, Step::Waiting),
-        Call::Hear(&second, Fed::Opened, accepted(0)),
+        Call::Hear(&second, Fed::Opened, accept_of(0)),
         Call::Step(Step::Waiting),
         Call::Hear(&third, Fed::Opened, step),
         Call::Hear(&fourth, fed, last),
         Call::Reads(&reads),
-        counted(counts.0, counts.1, counts.2),
+        counts_call(counts.0, counts.1, counts.2),
     ];
     first_other(alloc, text, 0, &calls)
 }
@@ -141,24 +141,24 @@ fn among_equals_the_smaller_item_stays(rt: HostRuntime) -> Result<(), Fail> {
     let calls = [
         Call::Hear(&zero[0], Fed::Dozed, Step::Waiting),
         Call::Hear(&one[0], Fed::Dozed, Step::Waiting),
-        Call::Hear(&two[0], Fed::Opened, accepted(0)),
+        Call::Hear(&two[0], Fed::Opened, accept_of(0)),
         Call::Reads(&[read(2, 1, 30)]),
         Call::Step(Step::Waiting),
         Call::Hear(&zero[1], Fed::Dozed, Step::Waiting),
-        Call::Hear(&one[1], Fed::Opened, accepted(1)),
+        Call::Hear(&one[1], Fed::Opened, accept_of(1)),
         Call::Reads(&[read(1, 2, 20)]),
         Call::Step(Step::Waiting),
         Call::Hear(&two[1], Fed::Dozed, Step::Waiting),
-        Call::Hear(&zero[2], Fed::Opened, accepted(2)),
+        Call::Hear(&zero[2], Fed::Opened, accept_of(2)),
         Call::Reads(&[read(0, 3, 10)]),
         Call::Step(Step::Waiting),
         Call::Wanted(Some(1)),
-        Call::Hear(&one[2], Fed::Opened, accepted(3)),
+        Call::Hear(&one[2], Fed::Opened, accept_of(3)),
         Call::Reads(&[read(0, 3, 10), read(1, 3, 20)]),
-        Call::Step(accepted(4)),
+        Call::Step(accept_of(4)),
         Call::Reads(&[read(0, 3, 10)]),
         Call::Hear(&two[2], Fed::Dozed, Step::Done),
-        counted(4, 5, 2),
+        counts_call(4, 5, 2),
     ];
     assert_eq!(rt; first_other(rt.alloc(), THREE, 0, &calls)?, None);
     Ok(())
@@ -166,7 +166,7 @@ fn among_equals_the_smaller_item_stays(rt: HostRuntime) -> Result<(), Fail> {
 
 #[test]
 fn what_aborts_drops_the_clash_and_is_kept_itself(rt: HostRuntime) -> Result<(), Fail> {
-    let heard = written();
+    let heard = written_buckets();
     let clash = VerdictKind::Abort {
         item: 1,
         cycle: 2,
@@ -175,7 +175,7 @@ fn what_aborts_drops_the_clash_and_is_kept_itself(rt: HostRuntime) -> Result<(),
     let again = verdict(1, 2, VerdictKind::Accept);
     let calls = [
         Call::Hear(&heard[0], Fed::Dozed, Step::Waiting),
-        Call::Hear(&heard[1], Fed::Opened, accepted(0)),
+        Call::Hear(&heard[1], Fed::Opened, accept_of(0)),
         Call::Step(Step::Waiting),
         Call::Wanted(Some(1)),
         Call::Hear(&heard[2], Fed::Opened, Step::Verdict(verdict(1, 1, clash))),
@@ -184,9 +184,9 @@ fn what_aborts_drops_the_clash_and_is_kept_itself(rt: HostRuntime) -> Result<(),
         Call::Wanted(Some(0)),
         Call::Hear(&heard[3], Fed::Opened, Step::Verdict(again)),
         Call::Reads(&[read(0, 2, 11), read(1, 2, 16)]),
-        Call::Step(accepted(2)),
+        Call::Step(accept_of(2)),
         Call::Reads(&[read(1, 2, 16)]),
-        counted(3, 1, 3),
+        counts_call(3, 1, 3),
     ];
     assert_eq!(rt; first_other(rt.alloc(), TRIES, 0, &calls)?, None);
     Ok(())
@@ -195,7 +195,7 @@ fn what_aborts_drops_the_clash_and_is_kept_itself(rt: HostRuntime) -> Result<(),
 #[test]
 fn the_end_drops_all_copies(rt: HostRuntime) -> Result<(), Fail> {
     let calls = [
-        Call::Hear(&COLDER, Fed::Opened, accepted(0)),
+        Call::Hear(&COLDER, Fed::Opened, accept_of(0)),
         Call::Step(Step::Waiting),
         Call::End(Some(verdict(1, 1, VerdictKind::Unfinished))),
         Call::Reads(&[]),
@@ -205,7 +205,7 @@ fn the_end_drops_all_copies(rt: HostRuntime) -> Result<(), Fail> {
         Call::Reads(&[]),
         Call::Step(Step::Done),
         Call::End(None),
-        counted(1, 0, 0),
+        counts_call(1, 0, 0),
     ];
     assert_eq!(rt; first_other(rt.alloc(), ONCE_MORE, 0, &calls)?, None);
     Ok(())

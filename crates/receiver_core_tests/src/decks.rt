@@ -1,7 +1,7 @@
 //! A deck's receivers: each has the queries of its reader, and knows where the program airs the items.
 
 use crate::buckets::{COLDER, HOTTER, HOTTER_DECK, with};
-use crate::calls::{Call, accepted, asked, first_other, first_other_case};
+use crate::calls::{Call, accept_of, case_of, first_other, first_other_case};
 use air_base::ReadOf;
 use receiver_core::{Fed, Step};
 use std::test::Fail;
@@ -24,14 +24,14 @@ fn a_deck_has_its_receivers(rt: HostRuntime) -> Result<(), Fail> {
     let second = [
         Call::Wanted(Some(1)),
         Call::Reads(NO_READS),
-        Call::Hear(&HOTTER, Fed::Opened, accepted(0)),
+        Call::Hear(&HOTTER, Fed::Opened, accept_of(0)),
         Call::Reads(OF_HOTTER),
         Call::Step(Step::Waiting),
         Call::Hear(&COLDER, Fed::Dozed, Step::Waiting),
     ];
     let cases = [
-        asked(HOTTER_DECK, 0, &first),
-        asked(HOTTER_DECK, 1, &second),
+        case_of(HOTTER_DECK, 0, &first),
+        case_of(HOTTER_DECK, 1, &second),
     ];
     assert_eq!(rt; first_other_case(rt.alloc(), &cases)?, None);
     Ok(())

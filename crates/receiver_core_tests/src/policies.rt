@@ -1,7 +1,7 @@
 //! Receivers under the two policies that air write vectors: what fits, what comes late, and what clashes.
 
 use crate::buckets::{D_DECK, DECK, FIRST, R_DECK, SECOND, with};
-use crate::calls::{Call, NONE, Other, asked, first_other, first_other_case, read, verdict};
+use crate::calls::{Call, NONE, Other, case_of, first_other, first_other_case, read, verdict};
 use air_base::{Counts, VerdictKind};
 use receiver_core::{Fed, Step};
 use std::alloc::Global;
@@ -121,9 +121,9 @@ fn each_policy_has_its_kind_of_bucket(rt: HostRuntime) -> Result<(), Fail> {
         Call::Hear(&vector, Fed::Opened, Step::Waiting),
     ];
     let cases = [
-        asked(DECK, 0, &columns),
-        asked(D_DECK, 0, &vectors),
-        asked(R_DECK, 0, &vectors),
+        case_of(DECK, 0, &columns),
+        case_of(D_DECK, 0, &vectors),
+        case_of(R_DECK, 0, &vectors),
     ];
     assert_eq!(rt; first_other_case(rt.alloc(), &cases)?, None);
     Ok(())

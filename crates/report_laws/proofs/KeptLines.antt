@@ -9,7 +9,7 @@ use Rattle.text_records.proofs.KindFacts.{none_first}
 use Rattle.text_records.proofs.PlaceFacts.{along}
 use Rattle.report_reading.specs.Kinds.{code_of}
 use Rattle.report_reading.specs.LineTexts.{line_of}
-use Rattle.report_reading.specs.ReportFaults.{comes_late, comes_next, filled, is_begun, is_known, is_next, kinds_after, kinds_at, lines_of, tests_of}
+use Rattle.report_reading.specs.ReportFaults.{comes_late, comes_next, is_begun, is_filled, is_known, is_next, kinds_after, kinds_at, lines_of, tests_of}
 use Rattle.report_reading.specs.ReportGrammar.{RowsSpellLines}
 use Rattle.report_reading.specs.ReportLines.{ReportLines, sections_of, starts_in}
 use Rattle.report_reading.specs.Steps.Answers.{with_line}
@@ -25,9 +25,9 @@ all_more : {A : Type 0} (P : A → Type 0) (xs : List A) (x : A) → All P xs �
 all_more P [] x all here = All-cons P x [] here (All-nil P)
 all_more P (y ∷ xs) x all here = All-cons P y (xs ++ x ∷ []) (All-head P y xs all) (all_more P xs x (All-tail P y xs all) here)
 
-empty : {A : Type 0} (xs : List A) → filled xs ≡ false → xs ≡ []
+empty : {A : Type 0} (xs : List A) → is_filled xs ≡ false → xs ≡ []
 empty [] h = refl
-empty (x ∷ xs) h = let some : filled (x ∷ xs) ≡ true = grind arith in cc (sym some ∙ h)
+empty (x ∷ xs) h = let some : is_filled (x ∷ xs) ≡ true = grind arith in cc (sym some ∙ h)
 
 none_of : (a b c d : Bool) → (a || b || c || d) ≡ false → (a ≡ false) × (b ≡ false) × (c ≡ false) × (d ≡ false)
 none_of true b c d h = cc h
@@ -55,7 +55,7 @@ module _ (deck : Deck) where
   abbrev AreRight : {L : Type 0} → ℕ → (L → Line) → List L → Type 0
   AreRight starts wrap lines = All (λ line. IsRight deck starts (wrap line)) lines
 
-  none_right : {L : Type 0} (starts : ℕ) (wrap : L → Line) (lines : List L) → filled lines ≡ false → AreRight starts wrap lines
+  none_right : {L : Type 0} (starts : ℕ) (wrap : L → Line) (lines : List L) → is_filled lines ≡ false → AreRight starts wrap lines
   none_right starts wrap lines none = let P : List _ → Type 0 = AreRight starts wrap in subst P (sym (empty lines none)) (All-nil (λ line. IsRight deck starts (wrap line)))
 
   facts : (r : ReportLines) (x : Line) → first_of (tests_of deck r x) ≡ None
@@ -67,7 +67,7 @@ module _ (deck : Deck) where
   kept_more : (r : ReportLines) (x : Line) → InGrammar deck r → first_of (tests_of deck r x) ≡ None → InGrammar deck (with_line r x)
   kept_more r (l.Event line) k none =
       let t = facts r (l.Event line) none in
-      let late = none_of (filled r.verdicts) (filled r.counts) (filled r.glances) (filled r.looks) t.0 in
+      let late = none_of (is_filled r.verdicts) (is_filled r.counts) (is_filled r.glances) (is_filled r.looks) t.0 in
       let starts = starts_in (r.events ++ line ∷ []) in
       record {
         events = next_more [] r.events line k.events t.1;

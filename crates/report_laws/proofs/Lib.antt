@@ -1,5 +1,5 @@
 mod TextFacts
-mod WrittenRows
+pub mod WrittenRows
 pub mod StandingLines
 pub mod KeptLines
 pub mod LegalLines

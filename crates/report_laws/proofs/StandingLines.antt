@@ -17,8 +17,8 @@ use Rattle.text_records.specs.Kinds.{first_of}
 use Rattle.report_reading.specs.LineTexts.{line_of}
 use Rattle.report_reading.specs.ReportFaults.{kinds_at, lines_of, tests_of}
 use Rattle.report_reading.specs.ReportGrammar.{RowsSpellLines, SpellsReport}
-use Rattle.report_reading.specs.ReportLines.{ReportLines, lines_in, named, sections_of, starts_in}
-use Rattle.report_reading.specs.Steps.Answers.{judged, with_line}
+use Rattle.report_reading.specs.ReportLines.{ReportLines, its_line, lines_in, sections_of, starts_in}
+use Rattle.report_reading.specs.Steps.Answers.{record_kind, with_line}
 use Rattle.report_reading.specs.declared.lines.EventLine.{EventLine}
 use Rattle.report_reading.specs.declared.lines.Line.{Line}
 use Rattle.report_reading.specs.declared.lines.Line.TheVariants as l
@@ -39,7 +39,7 @@ module _ (deck : Deck) where
   -- One row more.
   step : (rows : List (List (List ℕ))) (r : ReportLines) (row : List (List ℕ)) (x : Line) → Stands rows r → line_of row ≡ Ok x → first_of (tests_of deck r x) ≡ None → Stands (rows ++ row ∷ []) (with_line r x)
   step rows r row x s spelled none =
-      let judge : judged deck (sections_of (lines_of rows)) (line_of row) ≡ None = ap (λ q. judged deck (sections_of (lines_of rows)) q) spelled ∙ ap (λ q. first_of (tests_of deck q x)) s.sections ∙ none in
+      let judge : record_kind deck (sections_of (lines_of rows)) (line_of row) ≡ None = ap (λ q. record_kind deck (sections_of (lines_of rows)) q) spelled ∙ ap (λ q. first_of (tests_of deck q x)) s.sections ∙ none in
       record {
         faultless = none_added deck rows row s.faultless judge;
         sections = ap sections_of (lines_more rows row x spelled) ∙ sections_more (lines_of rows) x ∙ ap (λ q. with_line q x) s.sections;
@@ -66,20 +66,20 @@ module _ (deck : Deck) where
   -- ---- the history
 
   abbrev at_events : List Event → ReportLines
-  at_events done = by_parts (map named done) [] [] [] []
+  at_events done = by_parts (map its_line done) [] [] [] []
 
-  put_event : (done : List Event) (x : Event) → with_line (at_events done) (l.Event (named x)) ≡ at_events (done ++ x ∷ [])
-  put_event done x = ap (λ es. by_parts es [] [] [] []) (sym (map-append named done (x ∷ [])))
+  put_event : (done : List Event) (x : Event) → with_line (at_events done) (l.Event (its_line x)) ≡ at_events (done ++ x ∷ [])
+  put_event done x = ap (λ es. by_parts es [] [] [] []) (sym (map-append its_line done (x ∷ [])))
 
   abbrev FineEvents : List Event → List Event → Type 0
-  FineEvents done xs = Fine at_events (λ x. l.Event (named x)) event_row put_event done xs
+  FineEvents done xs = Fine at_events (λ x. l.Event (its_line x)) event_row put_event done xs
 
-  fine_events : (done xs : List Event) → EachNext deck (map named done) (map named xs) → All EventWide (map named xs) → FineEvents done xs
+  fine_events : (done xs : List Event) → EachNext deck (map its_line done) (map its_line xs) → All EventWide (map its_line xs) → FineEvents done xs
   fine_events done [] n w = tt
   fine_events done (x ∷ xs) n w = (
-    event_spelled x (All-head EventWide (named x) (map named xs) w),
+    event_spelled x (All-head EventWide (its_line x) (map its_line xs) w),
     rw n.0 refl,
-    fine_events (done ++ x ∷ []) xs (subst (λ es. EachNext deck es (map named xs)) (sym (map-append named done (x ∷ []))) n.1) (All-tail EventWide (named x) (map named xs) w),
+    fine_events (done ++ x ∷ []) xs (subst (λ es. EachNext deck es (map its_line xs)) (sym (map-append its_line done (x ∷ []))) n.1) (All-tail EventWide (its_line x) (map its_line xs) w),
   )
 
   -- ---- the other sections
@@ -104,9 +104,9 @@ module _ (deck : Deck) where
 
   pub stand : (report : Report) → HasWidths (lines_in report) → InGrammar deck (lines_in report) → Stands (report_rows report) (lines_in report)
   stand report w g =
-      let es = map named report.history in let vs = report.verdicts in let cs = report.counts in let gs = report.glances in
+      let es = map its_line report.history in let vs = report.verdicts in let cs = report.counts in let gs = report.glances in
       let H = map event_row report.history in let V = H ++ map verdict_row vs in let C = V ++ map counts_row cs in let G = C ++ map (look_row (codes "glance")) gs in
-      let s1 : Stands H (by_parts es [] [] [] []) = grow at_events (λ x. l.Event (named x)) event_row put_event report.history [] [] none_stand (fine_events [] report.history g.events w.events) in
+      let s1 : Stands H (by_parts es [] [] [] []) = grow at_events (λ x. l.Event (its_line x)) event_row put_event report.history [] [] none_stand (fine_events [] report.history g.events w.events) in
       let s2 : Stands V (by_parts es vs [] [] []) = grow (λ d. by_parts es d [] [] []) l.Verdict verdict_row (λ d x. refl) vs H [] s1
       (fine_each (λ d. by_parts es d [] [] []) l.Verdict verdict_row (λ d x. refl) VerdictWide (λ x. IsRight deck (starts_in es) (l.Verdict x)) verdict_spelled (λ d x r. verdict_fine es d x r) [] vs w.verdicts g.verdicts) in
       let s3 : Stands C (by_parts es vs cs [] []) = grow (λ d. by_parts es vs d [] []) l.Counts counts_row (λ d x. refl) cs V [] s2

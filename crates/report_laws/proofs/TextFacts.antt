@@ -23,7 +23,7 @@ use Rattle.air_model.specs.declared.reports.CountsLine.{CountsLine}
 use Rattle.air_model.specs.declared.reports.LookLine.{LookLine}
 use Rattle.air_model.specs.declared.reports.VerdictLine.{VerdictLine}
 use Rattle.report_reading.specs.LineTexts.{item_of, line_of, place_of, read_of, short_of}
-use Rattle.report_reading.specs.ReportLines.{named}
+use Rattle.report_reading.specs.ReportLines.{its_line}
 use Rattle.report_reading.specs.declared.lines.Line.TheVariants as l
 use Rattle.report_reading.proofs.ReadFacts.{place_made, read_made}
 use Rattle.report_laws.specs.ReportRules.{CountsWide, EndWide, EventWide, LookWide, ReadWide, VerdictWide}
@@ -98,7 +98,7 @@ reads_spelled rs w =
 
 -- ---- lines
 
-pub event_spelled : (event : Event) → EventWide (named event) → line_of (event_row event) ≡ Ok (l.Event (named event))
+pub event_spelled : (event : Event) → EventWide (its_line event) → line_of (event_row event) ≡ Ok (l.Event (its_line event))
 event_spelled (e.Commit by seq update) w = rw (short_text by w.0, short_text seq w.1) refl
 event_spelled e.Start w = refl
 

@@ -11,7 +11,7 @@ use Rattle.air_model.specs.Rows.{row_writer, rows_text}
 use Rattle.text_records.specs.Records.{records_of}
 use Rattle.text_records.proofs.RowFacts.{all_rows}
 
--- How reports write a row is csv's own way.
+-- How reports and decks write a row is csv's own way.
 same_escaped : (field : List ℕ) → escaped row_writer field ≡ escaped default_writer field
 unfolding escaped
 same_escaped [] = refl

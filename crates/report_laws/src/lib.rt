@@ -8,7 +8,7 @@ ghost use Rattle.air_model.specs.Decks.{Deck, IsLegal};
 ghost use Rattle.air_model.specs.Reports.{Report, report_text};
 ghost use Rattle.item_catalog.specs.DeckLimits.{WithinLimits};
 ghost use Rattle.report_reading.specs.ReportGrammar.{SpellsReport};
-ghost use Rattle.report_reading.specs.ReportLines.{ReportLines, event_in, lines_in, named, report_in};
+ghost use Rattle.report_reading.specs.ReportLines.{ReportLines, event_in, its_line, lines_in, report_in};
 ghost use Rattle.report_laws.specs.ReportRules.{EachNext, HasWidths, InGrammar};
 
 /// The text of a report whose numbers fit their types and whose lines are in the grammar spells these lines.
@@ -34,5 +34,5 @@ pub fn one_history_law()
 
 /// A history is legal for a deck exactly if its lines come each next and stand for the history itself: each names the deck's update.
 pub fn legal_lines_law()
-    ensures { (deck : Deck) (H : List Event) → IsLegal deck H ↔ (EachNext deck [] (map named H) × (map (event_in deck) (map named H) ≡ H)) }
+    ensures { (deck : Deck) (H : List Event) → IsLegal deck H ↔ (EachNext deck [] (map its_line H) × (map (event_in deck) (map its_line H) ≡ H)) }
 {}

@@ -11,7 +11,7 @@ use Rattle.air_model.specs.Decks.{Deck, updates_by}
 use Rattle.text_records.specs.Kinds.{first_of}
 use Rattle.report_reading.specs.ReportFaults.{comes_late, is_begun, is_known, is_next, its_item, leads}
 use Rattle.report_reading.specs.ReportLines.{ReportLines, commits_by, commits_of, starts_in, starts_cycle}
-use Rattle.report_reading.specs.Steps.Answers.{CanPush, judged}
+use Rattle.report_reading.specs.Steps.Answers.{CanPush, record_kind}
 use Rattle.report_reading.specs.declared.kinds.FaultKind.{FaultKind}
 use Rattle.report_reading.specs.declared.kinds.FaultKind.TheVariants as fault
 use Rattle.report_reading.specs.declared.lines.EventLine.{EventLine}
@@ -67,7 +67,7 @@ next_parts deck before by seq few h =
     let same : seq ≡ commits_by by before = grind (arith, nat_tests, both.0) in
     (elim (cases_lt by (length deck.updates)) [ inl below ↦ omega arith | inr past ↦ absurd (omega (arith, less, ap length (get_or_past deck.updates by [] past))) ], same)
 
-pub can_push : (deck : Deck) (before : ReportLines) (line : Line) → length deck.updates ≤ MOST_UPDATERS → judged deck before (Ok line) ≡ None → CanPush before line
+pub can_push : (deck : Deck) (before : ReportLines) (line : Line) → length deck.updates ≤ MOST_UPDATERS → record_kind deck before (Ok line) ≡ None → CanPush before line
 can_push deck before (l.Event (Commit by seq)) few none =
     let line : Line = l.Event (Commit by seq) in
     next_parts deck before.events by seq few (not_false (is_next deck before.events (Commit by seq))

@@ -17,7 +17,7 @@ use Rattle.report_reading.specs.Kinds.{code_of}
 use Rattle.report_reading.specs.LineTexts.{line_of}
 use Rattle.report_reading.specs.ReportFaults.{kinds_after, kinds_at, lines_of, place_kinds, tests_of}
 use Rattle.report_reading.specs.ReportLines.{ReportLines, its_counts, its_event, its_glance, its_look, its_verdict, sections_of}
-use Rattle.report_reading.specs.Steps.Answers.{judged, with_line}
+use Rattle.report_reading.specs.Steps.Answers.{record_kind, with_line}
 use Rattle.report_reading.specs.declared.kinds.FaultKind.{FaultKind}
 use Rattle.report_reading.specs.declared.lines.EventLine.{EventLine}
 use Rattle.report_reading.specs.declared.lines.Line.{Line}
@@ -62,17 +62,17 @@ module _ (deck : Deck) where
 
   -- One more record to which no kind applies, and one to which some kind does.
   module _ (rows : List (List (List ℕ))) (row : List (List ℕ)) where
-    pub added : judged deck (sections_of (lines_of rows)) (line_of row) ≡ None → with_spelled with_line (sections_of (lines_of rows)) (line_of row) ≡ sections_of (lines_of (rows ++ row ∷ []))
+    pub added : record_kind deck (sections_of (lines_of rows)) (line_of row) ≡ None → with_spelled with_line (sections_of (lines_of rows)) (line_of row) ≡ sections_of (lines_of (rows ++ row ∷ []))
     added h = by (line_of row) refl h
       where
-        by : (r : Result Line FaultKind) → line_of row ≡ r → judged deck (sections_of (lines_of rows)) r ≡ None → with_spelled with_line (sections_of (lines_of rows)) r ≡ sections_of (lines_of (rows ++ row ∷ []))
+        by : (r : Result Line FaultKind) → line_of row ≡ r → record_kind deck (sections_of (lines_of rows)) r ≡ None → with_spelled with_line (sections_of (lines_of rows)) r ≡ sections_of (lines_of (rows ++ row ∷ []))
         by (Err kind) e h = cc h
         by (Ok x) e h = sym (ap sections_of (lines_more rows row x e) ∙ sections_more (lines_of rows) x)
 
-    pub none_added : NoneBefore (kinds_at deck rows) (length rows) → judged deck (sections_of (lines_of rows)) (line_of row) ≡ None
+    pub none_added : NoneBefore (kinds_at deck rows) (length rows) → record_kind deck (sections_of (lines_of rows)) (line_of row) ≡ None
         → NoneBefore (kinds_at deck (rows ++ row ∷ [])) (length (rows ++ row ∷ []))
     unfolding kinds_at
     none_added before h = places.none_more judge rows row before (none_spelled code_of (tests_of deck (sections_of (lines_of rows))) (line_of row) h)
 
-    pub least_after : (kind : FaultKind) → judged deck (sections_of (lines_of rows)) (line_of row) ≡ Some kind → IsLeast (code_of kind) (kinds_after deck (sections_of (lines_of rows)) (line_of row))
+    pub least_after : (kind : FaultKind) → record_kind deck (sections_of (lines_of rows)) (line_of row) ≡ Some kind → IsLeast (code_of kind) (kinds_after deck (sections_of (lines_of rows)) (line_of row))
     least_after kind h = least_spelled code_of (tests_of deck (sections_of (lines_of rows))) (tests_rise (sections_of (lines_of rows))) (line_of row) kind h

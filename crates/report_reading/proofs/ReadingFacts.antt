@@ -10,13 +10,13 @@ use Rattle.report_reading.specs.LineTexts.{line_of}
 use Rattle.report_reading.specs.ReportFaults.{kinds_at, lines_of}
 use Rattle.report_reading.specs.ReportGrammar.{HasReportFault, RowsSpellLines, SpellsReport}
 use Rattle.report_reading.specs.ReportLines.{sections_of}
-use Rattle.report_reading.specs.Steps.Answers.{judged}
+use Rattle.report_reading.specs.Steps.Answers.{record_kind}
 use Rattle.report_reading.specs.declared.kinds.FaultKind.{FaultKind}
 use Rattle.report_reading.proofs.PlaceFacts.{judge, least_after}
 
 module _ (deck : Deck) (text : List ℕ) (rows : List (List (List ℕ))) (before : NoneBefore (kinds_at deck rows) (length rows)) where
   pub read_fault : (row : List (List ℕ)) (left : List (List (List ℕ))) (kind : FaultKind) → records_of text ≡ rows ++ row ∷ left
-      → judged deck (sections_of (lines_of rows)) (line_of row) ≡ Some kind → HasReportFault deck text (length rows + 1) (code_of kind)
+      → record_kind deck (sections_of (lines_of rows)) (line_of row) ≡ Some kind → HasReportFault deck text (length rows + 1) (code_of kind)
   unfolding HasReportFault kinds_at
   read_fault row left kind all h =
       let P : List (List (List ℕ)) → Type 0 = λ all. IsFirstFault (length all) (kinds_at deck all) (length rows) (code_of kind) in

@@ -25,15 +25,15 @@ use Rattle.report_reading.specs.declared.lines.Line.TheVariants.{Event, Verdict,
 -- ---- order
 
 -- There is a line.
-abbrev pub filled : {A : Type 0} → List A → Bool
-filled lines = nat_lt 0 (length lines)
+abbrev pub is_filled : {A : Type 0} → List A → Bool
+is_filled lines = nat_lt 0 (length lines)
 
 -- A line of a later section stands among those before.
 abbrev pub comes_late : ReportLines → Line → Bool
-comes_late before (Event line) = filled before.verdicts || filled before.counts || filled before.glances || filled before.looks
-comes_late before (Verdict line) = filled before.counts || filled before.glances || filled before.looks
-comes_late before (Counts line) = filled before.glances || filled before.looks
-comes_late before (Glance line) = filled before.looks
+comes_late before (Event line) = is_filled before.verdicts || is_filled before.counts || is_filled before.glances || is_filled before.looks
+comes_late before (Verdict line) = is_filled before.counts || is_filled before.glances || is_filled before.looks
+comes_late before (Counts line) = is_filled before.glances || is_filled before.looks
+comes_late before (Glance line) = is_filled before.looks
 comes_late before (Look line) = false
 
 -- ---- the history

@@ -86,14 +86,14 @@ report_in deck lines = record {
 }
 
 -- The line that names an event.
-abbrev pub named : Event → EventLine
-named (e.Commit by seq update) = Commit by seq
-named e.Start = Start
+abbrev pub its_line : Event → EventLine
+its_line (e.Commit by seq update) = Commit by seq
+its_line e.Start = Start
 
 -- The lines of a report.
 abbrev pub lines_in : Report → ReportLines
 lines_in report = record {
-  events = map named report.history;
+  events = map its_line report.history;
   verdicts = report.verdicts;
   counts = report.counts;
   glances = report.glances;

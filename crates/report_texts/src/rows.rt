@@ -7,7 +7,7 @@ ghost use Rattle.air_base.specs.NumberLists.{list_text};
 ghost use Rattle.air_model.specs.Reports.{attempt_row, counts_row, event_row, look_row, place_text, read_text, verdict_row};
 ghost use Rattle.air_model.specs.Rows.{row_writer};
 ghost use Rattle.air_rows.specs.BegunRows.{IsBegun};
-ghost use Rattle.air_rows.specs.RowWriters.{IsReady, written};
+ghost use Rattle.air_rows.specs.RowWriters.{IsReady, written_text};
 
 use air_base::{NoMemory, ReadOf, VerdictKind, write_u64};
 use air_history::Event;
@@ -25,7 +25,7 @@ pub(crate) fn put_event(
     requires { IsReady wtr.old }
     ensures ready { OnOk result (IsReady wtr.new) }
     ensures text { OnOk result
-        (written wtr.new ≡ written wtr.old ++ row_text row_writer (event_row event.now)) }
+        (written_text wtr.new ≡ written_text wtr.old ++ row_text row_writer (event_row event.now)) }
 {
     match event {
         Event::Commit { by, seq, .. } => {
@@ -45,7 +45,7 @@ pub(crate) fn put_counts(
     requires { IsReady wtr.old }
     ensures ready { OnOk result (IsReady wtr.new) }
     ensures text { OnOk result
-        (written wtr.new ≡ written wtr.old ++ row_text row_writer (counts_row line.now)) }
+        (written_text wtr.new ≡ written_text wtr.old ++ row_text row_writer (counts_row line.now)) }
 {
     let counts = &line.counts;
     let ns = [
@@ -70,7 +70,7 @@ pub(crate) fn put_look(
     requires { IsReady wtr.old }
     ensures ready { OnOk result (IsReady wtr.new) }
     ensures text { OnOk result
-        (written wtr.new ≡ written wtr.old ++ row_text row_writer (look_row tag.now line.now)) }
+        (written_text wtr.new ≡ written_text wtr.old ++ row_text row_writer (look_row tag.now line.now)) }
 {
     let ns = [u64::from(line.monitor), u64::from(line.cycle), line.total];
     put_numbers(alloc, wtr, tag, &ns)
@@ -85,7 +85,7 @@ pub(crate) fn put_verdict(
     requires { IsReady wtr.old }
     ensures ready { OnOk result (IsReady wtr.new) }
     ensures text { OnOk result
-        (written wtr.new ≡ written wtr.old ++ row_text row_writer (verdict_row line.now)) }
+        (written_text wtr.new ≡ written_text wtr.old ++ row_text row_writer (verdict_row line.now)) }
 {
     match line.verdict.kind {
         VerdictKind::Accept => put_attempt(alloc, wtr, b"accept", line)?,
@@ -107,7 +107,7 @@ fn put_attempt(
     line: &VerdictLine,
 ) -> Result<(), NoMemory>
     requires { IsReady wtr.old }
-    ensures { OnOk result (IsBegun (written wtr.old) (attempt_row tag.now line.now) wtr.new) }
+    ensures { OnOk result (IsBegun (written_text wtr.old) (attempt_row tag.now line.now) wtr.new) }
 {
     let mut text = Vec::new(alloc);
     put_field(wtr, tag)?;

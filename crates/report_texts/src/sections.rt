@@ -3,7 +3,7 @@
 ghost use Rattle.std.specs.Prelude.{◌≡◌, ◌++◌, OnOk, map};
 ghost use Rattle.air_model.specs.Reports.{counts_row, event_row, look_row, verdict_row};
 ghost use Rattle.air_model.specs.Rows.{rows_text};
-ghost use Rattle.air_rows.specs.RowWriters.{IsReady, written};
+ghost use Rattle.air_rows.specs.RowWriters.{IsReady, written_text};
 
 use crate::rows::{put_counts, put_event, put_look, put_verdict};
 use air_base::NoMemory;
@@ -21,7 +21,7 @@ pub(crate) fn put_history(
     requires { IsReady wtr.old }
     ensures ready { OnOk result (IsReady wtr.new) }
     ensures text { OnOk result
-        (written wtr.new ≡ written wtr.old ++ rows_text (map event_row events.now)) }
+        (written_text wtr.new ≡ written_text wtr.old ++ rows_text (map event_row events.now)) }
 {
     for event in events {
         put_event(alloc, wtr, event)?;
@@ -38,7 +38,7 @@ pub(crate) fn put_verdicts(
     requires { IsReady wtr.old }
     ensures ready { OnOk result (IsReady wtr.new) }
     ensures text { OnOk result
-        (written wtr.new ≡ written wtr.old ++ rows_text (map verdict_row lines.now)) }
+        (written_text wtr.new ≡ written_text wtr.old ++ rows_text (map verdict_row lines.now)) }
 {
     for line in lines {
         put_verdict(alloc, wtr, line)?;
@@ -55,7 +55,7 @@ pub(crate) fn put_all_counts(
     requires { IsReady wtr.old }
     ensures ready { OnOk result (IsReady wtr.new) }
     ensures text { OnOk result
-        (written wtr.new ≡ written wtr.old ++ rows_text (map counts_row lines.now)) }
+        (written_text wtr.new ≡ written_text wtr.old ++ rows_text (map counts_row lines.now)) }
 {
     for line in lines {
         put_counts(alloc, wtr, line)?;
@@ -73,7 +73,7 @@ pub(crate) fn put_looks(
     requires { IsReady wtr.old }
     ensures ready { OnOk result (IsReady wtr.new) }
     ensures text { OnOk result
-        (written wtr.new ≡ written wtr.old ++ rows_text (map (look_row tag.now) lines.now)) }
+        (written_text wtr.new ≡ written_text wtr.old ++ rows_text (map (look_row tag.now) lines.now)) }
 {
     for line in lines {
         put_look(alloc, wtr, tag, line)?;

@@ -5,7 +5,7 @@ use Rattle.std.proofs.lemmas.List.Elements.{All-from_recursion, All-nil}
 use Rattle.air_history.specs.declared.histories.Event.{Event}
 use Rattle.air_history.specs.declared.histories.Event.TheVariants.{Commit, Start}
 use Rattle.air_history.specs.Histories.{front, is_start, starts, EventFits}
-use Rattle.air_history.specs.Tables.{based, table, value_after, write_of}
+use Rattle.air_history.specs.Tables.{table, value_after, value_on_base, write_of}
 use Rattle.air_history.specs.UpdateRules.{UpdateFits}
 use Rattle.air_model.specs.Closings.{GoesOnWithout}
 use Rattle.air_model.specs.Decks.{Deck, is_by, values_in}
@@ -93,7 +93,7 @@ not_ends (inr (a ∷ b ∷ F, e)) = let n = ap length e in let more : length (F 
 
 -- A cycle's total is that of the values at its start; cycle 0 is the catalog.
 seen : (IsSeen (values_in two) history (line 0 30)) × (IsSeen (values_in two) history (line 1 31)) × (IsSeen (values_in two) history (line 2 32))
-unfolding total_at front table value_after write_of based is_start starts
+unfolding total_at front table value_after write_of value_on_base is_start starts
 seen = (record { cycle = omega arith; total = refl }, record { cycle = omega arith; total = refl }, record { cycle = omega arith; total = refl })
 
 pub glances : AreGlances two history (line 1 31 ∷ [])

@@ -3,7 +3,7 @@ use Rattle.std.proofs.Common.{rules, ◌≡◌, ℕ, ◌+◌, List, [], ◌∷�
 use Rattle.std.specs.Prelude.{Result, Ok, Err, IsErr, MatchResult, Some}
 use Rattle.turnstile.specs.PassEntries.{Continues}
 use Rattle.std.proofs.lemmas.List.Elements.{All-nil}
-use Rattle.turnstile.specs.Passes.{GateId, entered, newcomer, returned}
+use Rattle.turnstile.specs.Passes.{GateId, after_enter, after_leave, newcomer}
 use Rattle.air_history.specs.declared.histories.Event.{Event}
 use Rattle.air_history.specs.Histories.{is_start, EventFits}
 use Rattle.air_model.specs.Decks.{Deck, is_by, values_in}
@@ -20,7 +20,7 @@ pub record Turned (before after : Inner) (old new : CoreState) : Type 0 where
   pub list : Continues before.numbers before.seen (entries_of old.updaters old.events)
   pub kept : (new.values ≡ old.values) × (new.updaters ≡ old.updaters)
   pub fits : All (EventFits new.updaters (length new.values)) new.events
-  pub back : after ≡ returned (entered before (entries_of old.updaters old.events)) (entries_of new.updaters new.events)
+  pub back : after ≡ after_leave (after_enter before (entries_of old.updaters old.events)) (entries_of new.updaters new.events)
 
 pub base_is : (pass : Inner) (core : CoreState) → pass.base ≡ Some (core.values, core.updaters) → base_in pass ≡ (core.values, core.updaters)
 base_is pass core is = ap base_or is

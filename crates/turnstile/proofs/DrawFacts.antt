@@ -7,9 +7,9 @@ use mathlib.Core.Option.{some, none}
 use lib.ListN.{get_elem?}
 use Rattle.atomic_table.specs.Table.{Me, step, keeps, Allows}
 use Rattle.turnstile.specs.declared.views.View.{View}
-use Rattle.turnstile.specs.Steps.SeatViews.{times, counted, waits, share}
+use Rattle.turnstile.specs.Steps.SeatViews.{times, ticket_count, waits, share}
 use Rattle.turnstile.specs.Steps.TurnstileRule.{total, Knows, Kept}
-use Rattle.turnstile.specs.Steps.SeatSteps.{drew}
+use Rattle.turnstile.specs.Steps.SeatSteps.{HasDrawn}
 use Rattle.turnstile.proofs.Totals.{total_set}
 use Rattle.turnstile.proofs.Tickets.{far}
 use Rattle.turnstile.proofs.ViewSteps.{seats, apart_set}
@@ -23,7 +23,7 @@ module _ {K E B : Type 0} (entries : K → List (ℕ × E)) (base : K → B) whe
   M = Me (Option K) V
 
   pub draws : (slots id : ℕ) (me : M) → me.0.ticket ≡ None → 0 < length me.0.sight.numbers → me.0.old ≡ [] → me.0.noted ≡ None
-      → Allows (Kept entries base) slots id me 0 (λ n. (n + 1) % 18446744073709551616) (drew entries base (step slots 0 1 0 none) me)
+      → Allows (Kept entries base) slots id me 0 (λ n. (n + 1) % 18446744073709551616) (HasDrawn entries base (step slots 0 1 0 none) me)
   draws slots id me free live calm rests s r wide at small =
       let M64 : ℕ = 18446744073709551616 in
       let n : ℕ = get_or s.words 0 0 in
@@ -31,7 +31,7 @@ module _ {K E B : Type 0} (entries : K → List (ℕ × E)) (base : K → B) whe
       let w : V = record me.0 { ticket = Some n } in
       let is : n ≡ r.next = ap (λ l. get_or l 0 0) r.words_are in
       let few = few_wait entries base s r in let less = r.few in
-      let more : total waits (set s.views id w) ≡ q + 1 = let h = total_set waits s.views id me.0 w at in let z : waits me.0 ≡ 0 = ap counted free in omega arith in
+      let more : total waits (set s.views id w) ≡ q + 1 = let h = total_set waits s.views id me.0 w at in let z : waits me.0 ≡ 0 = ap ticket_count free in omega arith in
       let known = r.each_seat id me.0 at in
       let fresh : (j : ℕ) (v : V) (t : ℕ) → get_elem? s.views j ≡ some v → v.ticket ≡ Some t → t ≡ n → ⊥ = λ j v t e k same. let h = ((r.each_seat j v e).queues t k).1 in
       far r.front h.0 q h.1 (omega arith) (sym h.2 ∙ (same ∙ (is ∙ r.next_is))) in (

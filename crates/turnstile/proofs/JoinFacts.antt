@@ -11,9 +11,9 @@ use Rattle.atomic_table.proofs.Lists.{set_else}
 use Rattle.turnstile.specs.declared.views.Sight.{Sight}
 use Rattle.turnstile.specs.declared.views.View.{View}
 use Rattle.turnstile.specs.PassEntries.{Continues}
-use Rattle.turnstile.specs.Steps.SeatViews.{times, counted, waits, share, united, spent}
+use Rattle.turnstile.specs.Steps.SeatViews.{times, ticket_count, waits, share, union_of, spent_view}
 use Rattle.turnstile.specs.Steps.TurnstileRule.{total, Knows, Kept}
-use Rattle.turnstile.specs.Steps.SeatSteps.{compared}
+use Rattle.turnstile.specs.Steps.SeatSteps.{HasCompared}
 use Rattle.turnstile.proofs.Totals.{total_set}
 use Rattle.turnstile.proofs.Numbers.{times_append}
 use Rattle.turnstile.proofs.EntryLists.{foreign_none, longer_goes_on}
@@ -36,16 +36,16 @@ module _ {K E B : Type 0} (entries : K → List (ℕ × E)) (base : K → B) whe
   olds_of s r id v other w at here (suc (suc k)) o e = absurd (some-ne-none o (sym e))
 
   -- a pass takes in another
-  pub joins : (id : ℕ) (v : V) (other : ℕ) (w : V) → v.ticket ≡ None → v.noted ≡ None → 0 < length v.sight.numbers → w.ticket ≡ None → w.noted ≡ None → Joins (Kept entries base) id v other w (united v w) spent
+  pub joins : (id : ℕ) (v : V) (other : ℕ) (w : V) → v.ticket ≡ None → v.noted ≡ None → 0 < length v.sight.numbers → w.ticket ≡ None → w.noted ≡ None → Joins (Kept entries base) id v other w (union_of v w) spent_view
   joins id v other w free rests live free' rests' s r at differs there =
-      let u : V = united v w in
+      let u : V = union_of v w in
       let vs : List V = set s.views id u in
       let here : get_elem? s.views other ≡ some w = sym (set_else s.views id other u differs) ∙ there in
       let known = r.each_seat id v at in
       let known' = r.each_seat other w here in
       let seen = longer_goes_on v.sight.numbers w.sight.numbers v.sight.entries w.sight.entries r.now known.sees known'.sees in
-      let nothing : V = spent in
-      let q : total waits (set vs other nothing) ≡ total waits s.views = let a = total_set waits s.views id v u at in let b = total_set waits vs other w nothing there in let z : waits w ≡ 0 = ap counted free' in omega arith in
+      let nothing : V = spent_view in
+      let q : total waits (set vs other nothing) ≡ total waits s.views = let a = total_set waits s.views id v u at in let b = total_set waits vs other w nothing there in let z : waits w ≡ 0 = ap ticket_count free' in omega arith in
       let F : ℕ → V → Type 0 = Knows entries base r.now r.based r.passes r.front (total waits s.views) r.phase in
       reseated entries base s r s.words s.homes (set vs other nothing) r.phase refl q
       (let a = total_set share s.views id v u at in let b = total_set share vs other w nothing there in let d = r.dealt in let p = length-append v.sight.numbers w.sight.numbers in omega arith)
@@ -73,7 +73,7 @@ module _ {K E B : Type 0} (entries : K → List (ℕ × E)) (base : K → B) whe
       (phase_set entries base s.homes vs r.now r.based r.phase other w nothing there rests' (phase_set entries base s.homes s.views r.now r.based r.phase id v u at rests r.in_phase))
 
   -- a load tells how the old lists stand to one another
-  pub compares : (slots id : ℕ) (me : M) → me.0.noted ≡ None → Allows (Kept entries base) slots id me 0 (λ n. n) (compared entries base (step slots 0 0 0 none) me)
+  pub compares : (slots id : ℕ) (me : M) → me.0.noted ≡ None → Allows (Kept entries base) slots id me 0 (λ n. n) (HasCompared entries base (step slots 0 0 0 none) me)
   compares slots id me rests s r wide at small =
       let w : V = record me.0 { old = [] } in
       let known = r.each_seat id me.0 at in

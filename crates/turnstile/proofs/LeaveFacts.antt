@@ -6,9 +6,9 @@ use mathlib.Core.Option.{some, none}
 use Rattle.atomic_table.specs.Table.{Me, step, gives, Allows, rest}
 use Rattle.turnstile.specs.declared.views.View.{View}
 use Rattle.turnstile.specs.PassEntries.{Own, Below}
-use Rattle.turnstile.specs.Steps.SeatViews.{times, counted, waits, share, gone}
+use Rattle.turnstile.specs.Steps.SeatViews.{times, ticket_count, waits, share, give_back}
 use Rattle.turnstile.specs.Steps.TurnstileRule.{total, home, Knows, Kept}
-use Rattle.turnstile.specs.Steps.SeatSteps.{left}
+use Rattle.turnstile.specs.Steps.SeatSteps.{HasLeft}
 use Rattle.turnstile.proofs.Totals.{total_set, none_in}
 use Rattle.turnstile.proofs.EntryLists.{goes_on, all_seen, below_append, own_below, own_foreign}
 use Rattle.turnstile.proofs.Tickets.{nearer, closer, mod_here}
@@ -26,24 +26,24 @@ module _ {K E B : Type 0} (entries : K → List (ℕ × E)) (base : K → B) whe
   of_slot None = []
   of_slot (Some x) = entries x
 
-  abbrev carried : List (ℕ × Option K) → List (ℕ × E)
-  carried [] = []
-  carried (y ∷ ys) = of_slot y.1
+  abbrev carried_entries : List (ℕ × Option K) → List (ℕ × E)
+  carried_entries [] = []
+  carried_entries (y ∷ ys) = of_slot y.1
 
   leaves_at : (slots id : ℕ) (v : V) (x : K) (l more : List (ℕ × E)) → v.noted ≡ Some l → entries x ≡ l ++ more → Own v.sight.numbers more → v.base ≡ Some (base x)
-      → Allows (Kept entries base) slots id (v, (0, Some x) ∷ []) 1 (λ n. (n + 1) % 18446744073709551616) (left entries base (step slots 1 1 0 none) (v, (0, Some x) ∷ []))
+      → Allows (Kept entries base) slots id (v, (0, Some x) ∷ []) 1 (λ n. (n + 1) % 18446744073709551616) (HasLeft entries base (step slots 1 1 0 none) (v, (0, Some x) ∷ []))
   leaves_at slots id v x l more notes adds own based s r wide at small =
       let n : ℕ = get_or s.words 1 0 in
       let is : n ≡ r.front = ap (λ l. get_or l 1 0) r.words_are in
       let known = r.each_seat id v at in
       let turn = known.turns l notes in
       let first = turn.2 in
-      let w : V = gone v (entries x) in
+      let w : V = give_back v (entries x) in
       let f : ℕ = (n + 1) % 18446744073709551616 in
       let f_is : f ≡ (r.front + 1) % 18446744073709551616 = ap (λ k. (k + 1) % 18446744073709551616) is in
       let live = (known.queues r.front first).0 in
       let then_ : entries x ≡ r.now ++ more = adds ∙ ap (λ k. k ++ more) turn.1 in
-      let less : total waits (set s.views id w) + 1 ≡ total waits s.views = let h = total_set waits s.views id v w at in let z : waits v ≡ 1 = ap counted first in omega arith in
+      let less : total waits (set s.views id w) + 1 ≡ total waits s.views = let h = total_set waits s.views id v w at in let z : waits v ≡ 1 = ap ticket_count first in omega arith in
       let q : ℕ = total waits (set s.views id w) in
       let gone_home = out_of entries base s r id turn.0 in (
         w,
@@ -83,12 +83,12 @@ module _ {K E B : Type 0} (entries : K → List (ℕ × E)) (base : K → B) whe
           apart = apart_set s.views id w r.apart (λ j u t other e k same. none-some t same);
           in_phase = (x, ap (λ h. set h 0 (some (Some x))) gone_home, refl, same_Some (base x) r.based (sym based ∙ (known.live live).0));
         },
-        λ y e. ap (λ c. (gone v (carried c), [])) e,
+        λ y e. ap (λ c. (give_back v (carried_entries c), [])) e,
       )
 
   -- the same for a seat whose slot was filled by an exchange
   pub leaves_filled : (slots id : ℕ) (me me' : M) (x : K) (l more : List (ℕ × E)) → me' ≡ (me.0, (0, Some x) ∷ rest me.1) → me.1 ≡ (0, None) ∷ [] → me.0.noted ≡ Some l → entries x ≡ l ++ more → Own me.0.sight.numbers more → me.0.base ≡ Some (base x)
-      → Allows (Kept entries base) slots id me' 1 (λ n. (n + 1) % 18446744073709551616) (left entries base (step slots 1 1 0 none) me')
+      → Allows (Kept entries base) slots id me' 1 (λ n. (n + 1) % 18446744073709551616) (HasLeft entries base (step slots 1 1 0 none) me')
   leaves_filled slots id me me' x l more is empty notes adds own based =
       let full : me' ≡ (me.0, (0, Some x) ∷ []) = is ∙ ap (λ c. (me.0, (0, Some x) ∷ rest c)) empty in
-      subst (λ (m : M). Allows (Kept entries base) slots id m 1 (λ n. (n + 1) % 18446744073709551616) (left entries base (step slots 1 1 0 none) m)) (sym full) (leaves_at slots id me.0 x l more notes adds own based)
+      subst (λ (m : M). Allows (Kept entries base) slots id m 1 (λ n. (n + 1) % 18446744073709551616) (HasLeft entries base (step slots 1 1 0 none) m)) (sym full) (leaves_at slots id me.0 x l more notes adds own based)

@@ -12,7 +12,7 @@ use Rattle.turnstile.specs.Steps.SeatViews.{times, waits, share}
 use Rattle.turnstile.specs.Steps.TurnstileRule.{total, once_below, Apart, Phase, home, out, InPhase, Knows, Kept}
 use Rattle.turnstile.proofs.Totals.{total_at, total_two, total_le}
 use Rattle.turnstile.proofs.Numbers.{times_in, once_low, once_in}
-use Rattle.turnstile.proofs.Tickets.{counted_le}
+use Rattle.turnstile.proofs.Tickets.{ticket_count_le}
 use mathlib.Core.Option as maybe
 
 -- The seat that holds the slot, by a number that is 0 at home.
@@ -36,7 +36,7 @@ module _ {K E B : Type 0} (entries : K → List (ℕ × E)) (base : K → B) whe
 
   -- there are no more tickets out than passes
   pub few_wait : (s : State (Option K) V) (r : Kept entries base s) → total waits s.views ≤ r.passes
-  few_wait s r = let a = total_le waits share s.views (λ j v at. counted_le v.ticket (length v.sight.numbers) (λ t e. ((r.each_seat j v at).queues t e).0)) in let b = r.dealt in omega arith
+  few_wait s r = let a = total_le waits share s.views (λ j v at. ticket_count_le v.ticket (length v.sight.numbers) (λ t e. ((r.each_seat j v at).queues t e).0)) in let b = r.dealt in omega arith
 
   pub below_of : (s : State (Option K) V) (r : Kept entries base s) (id : ℕ) (v : V) (m : ℕ) → get_elem? s.views id ≡ some v → Contains v.sight.numbers m → m < r.passes
   below_of s r id v m at h = let a = total_at (λ (z : V). times m z.sight.numbers) s.views id v at in let t = times_in m v.sight.numbers h in let b = r.once m in once_in m r.passes (omega arith)

@@ -12,7 +12,7 @@ use Rattle.turnstile.specs.declared.views.View.{View}
 use Rattle.turnstile.specs.PassEntries.{Continues}
 use Rattle.turnstile.specs.Steps.SeatViews.{times, waits, share}
 use Rattle.turnstile.specs.Steps.TurnstileRule.{total, Phase, home, out, Knows, InPhase, Kept}
-use Rattle.turnstile.specs.Steps.SeatSteps.{Opens, served}
+use Rattle.turnstile.specs.Steps.SeatSteps.{IsServed, Opens}
 use Rattle.turnstile.proofs.Totals.{total_set, set_at}
 use Rattle.turnstile.proofs.ViewSteps.{seats, apart_set}
 use Rattle.turnstile.proofs.RuleFacts.{stays, seat_of, reseated}
@@ -64,12 +64,12 @@ module _ {K E B : Type 0} (entries : K → List (ℕ × E)) (base : K → B) whe
       )
 
   -- a load of the word that is served
-  serves_at : (slots id : ℕ) (v : V) → v.noted ≡ None → (tk : Option ℕ) → v.ticket ≡ tk → Allows (Kept entries base) slots id (v, []) 1 (λ n. n) (served entries base (step slots 1 0 0 none) (v, []))
+  serves_at : (slots id : ℕ) (v : V) → v.noted ≡ None → (tk : Option ℕ) → v.ticket ≡ tk → Allows (Kept entries base) slots id (v, []) 1 (λ n. n) (IsServed entries base (step slots 1 0 0 none) (v, []))
   serves_at slots id v rests None is s r wide at small = (v, keeps, tt, stays entries base s 1 id [] v r at, λ t e. absurd (none-some t (sym is ∙ e)))
   serves_at slots id v rests (Some t) is s r wide at small = let n : ℕ = get_or s.words 1 0 in let front : n ≡ r.front = ap (λ l. get_or l 1 0) r.words_are in dite (ℕ_discrete n t)
       (λ hit. let o = opens s r id v at rests (is ∙ ap Some (sym hit ∙ front)) r.phase refl r.in_phase in
       (o.0, takes 0 (Some o.1), o.2, o.3, λ u e. ((λ _. o.4), λ miss. absurd (miss (hit ∙ same_Some t u (sym is ∙ e))))))
       (λ miss. (v, keeps, tt, stays entries base s 1 id [] v r at, λ u e. ((λ hit. absurd (miss (hit ∙ sym (same_Some t u (sym is ∙ e))))), λ _. refl)))
 
-  pub serves : (slots id : ℕ) (me : M) → me.1 ≡ [] → me.0.noted ≡ None → Allows (Kept entries base) slots id me 1 (λ n. n) (served entries base (step slots 1 0 0 none) me)
-  serves slots id me empty rests = subst (λ c. Allows (Kept entries base) slots id (me.0, c) 1 (λ n. n) (served entries base (step slots 1 0 0 none) (me.0, c))) (sym empty) (serves_at slots id me.0 rests me.0.ticket refl)
+  pub serves : (slots id : ℕ) (me : M) → me.1 ≡ [] → me.0.noted ≡ None → Allows (Kept entries base) slots id me 1 (λ n. n) (IsServed entries base (step slots 1 0 0 none) me)
+  serves slots id me empty rests = subst (λ c. Allows (Kept entries base) slots id (me.0, c) 1 (λ n. n) (IsServed entries base (step slots 1 0 0 none) (me.0, c))) (sym empty) (serves_at slots id me.0 rests me.0.ticket refl)

@@ -5,7 +5,7 @@ use Rattle.std.proofs.lemmas.Option.{none-some}
 use Rattle.atomic_table.specs.Table.{Splits}
 use Rattle.atomic_table.proofs.Lists.{at_snoc}
 use Rattle.turnstile.specs.declared.views.View.{View}
-use Rattle.turnstile.specs.Steps.SeatViews.{times, counted, waits, share, without, with_one, numbered}
+use Rattle.turnstile.specs.Steps.SeatViews.{times, ticket_count, waits, share, without_one, with_one, with_numbers}
 use Rattle.turnstile.specs.Steps.TurnstileRule.{total, Knows, Kept}
 use Rattle.turnstile.proofs.Totals.{total_set, total_snoc, none_in}
 use Rattle.turnstile.proofs.Numbers.{part_times, part_length, taken_numbers, dropped_numbers}
@@ -18,16 +18,16 @@ module _ {K E B : Type 0} (entries : K → List (ℕ × E)) (base : K → B) whe
   V = View E B
 
   -- a pass gives up its first number
-  pub splits : (id : ℕ) (v : V) → v.ticket ≡ None → v.noted ≡ None → v.old ≡ [] → 1 < length v.sight.numbers → Splits (Kept entries base) id v (without v) (with_one v)
+  pub splits : (id : ℕ) (v : V) → v.ticket ≡ None → v.noted ≡ None → v.old ≡ [] → 1 < length v.sight.numbers → Splits (Kept entries base) id v (without_one v) (with_one v)
   splits id v free rests calm two s r at =
       let known = r.each_seat id v at in
       let ns : List ℕ = v.sight.numbers in
-      let l : V = without v in
+      let l : V = without_one v in
       let o : V = with_one v in
       let vs : List V = set s.views id l in
-      let q : total waits (vs ++ o ∷ []) ≡ total waits s.views = let a = total_set waits s.views id v l at in let b = total_snoc waits vs o in let z : waits o ≡ 0 = ap counted free in omega arith in
+      let q : total waits (vs ++ o ∷ []) ≡ total waits s.views = let a = total_set waits s.views id v l at in let b = total_snoc waits vs o in let z : waits o ≡ 0 = ap ticket_count free in omega arith in
       let live : 0 < length ns = omega arith in
-      let part : (ms : List ℕ) → ((m : ℕ) → Contains ms m → Contains ns m) → (0 < length ms → 0 < length ns) → (j : ℕ) → Knows entries base r.now r.based r.passes r.front (total waits s.views) r.phase j (numbered v ms) = λ ms sub some_ms j. record {
+      let part : (ms : List ℕ) → ((m : ℕ) → Contains ms m → Contains ns m) → (0 < length ms → 0 < length ns) → (j : ℕ) → Knows entries base r.now r.based r.passes r.front (total waits s.views) r.phase j (with_numbers v ms) = λ ms sub some_ms j. record {
         sees = let c = known.sees in (c.0, c.1, foreign_part ns ms c.0 sub c.2);
         live = λ h. known.live live;
         queues = λ t e. absurd (none-some t (sym free ∙ e));

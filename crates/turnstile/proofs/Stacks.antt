@@ -1,11 +1,11 @@
 -- How one pass is cut into one for each number.
 use Rattle.std.proofs.Common.{◌≡◌, ℕ, zero, suc, ◌+◌, ◌-◌, ◌<◌, List, [], ◌∷◌, ◌++◌, length, ap, ◌∙◌, sym, refl, subst, arith, slice_get, Some, Option}
-use Rattle.turnstile.specs.SeatFields.{known, IsSound}
+use Rattle.turnstile.specs.SeatFields.{pass_with, IsSound}
 use Rattle.turnstile.specs.Passes.{GateId, newcomer}
 use Rattle.std.proofs.lemmas.Option.{none-some, same_Some}
 use Rattle.atomic_table.specs.Table.{Me}
 use Rattle.turnstile.specs.declared.views.View.{View}
-use Rattle.turnstile.specs.Steps.SeatViews.{numbers_from, idle, sight, without, with_one}
+use Rattle.turnstile.specs.Steps.SeatViews.{numbers_from, idle, sight, without_one, with_one}
 use Rattle.turnstile.proofs.Numbers.{length_from}
 
 pub each_snoc : {A : Type 0} (P : ℕ → A → Type 0) (xs : List A) (y : A) → ((k : ℕ) (p : A) → slice_get xs k ≡ Some p → P k p) → P (length xs) y → (k : ℕ) (p : A) → slice_get (xs ++ y ∷ []) k ≡ Some p → P k p
@@ -19,9 +19,9 @@ from_step k n h = let m : ℕ = n - (k + 1) in let e : n - k ≡ suc m = omega a
 
 module _ {K E B : Type 0} where
   pub stack_step : (n k : ℕ) (es : List (ℕ × E)) (b : Option B) (me : Me (Option K) (View E B)) → k < n → me ≡ (idle n b (sight es (numbers_from k (n - k))), [])
-      → (without me.0 ≡ idle n b (sight es (numbers_from (k + 1) (n - (k + 1))))) × (with_one me.0 ≡ idle n b (sight es (numbers_from k 1)))
+      → (without_one me.0 ≡ idle n b (sight es (numbers_from (k + 1) (n - (k + 1))))) × (with_one me.0 ≡ idle n b (sight es (numbers_from k 1)))
   stack_step n k es b me h is = let v : me.0 ≡ idle n b (sight es (k ∷ numbers_from (k + 1) (n - (k + 1)))) = ap (λ m. m.0) is ∙ ap (λ ns. idle n b (sight es ns)) (from_step k n h) in
-      (ap without v, ap with_one v)
+      (ap without_one v, ap with_one v)
 
   pub stack_two : (n k : ℕ) (es : List (ℕ × E)) (b : Option B) (me : Me (Option K) (View E B)) → k + 1 < n → me ≡ (idle n b (sight es (numbers_from k (n - k))), []) → 1 < length me.0.sight.numbers
   stack_two n k es b me h is = let e = ap (λ m. length m.0.sight.numbers) is in let l = length_from k (n - k) in omega arith
@@ -30,5 +30,5 @@ module _ {K E B : Type 0} where
   pub sound_one : (n k : ℕ) (es : List (ℕ × E)) (b : Option B) (me : Me (Option K) (View E B)) → me ≡ (idle n b (sight es (numbers_from k 1)), []) → IsSound me
   sound_one n k es b me is = subst IsSound (sym is) record { live = omega arith; calm = refl; placed = (refl, refl) }
 
-  pub known_one : (t g : GateId) (n k : ℕ) (es : List (ℕ × E)) (b : B) (me : Me (Option K) (View E B)) → t ≡ g → me ≡ (idle n (Some b) (sight es (numbers_from k 1)), []) → known t me ≡ newcomer g n b es k
-  known_one t g n k es b me same is = λ i. known (same i) (is i)
+  pub pass_with_one : (t g : GateId) (n k : ℕ) (es : List (ℕ × E)) (b : B) (me : Me (Option K) (View E B)) → t ≡ g → me ≡ (idle n (Some b) (sight es (numbers_from k 1)), []) → pass_with t me ≡ newcomer g n b es k
+  pass_with_one t g n k es b me same is = λ i. pass_with (same i) (is i)

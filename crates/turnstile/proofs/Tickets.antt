@@ -3,11 +3,11 @@ use Rattle.std.proofs.Common.{◌≡◌, ℕ, zero, suc, ◌+◌, ◌%◌, ◌<�
 use Rattle.std.specs.Prelude.{Option, Some, None}
 use Rattle.std.proofs.Math.Nat.{mod-add-mod, mod-eq_of_lt}
 use Rattle.atomic_table.proofs.Lists.{one_turn}
-use Rattle.turnstile.specs.Steps.SeatViews.{counted}
+use Rattle.turnstile.specs.Steps.SeatViews.{ticket_count}
 
-pub counted_le : (o : Option ℕ) (n : ℕ) → ((t : ℕ) → o ≡ Some t → 0 < n) → counted o ≤ n
-counted_le None n h = omega arith
-counted_le (Some t) n h = let a = h t refl in omega arith
+pub ticket_count_le : (o : Option ℕ) (n : ℕ) → ((t : ℕ) → o ≡ Some t → 0 < n) → ticket_count o ≤ n
+ticket_count_le None n h = omega arith
+ticket_count_le (Some t) n h = let a = h t refl in omega arith
 
 -- Two tickets at different distances differ.
 pub far : (front d e : ℕ) → d < e → e < 18446744073709551616 → (front + d) % 18446744073709551616 ≡ (front + e) % 18446744073709551616 → ⊥

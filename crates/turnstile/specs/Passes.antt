@@ -29,13 +29,13 @@ module _ {E B : Type 0} where
   newcomer g n b es k = record { gate = g; passes = n; base = Some b; numbers = k ∷ []; seen = es; turn = None }
 
   -- The pass that was handed a value with this list.
-  abbrev pub entered : Known E B → List (ℕ × E) → Known E B
-  entered p es = record p { turn = Some es }
+  abbrev pub after_enter : Known E B → List (ℕ × E) → Known E B
+  after_enter p es = record p { turn = Some es }
 
   -- The pass that put back a value with this list.
-  abbrev pub returned : Known E B → List (ℕ × E) → Known E B
-  returned p es = record p { seen = es; turn = None }
+  abbrev pub after_leave : Known E B → List (ℕ × E) → Known E B
+  after_leave p es = record p { seen = es; turn = None }
 
   -- The pass that stands for the numbers of both, and has seen the longer list.
-  abbrev pub joined : Known E B → Known E B → Known E B
-  joined p q = record p { numbers = p.numbers ++ q.numbers; seen = longer p.seen q.seen }
+  abbrev pub after_join : Known E B → Known E B → Known E B
+  after_join p q = record p { numbers = p.numbers ++ q.numbers; seen = longer p.seen q.seen }

@@ -6,8 +6,8 @@ use Rattle.turnstile.specs.Passes.{GateId, Known}
 
 module _ {K E B : Type 0} where
   -- The pass with this seat.
-  abbrev pub known : GateId → Me (Option K) (View E B) → Known E B
-  known g me = record { gate = g; passes = me.0.passes; base = me.0.base; numbers = me.0.sight.numbers; seen = me.0.sight.entries; turn = me.0.noted }
+  abbrev pub pass_with : GateId → Me (Option K) (View E B) → Known E B
+  pass_with g me = record { gate = g; passes = me.0.passes; base = me.0.base; numbers = me.0.sight.numbers; seen = me.0.sight.entries; turn = me.0.noted }
 
 module _ {K E : Type 0} where
   -- Outside it has no ticket and holds no slot; inside it holds the slot, whose value was moved out.

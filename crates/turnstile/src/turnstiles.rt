@@ -4,7 +4,7 @@
 //! turnstile, `outside` that it is in no turn. `enter`, `leave`, `join` and `close` take no memory, and only `enter` waits.
 ghost use Rattle.std.specs.Prelude.{◌≡◌, ℕ, ◌<◌, ◌++◌, length, slice_get, Contains, IfOk, IsSome, IfSome, Some, None};
 ghost use Rattle.turnstile.specs.PassEntries.{Below, Continues, Lengthens};
-ghost use Rattle.turnstile.specs.Passes.{newcomer, entered, returned, joined};
+ghost use Rattle.turnstile.specs.Passes.{newcomer, after_enter, after_leave, after_join};
 
 use crate::chronicles::Chronicle;
 use crate::dealing::{alone, deal};
@@ -88,7 +88,7 @@ impl<K: Chronicle> Turnstile<K> {
     pub fn enter<R: Wait>(&self, wait: &R, pass: &mut Pass<K>) -> Turn<K>
         requires own { pass.old.gate ≡ self.now }
         requires outside { pass.old.turn ≡ None }
-        ensures pass { pass.new ≡ entered pass.old (K.entries result.value) }
+        ensures pass { pass.new ≡ after_enter pass.old (K.entries result.value) }
         ensures base { pass.old.base ≡ Some (K.base result.value) }
         ensures list { Continues pass.old.numbers pass.old.seen (K.entries result.value) }
     {
@@ -115,7 +115,7 @@ impl<K: Chronicle> Turnstile<K> {
         requires inside { IsSome pass.old.turn }
         requires base { pass.old.base ≡ Some (K.base turn.value) }
         requires list { IfSome pass.old.turn (λ given. Lengthens pass.old.numbers given (K.entries turn.value)) }
-        ensures pass { pass.new ≡ returned pass.old (K.entries turn.value) }
+        ensures pass { pass.new ≡ after_leave pass.old (K.entries turn.value) }
     {
         let shared = &self.table.shared;
         let Turn { value } = turn;
@@ -129,7 +129,7 @@ impl<K: Chronicle> Turnstile<K> {
     pub fn join(&self, pass: &mut Pass<K>, other: Pass<K>)
         requires own { (pass.old.gate ≡ self.now) × (other.gate ≡ self.now) }
         requires outside { (pass.old.turn ≡ None) × (other.turn ≡ None) }
-        ensures pass { pass.new ≡ joined pass.old other }
+        ensures pass { pass.new ≡ after_join pass.old other }
         ensures mine { Continues pass.old.numbers pass.old.seen pass.new.seen }
         ensures other { Continues other.numbers other.seen pass.new.seen }
     {

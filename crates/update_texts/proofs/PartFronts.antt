@@ -7,7 +7,7 @@ use Rattle.air_base.specs.Numbers.{number_of}
 use Rattle.air_base.specs.Fronts.{after_digits, after_part, begins, digits_of, ends_part, first_part}
 use Rattle.air_base.proofs.FrontFacts.{front_all}
 use Rattle.air_base.proofs.NumberFronts.{after_byte, after_ends, behind_byte, behind_digits, part_ends, part_with}
-use Rattle.update_texts.specs.Writes.{changed, constant, value_of, write_of}
+use Rattle.update_texts.specs.Writes.{constant, value_of, write_of, write_on_base}
 use Rattle.update_texts.specs.Steps.WriteParts.{sign_of}
 use Rattle.update_texts.proofs.WriteFronts.{value_minus, value_number, value_other, value_no_item, value_plus, write_digits, write_equals, write_other}
 
@@ -18,7 +18,7 @@ digits text = front_all is_ascii_digit text
 unlike : (c s : ℕ) → (c == s) ≡ false → c ≢ s
 unlike c s other same = cc (other, let t : (c == s) ≡ true = grind arith in t)
 
-no_base : (minus : Bool) (item amount : Option ℕ) → changed minus item None amount ≡ None
+no_base : (minus : Bool) (item amount : Option ℕ) → write_on_base minus item None amount ≡ None
 no_base minus None amount = refl
 no_base minus (Some i) amount = refl
 
@@ -39,15 +39,15 @@ module _ (text : List ℕ) where
           ∙ value_other item (digits_of text) c (first_part more) (digits text) (behind_digits text c more e) (unlike c 43 plus) (unlike c 45 minus)
 
   pub value_plus_front : (item : Option ℕ) (more : List ℕ) → after_digits text ≡ 43 ∷ more
-      → value_of item (first_part text) ≡ changed false item (number_of (digits_of text)) (number_of (first_part more))
+      → value_of item (first_part text) ≡ write_on_base false item (number_of (digits_of text)) (number_of (first_part more))
   value_plus_front item more e = ap (value_of item) (part_with text 43 more e refl) ∙ value_plus item (digits_of text) (first_part more) (digits text)
 
   pub value_minus_front : (item : Option ℕ) (more : List ℕ) → after_digits text ≡ 45 ∷ more
-      → value_of item (first_part text) ≡ changed true item (number_of (digits_of text)) (number_of (first_part more))
+      → value_of item (first_part text) ≡ write_on_base true item (number_of (digits_of text)) (number_of (first_part more))
   value_minus_front item more e = ap (value_of item) (part_with text 45 more e refl) ∙ value_minus item (digits_of text) (first_part more) (digits text)
 
   pub value_signed_front : (minus : Bool) (item : Option ℕ) (more : List ℕ) → after_digits text ≡ sign_of minus ∷ more
-      → (value_of item (first_part text) ≡ changed minus item (number_of (digits_of text)) (number_of (first_part more))) × (after_part more ≡ after_part text)
+      → (value_of item (first_part text) ≡ write_on_base minus item (number_of (digits_of text)) (number_of (first_part more))) × (after_part more ≡ after_part text)
   value_signed_front true item more e = (value_minus_front item more e, after_byte text 45 more e refl)
   value_signed_front false item more e = (value_plus_front item more e, after_byte text 43 more e refl)
 

@@ -16,7 +16,7 @@ use Rattle.air_base.specs.Pieces.{cut_at, two_of}
 use Rattle.air_base.proofs.Cuts.{Two, cut_first, cut_none, cut_then, is_not, two_pieces}
 use Rattle.air_base.proofs.FrontFacts.{front_all, front_behind}
 use Rattle.air_base.proofs.NumberFronts.{all_such, digits_then, no_number, spelled_digits}
-use Rattle.update_texts.specs.Writes.{changed, constant, value_of, write_by, write_from, write_of}
+use Rattle.update_texts.specs.Writes.{constant, value_of, write_by, write_from, write_of, write_on_base}
 
 -- Texts that begin with digits and then another byte are alike in their digits, in that byte, and behind it.
 pub same_split : (a b : List ℕ) (x y : ℕ) (q r : List ℕ) → list_all is_ascii_digit a ≡ true → list_all is_ascii_digit b ≡ true
@@ -51,14 +51,14 @@ digit_is_not s other c digit = by (c == s) refl
 digits_are_not : (s : ℕ) → is_ascii_digit s ≡ false → (a : List ℕ) → list_all is_ascii_digit a ≡ true → list_all (is_not s) a ≡ true
 digits_are_not s other a digits = all_such is_ascii_digit (is_not s) (digit_is_not s other) a digits
 
-changed_none : (minus : Bool) (item base : Option ℕ) → changed minus item base None ≡ None
-changed_none minus None base = refl
-changed_none minus (Some i) None = refl
-changed_none minus (Some i) (Some b) = refl
+on_base_none : (minus : Bool) (item base : Option ℕ) → write_on_base minus item base None ≡ None
+on_base_none minus None base = refl
+on_base_none minus (Some i) None = refl
+on_base_none minus (Some i) (Some b) = refl
 
-changed_no_base : (minus : Bool) (item amount : Option ℕ) → changed minus item None amount ≡ None
-changed_no_base minus None amount = refl
-changed_no_base minus (Some i) amount = refl
+on_base_no_base : (minus : Bool) (item amount : Option ℕ) → write_on_base minus item None amount ≡ None
+on_base_no_base minus None amount = refl
+on_base_no_base minus (Some i) amount = refl
 
 constant_none : (item : Option ℕ) → constant item None ≡ None
 constant_none None = refl
@@ -66,7 +66,7 @@ constant_none (Some i) = refl
 
 -- A value has no write where no way to cut it gives one.
 abbrev Never : ℕ → Bool → Option ℕ → List ℕ → Type 0
-Never s minus item v = (p q : List ℕ) → v ≡ p ++ s ∷ q → changed minus item (number_of p) (number_of q) ≡ None
+Never s minus item v = (p q : List ℕ) → v ≡ p ++ s ∷ q → write_on_base minus item (number_of p) (number_of q) ≡ None
 
 value_none : (item : Option ℕ) (v : List ℕ) → Never 43 false item v → Never 45 true item v → number_of v ≡ None → value_of item v ≡ None
 unfolding value_of
@@ -82,16 +82,16 @@ module _ (item : Option ℕ) (a : List ℕ) (x : ℕ) (c : List ℕ) (digits : l
   never_else : (s : ℕ) (minus : Bool) → is_ascii_digit s ≡ false → x ≢ s → Never s minus item (a ++ x ∷ c)
   never_else s minus sign differs p q e = by (number_of p) refl
     where
-      by : (n : Option ℕ) → number_of p ≡ n → changed minus item n (number_of q) ≡ None
-      by None h = changed_no_base minus item (number_of q)
+      by : (n : Option ℕ) → number_of p ≡ n → write_on_base minus item n (number_of q) ≡ None
+      by None h = on_base_no_base minus item (number_of q)
       by (Some n) h = absurd (differs (same_split a p x s c q digits (spelled_digits p n h) other sign e).1)
 
   never_here : (s : ℕ) (minus : Bool) → is_ascii_digit s ≡ false → number_of c ≡ None → Never s minus item (a ++ x ∷ c)
   never_here s minus sign none p q e = by (number_of p) refl
     where
-      by : (n : Option ℕ) → number_of p ≡ n → changed minus item n (number_of q) ≡ None
-      by None h = changed_no_base minus item (number_of q)
-      by (Some n) h = let same = same_split a p x s c q digits (spelled_digits p n h) other sign e in rw (← same.2, none) (changed_none minus item (Some n))
+      by : (n : Option ℕ) → number_of p ≡ n → write_on_base minus item n (number_of q) ≡ None
+      by None h = on_base_no_base minus item (number_of q)
+      by (Some n) h = let same = same_split a p x s c q digits (spelled_digits p n h) other sign e in rw (← same.2, none) (on_base_none minus item (Some n))
 
   whole_none : number_of (a ++ x ∷ c) ≡ None
   whole_none = no_number (a ++ x ∷ c) (digits_then a x c other)
@@ -102,23 +102,23 @@ module _ (item : Option ℕ) (a : List ℕ) (x : ℕ) (c : List ℕ) (digits : l
   value_bad : number_of c ≡ None → value_of item (a ++ x ∷ c) ≡ None
   value_bad none = value_none item (a ++ x ∷ c) (never_here 43 false refl none) (never_here 45 true refl none) whole_none
 
-pub value_plus : (item : Option ℕ) (a c : List ℕ) → list_all is_ascii_digit a ≡ true → value_of item (a ++ 43 ∷ c) ≡ changed false item (number_of a) (number_of c)
+pub value_plus : (item : Option ℕ) (a c : List ℕ) → list_all is_ascii_digit a ≡ true → value_of item (a ++ 43 ∷ c) ≡ write_on_base false item (number_of a) (number_of c)
 unfolding value_of
 value_plus item a c digits = by (number_of c) refl
   where
-    by : (n : Option ℕ) → number_of c ≡ n → value_of item (a ++ 43 ∷ c) ≡ changed false item (number_of a) (number_of c)
-    by None h = value_bad item a 43 c digits refl h ∙ rw h (sym (changed_none false item (number_of a)))
+    by : (n : Option ℕ) → number_of c ≡ n → value_of item (a ++ 43 ∷ c) ≡ write_on_base false item (number_of a) (number_of c)
+    by None h = value_bad item a 43 c digits refl h ∙ rw h (sym (on_base_none false item (number_of a)))
     by (Some n) h = rw (cut_then 43 a c (digits_are_not 43 refl a digits), cut_none 43 c (digits_are_not 43 refl c (spelled_digits c n h))) refl
 
-pub value_minus : (item : Option ℕ) (a c : List ℕ) → list_all is_ascii_digit a ≡ true → value_of item (a ++ 45 ∷ c) ≡ changed true item (number_of a) (number_of c)
+pub value_minus : (item : Option ℕ) (a c : List ℕ) → list_all is_ascii_digit a ≡ true → value_of item (a ++ 45 ∷ c) ≡ write_on_base true item (number_of a) (number_of c)
 unfolding value_of
 value_minus item a c digits = by (number_of c) refl
   where
     no_plus : list_all is_ascii_digit c ≡ true → list_all (is_not 43) (a ++ 45 ∷ c) ≡ true
     no_plus more = list_all-append (is_not 43) a (45 ∷ c) ∙ rw (digits_are_not 43 refl a digits, digits_are_not 43 refl c more) refl
 
-    by : (n : Option ℕ) → number_of c ≡ n → value_of item (a ++ 45 ∷ c) ≡ changed true item (number_of a) (number_of c)
-    by None h = value_bad item a 45 c digits refl h ∙ rw h (sym (changed_none true item (number_of a)))
+    by : (n : Option ℕ) → number_of c ≡ n → value_of item (a ++ 45 ∷ c) ≡ write_on_base true item (number_of a) (number_of c)
+    by None h = value_bad item a 45 c digits refl h ∙ rw h (sym (on_base_none true item (number_of a)))
     by (Some n) h =
         let more = spelled_digits c n h in
         rw (cut_none 43 (a ++ 45 ∷ c) (no_plus more), cut_then 45 a c (digits_are_not 45 refl a digits), cut_none 45 c (digits_are_not 45 refl c more)) refl
@@ -138,9 +138,9 @@ value_again item v again = value_none item v (never 43 false refl refl) (never 4
     never : (s : ℕ) (minus : Bool) → is_ascii_digit s ≡ false → is_not 61 s ≡ true → Never s minus item v
     never s minus sign differs p q e = by (number_of p) (number_of q) refl refl
       where
-        by : (m n : Option ℕ) → number_of p ≡ m → number_of q ≡ n → changed minus item m n ≡ None
-        by None n f g = changed_no_base minus item n
-        by (Some m) None f g = changed_none minus item (Some m)
+        by : (m n : Option ℕ) → number_of p ≡ m → number_of q ≡ n → write_on_base minus item m n ≡ None
+        by None n f g = on_base_no_base minus item n
+        by (Some m) None f g = on_base_none minus item (Some m)
         by (Some m) (Some n) f g =
             let all : list_all (is_not 61) v ≡ true = ap (list_all (is_not 61)) e ∙ list_all-append (is_not 61) p (s ∷ q)
             ∙ rw (digits_are_not 61 refl p (spelled_digits p m f), digits_are_not 61 refl q (spelled_digits q n g), differs) refl in

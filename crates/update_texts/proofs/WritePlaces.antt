@@ -9,7 +9,7 @@ use Rattle.air_base.proofs.PlainNumbers.{byte_then, number_then}
 use Rattle.air_history.specs.declared.updates.Write.{Write}
 use Rattle.update_texts.specs.declared.write_fronts.WritePart.{WritePart}
 use Rattle.update_texts.specs.Steps.WriteParts.{sign_of, write_said}
-use Rattle.update_texts.specs.Writes.{changed, value_of, write_of}
+use Rattle.update_texts.specs.Writes.{value_of, write_of, write_on_base}
 use Rattle.update_texts.proofs.PartFronts.{value_signed_front, write_value_front}
 
 sign_other : (minus : Bool) → is_ascii_digit (sign_of minus) ≡ false
@@ -29,7 +29,7 @@ module _ (whole : List ℕ) (place behind len n : ℕ) (there : behind ≡ place
       let rest = drop (behind + 1) whole in
       let other = sign_other minus in
       let is = value_signed_front text minus (Some item) rest (byte_then whole place behind len n there read inside some alone (sign_of minus) more sign other) in (
-        front_moved (value_of (Some item)) (λ part. changed minus (Some item) (Some n) (number_of part)) text rest (Some (record { item = item; base = Some n; minus = minus; amount = f.0 }, drop f.1 whole))
+        front_moved (value_of (Some item)) (λ part. write_on_base minus (Some item) (Some n) (number_of part)) text rest (Some (record { item = item; base = Some n; minus = minus; amount = f.0 }, drop f.1 whole))
             (is.0 ∙ rw (number_then whole place behind len n there read inside some alone (ap is_ascii_digit sign ∙ other)) refl) is.1 (rw plain.0.0 refl, plain.0.1),
         plain.1,
       )

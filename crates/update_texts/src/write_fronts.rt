@@ -5,7 +5,7 @@
 ghost use Rattle.std.specs.Prelude.{◌≡◌, ◌∷◌, option_map, MatchOption, Some, None, false};
 ghost use Rattle.air_base.specs.Numbers.{number_of};
 ghost use Rattle.air_base.specs.Fronts.{FrontIs, begins};
-ghost use Rattle.update_texts.specs.Writes.{changed, value_of, write_of};
+ghost use Rattle.update_texts.specs.Writes.{value_of, write_of, write_on_base};
 ghost use Rattle.update_texts.specs.Steps.WriteParts.{sign_of, write_said};
 
 use crate::plain_writes::{PLAIN_BYTES, last_write};
@@ -23,7 +23,7 @@ pub struct WritePart {
 /// The write of an item and a base, by the text behind the sign.
 #[inline(always)]
 fn changed_front(item: u64, base: u64, minus: bool, text: &[u8]) -> Option<(WritePart, &[u8])>
-    ensures { FrontIs (λ part. changed minus (Some item) (Some base) (number_of part)) text.now (option_map (λ f. (write_said f.0, f.1.now)) result) }
+    ensures { FrontIs (λ part. write_on_base minus (Some item) (Some base) (number_of part)) text.now (option_map (λ f. (write_said f.0, f.1.now)) result) }
 {
     match number_front(text) {
         Some((amount, rest)) => Some((

@@ -12,7 +12,7 @@ ghost use Rattle.air_history.specs.Clashes.{read_at, clash_by_history, clash_by_
 ghost use Rattle.air_history.specs.ClashLaws.{IsHeard};
 ghost use Rattle.air_history.specs.Columns.{scheme_of};
 ghost use Rattle.air_history.specs.HeldReads.{IsNew};
-ghost use Rattle.held_entries.specs.HeardReads.{heard};
+ghost use Rattle.held_entries.specs.HeardReads.{heard_read};
 ghost use Rattle.held_entries.specs.HeldCycles.{cycles_of};
 
 use air_base::{Clash, NoMemory};
@@ -69,16 +69,16 @@ impl DataHeld {
 
     /// The held read of least item number that clashes with the new one.
     pub fn clashes(&self, item: u16, cycle: u32, vector: &[u32]) -> Option<Clash>
-        requires { IsNew self.now (heard item cycle vector.now) }
+        requires { IsNew self.now (heard_read item cycle vector.now) }
 
         // By the entries, for every order of reads.
-        ensures entries { result ≡ clash_by_entries Datacycle self.now.reads (heard item cycle vector.now) }
+        ensures entries { result ≡ clash_by_entries Datacycle self.now.reads (heard_read item cycle vector.now) }
 
         // By each history that has these vectors at their cycles.
-        ensures history { let x = heard item cycle vector.now in (H : List Event) →
+        ensures history { let x = heard_read item cycle vector.now in (H : List Event) →
             All (IsHeard (scheme_of Datacycle) self.now.n H) self.now.reads → IsHeard (scheme_of Datacycle) self.now.n H x →
             result ≡ clash_by_history Datacycle H (map read_at self.now.reads) (read_at x) }
-        ensures current { let x = heard item cycle vector.now in (H : List Event) →
+        ensures current { let x = heard_read item cycle vector.now in (H : List Event) →
             All (IsHeard (scheme_of Datacycle) self.now.n H) self.now.reads → IsHeard (scheme_of Datacycle) self.now.n H x →
             IsCurrent H (map read_at self.now.reads) →
             (result ≡ None) ↔ IsCurrent H (map read_at self.now.reads ++ read_at x ∷ []) }
@@ -89,8 +89,8 @@ impl DataHeld {
     /// The held read of least item number that the entries name.
     #[tactic(auto, using(crate::proofs::PolicyLemmas::named_at_newest, crate::proofs::PolicyLemmas::none_at_newest, crate::proofs::PolicyLemmas::named_of_newest))]
     fn clash_by_vectors(&self, item: u16, cycle: u32, vector: &[u32]) -> Option<Clash>
-        requires { IsNew self.now (heard item cycle vector.now) }
-        ensures { result ≡ clash_by_entries Datacycle self.now.reads (heard item cycle vector.now) }
+        requires { IsNew self.now (heard_read item cycle vector.now) }
+        ensures { result ≡ clash_by_entries Datacycle self.now.reads (heard_read item cycle vector.now) }
     {
         let newest = self.held.newest();
         if cycle >= newest {
@@ -105,9 +105,9 @@ impl DataHeld {
     /// Holds the new read too, after those before it, where `clashes` answered none for it; `len` tells whether there is room.
     pub fn hold(&mut self, item: u16, cycle: u32, vector: &[u32])
         requires room { length self.old.reads < ROOM }
-        requires new { IsNew self.old (heard item cycle vector.now) }
-        requires clear { clash_by_entries Datacycle self.old.reads (heard item cycle vector.now) ≡ None }
-        ensures { self.new ≡ record self.old { reads = self.old.reads ++ heard item cycle vector.now ∷ [] } }
+        requires new { IsNew self.old (heard_read item cycle vector.now) }
+        requires clear { clash_by_entries Datacycle self.old.reads (heard_read item cycle vector.now) ≡ None }
+        ensures { self.new ≡ record self.old { reads = self.old.reads ++ heard_read item cycle vector.now ∷ [] } }
     {
         self.held.hold(item, cycle, vector);
     }

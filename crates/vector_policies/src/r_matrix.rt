@@ -12,7 +12,7 @@ ghost use Rattle.air_history.specs.Clashes.{read_at, clash_by_history, clash_by_
 ghost use Rattle.air_history.specs.ClashLaws.{IsHeard};
 ghost use Rattle.air_history.specs.Columns.{scheme_of};
 ghost use Rattle.air_history.specs.HeldReads.{IsNew, ComesInOrder};
-ghost use Rattle.held_entries.specs.HeardReads.{heard};
+ghost use Rattle.held_entries.specs.HeardReads.{heard_read};
 ghost use Rattle.held_entries.specs.HeldCycles.{cycles_of};
 
 use air_base::{Clash, NoMemory};
@@ -75,17 +75,17 @@ impl RHeld {
 
     /// The held read of least item number that clashes with the new one.
     pub fn clashes(&self, item: u16, cycle: u32, vector: &[u32]) -> Option<Clash>
-        requires new { IsNew self.now (heard item cycle vector.now) }
-        requires order { ComesInOrder self.now (heard item cycle vector.now) }
+        requires new { IsNew self.now (heard_read item cycle vector.now) }
+        requires order { ComesInOrder self.now (heard_read item cycle vector.now) }
 
         // By the entries, for every order of reads that is allowed.
-        ensures entries { result ≡ clash_by_entries RMatrix self.now.reads (heard item cycle vector.now) }
+        ensures entries { result ≡ clash_by_entries RMatrix self.now.reads (heard_read item cycle vector.now) }
 
         // By each history that has these vectors at their cycles.
-        ensures history { let x = heard item cycle vector.now in (H : List Event) →
+        ensures history { let x = heard_read item cycle vector.now in (H : List Event) →
             All (IsHeard (scheme_of RMatrix) self.now.n H) self.now.reads → IsHeard (scheme_of RMatrix) self.now.n H x →
             result ≡ clash_by_history RMatrix H (map read_at self.now.reads) (read_at x) }
-        ensures takes { let x = heard item cycle vector.now in (H : List Event) →
+        ensures takes { let x = heard_read item cycle vector.now in (H : List Event) →
             All (IsHeard (scheme_of RMatrix) self.now.n H) self.now.reads → IsHeard (scheme_of RMatrix) self.now.n H x →
             (result ≡ None) ↔ Takes H (map read_at self.now.reads) (read_at x) }
     {
@@ -96,8 +96,8 @@ impl RHeld {
     /// The held read of least item number that the entries name.
     #[tactic(auto, using(crate::proofs::PolicyLemmas::none_below_first, crate::proofs::PolicyLemmas::named_from_first))]
     fn clash_by_vectors(&self, item: u16, cycle: u32, vector: &[u32]) -> Option<Clash>
-        requires { IsNew self.now (heard item cycle vector.now) }
-        ensures { result ≡ clash_by_entries RMatrix self.now.reads (heard item cycle vector.now) }
+        requires { IsNew self.now (heard_read item cycle vector.now) }
+        ensures { result ≡ clash_by_entries RMatrix self.now.reads (heard_read item cycle vector.now) }
     {
         if vector[item as usize] < self.held.first() {
             return None;
@@ -108,10 +108,10 @@ impl RHeld {
     /// Holds the new read too, after those before it, where `clashes` answered none for it; `len` tells whether there is room.
     pub fn hold(&mut self, item: u16, cycle: u32, vector: &[u32])
         requires room { length self.old.reads < ROOM }
-        requires new { IsNew self.old (heard item cycle vector.now) }
-        requires order { ComesInOrder self.old (heard item cycle vector.now) }
-        requires clear { clash_by_entries RMatrix self.old.reads (heard item cycle vector.now) ≡ None }
-        ensures { self.new ≡ record self.old { reads = self.old.reads ++ heard item cycle vector.now ∷ [] } }
+        requires new { IsNew self.old (heard_read item cycle vector.now) }
+        requires order { ComesInOrder self.old (heard_read item cycle vector.now) }
+        requires clear { clash_by_entries RMatrix self.old.reads (heard_read item cycle vector.now) ≡ None }
+        ensures { self.new ≡ record self.old { reads = self.old.reads ++ heard_read item cycle vector.now ∷ [] } }
     {
         self.held.hold(item, cycle, vector);
     }

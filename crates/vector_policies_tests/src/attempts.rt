@@ -6,7 +6,7 @@ ghost use Rattle.std.specs.Prelude.{◌↔◌, ◌≢◌, ◌<◌, ◌≤◌, ma
 ghost use Rattle.air_history.specs.HeldReads.{IsNew};
 ghost use Rattle.air_history.specs.Clashes.{read_at};
 ghost use Rattle.air_history.specs.Reads.{last_cycle};
-ghost use Rattle.held_entries.specs.HeardReads.{heard};
+ghost use Rattle.held_entries.specs.HeardReads.{heard_read};
 
 use air_base::{Clash, NoMemory};
 use std::alloc::Global;
@@ -92,7 +92,7 @@ impl DataAttempt {
     /// Whether the read is a new one.
     #[tactic(auto, using(crate::proofs::HeldItems::free_of))]
     fn is_new(&self, item: u16, cycle: u32, vector: &[u32]) -> bool
-        ensures { IsTrue result → IsNew self.now (heard item cycle vector.now) }
+        ensures { IsTrue result → IsNew self.now (heard_read item cycle vector.now) }
     {
         item < self.n
             && vector.len() == self.n as usize
@@ -177,7 +177,7 @@ impl RAttempt {
     /// Whether the read is a new one.
     #[tactic(auto, using(crate::proofs::HeldItems::free_of))]
     fn is_new(&self, item: u16, cycle: u32, vector: &[u32]) -> bool
-        ensures { IsTrue result → IsNew self.now (heard item cycle vector.now) }
+        ensures { IsTrue result → IsNew self.now (heard_read item cycle vector.now) }
     {
         item < self.n
             && vector.len() == self.n as usize

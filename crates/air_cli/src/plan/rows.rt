@@ -12,7 +12,7 @@ ghost use Rattle.air_model.specs.Programs.{minor_cycle, minor_len, num_minors};
 ghost use Rattle.air_model.specs.PlanTexts.{disk_row, item_row, minor_row, program_row, slot_text};
 ghost use Rattle.air_model.specs.Outputs.{plan_output};
 ghost use Rattle.air_model.specs.Rows.{row_writer, rows_text};
-ghost use Rattle.air_rows.specs.RowWriters.{IsReady, written};
+ghost use Rattle.air_rows.specs.RowWriters.{IsReady, written_text};
 
 use air_base::{NoMemory, write_u64};
 use air_model::program::slots_law;
@@ -47,7 +47,7 @@ fn put_program(alloc: Global, wtr: &mut Writer<Vec<u8>>, program: &Program) -> R
     requires { IsReady wtr.old }
     ensures ready { OnOk result (IsReady wtr.new) }
     ensures text { OnOk result
-        (written wtr.new ≡ written wtr.old ++ row_text row_writer (program_row program.now)) }
+        (written_text wtr.new ≡ written_text wtr.old ++ row_text row_writer (program_row program.now)) }
 {
     let ns = [
         u64::from(program.slots()),
@@ -68,8 +68,8 @@ fn put_disks(
     requires ready { IsReady wtr.old }
     requires planned { program.now ≡ disks_in deck.now }
     ensures ready { OnOk result (IsReady wtr.new) }
-    ensures text { OnOk result (written wtr.new
-        ≡ written wtr.old ++ rows_text (map (disk_row (num_minors program.now)) (enumerate_from 0 program.now))) }
+    ensures text { OnOk result (written_text wtr.new
+        ≡ written_text wtr.old ++ rows_text (map (disk_row (num_minors program.now)) (enumerate_from 0 program.now))) }
 {
     for d in 0..deck.disks() {
         put_disk(alloc, wtr, deck, program, d)?;
@@ -90,7 +90,7 @@ fn put_disk(
     requires disk { d < length deck.now.disks }
     ensures ready { OnOk result (IsReady wtr.new) }
     ensures text { OnOk result (IfSome (slice_get program.now d) (λ disk.
-        written wtr.new ≡ written wtr.old ++ row_text row_writer (disk_row (num_minors program.now) (d, disk)))) }
+        written_text wtr.new ≡ written_text wtr.old ++ row_text row_writer (disk_row (num_minors program.now) (d, disk)))) }
 {
     let ns = [
         u64::from(d),
@@ -106,8 +106,8 @@ fn put_disk(
 fn put_minors(alloc: Global, wtr: &mut Writer<Vec<u8>>, program: &Program) -> Result<(), NoMemory>
     requires { IsReady wtr.old }
     ensures ready { OnOk result (IsReady wtr.new) }
-    ensures text { OnOk result (written wtr.new
-        ≡ written wtr.old ++ rows_text (map (minor_row program.now) (range_with_len 0 (num_minors program.now)))) }
+    ensures text { OnOk result (written_text wtr.new
+        ≡ written_text wtr.old ++ rows_text (map (minor_row program.now) (range_with_len 0 (num_minors program.now)))) }
 {
     for k in 0..program.minors() {
         put_minor(alloc, wtr, program, k)?;
@@ -126,7 +126,7 @@ fn put_minor(
     requires minor { k < num_minors program.now }
     ensures ready { OnOk result (IsReady wtr.new) }
     ensures text { OnOk result
-        (written wtr.new ≡ written wtr.old ++ row_text row_writer (minor_row program.now k)) }
+        (written_text wtr.new ≡ written_text wtr.old ++ row_text row_writer (minor_row program.now k)) }
 {
     let mut number = Vec::new(alloc);
     write_u64(u64::from(k), &mut number)?;
@@ -188,8 +188,8 @@ fn put_items(
     requires cut { cut.now ≡ disks_in deck.now }
     requires planned { program.now ≡ disks_in deck.now }
     ensures ready { OnOk result (IsReady wtr.new) }
-    ensures text { OnOk result (written wtr.new
-        ≡ written wtr.old ++ rows_text (map (item_row program.now) (enumerate_from 0 (rates_in deck.now)))) }
+    ensures text { OnOk result (written_text wtr.new
+        ≡ written_text wtr.old ++ rows_text (map (item_row program.now) (enumerate_from 0 (rates_in deck.now)))) }
 {
     for i in 0..deck.items() {
         put_item(alloc, wtr, deck, cut, program, i)?;
@@ -212,7 +212,7 @@ fn put_item(
     requires item { i < length deck.now.items }
     ensures ready { OnOk result (IsReady wtr.new) }
     ensures text { OnOk result (IfSome (slice_get deck.now.items i) (λ item.
-        written wtr.new ≡ written wtr.old ++ row_text row_writer (item_row program.now (i, item.rate)))) }
+        written_text wtr.new ≡ written_text wtr.old ++ row_text row_writer (item_row program.now (i, item.rate)))) }
 {
     deck.well_made();
     let _slots = program.slots();

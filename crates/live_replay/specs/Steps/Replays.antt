@@ -15,14 +15,14 @@ pub record Replayed : Type 0 where
   pub history : List Event
 
 -- The deck, and the history of the events.
-abbrev pub replayed : Inside → Replayed
-replayed r = record { deck = r.deck.now; history = r.events.now }
+abbrev pub replay_of : Inside → Replayed
+replay_of r = record { deck = r.deck.now; history = r.events.now }
 
 -- What each commit reads from is kept, and the writes of each item.
 pub record IsReplay (r : Inside) : Type 0 where
-  pub sources : r.sources.items ≡ sources_to (replayed r).history (length (replayed r).history)
+  pub sources : r.sources.items ≡ sources_to (replay_of r).history (length (replay_of r).history)
   pub sized : length r.writes.items ≡ length (values_in r.deck.now)
-  pub writes : (i : ℕ) → i < length (values_in r.deck.now) → get_or r.writes.items i [] ≡ writes_from (values_in r.deck.now) (replayed r).history i 0 (length (replayed r).history)
+  pub writes : (i : ℕ) → i < length (values_in r.deck.now) → get_or r.writes.items i [] ≡ writes_from (values_in r.deck.now) (replay_of r).history i 0 (length (replay_of r).history)
 
 -- What the last write of an item before a cycle tells of a read, or that there is none.
 abbrev pub TellsRead : List ℕ → List Event → ℕ → ℕ → Option ItemWrite → Type 0

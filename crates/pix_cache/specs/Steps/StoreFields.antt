@@ -5,7 +5,7 @@ use Rattle.air_base.specs.declared.limits.TheConstants.{MOST_ROOM}
 use Rattle.pix_cache.specs.declared.store.Slot.{Slot}
 use Rattle.pix_cache.specs.declared.store.TheConstants.{ITEM_NUMBERS}
 use Rattle.pix_cache.specs.declared.store.Store.TheInside.{Inside}
-use Rattle.pix_cache.specs.Stores.{Store, Stored, stored}
+use Rattle.pix_cache.specs.Stores.{Store, Stored, stored_copy}
 
 -- What is read where there is no room.
 abbrev pub no_slot : Slot
@@ -17,7 +17,7 @@ column_of n entries slot = take n (drop (slot * n) entries)
 
 -- What a room holds.
 abbrev pub stored_in : ℕ → List Slot → List ℕ → ℕ → Stored
-stored_in n slots entries slot = stored (get_or slots slot no_slot).cycle (get_or slots slot no_slot).value (column_of n entries slot)
+stored_in n slots entries slot = stored_copy (get_or slots slot no_slot).cycle (get_or slots slot no_slot).value (column_of n entries slot)
 
 -- What each room holds.
 abbrev pub stored_of : ℕ → List Slot → List ℕ → List Stored

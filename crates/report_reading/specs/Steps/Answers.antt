@@ -23,12 +23,12 @@ with_line r (Glance line) = record r { glances = r.glances ++ line ∷ [] }
 with_line r (Look line) = record r { looks = r.looks ++ line ∷ [] }
 
 -- The least kind that applies to what a record spells.
-abbrev pub judged : Deck → ReportLines → Result Line FaultKind → Option FaultKind
-judged deck before spelled = least_kind (tests_of deck before) spelled
+abbrev pub record_kind : Deck → ReportLines → Result Line FaultKind → Option FaultKind
+record_kind deck before spelled = least_kind (tests_of deck before) spelled
 
 -- A call adds what a record spells, where no kind applies; else it tells the least. What it leaves then is not told.
 abbrev pub Adds : {A : Type 0} → Result A (Refusal FaultKind) → Deck → Result Line FaultKind → ReportLines → ReportLines → Type 0
-Adds result deck spelled old new = Answers result (judged deck old spelled) (λ _. new ≡ with_spelled with_line old spelled)
+Adds result deck spelled old new = Answers result (record_kind deck old spelled) (λ _. new ≡ with_spelled with_line old spelled)
 
 -- Memory ran out, or this holds.
 abbrev pub Pushed : {A : Type 0} → Result A (Refusal FaultKind) → Type 0 → Type 0

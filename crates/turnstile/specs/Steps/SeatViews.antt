@@ -15,9 +15,9 @@ numbers_from k zero = []
 numbers_from k (suc n) = k ∷ numbers_from (suc k) n
 
 -- 1 where there is a ticket, else 0.
-abbrev pub counted : Option ℕ → ℕ
-counted None = 0
-counted (Some t) = 1
+abbrev pub ticket_count : Option ℕ → ℕ
+ticket_count None = 0
+ticket_count (Some t) = 1
 
 -- The entries that are seen, beside the numbers that the pass stands for.
 abbrev pub sight : {E : Type 0} → List (ℕ × E) → List ℕ → Sight E
@@ -26,7 +26,7 @@ sight es ns = record { entries = es; numbers = ns }
 module _ {E B : Type 0} where
   -- 1 where the pass has a ticket, else 0.
   abbrev pub waits : View E B → ℕ
-  waits v = counted v.ticket
+  waits v = ticket_count v.ticket
 
   -- How many numbers it stands for.
   abbrev pub share : View E B → ℕ
@@ -41,24 +41,24 @@ module _ {E B : Type 0} where
   first es b n = idle n (Some b) (sight es (numbers_from 0 n))
 
   -- The value was given back, and its list was seen.
-  abbrev pub gone : View E B → List (ℕ × E) → View E B
-  gone v es = record v { ticket = None; noted = None; sight = sight es v.sight.numbers }
+  abbrev pub give_back : View E B → List (ℕ × E) → View E B
+  give_back v es = record v { ticket = None; noted = None; sight = sight es v.sight.numbers }
 
   -- The view with these numbers in place of its own.
-  abbrev pub numbered : View E B → List ℕ → View E B
-  numbered v ns = record v { sight = sight v.sight.entries ns }
+  abbrev pub with_numbers : View E B → List ℕ → View E B
+  with_numbers v ns = record v { sight = sight v.sight.entries ns }
 
   -- Without its first number, and with that alone.
-  abbrev pub without : View E B → View E B
-  without v = numbered v (drop 1 v.sight.numbers)
+  abbrev pub without_one : View E B → View E B
+  without_one v = with_numbers v (drop 1 v.sight.numbers)
 
   abbrev pub with_one : View E B → View E B
-  with_one v = numbered v (take 1 v.sight.numbers)
+  with_one v = with_numbers v (take 1 v.sight.numbers)
 
   -- With the numbers and the longer list of both; it keeps both lists, each with its numbers, until the next load.
-  abbrev pub united : View E B → View E B → View E B
-  united v w = record v { sight = sight (longer v.sight.entries w.sight.entries) (v.sight.numbers ++ w.sight.numbers); old = v.sight ∷ w.sight ∷ [] }
+  abbrev pub union_of : View E B → View E B → View E B
+  union_of v w = record v { sight = sight (longer v.sight.entries w.sight.entries) (v.sight.numbers ++ w.sight.numbers); old = v.sight ∷ w.sight ∷ [] }
 
   -- What is left of a pass that another took in.
-  abbrev pub spent : View E B
-  spent = idle 0 None (sight [] [])
+  abbrev pub spent_view : View E B
+  spent_view = idle 0 None (sight [] [])

@@ -3,9 +3,9 @@ use Rattle.std.proofs.lemmas.Bool.Decides.{nat_tests}
 use Rattle.std.proofs.lemmas.List.{nil_from_length}
 use Rattle.air_base.specs.Numbers.{number_of}
 use Rattle.air_base.specs.NumberLists.{list_of}
-use Rattle.air_base.specs.ReadParts.{spelled}
+use Rattle.air_base.specs.ReadParts.{part_values}
 use Rattle.air_base.proofs.BadParts.{bad_here, bad_more, bad_start}
-use Rattle.air_base.proofs.ListFronts.{after_short, joined_none, list_empty, list_last, list_more, list_spelled}
+use Rattle.air_base.proofs.ListFronts.{after_short, prepend_none, list_empty, list_last, list_more, list_spelled}
 use Rattle.air_base.proofs.number_lists.read_list.Goals as goal
 
 pub returns-then-is_empty-clause-numbers : goal.returns-then-is_empty-clause-numbers
@@ -16,7 +16,7 @@ returns-then-is_empty-clause-numbers c =
 pub loop-number-init : goal.loop-number-init
 loop-number-init c =
     let some : 0 < length c.args.text.now = grind (arith, nat_tests) in (
-      rw c.new-numbers.ensures.items (joined_none (spelled number_of c.args.text.now) ∙ sym (list_spelled number_of c.args.text.now some)),
+      rw c.new-numbers.ensures.items (prepend_none (part_values number_of c.args.text.now) ∙ sym (list_spelled number_of c.args.text.now some)),
       bad_start number_of c.args.text.now some,
     )
 

@@ -2,7 +2,7 @@ use Rattle.std.proofs.Common.{rules, ◌≡◌, ◌<◌, ◌^◌, ◌∙◌, All
 use Rattle.std.specs.List.{range_with_len}
 use Rattle.air_model.specs.Buckets.{bucket_in}
 use Rattle.air_model.specs.Reports.{counts_lines, verdict_lines}
-use Rattle.listeners.specs.Listeners.{AreNumbered, ended}
+use Rattle.listeners.specs.Listeners.{AreNumbered, end_state}
 use Rattle.listeners.proofs.ReaderLemmas.{HasRoom, are_numbered, heard_whole, room_at_first, sessions_are}
 use Rattle.air_casts.specs.Hearings.{IsHearAnswer, IsHeard, TakesUpTo}
 use Rattle.air_casts.specs.declared.hearings.HearFault.TheVariants as fault
@@ -57,6 +57,6 @@ returns-clause-sessions g c =
     record {
       heard = h.heard;
       is = subst (λ n. IsHeard n old last h.heard) hears (subst (λ o. IsHeard c.settings.result.hears o last h.heard) c.tune_in.ensures.kept h.is);
-      verdicts_are = c.in_ok-sessions.ensures.verdicts ∙ ap (λ ls. verdict_lines (map ended ls)) heard ∙ ap verdict_lines (sessions_are deck h.heard);
-      counts_are = c.in_ok-sessions.ensures.counts ∙ ap (λ ls. counts_lines (map ended ls)) heard ∙ ap counts_lines (sessions_are deck h.heard);
+      verdicts_are = c.in_ok-sessions.ensures.verdicts ∙ ap (λ ls. verdict_lines (map end_state ls)) heard ∙ ap verdict_lines (sessions_are deck h.heard);
+      counts_are = c.in_ok-sessions.ensures.counts ∙ ap (λ ls. counts_lines (map end_state ls)) heard ∙ ap counts_lines (sessions_are deck h.heard);
     }

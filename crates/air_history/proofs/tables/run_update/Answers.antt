@@ -1,7 +1,7 @@
 use Rattle.std.proofs.Common.{arith, ap, sym, ◌∙◌, ◌≤◌, ◌==◌, length, All, find, subst, List}
 use Rattle.air_base.specs.declared.limits.TheConstants.{MOST_WRITES}
 use Rattle.air_history.specs.declared.updates.Write.{Write}
-use Rattle.air_history.specs.Tables.{WriteFits, put, values_of}
+use Rattle.air_history.specs.Tables.{WriteFits, value_after_write, values_of}
 use Rattle.air_history.proofs.RuleFacts.{few_writes, writes_based}
 use Rattle.air_history.proofs.WriteLemmas.{put_all}
 use Rattle.air_history.proofs.tables.run_update.Goals as goal
@@ -24,4 +24,4 @@ write_values-requires-clause-fits c =
 
 pub returns : goal.returns
 returns c = put_all c.args.values.now c.write_values.new.values c.args.update.now.writes c.write_values.auto.values c.requires.writes
-    (λ i l. c.write_values.ensures i l ∙ ap (λ (ws : List Write). put (values_of c.args.values.now) i (find (λ w. w.item == i) ws)) c.writes-2.ensures)
+    (λ i l. c.write_values.ensures i l ∙ ap (λ (ws : List Write). value_after_write (values_of c.args.values.now) i (find (λ w. w.item == i) ws)) c.writes-2.ensures)

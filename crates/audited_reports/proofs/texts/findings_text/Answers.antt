@@ -2,7 +2,7 @@ use Rattle.std.proofs.Common.{◌++◌, ◌∷◌, [], ℕ, List, codes, count_b
 use Rattle.csv.specs.Writing.{row_text}
 use Rattle.air_base.specs.Numbers.{number_text}
 use Rattle.air_model.specs.Rows.{row_writer, rows_text}
-use Rattle.air_rows.specs.RowWriters.{written}
+use Rattle.air_rows.specs.RowWriters.{written_text}
 use Rattle.air_rows.proofs.RowLemmas.{rows_push}
 use Rattle.audited_reports.specs.FindingTexts.{audited_row, differs, finding_row, findings_text}
 use Rattle.audited_reports.proofs.texts.findings_text.Goals as goal
@@ -13,6 +13,6 @@ returns c =
     let found = c.args.found.now in
     let rows = rows_text (map finding_row found) in
     let last : ℕ → List ℕ = λ n. row_text row_writer (codes "audited" ∷ map number_text (length found ∷ n ∷ [])) in
-    c.in_ok-text.ensures ∙ c.in_ok-put_numbers.ensures.text ∙ ap (λ n. written c.put_findings.new.wtr ++ last n) c.differing.ensures
+    c.in_ok-text.ensures ∙ c.in_ok-put_numbers.ensures.text ∙ ap (λ n. written_text c.put_findings.new.wtr ++ last n) c.differing.ensures
     ∙ ap (λ t. t ++ last (count_by differs found)) (c.in_ok-put_findings.ensures.text ∙ ap (λ t. t ++ rows) (c.row_writer-wtr.ensures.text ∙ c.new.ensures.items))
     ∙ rows_push [] (map finding_row found) (audited_row found)

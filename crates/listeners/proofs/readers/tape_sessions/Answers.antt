@@ -3,7 +3,7 @@ use Rattle.std.specs.List.{range_with_len}
 use Rattle.air_model.specs.Buckets.{bucket_in}
 use Rattle.air_model.specs.Reports.{counts_lines, verdict_lines}
 use Rattle.air_model.specs.Tapes.{tape_read}
-use Rattle.listeners.specs.Listeners.{AreNumbered, ended}
+use Rattle.listeners.specs.Listeners.{AreNumbered, end_state}
 use Rattle.listeners.proofs.ReaderLemmas.{HasRoom, are_numbered, few_records, heard_whole, room_at_first, sessions_are}
 use Rattle.listeners.proofs.readers.tape_sessions.Goals as goal
 
@@ -33,6 +33,6 @@ returns c =
     let heard = heard_whole deck (map bucket_in records) c.in_ok-listeners.listeners.len c.in_ok-listeners.listeners.items c.deref_mut.result.now now long
     (c.deref_mut.ensures.value ∙ c.in_ok-listeners.ensures) c.in_ok-all_hear_tape.ensures in
     record {
-      verdicts = c.in_ok-sessions.ensures.verdicts ∙ ap (λ ls. verdict_lines (map ended ls)) heard ∙ ap verdict_lines (sessions_are deck records);
-      counts = c.in_ok-sessions.ensures.counts ∙ ap (λ ls. counts_lines (map ended ls)) heard ∙ ap counts_lines (sessions_are deck records);
+      verdicts = c.in_ok-sessions.ensures.verdicts ∙ ap (λ ls. verdict_lines (map end_state ls)) heard ∙ ap verdict_lines (sessions_are deck records);
+      counts = c.in_ok-sessions.ensures.counts ∙ ap (λ ls. counts_lines (map end_state ls)) heard ∙ ap counts_lines (sessions_are deck records);
     }

@@ -3,7 +3,7 @@ use Rattle.std.specs.Prelude.{IfOk}
 use Rattle.air_model.specs.Reports.{counts_lines, verdict_lines}
 use Rattle.air_model.specs.Tapes.{tape_read}
 use Rattle.listeners.specs.declared.runs.ReaderRun.{ReaderRun}
-use Rattle.listeners.specs.Listeners.{AreNumbered, ended}
+use Rattle.listeners.specs.Listeners.{AreNumbered, end_state}
 use Rattle.listeners.specs.Steps.ReaderRuns.{IsReady}
 use Rattle.listeners.proofs.RunLemmas.{clear_sessions, ethers_in, fresh_ready, heard_side_by_side, numbered_over, sessions_over_each}
 use Rattle.listeners.proofs.runs.ether_sessions.Goals as goal
@@ -43,7 +43,7 @@ returns-clause-verdicts g c =
     let long : length now ≡ c.in_ok-runs.runs.len = omega (arith, c.hear_side_by_side.auto.runs, c.deref_mut.ensures.len) in
     let heard = heard_side_by_side deck c.args.tape.now c.in_ok-runs.runs.len c.in_ok-runs.runs.items c.deref_mut.result.now now c.in_ok-listeners.listeners.items long
     c.deref_mut.ensures.value c.in_ok-runs.ensures.long c.in_ok-runs.ensures.fresh c.hear_side_by_side.ensures c.in_ok-listeners.ensures.done c.in_ok-listeners.ensures.listeners in
-    c.in_ok-sessions.ensures.verdicts ∙ ap (λ ls. verdict_lines (map ended ls)) heard ∙ ap verdict_lines (sessions_over_each deck (ethers_in deck (tape_read c.args.tape.now).records))
+    c.in_ok-sessions.ensures.verdicts ∙ ap (λ ls. verdict_lines (map end_state ls)) heard ∙ ap verdict_lines (sessions_over_each deck (ethers_in deck (tape_read c.args.tape.now).records))
 
 pub returns-clause-counts : goal.returns-clause-counts
 returns-clause-counts g c =
@@ -52,4 +52,4 @@ returns-clause-counts g c =
     let long : length now ≡ c.in_ok-runs.runs.len = omega (arith, c.hear_side_by_side.auto.runs, c.deref_mut.ensures.len) in
     let heard = heard_side_by_side deck c.args.tape.now c.in_ok-runs.runs.len c.in_ok-runs.runs.items c.deref_mut.result.now now c.in_ok-listeners.listeners.items long
     c.deref_mut.ensures.value c.in_ok-runs.ensures.long c.in_ok-runs.ensures.fresh c.hear_side_by_side.ensures c.in_ok-listeners.ensures.done c.in_ok-listeners.ensures.listeners in
-    c.in_ok-sessions.ensures.counts ∙ ap (λ ls. counts_lines (map ended ls)) heard ∙ ap counts_lines (sessions_over_each deck (ethers_in deck (tape_read c.args.tape.now).records))
+    c.in_ok-sessions.ensures.counts ∙ ap (λ ls. counts_lines (map end_state ls)) heard ∙ ap counts_lines (sessions_over_each deck (ethers_in deck (tape_read c.args.tape.now).records))

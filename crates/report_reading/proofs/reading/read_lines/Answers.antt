@@ -7,7 +7,7 @@ use Rattle.report_reading.specs.LineTexts.{line_of}
 use Rattle.report_reading.specs.ReportFaults.{lines_of}
 use Rattle.report_reading.specs.ReportGrammar.{HasReportFault, IsReportAnswer, SpellsReport}
 use Rattle.report_reading.specs.ReportLines.{ReportLines, sections_of}
-use Rattle.report_reading.specs.Steps.Answers.{judged, with_line}
+use Rattle.report_reading.specs.Steps.Answers.{record_kind, with_line}
 use Rattle.report_reading.proofs.PlaceFacts.{added, none_added}
 use Rattle.report_reading.proofs.ReadingFacts.{read_all, read_fault}
 use Rattle.report_reading.proofs.reading.read_lines.Goals as goal
@@ -19,7 +19,7 @@ pub loop-row-preserved : goal.loop-row-preserved
 loop-row-preserved c =
     let inv = c.loop-row.invariant in let rows = inv.0 in let row = fields_of c.next.new.record in let left = c.next.new.self in let deck = c.args.deck.now in
     let read : c.loop-row.records ≡ row ∷ left = rw c.if-not-branch.false at c.in_ok-next.ensures in
-    let none : judged deck (sections_of (lines_of rows)) (line_of row) ≡ None = ap (λ d. judged deck d (line_of row)) (sym inv.3) ∙ c.in-Ok.ensures.0 in (
+    let none : record_kind deck (sections_of (lines_of rows)) (line_of row) ≡ None = ap (λ d. record_kind deck d (line_of row)) (sym inv.3) ∙ c.in-Ok.ensures.0 in (
       rows ++ row ∷ [],
       inv.1 ∙ ap (λ more. rows ++ more) read ∙ sym (append_assoc rows (row ∷ []) left),
       none_added deck rows row inv.2 none,
@@ -38,10 +38,10 @@ pub returns-in-Err-Kind-clause-fault : goal.returns-in-Err-Kind-clause-fault
 returns-in-Err-Kind-clause-fault c =
     let inv = c.loop-row.invariant in let rows = inv.0 in let row = fields_of c.next.new.record in let left = c.next.new.self in let deck = c.args.deck.now in
     let read : c.loop-row.records ≡ row ∷ left = rw c.if-not-branch.false at c.in_ok-next.ensures in
-    let told : judged deck c.loop-row.draft (line_of row) ≡ Some c.in-Err-Kind.kind = rw c.in-Err-Kind.field-0-is at c.in-Err-Kind.ensures in
+    let told : record_kind deck c.loop-row.draft (line_of row) ≡ Some c.in-Err-Kind.kind = rw c.in-Err-Kind.field-0-is at c.in-Err-Kind.ensures in
     let P : ℕ → Type 0 = λ r. HasReportFault deck c.args.bytes.now r (code_of c.in-Err-Kind.kind) in
     let fault : P c.loop-row.row = subst P (sym inv.4)
-    (read_fault deck c.args.bytes.now rows inv.2 row left c.in-Err-Kind.kind (inv.1 ∙ ap (λ more. rows ++ more) read) (ap (λ d. judged deck d (line_of row)) (sym inv.3) ∙ told)) in
+    (read_fault deck c.args.bytes.now rows inv.2 row left c.in-Err-Kind.kind (inv.1 ∙ ap (λ more. rows ++ more) read) (ap (λ d. record_kind deck d (line_of row)) (sym inv.3) ∙ told)) in
     subst (IsReportAnswer deck c.args.bytes.now) (sym c.at.ensures) (rw c.in-Err-Kind.kind-is fault)
 
 pub unreachable-requires : goal.unreachable-requires

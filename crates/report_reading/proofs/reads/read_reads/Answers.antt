@@ -2,8 +2,8 @@ use Rattle.std.proofs.Common.{◌≡◌, ◌∙◌, ◌<◌, [], Some, arith, ap
 use Rattle.std.proofs.lemmas.Bool.Decides.{nat_tests}
 use Rattle.std.proofs.lemmas.List.{nil_from_length}
 use Rattle.air_base.specs.NumberLists.{list_of}
-use Rattle.air_base.specs.ReadParts.{spelled}
-use Rattle.air_base.proofs.ListFronts.{after_short, joined_none, list_bad, list_empty, list_last, list_more, list_spelled}
+use Rattle.air_base.specs.ReadParts.{part_values}
+use Rattle.air_base.proofs.ListFronts.{after_short, prepend_none, list_bad, list_empty, list_last, list_more, list_spelled}
 use Rattle.report_reading.specs.LineTexts.{read_of}
 use Rattle.report_reading.proofs.reads.read_reads.Goals as goal
 
@@ -15,7 +15,7 @@ returns-then-is_empty c =
 pub loop-read-init : goal.loop-read-init
 loop-read-init c =
     let some : 0 < length c.args.text.now = grind (arith, nat_tests) in
-    rw c.new-reads.ensures.items (joined_none (spelled read_of c.args.text.now) ∙ sym (list_spelled read_of c.args.text.now some))
+    rw c.new-reads.ensures.items (prepend_none (part_values read_of c.args.text.now) ∙ sym (list_spelled read_of c.args.text.now some))
 
 pub returns-in_default : goal.returns-in_default
 returns-in_default c = sym (list_bad read_of (list_of read_of c.args.text.now) c.loop-read.reads.items c.loop-read.rest.now c.loop-read.invariant c.in_default.ensures)

@@ -3,13 +3,13 @@ use Rattle.air_base.specs.Numbers.{number_text}
 use Rattle.air_base.specs.NumberLists.{list_text}
 use Rattle.air_model.specs.Reports.{read_text}
 use Rattle.air_rows.specs.BegunRows.{IsBegun}
-use Rattle.air_rows.specs.RowWriters.{written}
+use Rattle.air_rows.specs.RowWriters.{written_text}
 use Rattle.air_rows.proofs.RowSteps.{none_yet}
 use Rattle.report_texts.proofs.rows.put_attempt.Goals as goal
 
 pub returns : goal.returns
 returns c =
-    let before = written c.args.wtr.now in
+    let before = written_text c.args.wtr.now in
     let line = c.args.line.now in
     let tag = c.args.tag.now ∷ [] in
     let reader = tag ++ number_text line.reader ∷ [] in

@@ -1,14 +1,14 @@
 use Rattle.std.proofs.Common.{codes, sym, subst, arith}
 use Rattle.air_model.specs.Reports.{attempt_row, kind_row, verdict_row}
 use Rattle.air_rows.specs.BegunRows.{IsBegun}
-use Rattle.air_rows.specs.RowWriters.{written}
+use Rattle.air_rows.specs.RowWriters.{written_text}
 use Rattle.report_texts.proofs.rows.put_verdict.Goals as goal
 use Rattle.report_texts.proofs.rows.put_verdict.Goals.{in-Accept+in_ok-put_attempt-in-Accept, in-Abort+in_ok-put_attempt-in-Abort+in_ok-put_clash-in-Abort, in-Unfinished+in_ok-put_attempt-in-Unfinished}
 
 -- Before the row ends all its fields stand there.
-begun : (c : goal.In_ok-end_row) → IsBegun (written c.args.wtr.now) (verdict_row c.args.line.now) c.match-line.wtr
+begun : (c : goal.In_ok-end_row) → IsBegun (written_text c.args.wtr.now) (verdict_row c.args.line.now) c.match-line.wtr
 begun c =
-    let before = written c.args.wtr.now in
+    let before = written_text c.args.wtr.now in
     let line = c.args.line.now in
     elim c.match-line.branch [
       | in-Accept+in_ok-put_attempt-in-Accept w ↦
@@ -21,7 +21,7 @@ begun c =
     ]
 
 pub returns-clause-ready : goal.returns-clause-ready
-returns-clause-ready c = c.in_ok-end_row.ensures.ready (written c.args.wtr.now) (verdict_row c.args.line.now) (begun c)
+returns-clause-ready c = c.in_ok-end_row.ensures.ready (written_text c.args.wtr.now) (verdict_row c.args.line.now) (begun c)
 
 pub returns-clause-text : goal.returns-clause-text
-returns-clause-text c = c.in_ok-end_row.ensures.text (written c.args.wtr.now) (verdict_row c.args.line.now) (begun c)
+returns-clause-text c = c.in_ok-end_row.ensures.text (written_text c.args.wtr.now) (verdict_row c.args.line.now) (begun c)

@@ -3,7 +3,7 @@ use Rattle.std.proofs.lemmas.Option.{none-some}
 use Rattle.turnstile.specs.Passes.{newcomer}
 use Rattle.turnstile.specs.Steps.SeatViews.{numbers_from, idle, sight}
 use Rattle.turnstile.proofs.SplitFacts.{splits}
-use Rattle.turnstile.proofs.Stacks.{each_snoc, stack_step, stack_two, sound_one, known_one}
+use Rattle.turnstile.proofs.Stacks.{each_snoc, stack_step, stack_two, sound_one, pass_with_one}
 use Rattle.turnstile.proofs.dealing.deal.Goals as goal
 
 pub loop-init : goal.loop-init
@@ -68,7 +68,7 @@ loop-preserved g c =
       p.capacity ∙ i.3,
       e.2 ∙ ((λ k. (s.0 k, ap (λ m. m.1) i.4 k)) ∙ ap (λ k. (idle c.args.about.now.passes (Some (g.K.Chronicle.base c.args.about.now.value.value)) (sight (g.K.Chronicle.entries c.args.about.now.value.value) (numbers_from k (c.args.about.now.passes - k))), [])) len),
       rw p.items (each_snoc (λ k (p : _). p ≡ newcomer c.args.shared.now.table_id c.args.about.now.passes (g.K.Chronicle.base c.args.about.now.value.value) (g.K.Chronicle.entries c.args.about.now.value.value) k) _ _ i.5
-          (known_one _ _ _ _ _ _ _ (e.3 ∙ (i.0 ∙ c.requires.seat.0)) (e.4 ∙ ap (λ v. (v, [])) s.1))),
+          (pass_with_one _ _ _ _ _ _ _ (e.3 ∙ (i.0 ∙ c.requires.seat.0)) (e.4 ∙ ap (λ v. (v, [])) s.1))),
     )
 
 pub invariant_of-push_reserved-2 : goal.invariant_of-push_reserved-2
@@ -109,4 +109,4 @@ returns-clause-each g c =
     let f = c.loop-test.false in
     let one : c.args.about.now.passes - length c.loop.all.items ≡ 1 = omega arith in
     rw c.push_reserved-2.ensures.items (each_snoc (λ k (p : _). p ≡ newcomer c.args.shared.now.table_id c.args.about.now.passes (g.K.Chronicle.base c.args.about.now.value.value) (g.K.Chronicle.entries c.args.about.now.value.value) k) _ _ i.5
-    (known_one _ _ _ _ _ _ _ (i.0 ∙ c.requires.seat.0) (i.4 ∙ ap (λ z. (idle c.args.about.now.passes (Some (g.K.Chronicle.base c.args.about.now.value.value)) (sight (g.K.Chronicle.entries c.args.about.now.value.value) (numbers_from (length c.loop.all.items) z)), [])) one)))
+    (pass_with_one _ _ _ _ _ _ _ (i.0 ∙ c.requires.seat.0) (i.4 ∙ ap (λ z. (idle c.args.about.now.passes (Some (g.K.Chronicle.base c.args.about.now.value.value)) (sight (g.K.Chronicle.entries c.args.about.now.value.value) (numbers_from (length c.loop.all.items) z)), [])) one)))

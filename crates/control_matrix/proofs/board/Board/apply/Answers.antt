@@ -3,7 +3,7 @@ use Rattle.std.proofs.lemmas.List.{with_items_is}
 use Rattle.std.proofs.lemmas.List.FromFn.{length-map-range_with_len}
 use Rattle.air_history.specs.Histories.{writes}
 use Rattle.air_history.specs.Tables.{value_after, values_of}
-use Rattle.air_lanes.specs.Kernels.{stamped}
+use Rattle.air_lanes.specs.Kernels.{stamp_each}
 use Rattle.control_matrix.specs.Columns.{column_in}
 use Rattle.control_matrix.specs.BoardSteps.{step_board}
 use Rattle.control_matrix.specs.BoardFields.{board_in}
@@ -41,7 +41,7 @@ returns-clause-stepped c =
     (ap length c.deref_mut-3.ensures.value ∙ c.self.invariant.spare) counted c.deref_mut-2.ensures.value columns c.step_columns.ensures)
     (ap length vector ∙ wide)
     (λ i l. ap (λ xs. get_or xs i 0) (vector ∙ c.stamp.ensures)
-    ∙ ap (λ ms. get_or (stamped inside.cycle ms c.deref_mut-4.result.now) i 0) marks
+    ∙ ap (λ ms. get_or (stamp_each inside.cycle ms c.deref_mut-4.result.now) i 0) marks
     ∙ marked_stamp e inside.cycle c.mark.new.marks c.deref_mut-4.result.now i (long ∙ sym row) (omega (arith, row)) (c.mark.ensures i (omega (arith, long)))
     ∙ ap (λ xs. cond (writes e i) inside.cycle (get_or xs i 0)) c.deref_mut-4.ensures.value)
     ∙ ap (λ b. step_board b e) c.self.view_is

@@ -2,7 +2,7 @@ use Rattle.std.proofs.Common.{◌≡◌, ◌∙◌, ℕ, List, if◌then◌else�
 use Rattle.std.proofs.Math.ListN.{set}
 use Rattle.std.specs.Option.{is_some}
 use Rattle.std.proofs.lemmas.List.{get_or_default, with_items_is}
-use Rattle.pix_cache.specs.Stores.{Store, Stored, stored}
+use Rattle.pix_cache.specs.Stores.{Store, Stored, stored_copy}
 use Rattle.pix_cache.specs.Leaves.{copy_leaf}
 use Rattle.pix_cache.proofs.CacheLemmas.{read_place}
 use Rattle.pix_cache.proofs.FieldLemmas.{decline_answer, decline_form, has_copy, in_rooms, replace_form, take_agree, take_answer, take_form, within}
@@ -19,7 +19,7 @@ pub returns-in-Some-clause-kept : goal.returns-in-Some-clause-kept
 returns-in-Some-clause-kept c =
     let here = within c.self.inside c.self.invariant c.args.self.now c.self.view_is c.args.item c.requires.item in
     let some = read_place c.self.inside.places.items c.args.item c.index.result.now (Some c.in-Some.slot) here c.index.ensures c.in-Some.is in
-    replace_form c.self.inside c.self.invariant c.args.self.now c.self.view_is c.args.item c.requires.item (stored c.args.cycle c.args.value c.args.column.now) c.in-Some.slot some c.put.new.self.stores (ap (λ (s : Store). s.stores) c.put.ensures)
+    replace_form c.self.inside c.self.invariant c.args.self.now c.self.view_is c.args.item c.requires.item (stored_copy c.args.cycle c.args.value c.args.column.now) c.in-Some.slot some c.put.new.self.stores (ap (λ (s : Store). s.stores) c.put.ensures)
 
 pub returns-in-Some-clause-answer : goal.returns-in-Some-clause-answer
 returns-in-Some-clause-answer c =
@@ -32,14 +32,14 @@ returns-in_default-room_for-clause-kept c =
     let here = within c.self.inside c.self.invariant c.args.self.now c.self.view_is c.args.item c.requires.item in
     let none = read_place c.self.inside.places.items c.args.item c.index.result.now None here c.index.ensures c.in_default.is in
     let number : get_or c.self.inside.pix.items c.args.item 0 ≡ c.index-pix.result.now = get_or_default c.self.inside.pix.items c.args.item 0 c.index-pix.result.now (omega (arith, c.self.invariant.items)) ∙ sym c.index-pix.ensures in
-    decline_form c.self.inside c.self.invariant c.args.self.now c.self.view_is c.args.item c.requires.item (stored c.args.cycle c.args.value c.args.column.now) none c.index-pix.result.now number c.in_default-room_for.ensures
+    decline_form c.self.inside c.self.invariant c.args.self.now c.self.view_is c.args.item c.requires.item (stored_copy c.args.cycle c.args.value c.args.column.now) none c.index-pix.result.now number c.in_default-room_for.ensures
 
 pub returns-in_default-room_for-clause-answer : goal.returns-in_default-room_for-clause-answer
 returns-in_default-room_for-clause-answer c =
     let here = within c.self.inside c.self.invariant c.args.self.now c.self.view_is c.args.item c.requires.item in
     let none = read_place c.self.inside.places.items c.args.item c.index.result.now None here c.index.ensures c.in_default.is in
     let number : get_or c.self.inside.pix.items c.args.item 0 ≡ c.index-pix.result.now = get_or_default c.self.inside.pix.items c.args.item 0 c.index-pix.result.now (omega (arith, c.self.invariant.items)) ∙ sym c.index-pix.ensures in
-    decline_answer c.self.inside c.self.invariant c.args.self.now c.self.view_is c.args.item c.requires.item (stored c.args.cycle c.args.value c.args.column.now) none c.index-pix.result.now number c.in_default-room_for.ensures
+    decline_answer c.self.inside c.self.invariant c.args.self.now c.self.view_is c.args.item c.requires.item (stored_copy c.args.cycle c.args.value c.args.column.now) none c.index-pix.result.now number c.in_default-room_for.ensures
 
 pub invariant_of-self-2 : goal.invariant_of-self-2
 invariant_of-self-2 c =
@@ -49,7 +49,7 @@ invariant_of-self-2 c =
     let tree = c.self.inside.tree in
     let r = c.in-Some-room_for.least in
     let room = c.in-Some-room_for.ensures in
-    let st : Stored = stored c.args.cycle c.args.value c.args.column.now in
+    let st : Stored = stored_copy c.args.cycle c.args.value c.args.column.now in
     let here = within c.self.inside c.self.invariant c.args.self.now c.self.view_is c.args.item c.requires.item in
     let none = read_place places c.args.item c.index.result.now None here c.index.ensures c.in_default.is in
     let number : get_or pix c.args.item 0 ≡ c.index-pix.result.now = get_or_default pix c.args.item 0 c.index-pix.result.now (omega (arith, c.self.invariant.items)) ∙ sym c.index-pix.ensures in
@@ -80,7 +80,7 @@ returns-clause-kept c =
     let lent = c.deref_mut.ensures.value in
     let items = with_items_is c.self.inside.places c.leave.new.places (c.leave.auto.places ∙ ap length lent ∙ sym c.self.inside.places.ok.0) in
     let left = items ∙ c.leave.ensures ∙ ap (λ (p : List (Option ℕ)). if r.kept then set p r.item None else p) lent in
-    take_form c.self.inside c.self.invariant c.args.self.now c.self.view_is c.args.item c.requires.item (stored c.args.cycle c.args.value c.args.column.now) none c.index-pix.result.now number r room.0 room.1 room.2 room.3 _ left
+    take_form c.self.inside c.self.invariant c.args.self.now c.self.view_is c.args.item c.requires.item (stored_copy c.args.cycle c.args.value c.args.column.now) none c.index-pix.result.now number r room.0 room.1 room.2 room.3 _ left
     c.put-2.new.self.stores (ap (λ (s : Store). s.stores) c.put-2.ensures)
 
 pub returns-clause-answer : goal.returns-clause-answer
@@ -92,14 +92,14 @@ returns-clause-answer c =
     let here = within c.self.inside c.self.invariant c.args.self.now c.self.view_is c.args.item c.requires.item in
     let none = read_place places c.args.item c.index.result.now None here c.index.ensures c.in_default.is in
     let number : get_or pix c.args.item 0 ≡ c.index-pix.result.now = get_or_default pix c.args.item 0 c.index-pix.result.now (omega (arith, c.self.invariant.items)) ∙ sym c.index-pix.ensures in
-    take_answer c.self.inside c.self.invariant c.args.self.now c.self.view_is c.args.item c.requires.item (stored c.args.cycle c.args.value c.args.column.now) none c.index-pix.result.now number r room.0 room.1 room.2 room.3
+    take_answer c.self.inside c.self.invariant c.args.self.now c.self.view_is c.args.item c.requires.item (stored_copy c.args.cycle c.args.value c.args.column.now) none c.index-pix.result.now number r room.0 room.1 room.2 room.3
     (if r.kept then set places r.item None else places) refl c.answer.result c.answer.ensures
 
 pub returns-in-Some-clause-others : goal.returns-in-Some-clause-others
 returns-in-Some-clause-others c = λ other asked ne answer.
     let here = within c.self.inside c.self.invariant c.args.self.now c.self.view_is c.args.item c.requires.item in
     let some = read_place c.self.inside.places.items c.args.item c.index.result.now (Some c.in-Some.slot) here c.index.ensures c.in-Some.is in
-    stays_beside c.self.inside c.self.invariant c.args.self.now c.self.view_is other asked c.args.item c.requires.item c.in-Some.slot some (stored c.args.cycle c.args.value c.args.column.now)
+    stays_beside c.self.inside c.self.invariant c.args.self.now c.self.view_is other asked c.args.item c.requires.item c.in-Some.slot some (stored_copy c.args.cycle c.args.value c.args.column.now)
     c.put.new.self.stores (ap (λ (s : Store). s.stores) c.put.ensures) ne
 
 pub returns-clause-others : goal.returns-clause-others
@@ -109,5 +109,5 @@ returns-clause-others c = λ other asked ne answer.
     let lent = c.deref_mut.ensures.value in
     let items = with_items_is c.self.inside.places c.leave.new.places (c.leave.auto.places ∙ ap length lent ∙ sym c.self.inside.places.ok.0) in
     let left = items ∙ c.leave.ensures ∙ ap (λ (p : List (Option ℕ)). if r.kept then set p r.item None else p) lent in
-    stays_behind c.self.inside c.self.invariant c.args.self.now c.self.view_is other asked r room.1 c.answer.result c.answer.ensures answer c.args.item ne _ left (stored c.args.cycle c.args.value c.args.column.now)
+    stays_behind c.self.inside c.self.invariant c.args.self.now c.self.view_is other asked r room.1 c.answer.result c.answer.ensures answer c.args.item ne _ left (stored_copy c.args.cycle c.args.value c.args.column.now)
     c.put-2.new.self.stores (ap (λ (s : Store). s.stores) c.put-2.ensures)

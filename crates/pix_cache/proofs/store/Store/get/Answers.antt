@@ -1,7 +1,7 @@
 use Rattle.std.proofs.Common.{◌≡◌, ◌<◌, ◌+◌, ◌-◌, ◌*◌, ◌∙◌, length, get_or, take, drop, sym, ap, arith}
 use Rattle.std.proofs.lemmas.List.{get_or_default}
 use Rattle.pix_cache.specs.declared.store.Slot.{Slot}
-use Rattle.pix_cache.specs.Stores.{Store, no_store, stored}
+use Rattle.pix_cache.specs.Stores.{Store, no_store, stored_copy}
 use Rattle.pix_cache.specs.Steps.StoreFields.{no_slot}
 use Rattle.pix_cache.proofs.StoreLemmas.{column_before, store_at, stores_len}
 use Rattle.pix_cache.proofs.store.Store.get.Goals as goal
@@ -28,6 +28,6 @@ returns c =
     let held : get_or slots c.args.slot no_slot ≡ c.index-held.result.now = get_or_default slots c.args.slot no_slot c.index-held.result.now within ∙ sym c.index-held.ensures in
     ap (λ (s : Store). get_or s.stores c.args.slot no_store) (sym c.self.view_is)
     ∙ store_at n slots entries c.args.slot no_store within
-    ∙ ap (λ (s : Slot). stored s.cycle s.value (take n (drop (c.args.slot * n) entries))) held
-    ∙ ap (λ k. stored c.index-held.result.now.cycle c.index-held.result.now.value (take k (drop (c.args.slot * n) entries))) (let e : n ≡ c.args.slot * n + n - c.args.slot * n = omega arith in e)
-    ∙ ap (λ xs. stored c.index-held.result.now.cycle c.index-held.result.now.value (take (c.args.slot * n + n - c.args.slot * n) (drop (c.args.slot * n) xs))) (sym c.deref.ensures.value)
+    ∙ ap (λ (s : Slot). stored_copy s.cycle s.value (take n (drop (c.args.slot * n) entries))) held
+    ∙ ap (λ k. stored_copy c.index-held.result.now.cycle c.index-held.result.now.value (take k (drop (c.args.slot * n) entries))) (let e : n ≡ c.args.slot * n + n - c.args.slot * n = omega arith in e)
+    ∙ ap (λ xs. stored_copy c.index-held.result.now.cycle c.index-held.result.now.value (take (c.args.slot * n + n - c.args.slot * n) (drop (c.args.slot * n) xs))) (sym c.deref.ensures.value)

@@ -4,7 +4,7 @@ use Rattle.std.proofs.lemmas.List.{with_items_is}
 use Rattle.pix_cache.specs.declared.store.Slot.{Slot}
 use Rattle.std.proofs.Math.ListN.{set}
 use borrow.Rule.Slice.PartMut.{put_mid}
-use Rattle.pix_cache.specs.Stores.{Store, Stored, stored}
+use Rattle.pix_cache.specs.Stores.{Store, Stored, stored_copy}
 use Rattle.pix_cache.specs.Steps.StoreFields.{stored_of}
 use Rattle.pix_cache.proofs.StoreLemmas.{column_before, length_put, store_put, stores_len}
 use Rattle.pix_cache.proofs.store.Store.put.Goals as goal
@@ -41,5 +41,5 @@ returns c =
     ap (λ (stores : List Stored). let s : Store = record { width = n; stores = stores } in s)
     (ap (stored_of n (set slots c.args.slot it)) put
     ∙ store_put n slots entries c.copy_from_slice.new.self c.args.slot k it (omega arith) within c.self.invariant.sized sized
-    ∙ ap (λ xs. slice_set (stored_of n slots entries) c.args.slot (stored c.args.cycle c.args.value xs)) copied)
-    ∙ ap (λ (s : Store). let t : Store = record s { stores = slice_set s.stores c.args.slot (stored c.args.cycle c.args.value c.args.column.now) } in t) c.self.view_is
+    ∙ ap (λ xs. slice_set (stored_of n slots entries) c.args.slot (stored_copy c.args.cycle c.args.value xs)) copied)
+    ∙ ap (λ (s : Store). let t : Store = record s { stores = slice_set s.stores c.args.slot (stored_copy c.args.cycle c.args.value c.args.column.now) } in t) c.self.view_is

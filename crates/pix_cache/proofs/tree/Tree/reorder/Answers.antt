@@ -1,7 +1,7 @@
 use Rattle.std.proofs.Common.{◌≡◌, ◌∙◌, ◌<◌, ℕ, List, length, drop, get_or, map, sym, ap}
 use Rattle.std.proofs.lemmas.List.{with_items_is}
 use Rattle.pix_cache.specs.declared.leaf.Leaf.{Leaf}
-use Rattle.pix_cache.specs.Leaves.{nowhere, renumbered}
+use Rattle.pix_cache.specs.Leaves.{nowhere, renumbered_leaf}
 use Rattle.pix_cache.proofs.NodeLemmas.{leaves_mapped}
 use Rattle.pix_cache.proofs.tree.Tree.reorder.Goals as goal
 
@@ -13,8 +13,8 @@ returns c =
     let lent = c.deref_mut.ensures.value in
     let sizes : length new ≡ length old = c.renumber.auto.nodes ∙ ap length lent in
     let items = with_items_is c.self.inside.nodes new (sizes ∙ sym c.self.inside.nodes.ok.0) in
-    let each : (s : ℕ) → s < rooms → get_or (drop rooms new) s nowhere ≡ renumbered c.args.pix.now (get_or (drop rooms old) s nowhere) = λ s l.
-    c.renumber.ensures.leaves s l ∙ ap (λ (t : List Leaf). renumbered c.args.pix.now (get_or (drop rooms t) s nowhere)) lent in
+    let each : (s : ℕ) → s < rooms → get_or (drop rooms new) s nowhere ≡ renumbered_leaf c.args.pix.now (get_or (drop rooms old) s nowhere) = λ s l.
+    c.renumber.ensures.leaves s l ∙ ap (λ (t : List Leaf). renumbered_leaf c.args.pix.now (get_or (drop rooms t) s nowhere)) lent in
     ap (drop rooms) items
-    ∙ leaves_mapped rooms old new (renumbered c.args.pix.now) sizes c.self.invariant.tree.size each
-    ∙ ap (map (renumbered c.args.pix.now)) c.self.view_is
+    ∙ leaves_mapped rooms old new (renumbered_leaf c.args.pix.now) sizes c.self.invariant.tree.size each
+    ∙ ap (map (renumbered_leaf c.args.pix.now)) c.self.view_is

@@ -7,7 +7,7 @@ use Rattle.receiver_core.specs.LinesGiven.{lines_of}
 use Rattle.receiver_core.specs.Receivers.{Receiver}
 use Rattle.receiver_core.specs.ReceiverView.{receiver_in}
 use Rattle.receiver_core.proofs.StateLemmas.{still_left}
-use Rattle.receiver_core.proofs.StepLemmas.{bare_settled, bared, ended, ended_copies, ended_left, ended_past, ended_waits, given_bare, last_ended, past}
+use Rattle.receiver_core.proofs.StepLemmas.{bare_settled, ended, ended_copies, ended_left, ended_past, ended_waits, given_bare, last_ended, past, without_copies}
 use Rattle.receiver_core.proofs.HeldCalls.{ends}
 use Rattle.receiver_core.proofs.receivers.Receiver.end.Goals as goal
 
@@ -22,7 +22,7 @@ returns-then-not-has-clause-state c =
     let r = c.self.inside in
     let v = receiver_in r in
     ap (λ (d : Cache). let t : State = record v.state { copies = d.copies; lines = lines_of None r.last } in t) c.drop_all.ensures
-    ∙ ap (λ (old : Receiver). let t : State = record (bared old).state { lines = lines_of None old.last } in t) c.self.view_is
+    ∙ ap (λ (old : Receiver). let t : State = record (without_copies old).state { lines = lines_of None old.last } in t) c.self.view_is
     ∙ ended_past c.args.self.now c.requires.settled (subst (λ (t : Receiver). length t.reader.queries ≤ t.state.query) c.self.view_is (past c.has.result r.query (length r.reader.queries) c.has.ensures.1 c.if-not-has.true))
 
 pub returns-then-not-has-clause-settled : goal.returns-then-not-has-clause-settled
@@ -36,7 +36,7 @@ returns-then-not-has-clause-last c = last_ended None c.self.inside.last c.args.s
 pub next_query-requires : goal.next_query-requires
 next_query-requires c =
     let old = c.args.self.now in
-    still_left (bared old) c.give.new.self Unfinished (given_bare c.self.inside old c.give.new.self c.drop_all.new.copies c.self.view_is c.drop_all.ensures c.give.ensures)
+    still_left (without_copies old) c.give.new.self Unfinished (given_bare c.self.inside old c.give.new.self c.drop_all.new.copies c.self.view_is c.drop_all.ensures c.give.ensures)
     (subst (λ (t : Receiver). t.state.query < length t.reader.queries) c.self.view_is (c.has.ensures.0 c.if-not-has.false))
 
 pub returns-clause-state : goal.returns-clause-state
@@ -45,7 +45,7 @@ returns-clause-state c =
     let v = receiver_in c.self-2.inside in
     let given = given_bare c.self.inside old c.give.new.self c.drop_all.new.copies c.self.view_is c.drop_all.ensures c.give.ensures in
     ap (λ o. let t : State = record v.state { lines = lines_of o v.last } in t) c.take.ensures.value
-    ∙ ended_left old v (c.self-2.view_is ∙ ended (bared old) c.give.new.self c.next_query.new.self given c.next_query.ensures)
+    ∙ ended_left old v (c.self-2.view_is ∙ ended (without_copies old) c.give.new.self c.next_query.new.self given c.next_query.ensures)
     (subst (λ (t : Receiver). t.state.query < length t.reader.queries) c.self.view_is (c.has.ensures.0 c.if-not-has.false))
 
 pub returns-clause-none : goal.returns-clause-none
@@ -53,7 +53,7 @@ returns-clause-none c =
     let old = c.args.self.now in
     let given = given_bare c.self.inside old c.give.new.self c.drop_all.new.copies c.self.view_is c.drop_all.ensures c.give.ensures in
     let here : old.state.query < length old.reader.queries = subst (λ (t : Receiver). t.state.query < length t.reader.queries) c.self.view_is (c.has.ensures.0 c.if-not-has.false) in
-    (λ none. absurd (ended_waits (bared old) c.self-2.inside (c.self-2.view_is ∙ ended (bared old) c.give.new.self c.next_query.new.self given c.next_query.ensures) (sym c.take.ensures.value ∙ none_from c.take.result none)), λ beyond. absurd (omega arith))
+    (λ none. absurd (ended_waits (without_copies old) c.self-2.inside (c.self-2.view_is ∙ ended (without_copies old) c.give.new.self c.next_query.new.self given c.next_query.ensures) (sym c.take.ensures.value ∙ none_from c.take.result none)), λ beyond. absurd (omega arith))
 
 pub returns-clause-settled : goal.returns-clause-settled
 returns-clause-settled c =
@@ -61,14 +61,14 @@ returns-clause-settled c =
     let r = c.self-2.inside in
     let given = given_bare c.self.inside old c.give.new.self c.drop_all.new.copies c.self.view_is c.drop_all.ensures c.give.ensures in
     bare_settled (receiver_in (record r { waiting = c.take.new.self })) (ap (λ o. lines_of o r.last) c.take.ensures.after)
-    (ended_copies old (receiver_in r) (c.self-2.view_is ∙ ended (bared old) c.give.new.self c.next_query.new.self given c.next_query.ensures))
+    (ended_copies old (receiver_in r) (c.self-2.view_is ∙ ended (without_copies old) c.give.new.self c.next_query.new.self given c.next_query.ensures))
 
 pub returns-clause-last : goal.returns-clause-last
 returns-clause-last c =
     let old = c.args.self.now in
     let given = given_bare c.self.inside old c.give.new.self c.drop_all.new.copies c.self.view_is c.drop_all.ensures c.give.ensures in
     last_ended c.take.result c.self-2.inside.last old.last
-    (λ none. absurd (ended_waits (bared old) c.self-2.inside (c.self-2.view_is ∙ ended (bared old) c.give.new.self c.next_query.new.self given c.next_query.ensures) (sym c.take.ensures.value ∙ none)))
+    (λ none. absurd (ended_waits (without_copies old) c.self-2.inside (c.self-2.view_is ∙ ended (without_copies old) c.give.new.self c.next_query.new.self given c.next_query.ensures) (sym c.take.ensures.value ∙ none)))
 
 pub returns-then-not-has-clause-held : goal.returns-then-not-has-clause-held
 returns-then-not-has-clause-held c =
@@ -79,5 +79,5 @@ returns-clause-held c =
     let old = c.args.self.now in
     let v = receiver_in c.self-2.inside in
     let given = given_bare c.self.inside old c.give.new.self c.drop_all.new.copies c.self.view_is c.drop_all.ensures c.give.ensures in
-    let is = c.self-2.view_is ∙ ended (bared old) c.give.new.self c.next_query.new.self given c.next_query.ensures in
+    let is = c.self-2.view_is ∙ ended (without_copies old) c.give.new.self c.next_query.new.self given c.next_query.ensures in
     ends old _ _ (returns-clause-state c) (ap (λ (t : Receiver). t.air) is) (ap (λ (t : Receiver). t.reader) is)

@@ -2,7 +2,7 @@ use Rattle.std.proofs.Common.{Ok, ◌∙◌, ap, sym, subst}
 use Rattle.std.specs.Result.{result_ok}
 use Rattle.air_model.specs.Judges.{by_entries}
 use Rattle.air_model.specs.Sessions.{count_refused, hear}
-use Rattle.receiver_core.specs.FeedAnswers.{ChangesItsCountAlone, counted, fed_of}
+use Rattle.receiver_core.specs.FeedAnswers.{ChangesItsCountAlone, count_fed, fed_of}
 use Rattle.receiver_core.specs.LastReads.{last_reads}
 use Rattle.receiver_core.specs.Receivers.{Receiver}
 use Rattle.receiver_core.proofs.FeedLemmas.{alone, hear_counts, refused_is}
@@ -39,7 +39,7 @@ pub returns-in-Ok-clause-counted : goal.returns-in-Ok-clause-counted
 returns-in-Ok-clause-counted c =
     let old = c.args.self.now in
     ap (λ (t : Receiver). t.state.counts) c.hear_bucket.ensures.heard ∙ hear_counts (by_entries old.air.scheme) old (Ok c.in-Ok.bucket)
-    ∙ ap (λ f. counted f old.state.counts) (sym c.hear_bucket.ensures.fed)
+    ∙ ap (λ f. count_fed f old.state.counts) (sym c.hear_bucket.ensures.fed)
 
 pub returns-in-Ok-clause-alone : goal.returns-in-Ok-clause-alone
 returns-in-Ok-clause-alone c =

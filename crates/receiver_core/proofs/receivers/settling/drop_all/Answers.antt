@@ -1,6 +1,6 @@
 use Rattle.std.proofs.Common.{◌≤◌, ◌<◌, ◌+◌, All, [], length, ◌∙◌, ap, arith, subst, sym}
 use Rattle.std.proofs.lemmas.List.Elements.{All-filter}
-use Rattle.air_model.specs.Copies.{without}
+use Rattle.air_model.specs.Copies.{without_item}
 use Rattle.air_model.specs.Reads.{Read}
 use Rattle.pix_cache.specs.Caches.{Cache}
 use Rattle.receiver_core.proofs.KeepsLemmas.{from_next, none_from_to}
@@ -13,7 +13,7 @@ drop_copy-requires c =
     omega arith
 
 pub loop-item-preserved : goal.loop-item-preserved
-unfolding without
+unfolding without_item
 loop-item-preserved c =
     let i = c.loop-item.invariant in
     let e = c.drop_copy.ensures in

@@ -3,7 +3,7 @@ use Rattle.std.specs.Prelude.{IfSome, MatchResult, Contains}
 use Rattle.std.proofs.lemmas.List.{append-nil}
 use Rattle.std.proofs.lemmas.List.Elements.{All-nil, All-push}
 use Rattle.turnstile.specs.PassEntries.{Lengthens}
-use Rattle.turnstile.specs.Passes.{returned}
+use Rattle.turnstile.specs.Passes.{after_leave}
 use Rattle.air_history.specs.declared.histories.Event.{Event}
 use Rattle.air_history.specs.declared.histories.Event.TheVariants.{Commit}
 use Rattle.air_history.specs.Histories.{EventFits}
@@ -49,7 +49,7 @@ invariant_of-pass g c =
     let by = c.pass.inside.by in
     let old = c.enter-locked.result.value.core in
     let new = c.add_commit-added.new.core in
-    let turn : Turned pass c.leave.new.pass old new = record { base = c.enter-locked.ensures.base; list = c.enter-locked.ensures.list; kept = c.add_commit-added.ensures.kept; fits = c.add_commit-added.ensures.fits; back = c.leave.ensures.pass ∙ ap (λ p. returned p (entries_of new.updaters new.events)) c.enter-locked.ensures.pass } in
+    let turn : Turned pass c.leave.new.pass old new = record { base = c.enter-locked.ensures.base; list = c.enter-locked.ensures.list; kept = c.add_commit-added.ensures.kept; fits = c.add_commit-added.ensures.fits; back = c.leave.ensures.pass ∙ ap (λ p. after_leave p (entries_of new.updaters new.events)) c.enter-locked.ensures.pass } in
     let after = after_turn by pass c.leave.new.pass old new c.pass.invariant.0 turn in
     let same = count_same (is_by by) (events_of pass.seen) old.events (no_commit by pass old c.pass.invariant.0 c.enter-locked.ensures.list) in
     (after.0, subst (λ (b : Base). by < b.1) (sym after.1) c.pass.invariant.1, c.pass.invariant.2 ∙ sym same ∙ ap (count_made by) (sym (after.2 ∙ c.in_err-added.ensures.events)))
@@ -60,7 +60,7 @@ returns-in_err-added-clause-seen g c =
     let by = c.pass.inside.by in
     let old = c.enter-locked.result.value.core in
     let new = c.add_commit-added.new.core in
-    let turn : Turned pass c.leave.new.pass old new = record { base = c.enter-locked.ensures.base; list = c.enter-locked.ensures.list; kept = c.add_commit-added.ensures.kept; fits = c.add_commit-added.ensures.fits; back = c.leave.ensures.pass ∙ ap (λ p. returned p (entries_of new.updaters new.events)) c.enter-locked.ensures.pass } in
+    let turn : Turned pass c.leave.new.pass old new = record { base = c.enter-locked.ensures.base; list = c.enter-locked.ensures.list; kept = c.add_commit-added.ensures.kept; fits = c.add_commit-added.ensures.fits; back = c.leave.ensures.pass ∙ ap (λ p. after_leave p (entries_of new.updaters new.events)) c.enter-locked.ensures.pass } in
     let after = after_turn by pass c.leave.new.pass old new c.pass.invariant.0 turn in
     subst (λ (p : PassState). (before : List Event) × GoesOnWithout (is_by p.number) p.seen before × MatchResult c.from_residual.result
     (λ _. (events_of c.leave.new.pass.seen ≡ before ++ Commit p.number (count_made p.number p.seen) c.args.update ∷ []) × (reply_in c.add_commit-added.new.into ≡ reply_of p.values (events_of c.leave.new.pass.seen) (length before)))
@@ -72,7 +72,7 @@ returns-in_err-added-clause-fits g c =
     let pass = c.pass.inside.pass in
     let old = c.enter-locked.result.value.core in
     let new = c.add_commit-added.new.core in
-    let turn : Turned pass c.leave.new.pass old new = record { base = c.enter-locked.ensures.base; list = c.enter-locked.ensures.list; kept = c.add_commit-added.ensures.kept; fits = c.add_commit-added.ensures.fits; back = c.leave.ensures.pass ∙ ap (λ p. returned p (entries_of new.updaters new.events)) c.enter-locked.ensures.pass } in
+    let turn : Turned pass c.leave.new.pass old new = record { base = c.enter-locked.ensures.base; list = c.enter-locked.ensures.list; kept = c.add_commit-added.ensures.kept; fits = c.add_commit-added.ensures.fits; back = c.leave.ensures.pass ∙ ap (λ p. after_leave p (entries_of new.updaters new.events)) c.enter-locked.ensures.pass } in
     let after = after_turn c.pass.inside.by pass c.leave.new.pass old new c.pass.invariant.0 turn in
     subst (λ (p : PassState). All (EventFits p.updaters (length p.values)) (events_of c.leave.new.pass.seen)) c.pass.view_is
     (subst (λ (b : Base). All (EventFits b.1 (length b.0)) (events_of c.leave.new.pass.seen)) after.1 after.0.fits)
@@ -83,7 +83,7 @@ invariant_of-pass-2 g c =
     let by = c.pass.inside.by in
     let old = c.enter-locked.result.value.core in
     let new = c.add_commit-added.new.core in
-    let turn : Turned pass c.leave.new.pass old new = record { base = c.enter-locked.ensures.base; list = c.enter-locked.ensures.list; kept = c.add_commit-added.ensures.kept; fits = c.add_commit-added.ensures.fits; back = c.leave.ensures.pass ∙ ap (λ p. returned p (entries_of new.updaters new.events)) c.enter-locked.ensures.pass } in
+    let turn : Turned pass c.leave.new.pass old new = record { base = c.enter-locked.ensures.base; list = c.enter-locked.ensures.list; kept = c.add_commit-added.ensures.kept; fits = c.add_commit-added.ensures.fits; back = c.leave.ensures.pass ∙ ap (λ p. after_leave p (entries_of new.updaters new.events)) c.enter-locked.ensures.pass } in
     let after = after_turn by pass c.leave.new.pass old new c.pass.invariant.0 turn in
     let same = count_same (is_by by) (events_of pass.seen) old.events (no_commit by pass old c.pass.invariant.0 c.enter-locked.ensures.list) in
     let more = ap (count_made by) (after.2 ∙ c.in_ok-added.ensures.events.0) ∙ made_own by (count_made by old.events) c.args.update old.events in
@@ -95,7 +95,7 @@ returns-clause-seen g c =
     let by = c.pass.inside.by in
     let old = c.enter-locked.result.value.core in
     let new = c.add_commit-added.new.core in
-    let turn : Turned pass c.leave.new.pass old new = record { base = c.enter-locked.ensures.base; list = c.enter-locked.ensures.list; kept = c.add_commit-added.ensures.kept; fits = c.add_commit-added.ensures.fits; back = c.leave.ensures.pass ∙ ap (λ p. returned p (entries_of new.updaters new.events)) c.enter-locked.ensures.pass } in
+    let turn : Turned pass c.leave.new.pass old new = record { base = c.enter-locked.ensures.base; list = c.enter-locked.ensures.list; kept = c.add_commit-added.ensures.kept; fits = c.add_commit-added.ensures.fits; back = c.leave.ensures.pass ∙ ap (λ p. after_leave p (entries_of new.updaters new.events)) c.enter-locked.ensures.pass } in
     let after = after_turn by pass c.leave.new.pass old new c.pass.invariant.0 turn in
     let none = no_commit by pass old c.pass.invariant.0 c.enter-locked.ensures.list in
     let same = count_same (is_by by) (events_of pass.seen) old.events none in
@@ -115,7 +115,7 @@ returns-clause-fits g c =
     let pass = c.pass.inside.pass in
     let old = c.enter-locked.result.value.core in
     let new = c.add_commit-added.new.core in
-    let turn : Turned pass c.leave.new.pass old new = record { base = c.enter-locked.ensures.base; list = c.enter-locked.ensures.list; kept = c.add_commit-added.ensures.kept; fits = c.add_commit-added.ensures.fits; back = c.leave.ensures.pass ∙ ap (λ p. returned p (entries_of new.updaters new.events)) c.enter-locked.ensures.pass } in
+    let turn : Turned pass c.leave.new.pass old new = record { base = c.enter-locked.ensures.base; list = c.enter-locked.ensures.list; kept = c.add_commit-added.ensures.kept; fits = c.add_commit-added.ensures.fits; back = c.leave.ensures.pass ∙ ap (λ p. after_leave p (entries_of new.updaters new.events)) c.enter-locked.ensures.pass } in
     let after = after_turn c.pass.inside.by pass c.leave.new.pass old new c.pass.invariant.0 turn in
     subst (λ (p : PassState). All (EventFits p.updaters (length p.values)) (events_of c.leave.new.pass.seen)) c.pass.view_is
     (subst (λ (b : Base). All (EventFits b.1 (length b.0)) (events_of c.leave.new.pass.seen)) after.1 after.0.fits)

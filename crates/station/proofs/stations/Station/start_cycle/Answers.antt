@@ -3,7 +3,7 @@ use Rattle.std.specs.Prelude.{IfSome, MatchResult, Contains}
 use Rattle.std.proofs.lemmas.List.{append-nil}
 use Rattle.std.proofs.lemmas.List.Elements.{All-nil, All-push}
 use Rattle.turnstile.specs.PassEntries.{Lengthens}
-use Rattle.turnstile.specs.Passes.{returned}
+use Rattle.turnstile.specs.Passes.{after_leave}
 use Rattle.air_history.specs.declared.histories.Event.{Event}
 use Rattle.air_history.specs.declared.histories.Event.TheVariants.{Start}
 use Rattle.air_history.specs.Histories.{is_start, starts, since_start, EventFits}
@@ -47,7 +47,7 @@ invariant_of-pass g c =
     let pass = c.pass.inside.pass in
     let old = c.enter-locked.result.value.core in
     let new = c.add_start-started.new.core in
-    let turn : Turned pass c.leave.new.pass old new = record { base = c.enter-locked.ensures.base; list = c.enter-locked.ensures.list; kept = c.add_start-started.ensures.kept; fits = c.add_start-started.ensures.fits; back = c.leave.ensures.pass ∙ ap (λ p. returned p (entries_of new.updaters new.events)) c.enter-locked.ensures.pass } in
+    let turn : Turned pass c.leave.new.pass old new = record { base = c.enter-locked.ensures.base; list = c.enter-locked.ensures.list; kept = c.add_start-started.ensures.kept; fits = c.add_start-started.ensures.fits; back = c.leave.ensures.pass ∙ ap (λ p. after_leave p (entries_of new.updaters new.events)) c.enter-locked.ensures.pass } in
     let after = after_turn (base_in pass).1 pass c.leave.new.pass old new c.pass.invariant.0 turn in
     let same = same_starts (events_of pass.seen) old.events (no_start pass old c.pass.invariant.0 c.enter-locked.ensures.base c.enter-locked.ensures.list) in
     (subst (IsPass c.leave.new.pass) (ap (λ (b : Base). b.1) (sym after.1)) after.0, c.pass.invariant.1 ∙ sym same ∙ ap starts (sym (after.2 ∙ c.in_err-cycle.ensures.events.0)))
@@ -57,7 +57,7 @@ returns-in_err-cycle-clause-seen g c =
     let pass = c.pass.inside.pass in
     let old = c.enter-locked.result.value.core in
     let new = c.add_start-started.new.core in
-    let turn : Turned pass c.leave.new.pass old new = record { base = c.enter-locked.ensures.base; list = c.enter-locked.ensures.list; kept = c.add_start-started.ensures.kept; fits = c.add_start-started.ensures.fits; back = c.leave.ensures.pass ∙ ap (λ p. returned p (entries_of new.updaters new.events)) c.enter-locked.ensures.pass } in
+    let turn : Turned pass c.leave.new.pass old new = record { base = c.enter-locked.ensures.base; list = c.enter-locked.ensures.list; kept = c.add_start-started.ensures.kept; fits = c.add_start-started.ensures.fits; back = c.leave.ensures.pass ∙ ap (λ p. after_leave p (entries_of new.updaters new.events)) c.enter-locked.ensures.pass } in
     let after = after_turn (base_in pass).1 pass c.leave.new.pass old new c.pass.invariant.0 turn in
     let seen = events_of c.leave.new.pass.seen in
     let fresh = c.add_start-started.new.fresh.items in
@@ -74,7 +74,7 @@ returns-in_err-cycle-clause-fits g c =
     let pass = c.pass.inside.pass in
     let old = c.enter-locked.result.value.core in
     let new = c.add_start-started.new.core in
-    let turn : Turned pass c.leave.new.pass old new = record { base = c.enter-locked.ensures.base; list = c.enter-locked.ensures.list; kept = c.add_start-started.ensures.kept; fits = c.add_start-started.ensures.fits; back = c.leave.ensures.pass ∙ ap (λ p. returned p (entries_of new.updaters new.events)) c.enter-locked.ensures.pass } in
+    let turn : Turned pass c.leave.new.pass old new = record { base = c.enter-locked.ensures.base; list = c.enter-locked.ensures.list; kept = c.add_start-started.ensures.kept; fits = c.add_start-started.ensures.fits; back = c.leave.ensures.pass ∙ ap (λ p. after_leave p (entries_of new.updaters new.events)) c.enter-locked.ensures.pass } in
     let after = after_turn (base_in pass).1 pass c.leave.new.pass old new c.pass.invariant.0 turn in
     subst (λ (p : PassState). All (EventFits p.updaters (length p.values)) (events_of c.leave.new.pass.seen)) c.pass.view_is
     (subst (λ (b : Base). All (EventFits b.1 (length b.0)) (events_of c.leave.new.pass.seen)) after.1 after.0.fits)
@@ -84,7 +84,7 @@ invariant_of-pass-2 g c =
     let pass = c.pass.inside.pass in
     let old = c.enter-locked.result.value.core in
     let new = c.add_start-started.new.core in
-    let turn : Turned pass c.leave.new.pass old new = record { base = c.enter-locked.ensures.base; list = c.enter-locked.ensures.list; kept = c.add_start-started.ensures.kept; fits = c.add_start-started.ensures.fits; back = c.leave.ensures.pass ∙ ap (λ p. returned p (entries_of new.updaters new.events)) c.enter-locked.ensures.pass } in
+    let turn : Turned pass c.leave.new.pass old new = record { base = c.enter-locked.ensures.base; list = c.enter-locked.ensures.list; kept = c.add_start-started.ensures.kept; fits = c.add_start-started.ensures.fits; back = c.leave.ensures.pass ∙ ap (λ p. after_leave p (entries_of new.updaters new.events)) c.enter-locked.ensures.pass } in
     let after = after_turn (base_in pass).1 pass c.leave.new.pass old new c.pass.invariant.0 turn in
     let same = same_starts (events_of pass.seen) old.events (no_start pass old c.pass.invariant.0 c.enter-locked.ensures.base c.enter-locked.ensures.list) in
     let more = ap starts (after.2 ∙ c.in_ok-cycle.ensures.events.0) ∙ starts_start old.events in
@@ -95,7 +95,7 @@ returns-clause-seen g c =
     let pass = c.pass.inside.pass in
     let old = c.enter-locked.result.value.core in
     let new = c.add_start-started.new.core in
-    let turn : Turned pass c.leave.new.pass old new = record { base = c.enter-locked.ensures.base; list = c.enter-locked.ensures.list; kept = c.add_start-started.ensures.kept; fits = c.add_start-started.ensures.fits; back = c.leave.ensures.pass ∙ ap (λ p. returned p (entries_of new.updaters new.events)) c.enter-locked.ensures.pass } in
+    let turn : Turned pass c.leave.new.pass old new = record { base = c.enter-locked.ensures.base; list = c.enter-locked.ensures.list; kept = c.add_start-started.ensures.kept; fits = c.add_start-started.ensures.fits; back = c.leave.ensures.pass ∙ ap (λ p. after_leave p (entries_of new.updaters new.events)) c.enter-locked.ensures.pass } in
     let after = after_turn (base_in pass).1 pass c.leave.new.pass old new c.pass.invariant.0 turn in
     let added = c.in_ok-cycle.ensures.events in
     let seen = events_of c.leave.new.pass.seen in
@@ -111,7 +111,7 @@ returns-clause-fits g c =
     let pass = c.pass.inside.pass in
     let old = c.enter-locked.result.value.core in
     let new = c.add_start-started.new.core in
-    let turn : Turned pass c.leave.new.pass old new = record { base = c.enter-locked.ensures.base; list = c.enter-locked.ensures.list; kept = c.add_start-started.ensures.kept; fits = c.add_start-started.ensures.fits; back = c.leave.ensures.pass ∙ ap (λ p. returned p (entries_of new.updaters new.events)) c.enter-locked.ensures.pass } in
+    let turn : Turned pass c.leave.new.pass old new = record { base = c.enter-locked.ensures.base; list = c.enter-locked.ensures.list; kept = c.add_start-started.ensures.kept; fits = c.add_start-started.ensures.fits; back = c.leave.ensures.pass ∙ ap (λ p. after_leave p (entries_of new.updaters new.events)) c.enter-locked.ensures.pass } in
     let after = after_turn (base_in pass).1 pass c.leave.new.pass old new c.pass.invariant.0 turn in
     subst (λ (p : PassState). All (EventFits p.updaters (length p.values)) (events_of c.leave.new.pass.seen)) c.pass.view_is
     (subst (λ (b : Base). All (EventFits b.1 (length b.0)) (events_of c.leave.new.pass.seen)) after.1 after.0.fits)

@@ -5,7 +5,7 @@ use Rattle.air_base.specs.Numbers.{number_of}
 use Rattle.air_base.specs.NumberLists.{list_of}
 use Rattle.update_texts.specs.KeptLists.{items_seen, see_item}
 use Rattle.air_base.proofs.ListFronts.{after_short, list_bad, list_empty, list_last, list_more}
-use Rattle.air_base.specs.ReadParts.{joined, spelled}
+use Rattle.air_base.specs.ReadParts.{part_values, prepend}
 use Rattle.air_base.proofs.PlainNumbers.{from_place}
 use Rattle.update_texts.proofs.SeenFacts.{items_more, read_none, read_some}
 use Rattle.update_texts.proofs.item_lists.ItemList.read.Goals as goal
@@ -24,7 +24,7 @@ returns-then-text-place c =
 pub loop-item-init : goal.loop-item-init
 loop-item-init c =
     let to = c.read_plain-place.ensures in
-    (to.0, to.1, ap (λ l. joined to.0 (spelled number_of l)) (from_place c.args.text.now c.read_plain-place.result) ∙ to.2.0 c.if-text-place.false)
+    (to.0, to.1, ap (λ l. prepend to.0 (part_values number_of l)) (from_place c.args.text.now c.read_plain-place.result) ∙ to.2.0 c.if-text-place.false)
 
 pub returns-in_default : goal.returns-in_default
 returns-in_default c =

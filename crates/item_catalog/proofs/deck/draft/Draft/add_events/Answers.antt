@@ -5,7 +5,7 @@ use Rattle.air_base.specs.NumberLists.{list_of}
 use Rattle.air_history.specs.UpdateLists.{UpdateLists}
 use Rattle.air_model.specs.Decks.{count_parts}
 use Rattle.text_records.specs.Kinds.{with_spelled}
-use Rattle.item_catalog.specs.Drafts.{DraftValue, judged, with_entry}
+use Rattle.item_catalog.specs.Drafts.{DraftValue, record_kind, with_entry}
 use Rattle.item_catalog.specs.DeckEntries as e
 use Rattle.item_catalog.specs.DeckEntries.{script_by}
 use Rattle.item_catalog.specs.Faults.{script_passes, some_below}
@@ -45,17 +45,17 @@ abbrev with_script : DraftValue → List (Option ℕ) → DraftValue
 with_script d script = record d { script = script }
 
 judged_by : (d : DraftValue) (events : List (Option ℕ)) (b : Bool) → script_passes d.script events ≡ false
-    → b ≡ some_below MOST_UPDATERS (λ by. nat_lt (length (get_or d.updates by [])) (count_parts by (d.script ++ events))) → judged d (Ok (e.Script events)) ≡ cond b (Some fault.Overdrawn) None
+    → b ≡ some_below MOST_UPDATERS (λ by. nat_lt (length (get_or d.updates by [])) (count_parts by (d.script ++ events))) → record_kind d (Ok (e.Script events)) ≡ cond b (Some fault.Overdrawn) None
 judged_by d events b within over = rw (within, ← over) refl
 
 pub returns-then-overdraws : goal.returns-then-overdraws
 returns-then-overdraws c =
     let a = (goal.at.returns-then-overdraws c).After-overdraws in let r = read_events a in
-    ap (judged c.args.self.now) r.spelled ∙ judged_by c.args.self.now r.events true r.within (sym c.if-overdraws.true ∙ r.told)
+    ap (record_kind c.args.self.now) r.spelled ∙ judged_by c.args.self.now r.events true r.within (sym c.if-overdraws.true ∙ r.told)
 
 pub returns : goal.returns
 returns c =
     let a = (goal.at.returns c).After-overdraws in let r = read_events a in (
-      ap (judged c.args.self.now) r.spelled ∙ judged_by c.args.self.now r.events false r.within (sym c.if-overdraws.false ∙ r.told),
+      ap (record_kind c.args.self.now) r.spelled ∙ judged_by c.args.self.now r.events false r.within (sym c.if-overdraws.false ∙ r.told),
       ap (λ (d : DraftValue). with_script d c.read.new.self) c.self.view_is ∙ ap (with_script c.args.self.now) r.added ∙ sym (ap (with_spelled with_entry c.args.self.now) r.spelled),
     )

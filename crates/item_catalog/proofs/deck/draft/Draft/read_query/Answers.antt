@@ -3,7 +3,7 @@ use Rattle.csv.specs.Records.{fields_of}
 use Rattle.air_base.specs.Numbers.{number_of}
 use Rattle.air_base.specs.NumberLists.{list_of}
 use Rattle.item_catalog.specs.declared.faults.FaultKind.{FaultKind}
-use Rattle.item_catalog.specs.Drafts.{DraftValue, judged}
+use Rattle.item_catalog.specs.Drafts.{DraftValue, record_kind}
 use Rattle.item_catalog.specs.DeckEntries as e
 use Rattle.item_catalog.specs.DeckEntries.{Entry, query_by}
 use Rattle.text_records.specs.Kinds.{first_of}
@@ -42,7 +42,7 @@ list c =
 pub returns-in-Some-query_kind-clause-read : goal.returns-in-Some-query_kind-clause-read
 returns-in-Some-query_kind-clause-read c =
     let l = list (goal.at.returns-in-Some-query_kind-clause-read c).After-query_kind in
-    ap (judged c.args.self.now) l.spelled ∙ sym l.told ∙ c.in-Some-query_kind.is
+    ap (record_kind c.args.self.now) l.spelled ∙ sym l.told ∙ c.in-Some-query_kind.is
 
 abbrev result_of : ℕ → List ℕ → Result Entry FaultKind
 result_of reader asked = Ok (e.Query reader asked)
@@ -53,6 +53,6 @@ returns-clause-read c =
     let none = sym l.told ∙ c.in_default-query_kind.is in
     let kept = query_kept (length c.args.self.now.items) l.asked (length c.args.self.now.readers) c.in-Some-read_u64.reader c.args.self.now.query_count none in
     let items : c.from_vec.result ≡ l.asked = c.from_vec.ensures ∙ c.in_ok-items.ensures.items ∙ c.items.ensures ∙ ap (λ (s : ItemsSeen). s.items) l.seen ∙ kept in (
-      ap (judged c.args.self.now) l.spelled ∙ none,
+      ap (record_kind c.args.self.now) l.spelled ∙ none,
       l.spelled ∙ sym (ap (result_of c.in-Some-read_u64.reader) items),
     )

@@ -6,7 +6,7 @@ use Rattle.air_history.specs.declared.updates.Write.{Write}
 use Rattle.air_history.specs.UpdateLists.{UpdateLists}
 use Rattle.air_history.specs.UpdateRules.{update_fault}
 use Rattle.item_catalog.specs.declared.faults.FaultKind.{FaultKind}
-use Rattle.item_catalog.specs.Drafts.{DraftValue, judged}
+use Rattle.item_catalog.specs.Drafts.{DraftValue, record_kind}
 use Rattle.item_catalog.specs.DeckEntries as e
 use Rattle.item_catalog.specs.DeckEntries.{Entry, update_by}
 use Rattle.text_records.specs.Kinds.{first_of}
@@ -54,7 +54,7 @@ lists c =
 pub returns-in-Some-update_kind-clause-read : goal.returns-in-Some-update_kind-clause-read
 returns-in-Some-update_kind-clause-read c =
     let l = lists (goal.at.returns-in-Some-update_kind-clause-read c).After-update_kind in
-    ap (judged c.args.self.now) l.spelled ∙ sym l.told ∙ c.in-Some-update_kind.is
+    ap (record_kind c.args.self.now) l.spelled ∙ sym l.told ∙ c.in-Some-update_kind.is
 
 -- An update of two lists, and what a record spells by it.
 abbrev lists_of : List ℕ → List Write → UpdateLists
@@ -85,6 +85,6 @@ returns-clause-read c =
     let reads : c.items.result.now ≡ l.rs = c.items.ensures ∙ reads_kept a l c.in_default-update_kind.is in
     let writes : c.writes.result.now ≡ l.ws = c.writes.ensures ∙ writes_kept a l c.in_default-update_kind.is in
     let made : c.in_ok-update.update ≡ record { reads = l.rs; writes = l.ws } = c.in_ok-update.ensures ∙ ap (λ r. lists_of r c.writes.result.now) reads ∙ ap (λ w. lists_of l.rs w) writes in (
-      ap (judged c.args.self.now) l.spelled ∙ none_told a l c.in_default-update_kind.is,
+      ap (record_kind c.args.self.now) l.spelled ∙ none_told a l c.in_default-update_kind.is,
       l.spelled ∙ sym (ap (λ (u : UpdateLists). result_of c.in-Some-read_u64.by u) made),
     )
