@@ -6,9 +6,7 @@ pub mod Told
 pub mod Reading
 pub mod Calls
 pub mod Memory
-pub mod Written
 pub mod Masts
-pub mod Recordings
 pub mod MemoryMasts
 pub mod Ears
 pub mod MemoryEars

@@ -4,7 +4,7 @@ use Rattle.std.specs.Prelude.{◌≡◌, length, map, true, nat_lt, ◌+◌, ◌
 use Rattle.std.specs.Cmp.Lexicographic.{pointwise}
 use Rattle.std.specs.Global.{Global}
 use Rattle.std.specs.List.{find}
-use Rattle.air_devices.specs.Written.{Written}
+use Rattle.byte_rooms.specs.Written.{Written}
 use Rattle.air_devices.specs.Calls.{AreNew, IsNextCall, is_next_listed}
 use Rattle.air_devices.specs.Contents.{Contents}
 use Rattle.air_devices.specs.Counts.{Faults, one_count}

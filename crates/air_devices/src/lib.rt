@@ -5,15 +5,13 @@
 //! answer. `memory_shelf`, `memory_mast` and `memory_ear` are forms in memory, which tell all that they hold and fail where they
 //! are told to (`calls`); `file_shelf` is a shelf over real files and standard output, `udp_mast` and `udp_ear` are a mast and an ear
 //! over UDP on this machine alone, and each keeps what the system said of its last failure (`file_failures`, `net_failures`).
-//! `reading` reads a whole file through any shelf. `tape_room` is a tape that grows in memory that was taken at once. `gates` has
-//! what is called round what jobs do.
+//! `reading` reads a whole file through any shelf. `gates` has what is called round what jobs do.
 #![tactic(auto)]
 
 mod calls;
 pub mod ears;
 pub mod file_failures;
 pub mod file_shelf;
-mod fixed_bytes;
 pub mod gates;
 pub mod masts;
 pub mod memory_ear;
@@ -23,7 +21,6 @@ pub mod net_failures;
 mod read_files;
 pub mod reading;
 pub mod shelves;
-pub mod tape_room;
 pub mod udp_ear;
 pub mod udp_mast;
 
@@ -38,6 +35,5 @@ pub use memory_shelf::MemShelf;
 pub use net_failures::{NetCall, NetFailure};
 pub use reading::{ReadFileError, read_file};
 pub use shelves::{Failed, Shelf};
-pub use tape_room::TapeRoom;
 pub use udp_ear::UdpEar;
 pub use udp_mast::UdpMast;

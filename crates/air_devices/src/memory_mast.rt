@@ -14,8 +14,8 @@ ghost use Rattle.air_devices.specs.MemoryMasts.{IsNewMast, MadeCall, is_send_ref
 use crate::calls::Calls;
 use crate::masts::Mast;
 use crate::shelves::Failed;
-use crate::tape_room::TapeRoom;
 use air_base::NoMemory;
+use byte_rooms::TapeRoom;
 use std::alloc::Global;
 
 /// The buckets that were sent, as a tape, and whether the end was.

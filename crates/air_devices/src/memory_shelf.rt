@@ -15,9 +15,9 @@ ghost use Rattle.air_devices.specs.Told.{AppendsPart, Becomes};
 ghost use Rattle.air_devices.specs.Memory.{IsNewShelf, MadeCall, added_bytes, empty_output, faults_of, file_in, given_bytes, given_named, output_in, overflows_output, overflows_print, shelved_of, spells, told_by, unpicked_file};
 
 use crate::calls::Calls;
-use crate::fixed_bytes::FixedBytes;
 use crate::shelves::{Failed, Shelf};
 use air_base::NoMemory;
+use byte_rooms::FixedBytes;
 use std::alloc::Global;
 
 /// A file: its name, its bytes, and the place up to which it was read.

@@ -4,7 +4,8 @@
 
 use crate::played::{Played, first_other_case};
 use air_base::limits::MOST_DATAGRAM_BYTES;
-use air_devices::{Failed, Mast, MemMast, TapeRoom};
+use air_devices::{Failed, Mast, MemMast};
+use byte_rooms::TapeRoom;
 use std::alloc::Global;
 use std::test::Fail;
 

@@ -43,7 +43,7 @@ fn run_update(update: &Update, values: &mut [u64])
 }
 
 /// The value that a write puts, from the values before it.
-#[tactic(auto, unfolding(crate::specs::Tables::based))]
+#[tactic(auto, unfolding(crate::specs::Tables::value_on_base))]
 fn written_value(values: &[u64], write: &Write) -> u64
     requires { IfSome write.now.base (λ b. b < length values.now) }
     ensures { result ≡ value_of_write (values_of values.now) write.now }

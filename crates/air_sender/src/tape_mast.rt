@@ -2,15 +2,16 @@
 //!
 //! A send fails exactly if its record has no room; aiming and finishing never fail. No call takes memory.
 
-ghost use Rattle.std.specs.Prelude.{◌≡◌, ◌<◌, ◌^◌, ◌↔◌, [], ◌∷◌, length, Some, IfOk, IsErr, IsOk, IsTrue, OnErr, OnOk};
+ghost use Rattle.std.specs.Prelude.{◌≡◌, ◌<◌, ◌^◌, ◌↔◌, [], ◌∷◌, length, None, Some, IfOk, IsErr, IsOk, IsTrue, OnErr, OnOk};
 ghost use Rattle.air_model.specs.Tapes.{tape_of};
 ghost use Rattle.air_devices.specs.Counts.{HasCause};
 ghost use Rattle.air_devices.specs.Masts.{Changes, fresh_mast, with_buckets, with_end};
-ghost use Rattle.air_devices.specs.Recordings.{overflows_record};
+ghost use Rattle.byte_rooms.specs.Recordings.{no_records, overflows_record};
 ghost use Rattle.air_sender.specs.TapeMasts.{masted_of, told_by};
 
 use air_base::NoMemory;
-use air_devices::{Failed, Mast, TapeRoom};
+use air_devices::{Failed, Mast};
+use byte_rooms::TapeRoom;
 use std::alloc::Global;
 
 /// A tape of the sent buckets, and the room for it.
@@ -42,6 +43,14 @@ impl TapeMast {
         ensures { result.now ≡ tape_of (told_by self.now).buckets }
     {
         self.tape.as_slice()
+    }
+
+    /// Forgets what was sent; the room stays.
+    pub fn clear(&mut self)
+        ensures { self.new ≡ record self.old { tape = no_records self.old.tape.room; ended = None } }
+    {
+        self.tape.clear();
+        self.ended = None;
     }
 }
 

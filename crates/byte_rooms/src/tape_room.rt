@@ -5,7 +5,7 @@
 
 ghost use Rattle.std.specs.Prelude.{◌≡◌, ◌≤◌, ◌<◌, ◌+◌, ◌^◌, ◌++◌, [], ◌∷◌, length, not, if◌then◌else◌, vec_capacity, vec_len, IfOk};
 ghost use Rattle.air_model.specs.Tapes.{record_bytes, tape_of};
-ghost use Rattle.air_devices.specs.Recordings.{no_records, overflows_record};
+ghost use Rattle.byte_rooms.specs.Recordings.{no_records, overflows_record};
 
 use air_base::NoMemory;
 use std::alloc::Global;
@@ -20,7 +20,7 @@ pub struct TapeRoom {
 }
 
 impl Model for TapeRoom {
-    ghost use Rattle.air_devices.specs.Recordings.{IsTapeRoom, Recording, recording_in};
+    ghost use Rattle.byte_rooms.specs.Recordings.{IsTapeRoom, Recording, recording_in};
 
     ghost Value = { Recording };
 
@@ -54,6 +54,14 @@ impl TapeRoom {
         ensures { result ≡ length self.now.records }
     {
         self.count
+    }
+
+    /// Forgets the records; the room stays.
+    pub fn clear(&mut self)
+        ensures { self.new ≡ no_records self.old.room }
+    {
+        self.tape.clear();
+        self.count = 0;
     }
 
     /// Adds a record, where there is room for it and its length, and tells whether there was.

@@ -5,7 +5,7 @@ use Rattle.std.proofs.lemmas.Slice.{take-put_mid}
 use Rattle.std.specs.Vec.{with_items}
 use Rattle.std.specs.Global.{Global}
 use Rattle.std.specs.Prelude.{Vec}
-use Rattle.air_devices.specs.Written.{Written}
+use Rattle.byte_rooms.specs.Written.{Written}
 use borrow.Rule.Slice.PartMut.{put_mid}
 
 -- A piece in the middle of a list leaves its length.

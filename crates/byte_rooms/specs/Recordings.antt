@@ -1,7 +1,7 @@
 -- Records in a room of fixed size, as contracts see them, and what always holds of the fields behind them.
 use Rattle.std.specs.Prelude.{◌≡◌, ◌≤◌, ◌+◌, nat_lt, ℕ, Bool, List, [], length, vec_capacity}
 use Rattle.air_model.specs.Tapes.{IsTape, tape_of, tape_read}
-use Rattle.air_devices.specs.declared.tape_room.TapeRoom.TheInside.{Inside}
+use Rattle.byte_rooms.specs.declared.tape_room.TapeRoom.TheInside.{Inside}
 
 -- The records, and how many bytes there is room for in all; a record takes its own bytes and the four of its length.
 pub record Recording : Type 0 where

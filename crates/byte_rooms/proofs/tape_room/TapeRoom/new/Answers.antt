@@ -1,8 +1,8 @@
 use Rattle.std.proofs.Common.{[], length, refl, ap, arith}
 use Rattle.std.proofs.lemmas.List.Elements.{All-nil}
 use Rattle.air_model.specs.Tapes.{tape_of}
-use Rattle.air_devices.proofs.RecordFacts.{recording_is, tape_room}
-use Rattle.air_devices.proofs.tape_room.TapeRoom.new.Goals as goal
+use Rattle.byte_rooms.proofs.RecordFacts.{recording_is, tape_room}
+use Rattle.byte_rooms.proofs.tape_room.TapeRoom.new.Goals as goal
 
 pub invariant_of-result : goal.invariant_of-result
 unfolding tape_of

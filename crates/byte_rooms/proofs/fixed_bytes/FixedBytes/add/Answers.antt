@@ -1,6 +1,6 @@
 use Rattle.std.proofs.Common.{◌≡◌, ◌+◌, ◌-◌, length, arith, min, rules}
-use Rattle.air_devices.proofs.WrittenFacts.{piece_added, piece_held}
-use Rattle.air_devices.proofs.fixed_bytes.FixedBytes.add.Goals as goal
+use Rattle.byte_rooms.proofs.WrittenFacts.{piece_added, piece_held}
+use Rattle.byte_rooms.proofs.fixed_bytes.FixedBytes.add.Goals as goal
 
 pub returns-clause-added : goal.returns-clause-added
 returns-clause-added c =

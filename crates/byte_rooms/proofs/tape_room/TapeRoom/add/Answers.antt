@@ -1,8 +1,8 @@
 use Rattle.std.proofs.Common.{◌≡◌, ◌∙◌, ◌+◌, ◌++◌, [], ◌∷◌, length, ap, arith, length-append}
 use Rattle.air_model.specs.Tapes.{tape_of, tape_read}
-use Rattle.air_devices.specs.Recordings.{Recording}
-use Rattle.air_devices.proofs.RecordFacts.{length_push, many_bytes, recording_is, tape_more, tape_room}
-use Rattle.air_devices.proofs.tape_room.TapeRoom.add.Goals as goal
+use Rattle.byte_rooms.specs.Recordings.{Recording}
+use Rattle.byte_rooms.proofs.RecordFacts.{length_push, many_bytes, recording_is, tape_more, tape_room}
+use Rattle.byte_rooms.proofs.tape_room.TapeRoom.add.Goals as goal
 
 pub overflow_add-self : goal.overflow_add-self
 overflow_add-self c =

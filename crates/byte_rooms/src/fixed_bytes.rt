@@ -17,7 +17,7 @@ pub struct FixedBytes {
 
 impl Model for FixedBytes {
     ghost use Rattle.std.specs.Prelude.{◌≤◌, length, take};
-    ghost use Rattle.air_devices.specs.Written.{Written};
+    ghost use Rattle.byte_rooms.specs.Written.{Written};
 
     ghost Value = { Written };
 

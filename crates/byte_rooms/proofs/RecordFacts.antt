@@ -7,8 +7,8 @@ use Rattle.std.proofs.lemmas.Grind.{flat_map-append}
 use Rattle.std.specs.Int.{bytes_high_first}
 use Rattle.air_model.specs.Tapes.{IsTape, record_bytes, tape_of, tape_read}
 use Rattle.air_model.proofs.TapeFacts.{length_record, whole_read}
-use Rattle.air_devices.specs.Recordings.{IsTapeRoom, Recording, recording_in}
-use Rattle.air_devices.specs.declared.tape_room.TapeRoom.TheInside.{Inside}
+use Rattle.byte_rooms.specs.Recordings.{IsTapeRoom, Recording, recording_in}
+use Rattle.byte_rooms.specs.declared.tape_room.TapeRoom.TheInside.{Inside}
 
 -- The tape of some records is read as these.
 pub read_whole : (tape : List ℕ) (rs : List (List ℕ)) → IsTape tape rs → (tape_read tape).records ≡ rs

@@ -1,0 +1,2 @@
+pub mod WrittenFacts
+pub mod RecordFacts
