@@ -32,7 +32,7 @@ abbrev pub TakesJust : ℕ → Option (List (List ℕ)) → Option (List (List �
 TakesJust count None now = ⊤
 TakesJust count (Some waiting) now = (count ≤ length waiting) × (now ≡ Some (drop count waiting))
 
--- This was heard until the end, or until so many datagrams were heard: each has a byte at least, and no more than are heard.
+-- Where it is told, this was heard until the end, or until so many datagrams were heard: each has a byte at least, and no more than are heard.
 pub record IsHeard (most : ℕ) (before now : Option (List (List ℕ))) (heard : List (List ℕ)) : Type 0 where
   pub few : length heard ≤ most
   pub each : All (λ bytes. (1 ≤ length bytes) × (length bytes ≤ MOST_HEARD_BYTES)) heard

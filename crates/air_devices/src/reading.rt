@@ -1,7 +1,7 @@
 //! Whole files, read through any shelf up to a stated limit.
 //!
 //! The loop ends by itself: each turn takes at least one byte or returns, and none goes past the limit by more
-//! than one byte. The answer for a file that can't be read names the count of faults that rose.
+//! than one byte. The answer for a file that can't be read says which count of faults rose.
 
 ghost use Rattle.std.specs.Prelude.{◌≡◌, ◌≢◌, ◌≤◌, Err, length, IfOk, OnOk};
 ghost use Rattle.std.specs.Io.KnownBytes.{IsAtEnd};

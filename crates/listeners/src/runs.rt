@@ -26,7 +26,7 @@ use std::thread;
 use std::thread::Threads;
 
 /// In how many threads readers hear at most.
-const MOST_THREADS: usize = 16;
+pub const MOST_THREADS: usize = 16;
 
 /// A reader that hears a tape, and whether there was memory for all that it heard.
 #[derive(Drop)]
