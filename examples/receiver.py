@@ -1,27 +1,21 @@
 #!/usr/bin/env python3
-"""A receiver in plain Python, written from docs/FORMATS.md alone: it lets the readers of a deck hear a tape, or the air.
+"""A receiver in plain Python, written from docs/FORMATS.md alone: it decodes buckets, and lets the readers of a deck hear a tape.
 
-usage: examples/receiver.py DECK TAPE         prints what `airdisk tune DECK TAPE` prints
-       examples/receiver.py DECK udp PORT     hears datagrams at 127.0.0.1:PORT, and prints what `airdisk listen DECK PORT` prints; but
-                                              first each bucket as it comes, in a line without a comma: <item>@<cycle>=<value>, or
-                                              `idle`, or `foreign`, or its fault
-       examples/receiver.py --tape TAPE       prints each record of a tape: what its bucket says, or its fault
-       examples/receiver.py --tape udp PORT   prints so each datagram, as it comes
+usage: examples/receiver.py DECK TAPE      prints what `airdisk tune DECK TAPE` prints
+       examples/receiver.py --tape TAPE    prints what each record of a tape says, or its fault
 
-The deck is taken to be without faults. Where the tape is cut, the line of that is printed, and the status is 6. An empty datagram is the
-end mark; an interrupt (Ctrl-C) sends one.
+Where the tape is cut, the line of that is printed, and the status is 6. receiver_deck.py has what it needs of a deck.
 """
-import csv
-import signal
-import socket
 import struct
 import sys
 from collections import namedtuple
-from functools import reduce
-from math import gcd
 
-Bucket = namedtuple("Bucket", "kind edition count cycle slot item value entries")
-IDLE, COLUMN, VECTOR = 0, 1, 2
+from receiver_deck import IDLE, VECTOR, read_deck
+
+
+class Bucket(namedtuple("Bucket", "kind edition count cycle slot item value entries")):
+    def __str__(self):
+        return " ".join(f"{name}={it}" for name, it in self._asdict().items())
 
 
 def decode(data):
@@ -46,74 +40,14 @@ def decode(data):
 
 def records(tape):
     """The records of a tape; where it is cut the program ends."""
-    at, found = 0, []
+    at = 0
     while at < len(tape):
         end = at + 4 + int.from_bytes(tape[at:at + 4], "big")
         if at + 4 > len(tape) or end > len(tape):
             print(f"fault,6,{at}")
             sys.exit(6)
-        found.append(tape[at + 4:end])
+        yield tape[at + 4:end]
         at = end
-    return found
-
-
-def datagrams(port, most):
-    """What comes to the port, as it comes, up to the end mark or to so many datagrams; each is cut to 2,048 bytes."""
-    with socket.socket(socket.AF_INET, socket.SOCK_DGRAM) as ear:
-        ear.setsockopt(socket.SOL_SOCKET, socket.SO_RCVBUF, 1 << 22)
-        ear.bind(("127.0.0.1", port))
-        signal.signal(signal.SIGINT, lambda *_: ear.sendto(b"", ear.getsockname()))
-        while most > 0 and (data := ear.recv(2048)):
-            yield data
-            most -= 1
-
-
-class Deck:
-    """What a receiver needs of a deck: its readers with their queries, and which item stands in which slot."""
-
-    def __init__(self, rows):
-        of = lambda tag: [row[1:] for row in rows if row[0] == tag]
-        rates, disks, settings = [int(row[2]) for row in of("item")], of("disk"), dict(of("set"))
-        self.policy, self.hears = settings.get("policy", "F"), int(settings.get("hears", 1000000))
-        self.readers = [(int(room), int(age), int(tries), []) for room, age, tries in of("reader")]
-        for reader, items in of("query"):
-            self.readers[int(reader)][3].append([int(item) for item in items.split()])
-        step = lambda d: (len(disks) - d) * int(settings.get("delta", 0)) + 1
-        frequencies = [step(d) if freq == "-" else int(freq) for d, (_, freq) in enumerate(disks, 1)]
-        order = sorted(range(len(rates)), key=lambda item: (-rates[item], item))
-        minors, parts = reduce(lambda a, b: a * b // gcd(a, b), frequencies), []
-        self.slots, self.pix = [], [0] * len(rates)
-        for size, frequency in zip((int(size) for size, _ in disks), frequencies):
-            chunks = minors // frequency
-            length = -(-size // chunks)
-            parts.append((chunks, length, order[:size] + [None] * (chunks * length - size)))
-            for item in order[:size]:
-                self.pix[item] = rates[item] * chunks
-            order = order[size:]
-        for minor in range(minors):
-            for chunks, length, places in parts:
-                self.slots += places[minor % chunks * length:][:length]
-
-    def fits(self, bucket):
-        if bucket.edition != 0 or bucket.slot >= len(self.slots) or bucket.count != len(self.pix):
-            return False
-        item, kind = self.slots[bucket.slot], COLUMN if self.policy == "F" else VECTOR
-        return bucket.kind == IDLE if item is None else (bucket.kind, bucket.item) == (kind, item)
-
-    def clashes(self, held, new):
-        """The items of the held reads with which a new one clashes."""
-        stale = [read.item for read in held if new.entries[read.item] >= read.cycle]
-        if self.policy == "F":
-            return stale + [read.item for read in held if read.entries[new.item] >= new.cycle]
-        if self.policy == "R":
-            return stale if held and new.entries[new.item] >= held[0].cycle else []
-        last = [read for read in held if read.cycle == max(read.cycle for read in held)]
-        if not held or new.cycle >= last[0].cycle:
-            return stale
-        return [read.item for read in last] if last[0].entries[new.item] >= new.cycle else []
-
-    def is_late(self, held, new):
-        return self.policy == "R" and held != [] and new.cycle < held[-1].cycle
 
 
 class Reader:
@@ -139,6 +73,7 @@ class Reader:
             self.end("accept")
 
     def settle(self):
+        """Reads the wanted item from its copy, as long as there is one, and drops a copy that may not be read."""
         while (copy := self.copies.get(self.wanted())) is not None:
             if self.newest - copy.cycle > self.age or self.deck.is_late(self.held, copy) or self.deck.clashes(self.held, copy):
                 del self.copies[copy.item]
@@ -147,6 +82,7 @@ class Reader:
                 self.hold(copy)
 
     def open(self, new):
+        """Reads a wanted bucket, or ends the attempt; and keeps a copy, and of too many those of greatest worth."""
         clashes = self.deck.clashes(self.held, new)
         if clashes:
             self.end("abort", f",{new.item}@{new.cycle},{min(clashes)}", again=self.attempt < self.tries)
@@ -155,7 +91,7 @@ class Reader:
             self.hold(new)
         self.copies[new.item] = new
         if len(self.copies) > self.room:
-            del self.copies[max(self.copies, key=lambda item: (-self.deck.pix[item], item))]
+            del self.copies[max(self.copies, key=lambda item: (-self.deck.worth[item], item))]
 
     def hear(self, bucket):
         self.settle()
@@ -171,55 +107,34 @@ class Reader:
         self.counts[count] += 1
 
     def finish(self):
-        """All that is left stays unfinished."""
+        """All that is left stays unfinished; the lines."""
         self.settle()
         while self.query < len(self.queries):
             self.end("unfinished")
+        return self.lines
 
 
-def fields(bucket):
-    """All that a bucket says, or its fault."""
-    return bucket if isinstance(bucket, str) else " ".join(f"{name}={it}" for name, it in bucket._asdict().items())
-
-
-def brief(deck, bucket):
-    """What a bucket is to the readers of a deck."""
-    if isinstance(bucket, str):
-        return bucket
-    if not deck.fits(bucket):
-        return "foreign"
-    return "idle" if bucket.kind == IDLE else f"{bucket.item}@{bucket.cycle}={bucket.value}"
-
-
-def deck_in(name):
-    csv.field_size_limit(1 << 27)
-    with open(name, encoding="utf-8-sig", newline="") as file:
-        return Deck([row for row in csv.reader(file) if row])
-
-
-def records_in(name):
-    with open(name, "rb") as file:
-        return records(file.read())
-
-
-def main(words):
-    on_air = len(words) == 3 and words[1] == "udp"
-    if len(words) != 2 and not on_air:
-        sys.exit(__doc__)
-    deck = None if words[0] == "--tape" else deck_in(words[0])
-    readers = [Reader(deck, number) for number in range(len(deck.readers))] if deck else []
-    for data in datagrams(int(words[2]), deck.hears if deck else sys.maxsize) if on_air else records_in(words[1]):
-        bucket = decode(data)
-        if on_air or not deck:
-            print(brief(deck, bucket) if deck else fields(bucket), flush=on_air)
+def report(deck, buckets):
+    """Lets the readers of a deck hear buckets, and prints what they made of them."""
+    readers = [Reader(deck, number) for number in range(len(deck.readers))]
+    for bucket in buckets:
         for reader in readers:
             reader.hear(bucket)
     for reader in readers:
-        reader.finish()
-    for line in [line for reader in readers for line in reader.lines]:
-        print(line)
+        print("".join(f"{line}\n" for line in reader.finish()), end="")
     for reader in readers:
         print(f"counts,{reader.number}," + ",".join(map(str, reader.counts.values())))
+
+
+def main(words):
+    if len(words) != 2:
+        sys.exit(__doc__)
+    with open(words[1], "rb") as file:
+        buckets = [decode(data) for data in records(file.read())]
+    if words[0] != "--tape":
+        report(read_deck(words[0]), buckets)
+    else:
+        print("".join(f"{bucket}\n" for bucket in buckets), end="")
 
 
 if __name__ == "__main__":
