@@ -3,13 +3,13 @@
 -- `place_is` and `read_is` say what a text is that spells one, `place_made` and `read_made` that such a text does. `front_is`
 -- answers the reader of the first part, the others that of a whole place.
 use Rattle.std.proofs.Common.{◌≡◌, ◌++◌, ◌∷◌, [], ℕ, List, Option, Some, None, Bool, true, false, cond, not, refl, sym, ap, ◌∙◌, append_assoc, nat_lt, arith}
-use Rattle.std.specs.Prelude.{◌==◌, ◌^◌}
+use Rattle.std.specs.Prelude.{◌==◌, ◌^◌, drop}
 use Rattle.std.specs.Char.{is_ascii_digit}
 use Rattle.std.specs.List.{list_all}
 use Rattle.std.proofs.lemmas.List.{append-nil}
 use Rattle.std.proofs.lemmas.List.Folds.{list_all-append}
 use Rattle.std.proofs.lemmas.Bool.Decides.{nat_tests}
-use Rattle.air_base.specs.Fronts.{FrontIs, after_digits, after_part, behind, digits_of, first_part, front, is_no_space}
+use Rattle.air_base.specs.Fronts.{FrontIs, after_digits, after_part, begins, behind, digits_of, first_part, front, is_no_space}
 use Rattle.air_base.specs.Numbers.{number_of}
 use Rattle.air_base.specs.Pieces.{cut_at, two_of}
 use Rattle.air_base.specs.declared.verdicts.ReadOf.{ReadOf}
@@ -18,7 +18,7 @@ use Rattle.air_base.proofs.FrontFacts.{behind_past, front_behind, front_past}
 use Rattle.air_base.proofs.NumberFronts.{after_byte, all_such, part_with, spelled_digits}
 use Rattle.text_records.specs.Spelled.{◌>>=◌}
 use Rattle.report_reading.specs.LineTexts.{below, item_of, place_of, read_of, short_of}
-use Rattle.report_reading.specs.Steps.ReadFronts.{behind_byte, leading_place, leading_read}
+use Rattle.report_reading.specs.Steps.ReadFronts.{leading_place, leading_read}
 
 -- ---- numbers
 
@@ -159,6 +159,10 @@ pub record Led (text : List ℕ) (item cycle : ℕ) (rest : List ℕ) : Type 0 w
   pub cycle_is : short_of (digits_of more) ≡ Some cycle
   pub rest_is : after_digits more ≡ rest
 
+-- The text behind this byte, where it stands at the front.
+abbrev behind_byte : ℕ → List ℕ → Option (List ℕ)
+behind_byte byte text = cond (begins byte text) (Some (drop 1 text)) None
+
 behind_is : (byte : ℕ) (text more : List ℕ) → behind_byte byte text ≡ Some more → text ≡ byte ∷ more
 behind_is byte [] more h = cc h
 behind_is byte (c ∷ cs) more h = by (c == byte) refl h
@@ -224,7 +228,6 @@ part_whole : (text : List ℕ) → text ≡ first_part text ++ after_part text
 unfolding first_part after_part
 part_whole text = front_behind is_no_space text
 
--- Behind digits stands what follows the part.
 digit_no_space : (c : ℕ) → is_ascii_digit c ≡ true → is_no_space c ≡ true
 digit_no_space c h = grind (arith, nat_tests)
 

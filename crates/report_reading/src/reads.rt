@@ -4,9 +4,9 @@ ghost use Rattle.std.specs.Prelude.{◌≡◌, ◌<◌, ◌^◌, IfOk, MatchOpti
 ghost use Rattle.air_base.specs.Fronts.{FrontIs, after_digits, digits_of};
 ghost use Rattle.air_base.specs.NumberLists.{list_of};
 ghost use Rattle.report_reading.specs.LineTexts.{below, item_of, place_of, read_of, short_of};
-ghost use Rattle.report_reading.specs.Steps.ReadFronts.{behind_byte, leading_place, leading_read};
+ghost use Rattle.report_reading.specs.Steps.ReadFronts.{leading_place, leading_read};
 
-use air_base::{ReadOf, Reads, leading_number, number_front, read_u64};
+use air_base::{ReadOf, Reads, after_byte, leading_number, number_front, read_u64};
 use std::alloc::{AllocFailed, Global};
 
 /// A number as an item, where it is one.
@@ -45,16 +45,6 @@ pub fn read_short(text: &[u8]) -> Option<u32>
     to_short(read_u64(text)?)
 }
 
-/// The text behind this byte, where it stands at the front.
-fn behind_byte(byte: u8, text: &[u8]) -> Option<&[u8]>
-    ensures { option_map (λ rest. rest.now) result ≡ behind_byte byte text.now }
-{
-    match text.split_first() {
-        Some((first, rest)) if *first == byte => Some(rest),
-        _ => None,
-    }
-}
-
 /// The item at the front, and the text behind its digits.
 #[tactic(auto, unfolding(crate::specs::LineTexts::item_of))]
 fn leading_item(text: &[u8]) -> Option<(u16, &[u8])>
@@ -81,7 +71,7 @@ fn leading_place(text: &[u8]) -> Option<(u16, u32, &[u8])>
     ensures { option_map (λ f. (f.0, f.1, f.2.now)) result ≡ leading_place text.now }
 {
     let (item, rest) = leading_item(text)?;
-    let more = behind_byte(b'@', rest)?;
+    let more = after_byte(rest, b'@')?;
     let (cycle, rest) = leading_short(more)?;
     Some((item, cycle, rest))
 }
@@ -105,7 +95,7 @@ fn leading_read(text: &[u8]) -> Option<(ReadOf, &[u8])>
     ensures { option_map (λ f. (f.0, f.1.now)) result ≡ leading_read text.now }
 {
     let (item, cycle, rest) = leading_place(text)?;
-    let more = behind_byte(b'=', rest)?;
+    let more = after_byte(rest, b'=')?;
     let (value, rest) = number_front(more)?;
     Some((ReadOf { item, cycle, value }, rest))
 }

@@ -1,21 +1,16 @@
 -- For private steps alone. The place and the read at the front of a text, by the digits there and what follows them.
-use Rattle.std.specs.Prelude.{◌==◌, ℕ, List, [], ◌∷◌, Option, Some, None, if◌then◌else◌}
-use Rattle.air_base.specs.Fronts.{after_digits, after_part, digits_of, first_part}
+use Rattle.std.specs.Prelude.{ℕ, List, Option, Some, None, drop, if◌then◌else◌}
+use Rattle.air_base.specs.Fronts.{after_digits, after_part, begins, digits_of, first_part}
 use Rattle.air_base.specs.Numbers.{number_of}
 use Rattle.air_base.specs.declared.verdicts.ReadOf.{ReadOf}
 use Rattle.text_records.specs.Spelled.{◌>>=◌}
 use Rattle.report_reading.specs.LineTexts.{item_of, short_of}
 
--- The text behind this byte, where it stands at the front.
-abbrev pub behind_byte : ℕ → List ℕ → Option (List ℕ)
-behind_byte byte [] = None
-behind_byte byte (c ∷ cs) = if c == byte then Some cs else None
-
 -- The item and the cycle of the place at the front, and the text behind it.
 unfoldable pub leading_place : List ℕ → Option (ℕ × ℕ × List ℕ)
 leading_place text = do
   item ← item_of (digits_of text)
-  more ← behind_byte 64 (after_digits text)
+  more ← if begins 64 (after_digits text) then Some (drop 1 (after_digits text)) else None
   cycle ← short_of (digits_of more)
   Some (item, cycle, after_digits more)
 
@@ -23,6 +18,6 @@ leading_place text = do
 unfoldable pub leading_read : List ℕ → Option (ReadOf × List ℕ)
 leading_read text = do
   place ← leading_place text
-  more ← behind_byte 61 place.2
+  more ← if begins 61 place.2 then Some (drop 1 place.2) else None
   value ← number_of (first_part more)
   Some (record { item = place.0; cycle = place.1; value = value }, after_part more)
