@@ -1,7 +1,8 @@
 //! The lines of reports read back from their texts, against a deck.
 //!
-//! A text is read record by record, each taken once: `lines` has what a record says, `reads` the lists of reads, `parsing` a
-//! record's line, and `sections` keeps the lines, where each fits the deck and those before it.
+//! A text is read record by record, each taken once. `lines` has what a record can say; `parsing` reads the line of a record,
+//! and `reads` the lists in it. `draft` and `rules` ask whether the line fits the deck and the lines before it, and a line that
+//! does is added to its section (`sections`).
 #![tactic(auto)]
 
 mod draft;
