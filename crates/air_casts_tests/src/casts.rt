@@ -1,6 +1,6 @@
 //! Casts of the deck to a mast in memory, with the calls of it that fail: aim, two buckets, the end.
 
-use crate::air::{BUCKET_0, BUCKET_1, deck_text, deck_and_program};
+use crate::air::{BUCKET_0, BUCKET_1, deck_and_program, deck_text};
 use air_casts::{RunFault, cast_run};
 use air_devices::{MemMast, OpenGate};
 use air_history::Event;

@@ -48,8 +48,8 @@ fn the_first_2048_bytes_of_a_longer_datagram_are_heard(rt: HostRuntime) -> Resul
     };
     let heard = heard_by(rt.alloc(), deck_text(false), &mut ear)?;
     let told: &[u8] = b"unfinished,0,0,1,\ncounts,0,0,0,0,1,0,0\n";
-    assert_eq!(rt; heard.is_ok_and(|text| text.as_slice() == told), true);
+    let as_told = heard.is_ok_and(|text| text.as_slice() == told);
     let cut = Some(Heard::Bucket(2_048));
-    assert_eq!(rt; (ear.first, MOST_HEARD_BYTES), (cut, 2_048));
+    assert_eq!(rt; (as_told, ear.first, MOST_HEARD_BYTES), (true, cut, 2_048));
     Ok(())
 }

@@ -3,7 +3,7 @@
 ghost use Rattle.std.specs.Prelude.{◌≡◌, ◌≤◌, length, All, IfOk, None};
 ghost use Rattle.air_base.specs.declared.limits.TheConstants.{MOST_DECK_BYTES};
 
-use crate::air::{BUCKET_0, BUCKET_1, deck_text, deck_and_program};
+use crate::air::{BUCKET_0, BUCKET_1, deck_and_program, deck_text};
 use air_casts::{HearFault, MOST_HEARD_BYTES, ear_sessions};
 use air_devices::{Ear, MemEar};
 use air_history::History;

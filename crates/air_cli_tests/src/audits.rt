@@ -1,8 +1,8 @@
 //! The command `audit`: what is found of each line, and which refusal comes first.
 
-use crate::cases::{Case, Part, Parts, first_other};
-use crate::first::{FIRST_CASE, FIRST_TAPE};
 use air_cli::Status;
+use air_cli_cases::cases::{Case, Part, Parts, first_other};
+use air_cli_cases::first::{FIRST_CASE, FIRST_TAPE};
 
 /// To audit the report in the file `tape` by the deck.
 const AUDIT: &[&str] = &["audit", "deck", "tape"];

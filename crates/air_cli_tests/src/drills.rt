@@ -2,9 +2,9 @@
 //!
 //! The wanted lines are from an independent program. No file is read, and nothing but the line is written.
 
-use crate::cases::{Case, Part, first_other};
-use crate::first::FIRST_CASE;
 use air_cli::Status;
+use air_cli_cases::cases::{Case, Part, first_other};
+use air_cli_cases::first::FIRST_CASE;
 
 /// The drill of a seed and a size prints this line.
 fn prints<'a>(shows: &'a str, words: &'a [&'a str], printed: &'a [Part<'a>]) -> Case<'a> {

@@ -1,8 +1,8 @@
 //! Refusals, each before those that come later in their order; none writes to the output.
 
-use crate::cases::{Case, Other, Part, Parts, difference, first_other, three_parts};
-use crate::first::{FIRST, FIRST_CASE, PLAN, SCRIPT, SCRIPT_TAPE, TUNE};
 use air_cli::Status;
+use air_cli_cases::cases::{Case, Other, Part, Parts, difference, first_other, three_parts};
+use air_cli_cases::first::{FIRST, FIRST_CASE, PLAN, SCRIPT, SCRIPT_TAPE, TUNE};
 use std::alloc::Global;
 use std::thread::Threads;
 

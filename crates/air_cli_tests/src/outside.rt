@@ -1,8 +1,8 @@
 //! Failing devices: what is printed and written then. A shelf's calls are numbered from 1.
 
-use crate::cases::{Case, Other, Part, Parts, difference, first_other};
-use crate::first::{FIRST_CASE, FIRST_REPORT, FIRST_TAPE, PLAN, SCRIPT, SCRIPT_TAPE, TUNE};
 use air_cli::Status;
+use air_cli_cases::cases::{Case, Other, Part, Parts, difference, first_other};
+use air_cli_cases::first::{FIRST_CASE, FIRST_REPORT, FIRST_TAPE, PLAN, SCRIPT, SCRIPT_TAPE, TUNE};
 use std::alloc::Global;
 use std::thread::Threads;
 

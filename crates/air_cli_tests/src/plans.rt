@@ -1,8 +1,8 @@
 //! The command `plan`.
 
-use crate::cases::{Case, Part, first_other};
-use crate::first::{FIRST_CASE, PLAN};
 use air_cli::Status;
+use air_cli_cases::cases::{Case, Part, first_other};
+use air_cli_cases::first::{FIRST_CASE, PLAN};
 
 /// The second part of the row of a minor cycle that airs all of 256 items.
 const ALL_ITEMS: &str =

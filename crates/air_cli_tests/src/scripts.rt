@@ -1,7 +1,7 @@
 //! The command `script`: its report and its tape.
 
-use crate::cases::{Case, Part, Parts, first_other};
-use crate::first::{FIRST_CASE, FIRST_REPORT, FIRST_TAPE, SCRIPT_TAPE, script_case};
+use air_cli_cases::cases::{Case, Part, Parts, first_other};
+use air_cli_cases::first::{FIRST_CASE, FIRST_REPORT, FIRST_TAPE, SCRIPT_TAPE, script_case};
 
 /// Two items, of which the second is the hotter, so that the program airs it first.
 const TWO: Part<'static> = Part::Text(

@@ -1,8 +1,8 @@
 //! Words of no form, and the numbers of the statuses.
 
-use crate::cases::{Case, Other, Part, difference};
-use crate::first::FIRST_CASE;
 use air_cli::Status;
+use air_cli_cases::cases::{Case, Other, Part, difference};
+use air_cli_cases::first::FIRST_CASE;
 use std::alloc::Global;
 use std::thread::Threads;
 

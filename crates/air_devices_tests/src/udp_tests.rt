@@ -63,16 +63,13 @@ fn a_mast_sends_datagrams_and_an_empty_one_as_the_end(rt: HostRuntime) -> Result
     let longest = vec![in rt.alloc(); 7u8; MOST_DATAGRAM_BYTES]?;
     let mut buf = vec![in rt.alloc(); 0u8; MOST_DATAGRAM_BYTES]?;
     let mut mast = UdpMast::new(rt.clone()?);
-    assert_eq!(rt; mast.aim(port), Ok(()));
+    let aimed = mast.aim(port);
     let datagrams: [&[u8]; 4] = [b"ab", longest.as_slice(), b"", b"c"];
     let lost = first_lost(&mut mast, &far, buf.as_mut_slice(), &datagrams)?;
-    assert_eq!(rt; lost, None);
     drop(far);
-    let unheard = [mast.send(b"d"), mast.send(b"e"), mast.finish()];
-    assert_eq!(rt;
-        (unheard, mast.last_failure().is_none()),
-        ([Ok(()); 3], true)
-    );
+    let answers = [aimed, mast.send(b"d"), mast.send(b"e"), mast.finish()];
+    let told = (lost, answers, mast.last_failure().is_none());
+    assert_eq!(rt; told, (None, [Ok(()); 4], true));
     Ok(())
 }
 
@@ -128,13 +125,22 @@ fn an_ear_hears_datagrams_cut_to_its_buffer_and_an_empty_one_as_the_end(
     let (far, _) = plain_socket(&rt)?;
     let port = free_port(&rt)?;
     let mut ear = UdpEar::new(rt.clone()?);
-    assert_eq!(rt; ear.tune_in(port), Ok(()));
+    let tuned = ear.tune_in(port);
     let misheard = first_misheard(&mut ear, &far, port, &sent)?;
-    assert_eq!(rt; (misheard, ear.last_failure().is_none()), (None, true));
+    let told = (tuned, misheard, ear.last_failure().is_none());
+    assert_eq!(rt; told, (Ok(()), None, true));
+    Ok(())
+}
+
+#[test]
+fn a_port_that_an_ear_has_is_refused_to_another(rt: HostRuntime) -> Result<(), Fail> {
+    let port = free_port(&rt)?;
+    let mut first = UdpEar::new(rt.clone()?);
     let mut second = UdpEar::new(rt.clone()?);
-    let taken = (second.tune_in(port), kept(second.last_failure()));
+    let tuned = [first.tune_in(port), second.tune_in(port)];
     let said = (NetCall::TuneIn, Some(port), ErrorKind::AddrInUse);
-    assert_eq!(rt; taken, (Err(Failed), Some(said)));
+    let wanted = ([Ok(()), Err(Failed)], Some(said));
+    assert_eq!(rt; (tuned, kept(second.last_failure())), wanted);
     Ok(())
 }
 
@@ -170,8 +176,13 @@ fn a_mast_says_what_failed(rt: HostRuntime) -> Result<(), Fail> {
     let sent = mast.send(b"a");
     let told = "sending to port 4000: there is nothing to send from";
     let send_other = said_otherwise(alloc, mast.last_failure(), told)?;
-    assert_eq!(rt; [ended, aimed, sent], [Err(Failed); 3]);
-    assert_eq!(rt; [end_other, aim_other, send_other], [None, None, None]);
+    let said = [(ended, end_other), (aimed, aim_other), (sent, send_other)];
+    let wanted = [
+        (Err(Failed), None),
+        (Err(Failed), None),
+        (Err(Failed), None),
+    ];
+    assert_eq!(rt; said, wanted);
     Ok(())
 }
 
@@ -185,7 +196,7 @@ fn an_ear_says_what_failed(rt: HostRuntime) -> Result<(), Fail> {
     let heard = ear.hear(&mut [0; 3]);
     let told = "hearing on port 4000: there is nothing to hear with";
     let hear_other = said_otherwise(alloc, ear.last_failure(), told)?;
-    assert_eq!(rt; (tuned, heard), (Err(Failed), Err(Failed)));
-    assert_eq!(rt; [tune_other, hear_other], [None, None]);
+    let said = ((tuned, tune_other), (heard, hear_other));
+    assert_eq!(rt; said, ((Err(Failed), None), (Err(Failed), None)));
     Ok(())
 }

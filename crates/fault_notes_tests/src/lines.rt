@@ -9,14 +9,18 @@ use std::test::Fail;
 /// A text, the row and the kind of its fault, and the whole note.
 type Case<'a> = (&'a str, u32, u8, &'a str);
 
-/// The place of the first case whose note isn't the wanted one, and its note.
-fn first_other(alloc: Global, cases: &[Case<'_>]) -> Result<Option<(usize, String)>, NoMemory> {
+/// The place of the first case whose note, on a deck of this name, isn't the wanted one, and its note.
+fn first_other(
+    alloc: Global,
+    name: &str,
+    cases: &[Case<'_>],
+) -> Result<Option<(usize, String)>, NoMemory> {
     for (place, (text, row, kind, wanted)) in cases.iter().enumerate() {
         let fault = DeckFault {
             row: *row,
             kind: *kind,
         };
-        let note = deck_note(alloc, "a deck", text.as_bytes(), fault)?;
+        let note = deck_note(alloc, name, text.as_bytes(), fault)?;
         if note.as_str() != *wanted {
             return Ok(Some((place, note)));
         }
@@ -82,31 +86,38 @@ fn a_fault_at_the_end_is_told_as_that(rt: HostRuntime) -> Result<(), Fail> {
             "a deck:1: record 1: an item stands twice in a list",
         ),
     ];
-    assert_eq!(rt; first_other(rt.alloc(), cases)?, None);
+    assert_eq!(rt; first_other(rt.alloc(), "a deck", cases)?, None);
     Ok(())
 }
 
+/// A name of more than one line.
+const NAME: &str = "a\ndeck\r\u{7f}.csv";
+
 #[test]
 fn a_note_is_one_line_whatever_the_name_is(rt: HostRuntime) -> Result<(), Fail> {
-    let name = "a\ndeck\r\u{7f}.csv";
-    let cases = [
+    let text = "\"a\nb\"\n";
+    let cases: &[Case<'_>] = &[
         (
+            text,
             1,
             9,
             "a?deck??.csv:1: record 1: the tag is a?b: none of item, disk, update, reader, query, script and set",
         ),
         (
+            text,
             2,
             7,
             "a?deck??.csv: the end, record 2: there is no item and no disk",
         ),
-        (3, 9, "a?deck??.csv: record 3: its tag is unknown"),
+        (text, 3, 9, "a?deck??.csv: record 3: its tag is unknown"),
     ];
-    for (row, kind, wanted) in cases {
-        let note = deck_note(rt.alloc(), name, b"\"a\nb\"\n", DeckFault { row, kind })?;
-        assert_eq!(rt; note.as_str(), wanted);
-    }
-    let note = tape_note(rt.alloc(), name, b"\0\0\0\x02a", 0)?;
+    assert_eq!(rt; first_other(rt.alloc(), NAME, cases)?, None);
+    Ok(())
+}
+
+#[test]
+fn a_tapes_note_is_one_line_whatever_the_name_is(rt: HostRuntime) -> Result<(), Fail> {
+    let note = tape_note(rt.alloc(), NAME, b"\0\0\0\x02a", 0)?;
     assert_eq!(rt;
         note.as_str(),
         "a?deck??.csv: record 1, which begins at byte 0, is cut: of its 2 bytes 1 are there"

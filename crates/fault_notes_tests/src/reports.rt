@@ -1,6 +1,6 @@
 //! Notes on reports that were refused, by what their records spell.
 
-use crate::rows::{Base, REPORT, Row, first_other};
+use crate::rows::{REPORT, Row, first_other};
 use air_base::NoMemory;
 use fault_notes::report_note;
 use std::alloc::Global;
@@ -232,58 +232,5 @@ fn a_cycle_that_was_not_started_is_told(rt: HostRuntime) -> Result<(), Fail> {
         ),
     ];
     assert_eq!(rt; first_other(rt.alloc(), REPORT, rows)?, None);
-    Ok(())
-}
-
-/// A record of a report that stands alone, where the deck isn't known.
-const ALONE: Base<'static> = Base {
-    above: "",
-    row: 1,
-    begins: "a file:1: record 1: ",
-    is_report: true,
-    deck: None,
-};
-
-#[test]
-fn a_rule_is_told_where_the_deck_is_unknown(rt: HostRuntime) -> Result<(), Fail> {
-    let rows: &[Row<'_>] = &[
-        (
-            "commit,0,2",
-            5,
-            "its commit isn't the next one of its updater in the deck",
-        ),
-        (
-            "look,0,0,0",
-            6,
-            "its reader, query, attempt or monitor isn't the deck's, or its items don't follow the query",
-        ),
-        (
-            "look,0,1,0",
-            7,
-            "the look line has the cycle 1: it is at most the number of start lines above, which is 0",
-        ),
-    ];
-    assert_eq!(rt; first_other(rt.alloc(), ALONE, rows)?, None);
-    Ok(())
-}
-
-#[test]
-fn a_rule_is_told_where_there_is_no_such_record(rt: HostRuntime) -> Result<(), Fail> {
-    let end = Base {
-        row: 2,
-        begins: "a file: the end, record 2: ",
-        ..ALONE
-    };
-    let rule = "a field, or a part of its reads, isn't of its form, or its number is too great";
-    assert_eq!(rt; first_other(rt.alloc(), end, &[("start", 2, rule)])?, None);
-    let none = Base {
-        row: 7,
-        begins: "a file: record 7: ",
-        ..ALONE
-    };
-    assert_eq!(rt;
-        first_other(rt.alloc(), none, &[("start", 9, "it has a fault")])?,
-        None
-    );
     Ok(())
 }

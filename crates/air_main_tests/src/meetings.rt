@@ -1,9 +1,11 @@
 //! The commands `run` and `cast` where an updater, the conductor and a monitor meet, as no run on one thread can.
 
-use crate::cases::{Case, Other, Part, Parts, left_other, main_difference, shelf_of, words_of};
-use crate::first::{FIRST_CASE, RUN};
 use air_base::NoMemory;
 use air_cli::air_main;
+use air_cli_cases::cases::{
+    Case, Other, Part, Parts, bytes_of, left_other, main_difference, shelf_of, words_of,
+};
+use air_cli_cases::first::{FIRST_CASE, RUN};
 use air_devices::{MemEar, MemMast};
 use meeting_gate::MeetingGate;
 use std::alloc::Global;
@@ -71,18 +73,19 @@ const CAST_CASE: Case<'static> = Case {
     ..FIRST_CASE
 };
 
-/// In what the shelf is left otherwise than the case says, and the tape that the mast sent.
+/// In what the shelf is left otherwise than the case says, and whether the mast sent this tape.
 fn cast_at<R: Threads + Wait + Sync>(
     rt: &R,
     alloc: Global,
     gate: &MeetingGate,
-) -> Result<(Option<Other>, Vec<u8>), NoMemory> {
+    tape: Parts<'_>,
+) -> Result<(Option<Other>, bool), NoMemory> {
     let mut shelf = shelf_of(alloc, &CAST_CASE)?;
     let words = words_of(alloc, CAST_CASE.words)?;
     let mut mast = MemMast::new(alloc, 216, Vec::new(alloc))?;
     let mut ear = MemEar::new(Vec::new(alloc), Vec::new(alloc));
     let status = air_main(rt, alloc, &words, &mut shelf, &mut mast, &mut ear, gate);
-    let sent = Vec::from_slice(alloc, mast.sent())?;
+    let sent = mast.sent() == bytes_of(alloc, tape)?.as_slice();
     if status != CAST_CASE.status {
         return Ok((Some(Other::Status(status)), sent));
     }
@@ -92,13 +95,16 @@ fn cast_at<R: Threads + Wait + Sync>(
 #[test]
 fn a_commit_a_cycle_and_a_look_meet_in_a_cast(rt: HostRuntime) -> Result<(), Fail> {
     let gate = MeetingGate::new();
-    let (other, sent) = cast_at(&rt, rt.alloc(), &gate)?;
-    assert_eq!(rt; (gate.counts(), other), ([1, 1, 1, 1, 1, 1, 1, 0], None));
-    let wanted = [cycle(1, 20, 0), cycle(2, 20, 0), cycle(3, 16, 2)];
-    for (place, tape) in wanted.iter().enumerate() {
-        let part = sent.as_slice().get(place * 72..place * 72 + 72);
-        assert_eq!(rt; part == Some(tape.as_slice()), true);
-    }
-    assert_eq!(rt; sent.len(), 216);
+    let (first, second, third) = (cycle(1, 20, 0), cycle(2, 20, 0), cycle(3, 16, 2));
+    let tape: Parts<'_> = &[
+        Part::Bytes(&first),
+        Part::Bytes(&second),
+        Part::Bytes(&third),
+    ];
+    let left = cast_at(&rt, rt.alloc(), &gate, tape)?;
+    assert_eq!(rt;
+        (gate.counts(), left),
+        ([1, 1, 1, 1, 1, 1, 1, 0], (None, true))
+    );
     Ok(())
 }

@@ -2,10 +2,10 @@
 
 ghost use Rattle.std.specs.Prelude.{◌≤◌, length, All, IfOk};
 
-use crate::cases::{Case, Other, Part, Parts, left_other, shelf_of, words_of};
-use crate::first::{FIRST, FIRST_CASE, FIRST_TAPE};
 use air_base::NoMemory;
 use air_cli::{Status, air_main};
+use air_cli_cases::cases::{Case, Other, Part, Parts, left_other, shelf_of, words_of};
+use air_cli_cases::first::{FIRST, FIRST_CASE, FIRST_TAPE};
 use air_devices::{MemEar, MemMast, OpenGate};
 use std::alloc::Global;
 use std::sync::Wait;

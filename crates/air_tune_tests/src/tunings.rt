@@ -1,7 +1,7 @@
 //! The command `tune`: what readers hear of a tape, whatever its records' order.
 
-use crate::cases::{Case, Part, Parts, first_other};
-use crate::first::{FIRST, FIRST_CASE, FIRST_TAPE, TUNE};
+use air_cli_cases::cases::{Case, Part, Parts, first_other};
+use air_cli_cases::first::{FIRST, FIRST_CASE, FIRST_TAPE, TUNE};
 
 /// Item 0 of cycle 4, never written.
 const FOURTH: [u8; 36] = [

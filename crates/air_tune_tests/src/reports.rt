@@ -3,8 +3,8 @@
 //! The table of a report's order shows which buckets are counted as opened, dozed, refused and foreign; late buckets are counted
 //! in a table of `policies` and in one of `ethers`, and reads from copies in that of `copies`.
 
-use crate::cases::{Case, Part, Parts, first_other};
-use crate::first::{FIRST_CASE, FIRST_TAPE, TUNE, script_case};
+use air_cli_cases::cases::{Case, Part, Parts, first_other};
+use air_cli_cases::first::{FIRST_CASE, FIRST_TAPE, TUNE, script_case};
 
 /// Three items, updates by which item 1 descends from item 0, and four readers.
 const FOUR_READERS: Part<'static> = Part::Text(

@@ -1,8 +1,8 @@
 //! The command `tune` over tapes that are whole, cut or changed in a byte.
 
-use crate::cases::{Case, Other, Part, Parts, difference, three_parts};
-use crate::first::{FIRST_CASE, FIRST_TAPE, TUNE};
 use air_cli::Status;
+use air_cli_cases::cases::{Case, Other, Part, Parts, difference, three_parts};
+use air_cli_cases::first::{FIRST_CASE, FIRST_TAPE, TUNE};
 use std::alloc::Global;
 use std::thread::Threads;
 

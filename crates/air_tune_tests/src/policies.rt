@@ -1,7 +1,7 @@
 //! The three policies on one deck: what each accepts, of a script and of a tape.
 
-use crate::cases::{Case, Part, Parts, first_other};
-use crate::first::{FIRST_CASE, FIRST_TAPE, SCRIPT, TUNE};
+use air_cli_cases::cases::{Case, Part, Parts, first_other};
+use air_cli_cases::first::{FIRST_CASE, FIRST_TAPE, SCRIPT, TUNE};
 
 /// Two items, of which the second is the hotter, so that the program airs it first.
 const TWO: Part<'static> = Part::Text(

@@ -111,7 +111,7 @@ fn add_part(alloc: Global, bytes: &mut Vec<u8>, part: &Part<'_>) -> Result<(), N
 }
 
 /// The bytes of these parts.
-fn bytes_of(alloc: Global, parts: Parts<'_>) -> Result<Vec<u8>, NoMemory> {
+pub fn bytes_of(alloc: Global, parts: Parts<'_>) -> Result<Vec<u8>, NoMemory> {
     let mut bytes = Vec::new(alloc);
     for part in parts {
         add_part(alloc, &mut bytes, part)?;

@@ -1,9 +1,9 @@
 //! The command `run` on a deck of forty items, four updaters and eight readers: what of its outcome no schedule changes.
 
-use crate::cases::{Case, Part, Parts, main_status, shelf_of};
-use crate::first::{FIRST_CASE, RUN};
 use air_base::{NoMemory, write_u64};
 use air_cli::Status;
+use air_cli_cases::cases::{Case, Part, Parts, main_status, shelf_of};
+use air_cli_cases::first::{FIRST_CASE, RUN};
 use air_devices::OpenGate;
 use std::alloc::Global;
 use std::sync::Wait;

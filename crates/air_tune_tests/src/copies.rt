@@ -2,8 +2,8 @@
 //!
 //! The wanted reports are from an independent program.
 
-use crate::cases::{Part, Parts, first_other};
-use crate::first::script_case;
+use air_cli_cases::cases::{Part, Parts, first_other};
+use air_cli_cases::first::script_case;
 
 /// Two items, of which the second is the hotter, so that the program airs it first; a reader with room for both.
 const TWO: Part<'static> = Part::Text(

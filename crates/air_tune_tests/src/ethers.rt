@@ -2,8 +2,10 @@
 //!
 //! The wanted reports are from an independent program. The tape is the same with and without an ether.
 
-use crate::cases::{Case, Part, Parts, first_other};
-use crate::first::{FIRST, FIRST_CASE, FIRST_REPORT, FIRST_TAPE, SCRIPT_TAPE, TUNE, reported};
+use air_cli_cases::cases::{Case, Part, Parts, first_other};
+use air_cli_cases::first::{
+    FIRST, FIRST_CASE, FIRST_REPORT, FIRST_TAPE, SCRIPT_TAPE, TUNE, script_case,
+};
 
 /// Item 1 descends from item 0, and each of three readers asks for both, and then for item 2 and item 1.
 const MANY: Part<'static> = Part::Text(
@@ -101,9 +103,9 @@ fn the_tape_stays_and_a_reader_hears_what_its_ether_gives(rt: HostRuntime) {
 #[test]
 fn each_reader_has_an_ether_of_its_own(rt: HostRuntime) {
     let cases = [
-        reported("by F-Matrix", &[MANY, ODDS, SEVEN], OF_SEVEN),
-        reported("by Datacycle", &[MANY, ODDS, NINE_BY_D], OF_NINE_BY_D),
-        reported("by R-Matrix", &[MANY, ODDS, NINE_BY_R], OF_NINE_BY_R),
+        script_case("by F-Matrix", &[MANY, ODDS, SEVEN], OF_SEVEN),
+        script_case("by Datacycle", &[MANY, ODDS, NINE_BY_D], OF_NINE_BY_D),
+        script_case("by R-Matrix", &[MANY, ODDS, NINE_BY_R], OF_NINE_BY_R),
     ];
     assert_eq!(rt; first_other(&rt, rt.alloc(), &cases), None);
 }

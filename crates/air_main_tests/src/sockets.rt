@@ -10,10 +10,10 @@ ghost use Rattle.air_devices.specs.Ears.{Hears};
 ghost use Rattle.air_devices.specs.Masts.{nothing_sent};
 ghost use Rattle.air_devices.specs.Told.{WhereTold};
 
-use crate::cases::{Case, Part, shelf_of, words_of};
-use crate::first::{FIRST, FIRST_CASE};
 use air_base::NoMemory;
 use air_cli::{Status, air_main};
+use air_cli_cases::cases::{Case, Part, shelf_of, words_of};
+use air_cli_cases::first::{FIRST, FIRST_CASE};
 use air_devices::{Ear, Failed, Heard, Mast, MemEar, MemMast, OpenGate, UdpEar, UdpMast};
 use std::alloc::Global;
 use std::io;

@@ -1,8 +1,8 @@
 //! The command `run` on decks whose outcome doesn't depend on the schedule, and what is refused.
 
-use crate::cases::{Case, Other, Part, Parts, main_difference, main_other};
-use crate::first::{FIRST, FIRST_CASE, FIRST_REPORT, FIRST_TAPE, RUN, SCRIPT_TAPE, TUNE};
 use air_cli::Status;
+use air_cli_cases::cases::{Case, Other, Part, Parts, main_difference, main_other};
+use air_cli_cases::first::{FIRST, FIRST_CASE, FIRST_REPORT, FIRST_TAPE, RUN, SCRIPT_TAPE, TUNE};
 use air_devices::OpenGate;
 use std::alloc::Global;
 use std::sync::Wait;
