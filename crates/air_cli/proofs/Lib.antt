@@ -6,6 +6,7 @@ pub mod PlanLemmas
 pub mod RunLemmas
 pub mod AnswerFacts
 pub mod RefusalFacts
+pub mod EndFacts
 pub mod InputFacts
 pub mod PlanFacts
 pub mod ScriptFacts

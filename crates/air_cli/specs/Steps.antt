@@ -1,4 +1,5 @@
 -- Definitions that private steps alone speak of: no public contract cites them, nor what a public type shows.
 pub mod Making
+pub mod Endings
 pub mod Airing
 pub mod Calls

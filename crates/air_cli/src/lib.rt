@@ -7,6 +7,7 @@ mod audit;
 mod calls;
 mod cast;
 mod drill;
+mod endings;
 pub mod laws;
 mod listen;
 mod main_call;

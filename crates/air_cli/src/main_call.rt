@@ -16,12 +16,12 @@ ghost use Rattle.air_cli.specs.Run.{run_meaning};
 
 use crate::calls::{Call, call_of};
 use crate::cast::cast;
+use crate::endings::give_or_refuse;
 use crate::listen::listen;
 use crate::quiet::air_quiet;
 use crate::run::run;
 use air_devices::{Ear, Gate, Mast, Shelf};
 use air_status::Status;
-use delivery::{deliver, refuse};
 use std::alloc::Global;
 use std::sync::Wait;
 use std::thread::Threads;
@@ -89,13 +89,8 @@ fn run_deck<R: Threads + Wait + Sync, S: Shelf, G: Gate + Sync>(
     ensures answers { QuietAnswers (run_meaning deck.now tape.now) (S.state shelf.old) (S.state shelf.new) result }
     ensures leaves { Leaves (run_meaning deck.now tape.now) (S.state shelf.old) (S.state shelf.new) }
 {
-    match run(rt, alloc, shelf, deck, gate) {
-        Ok(given) => deliver(shelf, Some(tape), &given),
-        Err(status) => match status {
-            Status::NoMemory => Status::NoMemory,
-            _ => refuse(alloc, shelf, status),
-        },
-    }
+    let made = run(rt, alloc, shelf, deck, gate);
+    give_or_refuse(alloc, shelf, Some(tape), made)
 }
 
 /// Casts a run of a deck to a port, and delivers what that gives; or refuses.
@@ -114,13 +109,8 @@ fn cast_deck<R: Threads + Wait + Sync, S: Shelf, M: Mast + Send, G: Gate + Sync>
     ensures leaves { Leaves (cast_meaning deck.now port (M.state mast.old) (M.state mast.new)) (S.state shelf.old) (S.state shelf.new) }
     ensures mast { LeavesMast (Casts deck.now port) (S.state shelf.old) (M.state mast.old) (M.state mast.new) }
 {
-    match cast(rt, alloc, shelf, mast, deck, port, gate) {
-        Ok(given) => deliver(shelf, None, &given),
-        Err(status) => match status {
-            Status::NoMemory => Status::NoMemory,
-            _ => refuse(alloc, shelf, status),
-        },
-    }
+    let made = cast(rt, alloc, shelf, mast, deck, port, gate);
+    give_or_refuse(alloc, shelf, None, made)
 }
 
 /// Lets a deck's readers listen on a port, and delivers what that gives; or refuses.
@@ -136,11 +126,6 @@ fn listen_deck<S: Shelf, E: Ear>(
     ensures leaves { Leaves (listen_meaning deck.now port (E.state ear.old) (E.state ear.new)) (S.state shelf.old) (S.state shelf.new) }
     ensures ear { LeavesEar (Listens deck.now port) (S.state shelf.old) (E.state ear.old) (E.state ear.new) }
 {
-    match listen(alloc, shelf, ear, deck, port) {
-        Ok(given) => deliver(shelf, None, &given),
-        Err(status) => match status {
-            Status::NoMemory => Status::NoMemory,
-            _ => refuse(alloc, shelf, status),
-        },
-    }
+    let made = listen(alloc, shelf, ear, deck, port);
+    give_or_refuse(alloc, shelf, None, made)
 }

@@ -11,13 +11,14 @@ ghost use Rattle.air_cli.specs.Answers.{Completes, Leaves, QuietAnswers};
 
 use crate::audit::audit;
 use crate::drill::drill;
+use crate::endings::give_or_refuse;
 use crate::plan::plan;
 use crate::script::script;
 use crate::tune::tune;
 use crate::words::{Command, command_of};
 use air_devices::Shelf;
 use air_status::Status;
-use delivery::{Given, deliver, refuse};
+use delivery::{Given, refuse};
 use std::alloc::Global;
 use std::thread::Threads;
 
@@ -50,13 +51,8 @@ fn run<T: Threads + Sync, S: Shelf>(
     ensures answers { QuietAnswers (meaning_of (asked_by command.now)) (S.state shelf.old) (S.state shelf.new) result }
     ensures leaves { Leaves (meaning_of (asked_by command.now)) (S.state shelf.old) (S.state shelf.new) }
 {
-    match make(threads, alloc, shelf, command) {
-        Ok(given) => deliver(shelf, command.output(), &given),
-        Err(status) => match status {
-            Status::NoMemory => Status::NoMemory,
-            _ => refuse(alloc, shelf, status),
-        },
-    }
+    let made = make(threads, alloc, shelf, command);
+    give_or_refuse(alloc, shelf, command.output(), made)
 }
 
 /// What a command gives; nothing is printed or written yet.

@@ -1,59 +1,19 @@
-use Rattle.std.proofs.Common.{inl, ◌∙◌}
 use Rattle.air_cli.specs.Listen.{listen_meaning}
-use Rattle.air_cli.proofs.AnswerFacts.{answers_made}
+use Rattle.air_cli.proofs.EndFacts.{answers_ended, leaves_ended}
 use Rattle.air_cli.proofs.ListenFacts.{listen_sound}
-use Rattle.air_cli.proofs.RefusalFacts.{answers_refused, leaves_refused, untouched}
-use Rattle.air_cli.proofs.ReadFacts.{falls_twice}
 use Rattle.air_cli.proofs.main_call.listen_deck.Goals as goal
 
-pub returns-in-Ok-clause-answers : goal.returns-in-Ok-clause-answers
-returns-in-Ok-clause-answers g c =
+pub returns-clause-answers : goal.returns-clause-answers
+returns-clause-answers g c =
     let S = g.S.Shelf in
-    let E = g.E.Ear in
-    answers_made (listen_meaning c.args.deck.now c.args.port (E.state c.args.ear.now) (E.state c.listen.new.ear)) c.in-Ok.given (S.state c.args.shelf.now) (S.state c.listen.new.shelf) (S.state c.deliver.new.shelf)
-    c.deliver.result c.in-Ok.ensures.made c.listen.ensures.reads c.deliver.ensures.gives c.deliver.ensures.rest
+    let old = g.E.Ear.state c.args.ear.now in
+    let new = g.E.Ear.state c.listen-made.new.ear in
+    answers_ended (listen_meaning c.args.deck.now c.args.port old new) (listen_sound c.args.deck.now c.args.port old new) c.listen-made.result (S.state c.args.shelf.now) (S.state c.listen-made.new.shelf)
+    (S.state c.give_or_refuse.new.shelf) c.give_or_refuse.result c.listen-made.ensures.made c.listen-made.ensures.unmade c.listen-made.ensures.reads c.give_or_refuse.ensures
 
-pub returns-in-Ok-clause-leaves : goal.returns-in-Ok-clause-leaves
-returns-in-Ok-clause-leaves g c =
+pub returns-clause-leaves : goal.returns-clause-leaves
+returns-clause-leaves g c =
     let S = g.S.Shelf in
-    let before = S.state c.args.shelf.now in
-    let mid = S.state c.listen.new.shelf in
-    let now = S.state c.deliver.new.shelf in
-    let reads = c.listen.ensures.reads in
-    let rest = c.deliver.ensures.rest in
-    record {
-      files = λ name. rest.files name ∙ reads.files name;
-      left = λ name other. rest.left name ∙ reads.left name other;
-      outputs = λ name other. rest.outputs name other ∙ reads.outputs name;
-      counts = falls_twice before.faults mid.faults now.faults reads.counts c.deliver.ensures.counts;
-    }
-
-pub returns-in-NoMemory-clause-answers : goal.returns-in-NoMemory-clause-answers
-returns-in-NoMemory-clause-answers g c =
-    let S = g.S.Shelf in
-    let E = g.E.Ear in
-    let reads = c.listen.ensures.reads in
-    untouched (listen_meaning c.args.deck.now c.args.port (E.state c.args.ear.now) (E.state c.listen.new.ear)) (S.state c.args.shelf.now) (S.state c.listen.new.shelf) reads.printed reads.outputs
-    (inl (c.in-Err.ensures.unmade.kept (λ e. cc (c.in-NoMemory.is, e))))
-
-pub returns-in-NoMemory-clause-leaves : goal.returns-in-NoMemory-clause-leaves
-returns-in-NoMemory-clause-leaves g c =
-    let reads = c.listen.ensures.reads in
-    record { files = reads.files; left = reads.left; outputs = λ name other. reads.outputs name; counts = reads.counts }
-
-pub returns-in_default-clause-answers : goal.returns-in_default-clause-answers
-returns-in_default-clause-answers g c =
-    let S = g.S.Shelf in
-    let E = g.E.Ear in
-    let old = E.state c.args.ear.now in
-    let new = E.state c.listen.new.ear in
-    let unmade = c.in-Err.ensures.unmade in
-    answers_refused (listen_meaning c.args.deck.now c.args.port old new) (listen_sound c.args.deck.now c.args.port old new) (S.state c.args.shelf.now) (S.state c.listen.new.shelf) (S.state c.refuse.new.shelf)
-    c.in-Err.status c.refuse.result c.in_default.not-NoMemory c.listen.ensures.reads unmade.cause unmade.kept c.refuse.ensures.gives c.refuse.ensures.rest c.refuse.ensures.counts
-
-pub returns-in_default-clause-leaves : goal.returns-in_default-clause-leaves
-returns-in_default-clause-leaves g c =
-    let S = g.S.Shelf in
-    let E = g.E.Ear in
-    leaves_refused (listen_meaning c.args.deck.now c.args.port (E.state c.args.ear.now) (E.state c.listen.new.ear)) (S.state c.args.shelf.now) (S.state c.listen.new.shelf) (S.state c.refuse.new.shelf)
-    c.listen.ensures.reads c.refuse.ensures.rest c.refuse.ensures.counts
+    let meaning = listen_meaning c.args.deck.now c.args.port (g.E.Ear.state c.args.ear.now) (g.E.Ear.state c.listen-made.new.ear) in
+    leaves_ended meaning c.listen-made.result (S.state c.args.shelf.now) (S.state c.listen-made.new.shelf) (S.state c.give_or_refuse.new.shelf) c.give_or_refuse.result c.listen-made.ensures.reads
+    c.give_or_refuse.ensures

@@ -1,0 +1,29 @@
+//! How a command ends: what it made is delivered, or why it made nothing is told.
+
+ghost use Rattle.std.specs.Prelude.{option_map, MatchResult};
+ghost use Rattle.air_cli.specs.Steps.Endings.{EndsGiven, EndsUnmade};
+
+use air_devices::Shelf;
+use air_status::Status;
+use delivery::{Given, deliver, refuse};
+use std::alloc::Global;
+
+/// Delivers what a command made, its tape to the output of this name, if one is named; or refuses. Out of memory nothing more is done.
+pub(crate) fn give_or_refuse<S: Shelf>(
+    alloc: Global,
+    shelf: &mut S,
+    output: Option<&str>,
+    made: Result<Given, Status>,
+) -> Status
+    ensures { MatchResult made
+        (λ given. EndsGiven (option_map (λ name. name.now) output.entry) given (S.state shelf.old) (S.state shelf.new) result)
+        (λ s. EndsUnmade s (S.state shelf.old) (S.state shelf.new) result) }
+{
+    match made {
+        Ok(given) => deliver(shelf, output, &given),
+        Err(status) => match status {
+            Status::NoMemory => Status::NoMemory,
+            _ => refuse(alloc, shelf, status),
+        },
+    }
+}
