@@ -175,14 +175,22 @@ audit_fits deck report before now s told suits calm (inr h) =
 same_found : (d : Deck) (bytes : List ℕ) (a b : List Finding) → IsAudit d bytes a → IsAudit d bytes b → a ≡ b
 same_found d bytes a b first second = first.are ∙ ap (findings d) (one_report d bytes first.read second.read first.is second.is) ∙ sym second.are
 
+-- Where both files are told, all of it is so of the deck and of the report that they spell.
+audit_told : (deck report : List ℕ) (before : Shelved) (given : Given) → AuditGives deck report before given
+    → (found : List Finding) × (given ≡ audit_given found) × OfReport deck report before (λ d bytes. IsAudit d bytes found)
+unfolding AuditGives
+audit_told deck report before given (found, is, (d, spells, made, (bytes, known, few, audit))) =
+    (found, is, of_report deck report before d bytes (λ d bytes. IsAudit d bytes found) spells known few audit)
+
 audit_one : (deck report : List ℕ) (before other : Shelved) (a b : Given) → TellSameInputs (audit_meaning deck report) before other
     → AuditGives deck report before a → AuditGives deck report other b → a ≡ b
-unfolding AuditGives
-audit_one deck report before other a b same first second =
+audit_one deck report before other a b same one two =
+    let first = audit_told deck report before a one in
+    let second = audit_told deck report other b two in
     let d = same deck (inl refl) in
     let r = same report (inr refl) in
-    let two = one_told deck report before other d.0 r.0 (λ d bytes. IsAudit d bytes first.0) (λ d bytes. IsAudit d bytes second.0) d.1 r.1 d.2 r.2 first.2 second.2 in
-    first.1 ∙ ap audit_given (same_found two.0 r.0 first.0 second.0 two.1 two.2) ∙ sym second.1
+    let pair = one_told deck report before other d.0 r.0 (λ d bytes. IsAudit d bytes first.0) (λ d bytes. IsAudit d bytes second.0) d.1 r.1 d.2 r.2 first.2 second.2 in
+    first.1 ∙ ap audit_given (same_found pair.0 r.0 first.0 second.0 pair.1 pair.2) ∙ sym second.1
 
 pub audit_facts : (deck report : List ℕ) → CommandFacts (audit_meaning deck report)
 audit_facts deck report = record { sound = audit_sound deck report; inputs = record { fits = audit_fits deck report; one = λ decided. audit_one deck report } }

@@ -2,6 +2,7 @@ pub mod ModelLaws
 pub mod TruthLemmas
 pub mod TapeLemmas
 pub mod ReadFacts
+pub mod MakeFacts
 pub mod PlanLemmas
 pub mod RunLemmas
 pub mod AnswerFacts

@@ -65,12 +65,16 @@ plan_fits deck before now (status.PlanTooLong slots) told suits calm h =
     absurd (too_long two.0 slots two.1 two.2)
 plan_fits deck before now s told suits calm h = let known = told deck refl in deck_fits deck before now s known.0 IsShort known.1 suits calm h
 
-plan_one : (deck : List ℕ) (before other : Shelved) (a b : Given) → TellSameInputs (plan_meaning deck) before other → PlanGives deck before a → PlanGives deck other b → a ≡ b
+-- Where the deck's file is told, all of it is so of the deck that the file spells.
+plan_told : (deck : List ℕ) (before : Shelved) (given : Given) → PlanGives deck before given → OfDeck deck before (λ d. IsShort d × (given ≡ plan_given d))
 unfolding PlanGives
+plan_told deck before given (same, (d, spells, made, short, is)) = of_deck deck before d (λ d. IsShort d × (given ≡ plan_given d)) spells (short, is)
+
+plan_one : (deck : List ℕ) (before other : Shelved) (a b : Given) → TellSameInputs (plan_meaning deck) before other → PlanGives deck before a → PlanGives deck other b → a ≡ b
 plan_one deck before other a b same first second =
     let told = same deck refl in
-    let x = deck_told deck before told.0 (λ d. IsShort d × (a ≡ plan_given d)) told.1 first.1 in
-    let y = deck_told deck other told.0 (λ d. IsShort d × (b ≡ plan_given d)) told.2 second.1 in
+    let x = deck_told deck before told.0 (λ d. IsShort d × (a ≡ plan_given d)) told.1 (plan_told deck before a first) in
+    let y = deck_told deck other told.0 (λ d. IsShort d × (b ≡ plan_given d)) told.2 (plan_told deck other b second) in
     x.1.2.1 ∙ ap plan_given (one_deck told.0 x.1.0 y.1.0 x.1.1 y.1.1) ∙ sym y.1.2.1
 
 pub plan_facts : (deck : List ℕ) → CommandFacts (plan_meaning deck)

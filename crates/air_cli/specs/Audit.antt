@@ -1,14 +1,14 @@
 -- The command `audit DECK REPORT`.
 use Rattle.std.specs.Prelude.{◌≡◌, ◌⊎◌, ◌≤◌, ℕ, true, List, [], length, None, ⊤}
 use Rattle.std.specs.Io.KnownBytes.{IsAtEnd}
-use Rattle.air_devices.specs.Told.{WhereTold}
+use Rattle.air_devices.specs.Told.{ToldIs, WhereTold}
 use Rattle.air_devices.specs.Shelves.{Shelved}
-use Rattle.air_model.specs.Decks.{Deck}
+use Rattle.air_model.specs.Decks.{Deck, IsDeck}
 use Rattle.air_status.specs.declared.status.Status.{Status}
 use Rattle.air_status.specs.declared.status.Status.TheVariants as status
 use Rattle.audited_reports.specs.AuditAnswers.{CanBeAudited, IsAudit, IsTooMuch}
 use Rattle.audited_reports.specs.FindingTexts.{findings_text, some_differ}
-use Rattle.deck_files.specs.NamedDecks.{DeckCause, OfDeck}
+use Rattle.deck_files.specs.NamedDecks.{DeckCause, OfDeck, SpellsDeck}
 use Rattle.deck_files.specs.NamedFiles.{UnreadCause}
 use Rattle.delivery.specs.Given.{Given}
 use Rattle.live_replay.specs.declared.findings.Finding.{Finding}
@@ -37,10 +37,12 @@ AuditCause deck report before now s = DeckCause deck before now s ⊎ (OfDeck de
 abbrev pub audit_given : List Finding → Given
 audit_given found = record { text = findings_text found; tape = []; differs = some_differ found }
 
--- What it gives: the text of the report's findings, which are true; something differs exactly where one of them does.
+-- What it gives: there are a well-made deck and the bytes of a report, those of the named files where they are told; and this is the
+-- text of the report's findings, which are true. Something differs exactly where one of them does.
 unfoldable pub AuditGives : List ℕ → List ℕ → Shelved → Given → Type 0
 AuditGives deck report before given =
-    (found : List Finding) × (given ≡ audit_given found) × OfReport deck report before (λ d bytes. IsAudit d bytes found)
+    (found : List Finding) × (given ≡ audit_given found) × ((d : Deck) × SpellsDeck deck before d × IsDeck d × ((bytes : List ℕ) × ToldIs (before.told.file report) bytes
+    × (length bytes ≤ report_limit) × IsAudit d bytes found))
 
 -- It reads its deck, of which nothing is asked, and the report, which must be one of the deck and not too much to replay, and
 -- writes no output; the two decide the findings.

@@ -2,11 +2,11 @@
 use Rattle.std.specs.Prelude.{◌≡◌, ℕ, true, false, List, [], None}
 use Rattle.chunk_program.specs.Plans.{IsTooLong}
 use Rattle.air_devices.specs.Shelves.{Shelved}
-use Rattle.air_model.specs.Decks.{Deck, disks_in}
+use Rattle.air_model.specs.Decks.{Deck, IsDeck, disks_in}
 use Rattle.air_model.specs.Outputs.{plan_output}
 use Rattle.air_status.specs.declared.status.Status.{Status}
 use Rattle.air_status.specs.declared.status.Status.TheVariants as status
-use Rattle.deck_files.specs.NamedDecks.{DeckCause, OfDeck}
+use Rattle.deck_files.specs.NamedDecks.{DeckCause, OfDeck, SpellsDeck}
 use Rattle.deck_files.specs.RunnableDecks.{IsShort}
 use Rattle.air_cli.specs.Meanings.{Meaning}
 use Rattle.delivery.specs.Given.{Given}
@@ -20,9 +20,11 @@ PlanCause deck before now s = DeckCause deck before now s
 abbrev pub plan_given : Deck → Given
 plan_given d = record { text = plan_output d; tape = []; differs = false }
 
--- What it gives: its deck's program is short enough, and this is the plan. Nothing in it differs.
+-- What it gives: there is a well-made deck whose program is short enough, the one that the named file spells where it is told; and
+-- this is its plan. Nothing in it differs.
 unfoldable pub PlanGives : List ℕ → Shelved → Given → Type 0
-PlanGives deck before given = (given.differs ≡ false) × OfDeck deck before (λ d. IsShort d × (given ≡ plan_given d))
+PlanGives deck before given =
+    (given.differs ≡ false) × ((d : Deck) × SpellsDeck deck before d × IsDeck d × IsShort d × (given ≡ plan_given d))
 
 -- It reads its deck, whose program must be short enough, and writes no output; the deck decides the plan.
 abbrev pub plan_meaning : List ℕ → Meaning

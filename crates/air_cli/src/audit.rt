@@ -25,6 +25,7 @@ pub(crate) fn audit<S: Shelf>(
 {
     let deck = read_deck_file(alloc, shelf, name)?;
     let bytes = read_bytes(alloc, shelf, report, MOST_REPORT_BYTES)?;
+    deck.well_made();
     let bytes: &[u8] = &bytes;
     let audited = audit_report(alloc, &deck, bytes)?;
     Ok(Given {

@@ -14,12 +14,14 @@ use delivery::Given;
 use std::alloc::Global;
 
 /// The text of the named deck's plan.
+#[tactic(auto, using(crate::proofs::MakeFacts::unmade, crate::proofs::MakeFacts::unmade_calm, crate::proofs::PlanFacts::deck_plan, crate::proofs::PlanFacts::length_plan, crate::proofs::PlanFacts::wanting_plan))]
 pub(crate) fn plan<S: Shelf>(alloc: Global, shelf: &mut S, name: &str) -> Result<Given, Status>
     ensures made { IfOk result (IsMade (plan_meaning name.now) (S.state shelf.old) (S.state shelf.new)) }
     ensures unmade { IfErr result (IsUnmade (plan_meaning name.now) (S.state shelf.old) (S.state shelf.new)) }
     ensures reads { Reads (plan_meaning name.now) (S.state shelf.old) (S.state shelf.new) }
 {
     let deck = read_deck_file(alloc, shelf, name)?;
+    deck.well_made();
     let (cut, program) = plan_deck(alloc, &deck)?;
     let text = plan_text(alloc, &deck, &cut, &program)?;
     Ok(Given {

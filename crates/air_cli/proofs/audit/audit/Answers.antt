@@ -1,12 +1,11 @@
-use Rattle.std.proofs.Common.{◌≤◌, [], length, ap₂, inl, inr, subst, sym, rules}
+use Rattle.std.proofs.Common.{◌≤◌, [], length, ap₂, subst, sym, rules}
 use Rattle.std.specs.Prelude.{⊤}
-use Rattle.std.specs.Io.KnownBytes.{IsAtEnd}
-use Rattle.audited_reports.specs.AuditAnswers.{IsAudit}
 use Rattle.delivery.proofs.CountFacts.{kept_twice}
 use Rattle.deck_files.proofs.CauseFacts.{of_deck}
 use Rattle.air_cli.specs.Audit.{AuditGives, audit_meaning}
 use Rattle.air_cli.specs.Steps.Making.{IsUnmade}
-use Rattle.air_cli.proofs.AuditFacts.{deck_audit, of_report, reads_both, told_first, unaudited, unread_audit}
+use Rattle.air_cli.proofs.AuditFacts.{deck_audit, reads_both, told_first, unaudited, unread_audit}
+use Rattle.air_cli.proofs.MakeFacts.{both_ends}
 use Rattle.air_cli.proofs.ReadFacts.{end_still, unread_since}
 use Rattle.air_cli.proofs.audit.audit.Goals as goal
 
@@ -70,12 +69,9 @@ returns-clause-made g c =
       gives = (
         found,
         ap₂ (λ text differs. record { text = text; tape = []; differs = differs }) audit.1 audit.2,
-        of_report c.args.name.now report before c.in_ok-deck.deck read (λ d bytes. IsAudit d bytes found) c.in_ok-deck.ensures.deck known few audit.3,
+        (c.in_ok-deck.deck, c.in_ok-deck.ensures.deck, c.well_made.ensures.made, (read, known, few, audit.3)),
       );
-      read = λ name input. elim input [
-        | inl same ↦ subst (λ input. IsAtEnd (now.told.left input)) (sym same) deck_end
-        | inr same ↦ subst (λ input. IsAtEnd (now.told.left input)) (sym same) c.in_ok-bytes.ensures.reads.end
-      ];
+      read = λ name. both_ends now c.args.name.now report name deck_end c.in_ok-bytes.ensures.reads.end;
       calm = kept_twice before.faults mid.faults now.faults c.in_ok-deck.ensures.reads.calm c.in_ok-bytes.ensures.reads.calm;
     }
 
