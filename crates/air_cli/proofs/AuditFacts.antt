@@ -1,21 +1,23 @@
 -- What the proofs of `audit` need of its definitions.
-use Rattle.std.proofs.Common.{◌≡◌, ℕ, ◌≤◌, List, length, Some, refl, sym, ap, ◌∙◌, subst, inl, inr, arith}
+use Rattle.std.proofs.Common.{◌≡◌, ◌≢◌, ℕ, ◌≤◌, Bool, List, [], length, Some, refl, sym, ap, ap₂, ◌∙◌, subst, inl, inr, arith}
 use Rattle.std.specs.Prelude.{◌<◌, ⊤}
 use Rattle.std.specs.Io.KnownBytes.{IsAtEnd}
-use Rattle.air_devices.specs.Counts.{NoCountFalls}
+use Rattle.air_devices.specs.Counts.{KeepsCounts, NoCountFalls}
 use Rattle.air_devices.specs.Unchanged.{KeepsButLeft, KeepsButPrinted}
 use Rattle.air_devices.specs.Shelves.{Shelved}
 use Rattle.air_devices.specs.Told.{ToldIs, WhereTold}
-use Rattle.air_model.specs.Decks.{Deck}
+use Rattle.air_model.specs.Decks.{Deck, IsDeck}
 use Rattle.air_status.specs.declared.status.Status.{Status}
 use Rattle.air_status.specs.declared.status.Status.TheVariants as status
 use Rattle.air_report.specs.declared.reading.ReadReport.{ReadReport}
 use Rattle.audited_reports.specs.AuditAnswers.{CanBeAudited, IsAudit, IsTooMuch, UnauditedCause}
+use Rattle.audited_reports.specs.FindingTexts.{findings_text, some_differ}
 use Rattle.audited_reports.proofs.AuditFacts.{no_report_fault, one_report}
 use Rattle.deck_files.specs.NamedDecks.{DeckCause, OfDeck, SpellsDeck}
 use Rattle.deck_files.specs.NamedFiles.{UnreadCause}
 use Rattle.deck_files.proofs.CauseFacts.{of_deck, where_read}
 use Rattle.delivery.specs.Given.{Given}
+use Rattle.delivery.proofs.CountFacts.{kept_twice}
 use Rattle.item_catalog.specs.Grammar.{Spells}
 use Rattle.item_catalog.proofs.GrammarFacts.{one_deck}
 use Rattle.live_replay.specs.Audits.{findings, replayed_in}
@@ -24,10 +26,11 @@ use Rattle.live_replay.specs.declared.limits.TheConstants.{MOST_REPLAYED}
 use Rattle.report_reading.specs.ReportGrammar.{HasReportFault}
 use Rattle.air_cli.specs.Answers.{InputFailed, NoCountRose}
 use Rattle.air_cli.specs.Audit.{AuditCause, AuditGives, OfReport, audit_given, audit_meaning, report_limit}
-use Rattle.air_cli.specs.Steps.Making.{Reads}
+use Rattle.air_cli.specs.Steps.Making.{IsMade, IsUnmade, Reads}
 use Rattle.air_cli.specs.ToldInputs.{TellSameInputs, TellsInputs}
 use Rattle.air_cli.proofs.InputFacts.{CommandFacts, deck_fits, deck_told, of_told, unread_fits}
-use Rattle.air_cli.proofs.ReadFacts.{falls_twice}
+use Rattle.air_cli.proofs.MakeFacts.{both_ends}
+use Rattle.air_cli.proofs.ReadFacts.{end_still, falls_twice, unread_since}
 use Rattle.air_cli.proofs.RefusalFacts.{IsSound, deck_still, unread_still}
 
 -- ---- why there is no audit
@@ -70,7 +73,44 @@ unaudited deck report before now d read (status.TooMuch product) end spells know
 unaudited deck report before now d read status.NoMemory end spells known few h = inl tt
 unaudited deck report before now d read s end spells known few h = absurd h
 
--- The deck was read, and then the report.
+-- ---- the deck was read, and then the report
+
+-- The report could not be read.
+pub unread_later : (deck report : List ℕ) (before mid now : Shelved) (d : Deck) (s : Status) → SpellsDeck deck before d → KeepsButLeft deck before.told mid.told
+    → KeepsCounts before.faults mid.faults → UnreadCause report report_limit mid now s → (s ≢ status.ReadFault → KeepsCounts mid.faults now.faults)
+    → IsUnmade (audit_meaning deck report) before now s
+unread_later deck report before mid now d s spells first calm unread kept = record {
+  cause = unread_audit deck report before now s (of_deck deck before d (λ d. ⊤) spells tt) (unread_since report report_limit before mid now s (first.files report) calm unread);
+  kept = λ read. kept_twice before.faults mid.faults now.faults calm (kept read);
+}
+
+-- It was read, and isn't audited.
+pub unaudited_later : (deck report : List ℕ) (before mid now : Shelved) (d : Deck) (bytes read : List ℕ) (s : Status) → SpellsDeck deck before d
+    → KeepsButLeft deck before.told mid.told → KeepsCounts before.faults mid.faults → ToldIs (mid.told.file report) bytes → length bytes ≤ report_limit → read ≡ bytes
+    → IsAtEnd (now.told.left report) → KeepsCounts mid.faults now.faults → UnauditedCause d read s → IsUnmade (audit_meaning deck report) before now s
+unaudited_later deck report before mid now d bytes read s spells first calm known few is end later cause = record {
+  cause = unaudited deck report before now d read s end spells (told_first report before mid bytes read known (first.files report) is) (subst (λ b. length b ≤ report_limit) (sym is) few) cause;
+  kept = λ none. kept_twice before.faults mid.faults now.faults calm later;
+}
+
+-- It was audited.
+pub audited_later : (deck report : List ℕ) (before mid now : Shelved) (d : Deck) (bytes read text : List ℕ) (differs : Bool) → SpellsDeck deck before d → IsDeck d
+    → KeepsButLeft deck before.told mid.told → IsAtEnd (mid.told.left deck) → KeepsCounts before.faults mid.faults → ToldIs (mid.told.file report) bytes
+    → length bytes ≤ report_limit → read ≡ bytes → KeepsButLeft report mid.told now.told → IsAtEnd (now.told.left report) → KeepsCounts mid.faults now.faults
+    → (found : List Finding) × (text ≡ findings_text found) × (differs ≡ some_differ found) × IsAudit d read found
+    → IsMade (audit_meaning deck report) before now (record { text = text; tape = []; differs = differs })
+unfolding AuditGives
+audited_later deck report before mid now d bytes read text differs spells made first deck_end calm known few is second end later (found, texts, differ, audit) = record {
+  gives = (
+    found,
+    ap₂ (λ text differs. record { text = text; tape = []; differs = differs }) texts differ,
+    (d, spells, made, (read, told_first report before mid bytes read known (first.files report) is, subst (λ b. length b ≤ report_limit) (sym is) few, audit)),
+  );
+  read = λ name. both_ends now deck report name (end_still deck report mid now second deck_end end) end;
+  calm = kept_twice before.faults mid.faults now.faults calm later;
+}
+
+-- Nothing else changed.
 pub reads_both : (deck report : List ℕ) (before mid now : Shelved) → KeepsButLeft deck before.told mid.told → NoCountFalls before.faults mid.faults
     → KeepsButLeft report mid.told now.told → NoCountFalls mid.faults now.faults → Reads (audit_meaning deck report) before now
 reads_both deck report before mid now first falls second falls_later = record {
