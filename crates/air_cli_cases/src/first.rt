@@ -54,3 +54,23 @@ pub fn script_case<'a>(shows: &'a str, deck: Parts<'a>, printed: Parts<'a>) -> C
         ..FIRST_CASE
     }
 }
+
+/// These words over the first deck and its tape, of whose calls the listed fail, leave this.
+pub fn ends<'a>(
+    shows: &'a str,
+    words: &'a [&'a str],
+    fail: &'a [u64],
+    status: Status,
+    printed: Parts<'a>,
+    output: Parts<'a>,
+) -> Case<'a> {
+    Case {
+        shows,
+        words,
+        fail,
+        status,
+        printed,
+        output,
+        ..FIRST_CASE
+    }
+}

@@ -2,7 +2,7 @@
 
 use air_cli::Status;
 use air_cli_cases::cases::{Case, Other, Part, Parts, difference, first_other, three_parts};
-use air_cli_cases::first::{FIRST, FIRST_CASE, PLAN, SCRIPT, SCRIPT_TAPE, TUNE};
+use air_cli_cases::first::{FIRST, PLAN, SCRIPT, SCRIPT_TAPE, TUNE, ends};
 use std::alloc::Global;
 use std::thread::Threads;
 
@@ -45,12 +45,8 @@ fn refusal_case<'a>(
     line: Parts<'a>,
 ) -> Case<'a> {
     Case {
-        shows,
-        words,
         deck,
-        status,
-        printed: line,
-        ..FIRST_CASE
+        ..ends(shows, words, &[], status, line, &[])
     }
 }
 

@@ -2,29 +2,9 @@
 
 use air_cli::Status;
 use air_cli_cases::cases::{Case, Other, Part, Parts, difference, first_other};
-use air_cli_cases::first::{FIRST_CASE, FIRST_REPORT, FIRST_TAPE, PLAN, SCRIPT, SCRIPT_TAPE, TUNE};
+use air_cli_cases::first::{FIRST_REPORT, FIRST_TAPE, PLAN, SCRIPT, SCRIPT_TAPE, TUNE, ends};
 use std::alloc::Global;
 use std::thread::Threads;
-
-/// The first deck and its tape with room enough, where the listed calls fail, leave this.
-fn fails<'a>(
-    shows: &'a str,
-    words: &'a [&'a str],
-    fail: &'a [u64],
-    status: Status,
-    printed: Parts<'a>,
-    output: Parts<'a>,
-) -> Case<'a> {
-    Case {
-        shows,
-        words,
-        fail,
-        status,
-        printed,
-        output,
-        ..FIRST_CASE
-    }
-}
 
 /// The first of these calls whose failure isn't told as a read fault, and what is other then.
 fn first_other_call<R: Threads + Sync>(
@@ -35,7 +15,7 @@ fn first_other_call<R: Threads + Sync>(
     for (words, call) in calls {
         let fail = [*call];
         let line: Parts<'_> = &[Part::Text("fault,3\n")];
-        let case = fails("a failing call", words, &fail, Status::ReadFault, line, &[]);
+        let case = ends("a failing call", words, &fail, Status::ReadFault, line, &[]);
         if let Some(other) = difference(rt, alloc, &case) {
             return Some((*call, other));
         }
@@ -66,9 +46,9 @@ fn a_failing_pick_or_read_is_told(rt: HostRuntime) {
 fn of_a_text_that_is_not_printed_the_first_bytes_are_left(rt: HostRuntime) {
     let fault = Status::ReadFault;
     let front: Parts<'_> = &[Part::Text("faul")];
-    let line = fails("a refusal without room", SCRIPT, &[1], fault, front, &[]);
+    let line = ends("a refusal without room", SCRIPT, &[1], fault, front, &[]);
     let read: Parts<'_> = &[Part::Text("accept,0,0,1,")];
-    let report = fails(
+    let report = ends(
         "a report without room",
         TUNE,
         &[],
@@ -77,7 +57,7 @@ fn of_a_text_that_is_not_printed_the_first_bytes_are_left(rt: HostRuntime) {
         &[],
     );
     let cases = [
-        fails("a refusal", SCRIPT, &[1, 2], fault, &[], &[]),
+        ends("a refusal", SCRIPT, &[1, 2], fault, &[], &[]),
         Case { room: 4, ..line },
         Case { room: 13, ..report },
     ];
@@ -90,10 +70,10 @@ fn the_tape_is_written_before_the_text_is_printed(rt: HostRuntime) {
     let none: &[&str] = &["script", "deck", "none"];
     let tape: Parts<'_> = &[Part::Bytes(&FIRST_TAPE)];
     let cases = [
-        fails("a failing create", SCRIPT_TAPE, &[4], fault, &[], &[]),
-        fails("a failing append", SCRIPT_TAPE, &[5], fault, &[], &[]),
-        fails("no such output", none, &[], fault, &[], &[]),
-        fails("a failing print", SCRIPT_TAPE, &[6], fault, &[], tape),
+        ends("a failing create", SCRIPT_TAPE, &[4], fault, &[], &[]),
+        ends("a failing append", SCRIPT_TAPE, &[5], fault, &[], &[]),
+        ends("no such output", none, &[], fault, &[], &[]),
+        ends("a failing print", SCRIPT_TAPE, &[6], fault, &[], tape),
     ];
     assert_eq!(rt; first_other(&rt, rt.alloc(), &cases), None);
 }
@@ -108,7 +88,7 @@ fn first_other_room<R: Threads + Sync>(
     for (words, room, printed, written) in rooms {
         let report = [Part::Front(*printed, FIRST_REPORT)];
         let tape = [Part::Front(*written, &FIRST_TAPE)];
-        let full = fails(
+        let full = ends(
             "a full shelf",
             words,
             &[],

@@ -2,7 +2,9 @@
 
 use air_cli::Status;
 use air_cli_cases::cases::{Case, Other, Part, Parts, main_difference, main_other};
-use air_cli_cases::first::{FIRST, FIRST_CASE, FIRST_REPORT, FIRST_TAPE, RUN, SCRIPT_TAPE, TUNE};
+use air_cli_cases::first::{
+    FIRST, FIRST_CASE, FIRST_REPORT, FIRST_TAPE, RUN, SCRIPT_TAPE, TUNE, ends,
+};
 use air_devices::OpenGate;
 use std::alloc::Global;
 use std::sync::Wait;
@@ -20,14 +22,8 @@ fn one_cycle<'a>(
     output: Parts<'a>,
 ) -> Case<'a> {
     Case {
-        shows,
-        words: RUN,
         deck: &[Part::Text(QUIET), Part::Text("set,cycles,1\n")],
-        fail,
-        status,
-        printed,
-        output,
-        ..FIRST_CASE
+        ..ends(shows, RUN, fail, status, printed, output)
     }
 }
 
