@@ -1,5 +1,5 @@
 //! The commands of airdisk over a shelf in memory, but for those that start threads or wait, and for what readers hear: words, what is
-//! refused and in which order, plans, scripts, drills, audits, and devices that fail.
+//! refused and in which order, plans, drills, audits, and devices that fail.
 //!
 //! A test is a table of one behaviour, played through `air_quiet`.
 #![tactic(auto)]
@@ -14,7 +14,5 @@ mod orders;
 mod outside;
 #[cfg(test)]
 mod plans;
-#[cfg(test)]
-mod scripts;
 #[cfg(test)]
 mod wording;

@@ -1,4 +1,4 @@
-//! What readers hear of a script or of a tape: tapes that are cut or changed, policies, copies, ethers, and the rows of a report.
+//! What readers hear of a script or of a tape: scripts, tapes that are cut or changed, policies, copies, ethers, and the rows of a report.
 //!
 //! A test is a table of one behaviour, played through `air_quiet`.
 #![tactic(auto)]
@@ -11,6 +11,8 @@ mod ethers;
 mod policies;
 #[cfg(test)]
 mod reports;
+#[cfg(test)]
+mod scripts;
 #[cfg(test)]
 mod tapes;
 #[cfg(test)]
