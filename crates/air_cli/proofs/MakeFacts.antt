@@ -9,14 +9,14 @@ use Rattle.air_status.specs.declared.status.Status.TheVariants as status
 use Rattle.air_cli.specs.Meanings.{Meaning}
 use Rattle.air_cli.specs.Steps.Making.{IsUnmade}
 
--- It wasn't made since its deck couldn't be had.
-pub unmade : (command : Meaning) (before now : Shelved) (s : Status) → command.Refuses before now s → (s ≢ status.ReadFault → KeepsCounts before.faults now.faults)
+-- There is a cause, and every count is as it was but where a read failed.
+pub is_unmade : (command : Meaning) (before now : Shelved) (s : Status) → command.Refuses before now s → (s ≢ status.ReadFault → KeepsCounts before.faults now.faults)
     → IsUnmade command before now s
-unmade command before now s cause kept = record { cause = cause; kept = kept }
+is_unmade command before now s cause kept = record { cause = cause; kept = kept }
 
--- It wasn't made though every file was read.
-pub unmade_calm : (command : Meaning) (before now : Shelved) (s : Status) → command.Refuses before now s → KeepsCounts before.faults now.faults → IsUnmade command before now s
-unmade_calm command before now s cause calm = record { cause = cause; kept = λ read. calm }
+-- There is a cause, and every count is as it was.
+pub is_unmade_calm : (command : Meaning) (before now : Shelved) (s : Status) → command.Refuses before now s → KeepsCounts before.faults now.faults → IsUnmade command before now s
+is_unmade_calm command before now s cause calm = record { cause = cause; kept = λ read. calm }
 
 -- The one file that it names was read to its end.
 pub one_end : (now : Shelved) (deck name : List ℕ) → IsAtEnd (now.told.left deck) → name ≡ deck → IsAtEnd (now.told.left name)

@@ -13,7 +13,7 @@ use report_reading::limits::MOST_REPORT_BYTES;
 use std::alloc::Global;
 
 /// The findings of the named report, by the named deck.
-#[tactic(auto, using(crate::proofs::MakeFacts::unmade, crate::proofs::AuditFacts::deck_audit, crate::proofs::AuditFacts::unread_later, crate::proofs::AuditFacts::unaudited_later, crate::proofs::AuditFacts::audited_later, crate::proofs::AuditFacts::reads_both))]
+#[tactic(auto, using(crate::proofs::MakeFacts::is_unmade, crate::proofs::AuditFacts::deck_audit, crate::proofs::AuditFacts::unread_later, crate::proofs::AuditFacts::unaudited_later, crate::proofs::AuditFacts::audited_later, crate::proofs::AuditFacts::reads_both))]
 pub(crate) fn audit<S: Shelf>(
     alloc: Global,
     shelf: &mut S,

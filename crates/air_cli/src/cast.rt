@@ -29,7 +29,7 @@ use std::sync::Wait;
 use std::thread::Threads;
 
 /// The report of a run of the named deck, which is cast to a port.
-#[tactic(auto, using(crate::proofs::MakeFacts::unmade, crate::proofs::MakeFacts::unmade_calm, crate::proofs::CastFacts::unrunnable_cast, crate::proofs::CastFacts::refused_cast, crate::proofs::CastFacts::leaves_cast))]
+#[tactic(auto, using(crate::proofs::MakeFacts::is_unmade, crate::proofs::MakeFacts::is_unmade_calm, crate::proofs::CastFacts::unrunnable_cast, crate::proofs::CastFacts::refused_cast, crate::proofs::CastFacts::leaves_cast))]
 pub(crate) fn cast<R: Threads + Wait + Sync, S: Shelf, M: Mast + Send, G: Gate + Sync>(
     rt: &R,
     alloc: Global,

@@ -20,7 +20,7 @@ use item_catalog::Deck;
 use std::alloc::Global;
 
 /// The report of the named deck's readers over what they hear on a port.
-#[tactic(auto, using(crate::proofs::MakeFacts::unmade, crate::proofs::MakeFacts::unmade_calm, crate::proofs::ListenFacts::unrunnable_listen, crate::proofs::ListenFacts::refused_listen, crate::proofs::ListenFacts::leaves_listen))]
+#[tactic(auto, using(crate::proofs::MakeFacts::is_unmade, crate::proofs::MakeFacts::is_unmade_calm, crate::proofs::ListenFacts::unrunnable_listen, crate::proofs::ListenFacts::refused_listen, crate::proofs::ListenFacts::leaves_listen))]
 pub(crate) fn listen<S: Shelf, E: Ear>(
     alloc: Global,
     shelf: &mut S,

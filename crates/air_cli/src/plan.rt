@@ -14,7 +14,7 @@ use delivery::Given;
 use std::alloc::Global;
 
 /// The text of the named deck's plan.
-#[tactic(auto, using(crate::proofs::MakeFacts::unmade, crate::proofs::MakeFacts::unmade_calm, crate::proofs::PlanFacts::deck_plan, crate::proofs::PlanFacts::length_plan, crate::proofs::PlanFacts::wanting_plan))]
+#[tactic(auto, using(crate::proofs::MakeFacts::is_unmade, crate::proofs::MakeFacts::is_unmade_calm, crate::proofs::PlanFacts::deck_plan, crate::proofs::PlanFacts::length_plan, crate::proofs::PlanFacts::wanting_plan))]
 pub(crate) fn plan<S: Shelf>(alloc: Global, shelf: &mut S, name: &str) -> Result<Given, Status>
     ensures made { IfOk result (IsMade (plan_meaning name.now) (S.state shelf.old) (S.state shelf.new)) }
     ensures unmade { IfErr result (IsUnmade (plan_meaning name.now) (S.state shelf.old) (S.state shelf.new)) }

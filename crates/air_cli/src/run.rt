@@ -14,7 +14,7 @@ use std::sync::Wait;
 use std::thread::Threads;
 
 /// The report and the tape of a run of the named deck, whatever output is to take the tape.
-#[tactic(auto, using(crate::proofs::MakeFacts::unmade, crate::proofs::MakeFacts::unmade_calm, crate::proofs::RunFacts::unrunnable_run, crate::proofs::RunFacts::long_run_cause))]
+#[tactic(auto, using(crate::proofs::MakeFacts::is_unmade, crate::proofs::MakeFacts::is_unmade_calm, crate::proofs::RunFacts::unrunnable_run, crate::proofs::RunFacts::long_run_cause))]
 pub(crate) fn run<R: Threads + Wait + Sync, S: Shelf, G: Gate + Sync>(
     rt: &R,
     alloc: Global,
