@@ -49,10 +49,6 @@ unread_audit deck report before now (status.Report row kind) has h = absurd h
 unread_audit deck report before now (status.TooMuch product) has h = absurd h
 unread_audit deck report before now s has h = inr (has, h)
 
-pub wanting_audit : (deck report : List ℕ) (before now : Shelved) → AuditCause deck report before now status.NoMemory
-unfolding AuditCause DeckCause UnreadCause
-wanting_audit deck report before now = inl tt
-
 -- The bytes that were read after the deck are those of the named report.
 pub told_first : (report : List ℕ) (before mid : Shelved) (bytes read : List ℕ) → ToldIs (mid.told.file report) bytes → mid.told.file report ≡ before.told.file report → read ≡ bytes
     → ToldIs (before.told.file report) read

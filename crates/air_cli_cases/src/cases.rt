@@ -128,20 +128,15 @@ fn add_file(
 ) -> Result<(), NoMemory> {
     let name = String::from_str(alloc, name)?;
     let bytes = bytes_of(alloc, parts)?;
-    match files.push((name, bytes)) {
-        Ok(()) => Ok(()),
-        Err(_) => Err(NoMemory),
-    }
+    files.push((name, bytes))?;
+    Ok(())
 }
 
 /// These words.
 pub fn words_of(alloc: Global, words: &[&str]) -> Result<Vec<String>, NoMemory> {
     let mut all = Vec::new(alloc);
     for word in words {
-        let word = String::from_str(alloc, word)?;
-        if all.push(word).is_err() {
-            return Err(NoMemory);
-        }
+        all.push(String::from_str(alloc, word)?)?;
     }
     Ok(all)
 }

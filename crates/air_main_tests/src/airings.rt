@@ -43,19 +43,11 @@ fn buckets(alloc: Global, count: usize) -> Result<Vec<Vec<u8>>, NoMemory>
     ensures { IfOk result (λ all. All (λ bytes. 1 ≤ length bytes.items) all.items) }
 {
     let mut all = Vec::new(alloc);
-    if count >= 1
-        && all
-            .push(Vec::from_slice(alloc, &FIRST_TAPE[4..36])?)
-            .is_err()
-    {
-        return Err(NoMemory);
+    if count >= 1 {
+        all.push(Vec::from_slice(alloc, &FIRST_TAPE[4..36])?)?;
     }
-    if count >= 2
-        && all
-            .push(Vec::from_slice(alloc, &FIRST_TAPE[40..72])?)
-            .is_err()
-    {
-        return Err(NoMemory);
+    if count >= 2 {
+        all.push(Vec::from_slice(alloc, &FIRST_TAPE[40..72])?)?;
     }
     Ok(all)
 }
