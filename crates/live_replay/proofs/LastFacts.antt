@@ -1,23 +1,17 @@
--- What the last write of an item before a cycle tells: the read's origin and its value; and when two cycles have one origin.
-use Rattle.std.proofs.Common.{◌≡◌, ℕ, zero, suc, ◌+◌, ◌-◌, ◌<◌, ◌≤◌, Bool, true, false, cond, ◌==◌, Option, Some, None, List, [], ◌∷◌, ◌++◌, length, get_or, take, refl, sym, ◌∙◌, ap, subst, inl, inr, arith, add-one, zero-add}
-use Rattle.std.proofs.lemmas.Bool.{cases_lt, eq-eqb, eqb-true}
-use Rattle.std.proofs.lemmas.Bool.Decides.{same_from_decides}
+-- What the last write of an item before a cycle tells: the read's value.
+use Rattle.std.proofs.Common.{◌≡◌, ℕ, zero, suc, ◌+◌, ◌-◌, ◌<◌, ◌≤◌, Bool, true, false, cond, Option, Some, None, List, [], ◌∷◌, ◌++◌, length, get_or, take, refl, sym, ◌∙◌, ap, subst, arith, add-one, zero-add}
 use Rattle.std.proofs.lemmas.List.{append-nil, length_push, length-append, get_or_push, get_or_append_left}
 use Rattle.air_history.specs.declared.histories.Event.{Event}
-use Rattle.air_history.specs.Histories.{writes, event_at, front, writer, writer_before}
-use Rattle.air_history.specs.Reads.{origin, read_value, same_origin}
+use Rattle.air_history.specs.Histories.{writes, event_at, front, writer_before}
+use Rattle.air_history.specs.Reads.{read_value}
 use Rattle.air_history.specs.Tables.{table, values_of}
-use Rattle.air_history.proofs.HistoryLemmas.{front_prefix, front_within, writer_before_is}
-use Rattle.air_history.proofs.OriginLemmas.{origin_whole}
-use Rattle.air_history.proofs.PlaceLemmas.{IsLast, last_unique}
+use Rattle.air_history.proofs.HistoryLemmas.{front_prefix, front_within}
 use Rattle.air_history.proofs.ScanLemmas.{writer_before_none}
 use Rattle.air_history.proofs.TableLemmas.{table_nil, table_push}
 use Rattle.history_laws.proofs.AloneLemmas.{not_written}
-use Rattle.history_laws.proofs.ConsistencyLemmas.{same_place_decides}
-use Rattle.history_laws.proofs.StaleLemmas.{origin_of}
 use Rattle.live_replay.specs.declared.writes.ItemWrite.{ItemWrite}
 use Rattle.live_replay.specs.Findings.{read_of}
-use Rattle.live_replay.specs.Steps.Commits.{count_at, write_at, writes_from}
+use Rattle.live_replay.specs.Steps.Writes.{count_at, write_at, writes_from}
 use Rattle.live_replay.proofs.WriteFacts.{before_next, no_places, one_more, split_writes, take_next}
 
 module _ (V : List ℕ) (H : List Event) (i : ℕ) where
@@ -72,22 +66,19 @@ module _ (V : List ℕ) (H : List Event) (i : ℕ) where
       let whole : length H ≡ length (front H c) + (length H - length (front H c)) = omega (arith, front_within H c) in
       omega (arith, ap (λ n. length (item_writes n)) whole, ap length (split_writes V H i 0 (length (front H c)) (length H - length (front H c))), length-append (item_writes (length (front H c))) (writes_from V H i (0 + length (front H c)) (length H - length (front H c))))
 
-  at_origin : (c : ℕ) → origin H (read_of i c) ≡ writer_before H (length (front H c)) i
-  at_origin c = origin_whole H (read_of i c)
-
   value_at : (c : ℕ) → read_value (values_of V) H (read_of i c) ≡ value_left_by (writer_before H (length (front H c)) i)
   value_at c = ap (λ G. table (values_of V) G i) (front_prefix H c) ∙ value_left (length (front H c)) (front_within H c)
 
-  -- Where nothing was written, the read has no origin, and the catalog's value.
-  pub none_written : (c : ℕ) → count_before c ≡ 0 → (origin H (read_of i c) ≡ None) × (read_value (values_of V) H (read_of i c) ≡ values_of V i)
-  none_written c e = let o = none (writer_before H (length (front H c)) i) refl in (at_origin c ∙ o, value_at c ∙ ap value_left_by o)
+  -- Where nothing was written, the read has the catalog's value.
+  pub none_written : (c : ℕ) → count_before c ≡ 0 → read_value (values_of V) H (read_of i c) ≡ values_of V i
+  none_written c e = value_at c ∙ ap value_left_by (none (writer_before H (length (front H c)) i) refl)
     where
       none : (o : Option ℕ) → writer_before H (length (front H c)) i ≡ o → writer_before H (length (front H c)) i ≡ None
       none None f = f
       none (Some w) f = absurd (let len = length_push (item_writes w) (write_at V H i w) in let same = ap length (ends (length (front H c)) (Some w) f) in omega arith)
 
-  -- Else the last write is the origin's, and has left the read's value.
-  pub last_written : (c : ℕ) (d : ItemWrite) → 0 < count_before c → (w : ℕ) × (origin H (read_of i c) ≡ Some w) × (get_or (item_writes (length H)) (count_before c - 1) d ≡ write_at V H i w) × (read_value (values_of V) H (read_of i c) ≡ (write_at V H i w).value)
+  -- Else the last write has left the read's value.
+  pub last_written : (c : ℕ) (d : ItemWrite) → 0 < count_before c → read_value (values_of V) H (read_of i c) ≡ (get_or (item_writes (length H)) (count_before c - 1) d).value
   unfolding write_at
   last_written c d pos = some (writer_before H (length (front H c)) i) refl
     where
@@ -97,57 +88,12 @@ module _ (V : List ℕ) (H : List Event) (i : ℕ) where
       whole : item_writes (length H) ≡ item_writes m ++ writes_from V H i (0 + m) (length H - m)
       whole = let e : length H ≡ m + (length H - m) = omega (arith, front_within H c) in ap item_writes e ∙ split_writes V H i 0 m (length H - m)
 
-      some : (o : Option ℕ) → writer_before H m i ≡ o → (w : ℕ) × (origin H (read_of i c) ≡ Some w) × (get_or (item_writes (length H)) (count_before c - 1) d ≡ write_at V H i w) × (read_value (values_of V) H (read_of i c) ≡ (write_at V H i w).value)
+      some : (o : Option ℕ) → writer_before H m i ≡ o → read_value (values_of V) H (read_of i c) ≡ (get_or (item_writes (length H)) (count_before c - 1) d).value
       some None f = absurd (let same = ap length (ends m None f) in omega arith)
       some (Some w) f =
           let tail = ends m (Some w) f in
-          let len : count_before c ≡ length (item_writes w) + 1 = ap length tail ∙ length_push (item_writes w) (write_at V H i w) in (
-            w,
-            at_origin c ∙ f,
-            ap (λ ws. get_or ws (count_before c - 1) d) whole ∙ get_or_append_left (item_writes m) (writes_from V H i (0 + m) (length H - m)) d (count_before c - 1) (omega arith)
-                ∙ ap (λ ws. get_or ws (count_before c - 1) d) tail ∙ get_or_push (item_writes w) (write_at V H i w) d (count_before c - 1) (omega arith),
-            value_at c ∙ ap value_left_by f,
-          )
-
-  -- Two places have one last writer exactly if there are as many writes before both.
-  same_ends : (m n : ℕ) → writer_before H m i ≡ writer_before H n i → length (item_writes m) ≡ length (item_writes n)
-  same_ends m n e = by (writer_before H n i) refl
-    where
-      by : (o : Option ℕ) → writer_before H n i ≡ o → length (item_writes m) ≡ length (item_writes n)
-      by None f = ap length (ends m None (e ∙ f)) ∙ sym (ap length (ends n None f))
-      by (Some w) f = ap length (ends m (Some w) (e ∙ f)) ∙ sym (ap length (ends n (Some w) f))
-
-  one_writer : (m n : ℕ) → m ≤ n → length (item_writes m) ≡ length (item_writes n) → writer_before H m i ≡ writer_before H n i
-  one_writer m n le e = by (writer_before H n i) refl (writer_before_is H n i)
-    where
-      longer : (w : ℕ) → m ≤ w → writer_before H n i ≡ Some w → ⊥
-      longer w mw f =
-          let whole : w ≡ m + (w - m) = omega arith in
-          omega (arith, ap length (ends n (Some w) f), length_push (item_writes w) (write_at V H i w), ap (λ k. length (item_writes k)) whole, ap length (split_writes V H i 0 m (w - m)), length-append (item_writes m) (writes_from V H i (0 + m) (w - m)))
-
-      by : (o : Option ℕ) → writer_before H n i ≡ o → IsLast n (λ q. writes (event_at H q) i) (writer_before H n i) → writer_before H m i ≡ writer_before H n i
-      by None f is =
-          let no : IsLast n (λ q. writes (event_at H q) i) None = subst (IsLast n (λ q. writes (event_at H q) i)) f is in
-          last_unique m (λ q. writes (event_at H q) i) (writer_before H m i) None (writer_before_is H m i) (λ q l. no q (omega arith)) ∙ sym f
-      by (Some w) f is =
-          let at : IsLast n (λ q. writes (event_at H q) i) (Some w) = subst (IsLast n (λ q. writes (event_at H q) i)) f is in
-          elim (cases_lt w m) as (λ _. writer_before H m i ≡ writer_before H n i) [
-            | inl l ↦ last_unique m (λ q. writes (event_at H q) i) (writer_before H m i) (Some w) (writer_before_is H m i) (l, at.1, λ q a b. at.2 q a (omega arith)) ∙ sym f
-            | inr g ↦ absurd (longer w g f)
-          ]
-
-  one_end : (m n : ℕ) → length (item_writes m) ≡ length (item_writes n) → writer_before H m i ≡ writer_before H n i
-  one_end m n e = elim (cases_lt n m) as (λ _. writer_before H m i ≡ writer_before H n i) [
-    | inl l ↦ sym (one_writer n m (omega arith) (sym e))
-    | inr g ↦ one_writer m n g e
-  ]
-
-  whole_writer : (c : ℕ) → writer (front H c) i ≡ writer_before H (length (front H c)) i
-  whole_writer c = sym (origin_of H i c) ∙ at_origin c
-
-  -- An item has one origin at two cycles exactly if it was written as often before both.
-  pub same_origin_is : (c d : ℕ) → same_origin H i c d ≡ (count_before c == count_before d)
-  same_origin_is c d = same_from_decides {P = count_before c ≡ count_before d} (same_origin H i c d) (count_before c == count_before d) (
-    λ h. same_ends (length (front H c)) (length (front H d)) (sym (whole_writer c) ∙ (same_place_decides (writer (front H c) i) (writer (front H d) i)).0 h ∙ whole_writer d),
-    λ h. (same_place_decides (writer (front H c) i) (writer (front H d) i)).1 (whole_writer c ∙ one_end (length (front H c)) (length (front H d)) h ∙ sym (whole_writer d)),
-  ) (λ h. eqb-true (count_before c) (count_before d) h, λ h. eq-eqb (count_before c) (count_before d) h)
+          let len : count_before c ≡ length (item_writes w) + 1 = ap length tail ∙ length_push (item_writes w) (write_at V H i w) in
+          let at : get_or (item_writes (length H)) (count_before c - 1) d ≡ write_at V H i w =
+          ap (λ ws. get_or ws (count_before c - 1) d) whole ∙ get_or_append_left (item_writes m) (writes_from V H i (0 + m) (length H - m)) d (count_before c - 1) (omega arith)
+          ∙ ap (λ ws. get_or ws (count_before c - 1) d) tail ∙ get_or_push (item_writes w) (write_at V H i w) d (count_before c - 1) (omega arith) in
+          value_at c ∙ ap value_left_by f ∙ ap (λ (w : ItemWrite). w.value) (sym at)

@@ -1,14 +1,10 @@
 mod FindingExamples
 mod WholeExamples
 pub mod CountFacts
-pub mod NumberFacts
 pub mod WriteFacts
 pub mod LastFacts
-pub mod SourceFacts
-pub mod MarkFacts
-pub mod ClearFacts
+pub mod AloneFacts
 pub mod PassFacts
-pub mod OriginMarks
 pub mod RunFacts
 pub mod ReplayFacts
 pub mod PolicyFacts

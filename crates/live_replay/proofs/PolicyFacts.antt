@@ -1,10 +1,11 @@
--- Reads gone through from the last one back: the least that is named; and the cycle of the last.
-use Rattle.std.proofs.Common.{◌≡◌, ℕ, suc, ◌+◌, ◌-◌, ◌<◌, ◌≤◌, Bool, true, false, cond, Option, None, List, [], ◌∷◌, length, get_or, drop, refl, sym, ◌∙◌, ap, arith}
+-- Reads gone through from the last one back: the least that is named; and how late their cycles are.
+use Rattle.std.proofs.Common.{◌≡◌, ℕ, suc, ◌+◌, ◌-◌, ◌<◌, ◌≤◌, Bool, true, false, cond, Option, None, List, [], ◌∷◌, length, get_or, drop, All, refl, sym, ◌∙◌, ap, arith}
 use Rattle.std.specs.List.{filter}
 use Rattle.std.proofs.lemmas.List.{drop_all, drop_more, get_or-map, length-map}
+use Rattle.std.proofs.lemmas.List.Elements.{All-head, All-tail}
 use Rattle.air_base.specs.declared.verdicts.Clash.{Clash}
 use Rattle.air_base.specs.declared.verdicts.ReadOf.{ReadOf}
-use Rattle.air_history.specs.Reads.{ReadAt, last_cycle}
+use Rattle.air_history.specs.Reads.{ReadAt, first_cycle, last_cycle, newest_cycle}
 use Rattle.air_history.specs.Clashes.{least, lesser, named_clash}
 use Rattle.live_replay.specs.Findings.{place_of, places_of, read_of}
 
@@ -22,6 +23,15 @@ last_is (r ∷ []) d l = refl
 last_is (r ∷ s ∷ reads) d l =
     let e : suc (suc (length reads)) - 1 ≡ suc (suc (length reads) - 1) = omega arith in
     ap (λ k. (get_or (r ∷ s ∷ reads) k d).cycle) e ∙ last_is (s ∷ reads) d (omega arith)
+
+-- The newest cycle is one of the first n where each is, and so is the first.
+pub newest_within : (n : ℕ) (reads : List ReadOf) → All (λ r. r.cycle ≤ n) reads → newest_cycle (places_of reads) ≤ n
+newest_within n [] h = omega arith
+newest_within n (r ∷ reads) h = omega (arith, All-head (λ r. r.cycle ≤ n) r reads h, newest_within n reads (All-tail (λ r. r.cycle ≤ n) r reads h))
+
+pub first_within : (n : ℕ) (reads : List ReadOf) → All (λ r. r.cycle ≤ n) reads → first_cycle (places_of reads) ≤ n
+first_within n [] h = omega arith
+first_within n (r ∷ reads) h = All-head (λ r. r.cycle ≤ n) r reads h
 
 module _ (test : ReadAt → Bool) (reads : List ReadOf) where
   pub named_none : (k : ℕ) → length reads ≤ k → named_clash test (drop k (places_of reads)) ≡ None

@@ -3,12 +3,14 @@ use Rattle.std.proofs.Common.{◌≡◌, ℕ, ◌+◌, ◌%◌, ◌^◌, ◌<◌
 use Rattle.std.specs.List.{sum}
 use Rattle.std.proofs.Math.Nat.{mod-add-mod}
 use Rattle.std.proofs.lemmas.List.FromFn.{get_or-map-range_with_len, length-map-range_with_len}
-use Rattle.std.proofs.lemmas.List.{get_or_default, length-map, length-take, take_all}
-use Rattle.std.proofs.lemmas.List.Sums.{count_by-le-length, sum_by_more}
+use Rattle.std.proofs.lemmas.List.{get_or_default, length-map, take_all}
+use Rattle.std.proofs.lemmas.List.Sums.{sum_by_more}
 use Rattle.air_history.specs.declared.histories.Event.{Event}
-use Rattle.air_history.specs.Histories.{is_start, cycle_at, front, ItemsFit}
+use Rattle.air_history.specs.declared.histories.Event.TheVariants.{Start}
+use Rattle.air_history.specs.Histories.{is_start, front, starts, ItemsFit}
 use Rattle.air_history.specs.Reads.{read_value}
 use Rattle.air_history.specs.Tables.{table, table_list, values_of}
+use Rattle.air_history.proofs.ScanLemmas.{cycle_more_start, cycle_within}
 use Rattle.air_model.specs.Reports.{total_at}
 use Rattle.air_model.specs.Decks.{Deck, Item, IsDeck, IsLegal, values_in}
 use Rattle.air_model.proofs.DeckLemmas.{events, items_fit}
@@ -16,10 +18,9 @@ use Rattle.live_replay.specs.declared.running.Running.{Running}
 use Rattle.live_replay.specs.declared.replay.Replay.TheInside.{Inside}
 use Rattle.live_replay.specs.declared.writes.ItemWrite.{ItemWrite}
 use Rattle.live_replay.specs.Findings.{read_of}
-use Rattle.live_replay.specs.Steps.Commits.{is_commit, number_at, writes_from}
+use Rattle.live_replay.specs.Steps.Writes.{writes_from}
 use Rattle.live_replay.specs.Steps.Replays.{IsReplay, replay_of}
 use Rattle.live_replay.specs.Steps.Runs.{IsRun}
-use Rattle.live_replay.proofs.SourceFacts.{sources_count}
 
 -- The items of a legal history's updates are the deck's.
 pub legal_fits : (deck : Deck) (H : List Event) → IsDeck deck → IsLegal deck H → All (ItemsFit (length deck.items)) H
@@ -28,20 +29,10 @@ legal_fits deck H is legal = λ p d l. items_fit (length deck.updates) (length d
 pub values_length : (deck : Deck) → length (values_in deck) ≡ length deck.items
 values_length deck = length-map deck.items (λ (i : Item). i.value)
 
-cycle_few : (H : List Event) (n : ℕ) → cycle_at H n ≤ n
-unfolding cycle_at
-cycle_few H n = omega (arith, count_by-le-length is_start (take n H), length-take n H)
-
-number_few : (H : List Event) (n : ℕ) → number_at H n ≤ n
-unfolding number_at
-number_few H n = omega (arith, count_by-le-length is_commit (take n H), length-take n H)
-
--- No more starts and commits than events were run.
-pub run_few : (V : List ℕ) (H : List Event) (n : ℕ) (run : Running) → IsRun V H n run → n ≤ length H → (run.starts ≤ n) × (length run.sources.items ≤ n)
-run_few V H n run r l = (
-  omega (arith, r.starts, cycle_few H n),
-  omega (arith, ap length r.sources, sources_count H n l, number_few H n),
-)
+-- A start that is run is one of the history's.
+pub start_few : (V : List ℕ) (H : List Event) (n : ℕ) (run : Running) (e : Event) → IsRun V H n run → n < length H → e ≡ get_or H n e → e ≡ Start → run.starts + 1 ≤ starts H
+unfolding is_start
+start_few V H n run e r l at start = omega (arith, r.starts, cycle_more_start H n e l at (ap is_start start), cycle_within H (n + 1))
 
 -- The writes of an item that a replay keeps.
 pub kept_writes : (r : Inside) → IsReplay r → (i : ℕ) (d : List ItemWrite) → i < length r.deck.now.items →

@@ -1,11 +1,9 @@
 -- The writes of an item: what each of them is, how they split at a front, and what the last one before a place tells.
-use Rattle.std.proofs.Common.{◌≡◌, ℕ, zero, suc, ◌+◌, ◌-◌, ◌<◌, ◌≤◌, Bool, true, false, cond, ◌||◌, Some, List, [], ◌∷◌, ◌++◌, length, take, count_by, ltb, All, refl, sym, ◌∙◌, ap, subst, inl, inr, arith, add-one, append_assoc}
-use Rattle.std.specs.List.{list_any}
+use Rattle.std.proofs.Common.{◌≡◌, ℕ, zero, suc, ◌+◌, ◌-◌, ◌<◌, ◌≤◌, Bool, true, false, cond, Some, List, [], ◌∷◌, ◌++◌, length, take, count_by, ltb, All, refl, sym, ◌∙◌, ap, subst, inl, inr, arith, add-one, append_assoc}
 use Rattle.std.specs.List.Sorted.{IsNonDecreasingBy}
-use Rattle.std.proofs.lemmas.Bool.{cases_lt, lt-ltb, le-ltb, or_cases, or_left, or_right, false≢true}
+use Rattle.std.proofs.lemmas.Bool.{cases_lt, lt-ltb, le-ltb}
 use Rattle.std.proofs.lemmas.List.{append-nil, take_more}
 use Rattle.std.proofs.lemmas.List.Elements.{All-push, All-nil}
-use Rattle.std.proofs.lemmas.List.Folds.{list_any-append}
 use Rattle.std.proofs.lemmas.List.Sorted.{IsNonDecreasingBy-push, IsNonDecreasingBy-short}
 use Rattle.air_history.specs.declared.histories.Event.{Event}
 use Rattle.air_history.specs.declared.histories.Event.TheVariants.{Start}
@@ -13,9 +11,8 @@ use Rattle.air_history.specs.Histories.{writes, event_at, cycle_at, front, write
 use Rattle.air_history.proofs.HistoryLemmas.{writer_no_start, writes_within, front_cycle, front_holds, front_within, cycle_mono}
 use Rattle.air_history.proofs.PlaceLemmas.{last_place_suc}
 use Rattle.live_replay.specs.declared.writes.ItemWrite.{ItemWrite}
-use Rattle.live_replay.specs.Steps.Commits.{number_at, write_at, writes_from}
+use Rattle.live_replay.specs.Steps.Writes.{write_at, writes_from}
 use Rattle.live_replay.proofs.CountFacts.{front_count}
-use Rattle.live_replay.proofs.NumberFacts.{number_below}
 
 pub take_next : (H : List Event) (p : ℕ) → p < length H → take (p + 1) H ≡ take p H ++ event_at H p ∷ []
 take_next H p l = take_more H p Start l
@@ -55,40 +52,6 @@ module _ (V : List ℕ) (H : List Event) (i : ℕ) where
       ∙ ap (λ ws. ws ++ cond (writes (event_at H ((m + n) + k)) i) (write_at V H i ((m + n) + k) ∷ []) []) (split_writes m n k)
       ∙ append_assoc (writes_from V H i m n) (writes_from V H i (m + n) k) (cond (writes (event_at H ((m + n) + k)) i) (write_at V H i ((m + n) + k) ∷ []) [])
 
-  -- A test passes at some write, and at the place of it.
-  pub some_write : (t : ItemWrite → Bool) (m n : ℕ) → list_any t (writes_from V H i m n) ≡ true → (p : ℕ) × (m ≤ p) × (p < m + n) × (writes (event_at H p) i ≡ true) × (t (write_at V H i p) ≡ true)
-  unfolding writes_from
-  some_write t m zero h = absurd (false≢true h)
-  some_write t m (suc n) h = more (writes (event_at H (m + n)) i) refl h (some_write t m n)
-    where
-      Found : ℕ → Type 0
-      Found n = (p : ℕ) × (m ≤ p) × (p < m + n) × (writes (event_at H p) i ≡ true) × (t (write_at V H i p) ≡ true)
-
-      up : Found n → Found (suc n)
-      up r = (r.0, r.1, (let l = r.2 in omega arith), r.3, r.4)
-
-      last : (b : Bool) → t (write_at V H i (m + n)) ≡ b → (b || false) ≡ true → t (write_at V H i (m + n)) ≡ true
-      last true e f = e
-      last false e f = cc
-
-      more : (b : Bool) → writes (event_at H (m + n)) i ≡ b → list_any t (writes_from V H i m n ++ cond b (write_at V H i (m + n) ∷ []) []) ≡ true → (list_any t (writes_from V H i m n) ≡ true → Found n) → Found (suc n)
-      more true e f rest = elim (or_cases (list_any t (writes_from V H i m n)) (list_any t (write_at V H i (m + n) ∷ [])) (sym (list_any-append t (writes_from V H i m n) (write_at V H i (m + n) ∷ [])) ∙ f)) as (λ _. Found (suc n)) [
-        | inl there ↦ up (rest there)
-        | inr here ↦ (m + n, omega arith, omega arith, e, last (t (write_at V H i (m + n))) refl here)
-      ]
-      more false e f rest = up (rest (ap (list_any t) (sym (append-nil (writes_from V H i m n))) ∙ f))
-
-  pub write_passes : (t : ItemWrite → Bool) (m n p : ℕ) → m ≤ p → p < m + n → writes (event_at H p) i ≡ true → t (write_at V H i p) ≡ true → list_any t (writes_from V H i m n) ≡ true
-  unfolding writes_from
-  write_passes t m zero p a b w h = absurd (omega arith)
-  write_passes t m (suc n) p a b w h = elim (cases_lt p (m + n)) as (λ _. list_any t (writes_from V H i m (suc n)) ≡ true) [
-    | inl l ↦ list_any-append t (writes_from V H i m n) _ ∙ or_left _ _ (write_passes t m n p a l w h)
-    | inr g ↦ (let same : p ≡ m + n = omega arith in
-        let wrote : writes (event_at H (m + n)) i ≡ true = ap (λ q. writes (event_at H q) i) (sym same) ∙ w in
-        let hit : t (write_at V H i (m + n)) ≡ true = ap (λ q. t (write_at V H i q)) (sym same) ∙ h in
-        list_any-append t (writes_from V H i m n) _ ∙ or_right _ _ (ap (λ b. list_any t (cond b (write_at V H i (m + n) ∷ []) [])) wrote ∙ or_left _ _ hit))
-  ]
-
   -- The writes before a front's end are those of earlier cycles.
   pub count_before : (c : ℕ) → count_by (λ w. ltb w.cycle c) (writes_from V H i 0 (length H)) ≡ length (writes_from V H i 0 (length (front H c)))
   unfolding write_at
@@ -120,8 +83,3 @@ module _ (V : List ℕ) (H : List Event) (i : ℕ) where
       more : (b : Bool) → IsNonDecreasingBy (λ w. w.cycle) (writes_from V H i 0 n) → IsNonDecreasingBy (λ w. w.cycle) (writes_from V H i 0 n ++ cond b (write_at V H i (0 + n) ∷ []) [])
       more true rest = IsNonDecreasingBy-push (λ (w : ItemWrite). w.cycle) (writes_from V H i 0 n) (write_at V H i (0 + n)) rest (λ d l. earlier (length (writes_from V H i 0 n) - 1) d (omega arith))
       more false rest = subst (IsNonDecreasingBy (λ (w : ItemWrite). w.cycle)) (sym (append-nil (writes_from V H i 0 n))) rest
-
-  -- Their numbers are those of commits.
-  pub writes_numbered : All (λ w. w.commit < number_at H (length H)) (writes_from V H i 0 (length H))
-  unfolding write_at
-  writes_numbered = each_write (λ w. w.commit < number_at H (length H)) 0 (length H) (λ p a b w. let l = writes_within H p i w in number_below H p (length H) l l (writer_no_start (event_at H p) i w))

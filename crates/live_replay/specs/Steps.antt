@@ -1,5 +1,6 @@
 -- Definitions that private steps alone speak of: no public contract cites them, nor what a public type shows.
-pub mod Commits
+pub mod Writes
+pub mod Alone
 pub mod Runs
 pub mod Replays
 pub mod Names

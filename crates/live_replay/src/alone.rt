@@ -1,83 +1,90 @@
-//! The commits from which reads descend, marked in one pass from the newest commit back, and whether the reads are consistent.
+//! The commits from which reads descend, marked by the scans of the history, and whether the reads are consistent.
 //!
-//! When these commits run alone, each read's origin has to be the last writer of its item: no later write may be marked.
+//! When these commits run alone, the last that writes a read's item has to be the read's own origin.
 
-ghost use Rattle.std.specs.Prelude.{◌≡◌, ◌<◌, ◌||◌, ◌==◌, ℕ, false, length, get_or, drop, All, IfOk, IsTrue};
-ghost use Rattle.std.specs.List.{list_any};
+ghost use Rattle.std.specs.Prelude.{◌≡◌, ◌≤◌, ◌<◌, ◌&&◌, ◌||◌, ℕ, false, length, get_or, map, All, IfOk, IfSome, OnOk};
 ghost use Rattle.air_history.specs.Consistency.{consistent};
-ghost use Rattle.air_model.specs.Decks.{values_in};
+ghost use Rattle.air_history.specs.Histories.{event_at, starts, writes};
+ghost use Rattle.air_history.specs.Places.{last_place, same_place};
+ghost use Rattle.air_history.specs.Reads.{origin};
 ghost use Rattle.live_replay.specs.Findings.{places_of};
-ghost use Rattle.live_replay.specs.Steps.Commits.{Marking, MarksAlone, count_at, number_at, writes_from};
+ghost use Rattle.live_replay.specs.Steps.Alone.{MarksAlone, MarksDescents};
 
-use crate::replay::Replay;
+use crate::replay::{Replay, same_place};
 use air_base::{NoMemory, ReadOf};
+use air_history::{History, descends};
 use std::alloc::Global;
 
-/// Marks commits by their numbers.
-fn mark_all(commits: &[u32], marks: &mut [bool])
-    requires { All (λ k. k < length marks.old) commits.now }
-    ensures { (k : ℕ) → get_or marks.new k false ≡ (get_or marks.old k false || list_any (λ s. s == k) commits.now) }
+/// The origin of each read.
+fn origins_of(
+    alloc: Global,
+    replay: &Replay<'_>,
+    reads: &[ReadOf],
+) -> Result<Vec<Option<u64>>, NoMemory>
+    requires { All (λ r. r.cycle ≤ starts replay.now.history) reads.now }
+    ensures { IfOk result (λ origins. origins.items ≡ map (origin replay.now.history) (places_of reads.now)) }
 {
-    for commit in commits {
-        marks[*commit as usize] = true;
-    }
-}
-
-/// Marks the origins of reads, where nothing is marked.
-fn mark_origins(replay: &Replay<'_>, reads: &[ReadOf], marks: &mut [bool])
-    requires fits { All (λ r. r.item < length replay.now.deck.items) reads.now }
-    requires sized { length marks.old ≡ number_at replay.now.history (length replay.now.history) }
-    requires clear { (k : ℕ) → get_or marks.old k false ≡ false }
-    ensures { Marking replay.now.history (places_of reads.now) (number_at replay.now.history (length replay.now.history)) marks.new }
-{
+    let mut origins = Vec::new(alloc);
     for read in reads {
-        if let Some(commit) = replay.origin(read.item, read.cycle) {
-            marks[commit as usize] = true;
-        }
+        origins.push(replay.origin(read.item, read.cycle))?;
+    }
+    Ok(origins)
+}
+
+/// Marks too what is marked in another row.
+fn mark_too(more: &[bool], marks: &mut [bool])
+    requires { length more.now ≡ length marks.old }
+    ensures { (p : ℕ) → get_or marks.new p false ≡ (get_or marks.old p false || get_or more.now p false) }
+{
+    for place in 0..more.len() {
+        marks[place] = marks[place] || more[place];
     }
 }
 
-/// Marks the commits from which the reads descend, where nothing is marked.
-fn mark_alone(replay: &Replay<'_>, reads: &[ReadOf], marks: &mut [bool])
-    requires fits { All (λ r. r.item < length replay.now.deck.items) reads.now }
-    requires sized { length marks.old ≡ number_at replay.now.history (length replay.now.history) }
-    requires clear { (k : ℕ) → get_or marks.old k false ≡ false }
-    ensures { MarksAlone replay.now.history (places_of reads.now) marks.new }
+/// Marks the places from which one of these origins descends, the last origin first: one that is marked adds nothing.
+fn mark_descents(
+    alloc: Global,
+    history: &History,
+    origins: &[Option<u64>],
+    marks: &mut [bool],
+) -> Result<(), NoMemory>
+    requires within { All (λ o. IfSome o (λ w. w < length history.now)) origins.now }
+    requires sized { length marks.old ≡ length history.now }
+    requires clear { (p : ℕ) → get_or marks.old p false ≡ false }
+    ensures { OnOk result (MarksDescents history.now origins.now marks.new) }
 {
-    mark_origins(replay, reads, marks);
-    let sources = replay.sources();
-    for commit in (0..sources.len()).rev() {
-        if marks[commit] {
-            mark_all(sources[commit].as_slice(), marks);
+    for k in (0..origins.len()).rev() {
+        if let Some(place) = origins[k] {
+            if !marks[place as usize] {
+                mark_too(&descends(alloc, history, place)?, marks);
+            }
         }
     }
+    Ok(())
 }
 
-/// Whether a write of the read's item from its cycle on is marked.
-fn is_overwritten(replay: &Replay<'_>, marks: &[bool], read: &ReadOf) -> bool
-    requires fits { read.now.item < length replay.now.deck.items }
-    requires sized { length marks.now ≡ number_at replay.now.history (length replay.now.history) }
-    ensures { result ≡ list_any (λ w. get_or marks.now w.commit false)
-        (drop (count_at (values_in replay.now.deck) replay.now.history read.now.item read.now.cycle)
-        (writes_from (values_in replay.now.deck) replay.now.history read.now.item 0 (length replay.now.history))) }
+/// The last marked place whose commit writes the item.
+fn last_marked(history: &History, marks: &[bool], item: u16) -> Option<u64>
+    requires { length marks.now ≡ length history.now }
+    ensures { result ≡ last_place (length history.now) (λ p. get_or marks.now p false && writes (event_at history.now p) item) }
 {
-    let before = replay.writes_before(read.item, read.cycle);
-    for write in &replay.writes(read.item).as_slice()[before..] {
-        if marks[write.commit as usize] {
-            return true;
+    let events = history.events();
+    for place in (0..events.len()).rev() {
+        if marks[place] && events[place].writes_item(item) {
+            return Some(place as u64);
         }
     }
-    false
+    None
 }
 
-/// Whether the reads are consistent, by the marks of the commits that run alone.
-fn are_last(replay: &Replay<'_>, marks: &[bool], reads: &[ReadOf]) -> bool
-    requires fits { All (λ r. r.item < length replay.now.deck.items) reads.now }
-    requires marked { MarksAlone replay.now.history (places_of reads.now) marks.now }
-    ensures { result ≡ consistent replay.now.history (places_of reads.now) }
+/// Whether the reads of these origins are consistent, by the marks of the commits that run alone.
+fn are_last(history: &History, marks: &[bool], reads: &[ReadOf], origins: &[Option<u64>]) -> bool
+    requires marked { MarksAlone history.now (places_of reads.now) marks.now }
+    requires origins { origins.now ≡ map (origin history.now) (places_of reads.now) }
+    ensures { result ≡ consistent history.now (places_of reads.now) }
 {
-    for read in reads {
-        if is_overwritten(replay, marks, read) {
+    for (k, read) in reads.iter().enumerate() {
+        if !same_place(last_marked(history, marks, read.item), origins[k]) {
             return false;
         }
     }
@@ -86,10 +93,12 @@ fn are_last(replay: &Replay<'_>, marks: &[bool], reads: &[ReadOf]) -> bool
 
 /// Whether the reads are consistent.
 pub fn is_consistent(alloc: Global, replay: &Replay<'_>, reads: &[ReadOf]) -> Result<bool, NoMemory>
-    requires { All (λ r. r.item < length replay.now.deck.items) reads.now }
+    requires { All (λ r. r.cycle ≤ starts replay.now.history) reads.now }
     ensures { IfOk result (λ told. told ≡ consistent replay.now.history (places_of reads.now)) }
 {
-    let mut marks = vec![in alloc; false; replay.sources().len()]?;
-    mark_alone(replay, reads, &mut marks);
-    Ok(are_last(replay, &marks, reads))
+    let history = replay.history();
+    let origins = origins_of(alloc, replay, reads)?;
+    let mut marks = vec![in alloc; false; history.len() as usize]?;
+    mark_descents(alloc, history, &origins, &mut marks)?;
+    Ok(are_last(history, &marks, reads, &origins))
 }

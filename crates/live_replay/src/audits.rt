@@ -1,7 +1,7 @@
 //! The audit of a report: the finding of each verdict, glance and look line, in order.
 
 ghost use Rattle.std.specs.Prelude.{◌≡◌, ◌*◌, ◌<◌, ◌≤◌, ◌^◌, ◌++◌, length, not, count_by, All, IfOk, IfErr, OnOk};
-ghost use Rattle.air_history.specs.Histories.{is_start};
+ghost use Rattle.air_history.specs.Histories.{is_start, starts};
 ghost use Rattle.air_report.specs.KeptReports.{IsFew, KeepsGrammar};
 ghost use Rattle.live_replay.specs.Audits.{IsAuditRefusal, findings, found_in, replayed_in};
 ghost use Rattle.live_replay.specs.Findings.{look_cause, verdict_cause};
@@ -54,7 +54,7 @@ fn add_verdicts(
     lines: &[VerdictLine],
     found: &mut Vec<Finding>,
 ) -> Result<(), NoMemory>
-    requires fits { All (LineFits (length replay.now.deck.items)) lines.now }
+    requires fits { All (LineFits (length replay.now.deck.items) (starts replay.now.history)) lines.now }
     requires sized { length rows.now ≡ length lines.now }
     ensures { OnOk result (found.new.items ≡ found.old.items ++ found_in (verdict_cause replay.now.deck replay.now.history) rows.now lines.now) }
 {
@@ -101,7 +101,7 @@ pub fn audit(alloc: Global, deck: &Deck, report: &ReadReport) -> Result<Vec<Find
     if product > MOST_REPLAYED {
         return Err(AuditError::TooMuch { product });
     }
-    let replay = Replay::new(alloc, deck, lines.history.events())?;
+    let replay = Replay::new(alloc, deck, &lines.history)?;
     let verdict_rows = report.verdict_rows.as_slice();
     let glance_rows = report.glance_rows.as_slice();
     let look_rows = report.look_rows.as_slice();

@@ -1,8 +1,8 @@
 //! The audit: each verdict, glance and look of a report is replayed by the report's own history.
 //!
-//! The history is run once. `running` keeps each item's writes and what each commit reads from, `replay` tells origins and values by
-//! them, `alone` whether reads are consistent, `policies` what passes and clashes, and `lines` what is found of a line. No type of
-//! held reads and no control column has a part in it.
+//! The scans of the history find origins (`replay`) and the commits from which reads descend, which tell whether these are consistent
+//! (`alone`). Values come of running the history once (`running`). `policies` tells what passes and clashes, `lines` what is found of
+//! a line. No type of held reads and no control column has a part in it.
 #![tactic(auto)]
 
 mod alone;

@@ -1,8 +1,9 @@
 //! The finding of one line.
 
-ghost use Rattle.std.specs.Prelude.{◌≡◌, ◌<◌, length, not, All, IfOk, if◌then◌else◌, Some, None};
+ghost use Rattle.std.specs.Prelude.{◌≡◌, ◌<◌, ◌≤◌, length, not, All, IfOk, if◌then◌else◌, Some, None};
 ghost use Rattle.std.specs.List.{list_all};
 ghost use Rattle.air_base.specs.declared.verdicts.VerdictKind.{VerdictKind};
+ghost use Rattle.air_history.specs.Histories.{starts};
 ghost use Rattle.air_model.specs.Decks.{values_in};
 ghost use Rattle.live_replay.specs.Findings.{has_value, is_clash, is_refused, look_cause, places_of, verdict_cause};
 ghost use Rattle.live_replay.specs.Steps.Lines.{EndFits, LineFits};
@@ -36,8 +37,8 @@ fn end_cause(
     reads: &[ReadOf],
     end: VerdictKind,
 ) -> Result<Option<Cause>, NoMemory>
-    requires reads { All (λ r. r.item < length replay.now.deck.items) reads.now }
-    requires end { EndFits (length replay.now.deck.items) end }
+    requires reads { All (λ r. r.cycle ≤ starts replay.now.history) reads.now }
+    requires end { EndFits (starts replay.now.history) end }
     ensures { IfOk result (λ cause. cause ≡
         (if not (is_refused replay.now.deck.settings.policy replay.now.history (places_of reads.now) end) then Some Cause.Verdict
         else if not (is_clash replay.now.deck.settings.policy replay.now.history (places_of reads.now) end) then Some Cause.Clash
@@ -73,7 +74,7 @@ pub fn verdict_cause(
     replay: &Replay<'_>,
     line: &VerdictLine,
 ) -> Result<Option<Cause>, NoMemory>
-    requires { LineFits (length replay.now.deck.items) line.now }
+    requires { LineFits (length replay.now.deck.items) (starts replay.now.history) line.now }
     ensures { IfOk result (λ cause. cause ≡ verdict_cause replay.now.deck replay.now.history line.now) }
 {
     let reads = line.reads.as_slice();

@@ -2,12 +2,13 @@
 //!
 //! Everything is asked of the history: origins, and whether reads are consistent.
 
-ghost use Rattle.std.specs.Prelude.{◌≡◌, ◌<◌, length, All, IfOk, IfSome, Some};
+ghost use Rattle.std.specs.Prelude.{◌≡◌, ◌≤◌, All, IfOk, IfSome, Some};
+ghost use Rattle.air_history.specs.Histories.{starts};
 ghost use Rattle.air_history.specs.Reads.{IsRead, first_cycle, last_cycle, newest_cycle};
 ghost use Rattle.air_history.specs.Clashes.{clash_by_history, is_late, lesser, named_clash};
 ghost use Rattle.air_history.specs.ClashLaws.{passes};
 ghost use Rattle.live_replay.specs.Findings.{all_pass, place_of, places_of};
-ghost use Rattle.live_replay.specs.Steps.Names.{NamesItem, clash_named, named_by};
+ghost use Rattle.live_replay.specs.Steps.Names.{NamesWithin, clash_named, named_by};
 
 use crate::alone::is_consistent;
 use crate::replay::Replay;
@@ -33,8 +34,8 @@ fn is_named(
     naming: Naming,
     held: &ReadOf,
 ) -> Result<bool, NoMemory>
-    requires held { held.now.item < length replay.now.deck.items }
-    requires new { NamesItem (length replay.now.deck.items) naming }
+    requires held { held.now.cycle ≤ starts replay.now.history }
+    requires new { NamesWithin (starts replay.now.history) naming }
     ensures { IfOk result (λ named. named ≡ named_by replay.now.history naming (place_of held.now)) }
 {
     match naming {
@@ -65,8 +66,8 @@ fn least_named(
     naming: Naming,
     held: &[ReadOf],
 ) -> Result<Option<Clash>, NoMemory>
-    requires held { All (λ r. r.item < length replay.now.deck.items) held.now }
-    requires new { NamesItem (length replay.now.deck.items) naming }
+    requires held { All (λ r. r.cycle ≤ starts replay.now.history) held.now }
+    requires new { NamesWithin (starts replay.now.history) naming }
     ensures { IfOk result (λ clash. clash ≡ named_clash (named_by replay.now.history naming) (places_of held.now)) }
 {
     let mut least = None;
@@ -124,8 +125,9 @@ pub fn is_late(policy: Policy, held: &[ReadOf], read: &ReadOf) -> bool
 /// By what a new read names held ones, if by anything.
 #[tactic(auto, unfolding(air_history::specs::Clashes::clash_by_history))]
 fn naming_of(replay: &Replay<'_>, held: &[ReadOf], read: &ReadOf) -> Option<Naming>
-    requires { read.now.item < length replay.now.deck.items }
-    ensures new { IfSome result (NamesItem (length replay.now.deck.items)) }
+    requires held { All (λ r. r.cycle ≤ starts replay.now.history) held.now }
+    requires new { read.now.cycle ≤ starts replay.now.history }
+    ensures new { IfSome result (NamesWithin (starts replay.now.history)) }
     ensures told { clash_named replay.now.history result (places_of held.now)
         ≡ clash_by_history replay.now.deck.settings.policy replay.now.history (places_of held.now) (place_of read.now) }
 {
@@ -157,8 +159,8 @@ pub fn clash(
     held: &[ReadOf],
     read: &ReadOf,
 ) -> Result<Option<Clash>, NoMemory>
-    requires held { All (λ r. r.item < length replay.now.deck.items) held.now }
-    requires new { read.now.item < length replay.now.deck.items }
+    requires held { All (λ r. r.cycle ≤ starts replay.now.history) held.now }
+    requires new { read.now.cycle ≤ starts replay.now.history }
     ensures { IfOk result (λ clash. clash
         ≡ clash_by_history replay.now.deck.settings.policy replay.now.history (places_of held.now) (place_of read.now)) }
 {
@@ -176,8 +178,8 @@ fn passes(
     held: &[ReadOf],
     read: &ReadOf,
 ) -> Result<bool, NoMemory>
-    requires held { All (λ r. r.item < length replay.now.deck.items) held.now }
-    requires new { read.now.item < length replay.now.deck.items }
+    requires held { All (λ r. r.cycle ≤ starts replay.now.history) held.now }
+    requires new { read.now.cycle ≤ starts replay.now.history }
     ensures { IfOk result (λ told. told
         ≡ passes replay.now.deck.settings.policy replay.now.history (places_of held.now) (place_of read.now)) }
 {
@@ -189,7 +191,7 @@ fn passes(
 
 /// Whether each read passes after those before it, one after another.
 fn each_passes(alloc: Global, replay: &Replay<'_>, reads: &[ReadOf]) -> Result<bool, NoMemory>
-    requires { All (λ r. r.item < length replay.now.deck.items) reads.now }
+    requires { All (λ r. r.cycle ≤ starts replay.now.history) reads.now }
     ensures { IfOk result (λ told. told ≡ all_pass replay.now.deck.settings.policy replay.now.history (places_of reads.now)) }
 {
     for k in 0..reads.len() {
@@ -202,7 +204,7 @@ fn each_passes(alloc: Global, replay: &Replay<'_>, reads: &[ReadOf]) -> Result<b
 
 /// Whether each read passes after those before it. Under F-Matrix it is asked of all reads at once.
 pub fn all_pass(alloc: Global, replay: &Replay<'_>, reads: &[ReadOf]) -> Result<bool, NoMemory>
-    requires fits { All (λ r. r.item < length replay.now.deck.items) reads.now }
+    requires within { All (λ r. r.cycle ≤ starts replay.now.history) reads.now }
     requires begun { All IsRead (places_of reads.now) }
     ensures { IfOk result (λ told. told ≡ all_pass replay.now.deck.settings.policy replay.now.history (places_of reads.now)) }
 {

@@ -1,31 +1,30 @@
 //! The replay of a history over a deck: the origins and the values of reads.
 //!
-//! The history is run once. What an item's writes left, and how many came before a cycle, tells the rest; no control column is made.
+//! Origins are looked for in the history, for each read anew; values are those that running the history once has left.
 
-ghost use Rattle.std.specs.Prelude.{◌≡◌, ◌+◌, ◌^◌, ◌<◌, ◌≤◌, length, All, IfOk, IfSome, option_map};
-ghost use Rattle.air_history.specs.Histories.{ItemsFit};
+ghost use Rattle.std.specs.Prelude.{◌≡◌, ◌<◌, ◌≤◌, length, All, IfOk};
+ghost use Rattle.air_history.specs.Histories.{ItemsFit, starts};
+ghost use Rattle.air_history.specs.Places.{same_place};
 ghost use Rattle.air_history.specs.Reads.{origin, read_value, same_origin};
 ghost use Rattle.air_history.specs.Tables.{values_of};
 ghost use Rattle.air_model.specs.Decks.{values_in};
 ghost use Rattle.air_model.specs.Reports.{total_at};
 ghost use Rattle.live_replay.specs.Findings.{read_of};
-ghost use Rattle.live_replay.specs.Steps.Commits.{count_at, number_at, sources_to, writes_from};
-ghost use Rattle.live_replay.specs.Steps.Replays.{TellsRead};
+ghost use Rattle.live_replay.specs.Steps.Writes.{count_at, writes_from};
 
 use crate::running::Running;
-use crate::writes::{ItemWrite, ItemWrites, Sources};
+use crate::writes::ItemWrites;
 use air_base::{NoMemory, Policy};
-use air_history::Event;
+use air_history::{Event, History, writer_at};
 use item_catalog::Deck;
 use std::alloc::Global;
 use std::marker::Model;
 
-/// A history over a deck, and what is kept of it.
+/// A history over a deck, and the writes of each item.
 #[derive(Drop)]
 pub struct Replay<'a> {
     deck: &'a Deck,
-    events: &'a [Event],
-    sources: Vec<Sources>,
+    history: &'a History,
     writes: Vec<ItemWrites>,
 }
 
@@ -39,13 +38,26 @@ impl<'a> Model for Replay<'a> {
     ghost invariant = { IsReplay };
 }
 
+/// Whether two places are the same, or there is neither.
+pub fn same_place(one: Option<u64>, other: Option<u64>) -> bool
+    ensures { result ≡ same_place one other }
+{
+    match one {
+        None => other.is_none(),
+        Some(place) => match other {
+            None => false,
+            Some(last) => place == last,
+        },
+    }
+}
+
 impl<'a> Replay<'a> {
-    /// The replay of these events.
-    pub fn new(alloc: Global, deck: &'a Deck, events: &'a [Event]) -> Result<Replay<'a>, NoMemory>
-        requires fits { All (ItemsFit (length deck.now.items)) events.now }
-        requires few { length events.now + 1 < 2 ^ 32 }
-        ensures { IfOk result (λ r. r ≡ record { deck = deck.now; history = events.now }) }
+    /// The replay of a history.
+    pub fn new(alloc: Global, deck: &'a Deck, history: &'a History) -> Result<Replay<'a>, NoMemory>
+        requires { All (ItemsFit (length deck.now.items)) history.now }
+        ensures { IfOk result (λ r. r ≡ record { deck = deck.now; history = history.now }) }
     {
+        let events = history.events();
         let mut running = Running::new(alloc, deck)?;
         for event in events {
             match event {
@@ -57,8 +69,7 @@ impl<'a> Replay<'a> {
         }
         Ok(Replay {
             deck,
-            events,
-            sources: running.sources,
+            history,
             writes: running.writes,
         })
     }
@@ -70,51 +81,44 @@ impl<'a> Replay<'a> {
         self.deck.settings().policy
     }
 
-    /// What each commit reads from.
-    pub fn sources(&self) -> &[Sources]
-        ensures are { result.now ≡ sources_to self.now.history (length self.now.history) }
-        ensures counted { length result.now ≡ number_at self.now.history (length self.now.history) }
-        ensures below { All (All (λ k. k < number_at self.now.history (length self.now.history))) result.now }
+    /// The history.
+    pub fn history(&self) -> &History
+        ensures { result.now ≡ self.now.history }
     {
-        &self.sources
+        self.history
+    }
+
+    /// The place of the commit that is the origin of a read.
+    pub fn origin(&self, item: u16, cycle: u32) -> Option<u64>
+        requires { cycle ≤ starts self.now.history }
+        ensures { result ≡ origin self.now.history (read_of item cycle) }
+    {
+        writer_at(self.history, cycle, item)
+    }
+
+    /// Whether an item has one origin at two cycles.
+    pub fn same_origin(&self, item: u16, c: u32, d: u32) -> bool
+        requires first { c ≤ starts self.now.history }
+        requires second { d ≤ starts self.now.history }
+        ensures { result ≡ same_origin self.now.history item c d }
+    {
+        same_place(self.origin(item, c), self.origin(item, d))
     }
 
     /// The writes of an item, in order.
-    pub fn writes(&self, item: u16) -> &ItemWrites
+    fn writes(&self, item: u16) -> &ItemWrites
         requires { item < length self.now.deck.items }
-        ensures are { result.now ≡ writes_from (values_in self.now.deck) self.now.history item 0 (length self.now.history) }
-        ensures numbered { All (λ w. w.commit < number_at self.now.history (length self.now.history)) result.now }
+        ensures { result.now ≡ writes_from (values_in self.now.deck) self.now.history item 0 (length self.now.history) }
     {
         &self.writes[item as usize]
     }
 
     /// How many writes of an item come before a cycle.
-    pub fn writes_before(&self, item: u16, cycle: u32) -> usize
+    fn writes_before(&self, item: u16, cycle: u32) -> usize
         requires { item < length self.now.deck.items }
-        ensures told { result ≡ count_at (values_in self.now.deck) self.now.history item cycle }
-        ensures within { result ≤ length (writes_from (values_in self.now.deck) self.now.history item 0 (length self.now.history)) }
+        ensures { result ≡ count_at (values_in self.now.deck) self.now.history item cycle }
     {
         self.writes(item).before(cycle)
-    }
-
-    /// Whether an item has one origin at two cycles.
-    pub fn same_origin(&self, item: u16, c: u32, d: u32) -> bool
-        requires { item < length self.now.deck.items }
-        ensures { result ≡ same_origin self.now.history item c d }
-    {
-        self.writes_before(item, c) == self.writes_before(item, d)
-    }
-
-    /// The last write of an item before a cycle.
-    fn last_write(&self, item: u16, cycle: u32) -> Option<ItemWrite>
-        requires { item < length self.now.deck.items }
-        ensures { TellsRead (values_in self.now.deck) self.now.history item cycle result }
-    {
-        let before = self.writes_before(item, cycle);
-        if before == 0 {
-            return None;
-        }
-        Some(self.writes(item).as_slice()[before - 1])
     }
 
     /// The value of an item at a cycle's start.
@@ -122,22 +126,11 @@ impl<'a> Replay<'a> {
         requires { item < length self.now.deck.items }
         ensures { result ≡ read_value (values_of (values_in self.now.deck)) self.now.history (read_of item cycle) }
     {
-        match self.last_write(item, cycle) {
-            None => self.deck.value(item),
-            Some(write) => write.value,
+        let before = self.writes_before(item, cycle);
+        if before == 0 {
+            return self.deck.value(item);
         }
-    }
-
-    /// The number of the commit that is the origin of a read.
-    pub fn origin(&self, item: u16, cycle: u32) -> Option<u32>
-        requires { item < length self.now.deck.items }
-        ensures told { result ≡ option_map (number_at self.now.history) (origin self.now.history (read_of item cycle)) }
-        ensures within { IfSome result (λ commit. commit < number_at self.now.history (length self.now.history)) }
-    {
-        match self.last_write(item, cycle) {
-            None => None,
-            Some(write) => Some(write.commit),
-        }
+        self.writes(item).as_slice()[before - 1].value
     }
 
     /// The sum of all values at a cycle's start, modulo 2^64.

@@ -1,4 +1,4 @@
-//! What is kept of a history: for each item its writes in order, and for each commit those that it reads from.
+//! What is kept of a history: for each item its writes in order.
 
 ghost use Rattle.std.specs.Prelude.{◌≡◌, [], ◌∷◌, ◌++◌, count_by, nat_lt, OnOk};
 ghost use Rattle.std.specs.List.Sorted.{IsNonDecreasingBy};
@@ -7,10 +7,9 @@ use air_base::NoMemory;
 use std::alloc::Global;
 use std::marker::Model;
 
-/// A write of an item: the number of its commit, the commit's cycle, and the value that it left.
+/// A write of an item: the cycle of its commit, and the value that it left.
 #[derive(Clone, Copy, Debug, PartialEq, Eq)]
 pub struct ItemWrite {
-    pub commit: u32,
     pub cycle: u32,
     pub value: u64,
 }
@@ -61,45 +60,5 @@ impl ItemWrites {
         ensures { result ≡ count_by (λ w. nat_lt w.cycle cycle) self.now }
     {
         self.writes.partition_point(|write| write.cycle < cycle)
-    }
-}
-
-/// The numbers of the commits that a commit reads from.
-#[derive(Debug, Drop)]
-pub struct Sources {
-    commits: Vec<u32>,
-}
-
-impl Model for Sources {
-    ghost use Rattle.std.specs.Prelude.{List, ℕ};
-
-    ghost Value = { List ℕ };
-
-    ghost view = { λ s. s.commits.items };
-}
-
-impl Sources {
-    /// No commits.
-    pub fn new(alloc: Global) -> Sources
-        ensures { result ≡ [] }
-    {
-        Sources {
-            commits: Vec::new(alloc),
-        }
-    }
-
-    /// The numbers in order.
-    pub fn as_slice(&self) -> &[u32]
-        ensures { result.now ≡ self.now }
-    {
-        &self.commits
-    }
-
-    /// Adds a commit.
-    pub fn push(&mut self, commit: u32) -> Result<(), NoMemory>
-        ensures { OnOk result (self.new ≡ self.old ++ commit ∷ []) }
-    {
-        self.commits.push(commit)?;
-        Ok(())
     }
 }

@@ -1,5 +1,5 @@
 -- For private steps alone. By what a new read names held ones: the three ways of the policies.
-use Rattle.std.specs.Prelude.{◌<◌, ℕ, ⊤, Bool, not, ◌==◌, List, [], ◌∷◌, Option, Some, None}
+use Rattle.std.specs.Prelude.{◌≤◌, ℕ, ⊤, Bool, not, ◌==◌, List, [], ◌∷◌, Option, Some, None}
 use Rattle.air_base.specs.declared.verdicts.Clash.{Clash}
 use Rattle.air_history.specs.declared.histories.Event.{Event}
 use Rattle.air_history.specs.Reads.{ReadAt, stale}
@@ -20,8 +20,8 @@ abbrev pub clash_named : List Event → Option Naming → List ReadAt → Option
 clash_named H None R = None
 clash_named H (Some naming) R = named_clash (named_by H naming) R
 
--- The new read's item is below n, where it is asked for.
-abbrev pub NamesItem : ℕ → Naming → Type 0
-NamesItem n (StaleAt c) = ⊤
-NamesItem n (OfCycle c) = ⊤
-NamesItem n (ApartFrom x) = x.item < n
+-- The cycle at which origins are asked for is one of the first so many.
+abbrev pub NamesWithin : ℕ → Naming → Type 0
+NamesWithin starts (StaleAt c) = c ≤ starts
+NamesWithin starts (OfCycle c) = ⊤
+NamesWithin starts (ApartFrom x) = x.cycle ≤ starts

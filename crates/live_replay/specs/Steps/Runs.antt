@@ -1,31 +1,22 @@
 -- For private steps alone. A history that was run up to a place: what is kept there.
-use Rattle.std.specs.Prelude.{◌≡◌, ◌-◌, ◌<◌, ℕ, ◌==◌, cond, List, [], ◌∷◌, length, get_or, slice_get, take, Option, option_map}
-use Rattle.std.specs.List.{list_any, filter_map}
+use Rattle.std.specs.Prelude.{◌≡◌, ◌<◌, ℕ, ◌==◌, cond, List, [], ◌∷◌, length, get_or, take}
+use Rattle.std.specs.List.{list_any}
 use Rattle.air_history.specs.declared.histories.Event.{Event}
 use Rattle.air_history.specs.declared.updates.Write.{Write}
 use Rattle.air_history.specs.Histories.{cycle_at}
 use Rattle.air_history.specs.Tables.{table, values_of}
 use Rattle.live_replay.specs.declared.running.Running.{Running}
 use Rattle.live_replay.specs.declared.writes.ItemWrite.{ItemWrite}
-use Rattle.live_replay.specs.Steps.Commits.{sources_to, writes_from}
+use Rattle.live_replay.specs.Steps.Writes.{writes_from}
 
--- The commit of the last write.
-abbrev pub last_commit : List ItemWrite → Option ℕ
-last_commit ws = option_map (λ w. w.commit) (slice_get ws (length ws - 1))
-
--- The commits of the last writes of items.
-abbrev pub last_commits : List (List ItemWrite) → List ℕ → List ℕ
-last_commits writes items = filter_map (λ i. last_commit (get_or writes i [])) items
-
--- A write of each item that these write, where a commit of this number and cycle left these values.
-abbrev pub added_write : ℕ → ℕ → List ℕ → List Write → ℕ → List ItemWrite
-added_write commit cycle values ws i = cond (list_any (λ w. w.item == i) ws) (record { commit = commit; cycle = cycle; value = get_or values i 0 } ∷ []) []
+-- A write of each item that these write, where a commit of this cycle left these values.
+abbrev pub added_write : ℕ → List ℕ → List Write → ℕ → List ItemWrite
+added_write cycle values ws i = cond (list_any (λ w. w.item == i) ws) (record { cycle = cycle; value = get_or values i 0 } ∷ []) []
 
 -- What is kept is that of the first n events, where the catalog has these values.
 pub record IsRun (V : List ℕ) (H : List Event) (n : ℕ) (run : Running) : Type 0 where
   pub counted : length run.values.items ≡ length V
   pub values : (i : ℕ) → get_or run.values.items i 0 ≡ table (values_of V) (take n H) i
   pub starts : run.starts ≡ cycle_at H n
-  pub sources : run.sources.items ≡ sources_to H n
   pub sized : length run.writes.items ≡ length V
   pub writes : (i : ℕ) → i < length V → get_or run.writes.items i [] ≡ writes_from V H i 0 n

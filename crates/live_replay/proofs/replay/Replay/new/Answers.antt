@@ -1,37 +1,33 @@
-use Rattle.std.proofs.Common.{◌≡◌, ◌+◌, length, sym, subst, ◌∙◌, arith}
+use Rattle.std.proofs.Common.{◌≡◌, ◌+◌, All, length, sym, ap, subst, ◌∙◌, arith}
 use Rattle.std.proofs.lemmas.List.{get_or_default}
 use Rattle.air_history.specs.declared.histories.Event.TheVariants as e
-use Rattle.air_history.specs.Histories.{event_at, ItemsFit}
+use Rattle.air_history.specs.Histories.{event_at, starts, ItemsFit}
 use Rattle.air_history.specs.UpdateRules.{UpdateFits}
 use Rattle.air_model.specs.Decks.{values_in}
 use Rattle.live_replay.specs.Steps.Runs.{IsRun}
-use Rattle.live_replay.proofs.ReplayFacts.{run_few, values_length}
+use Rattle.live_replay.proofs.ReplayFacts.{start_few, values_length}
 use Rattle.live_replay.proofs.replay.Replay.new.Goals as goal
 use Rattle.live_replay.proofs.replay.Replay.new.Goals.{in-Start, in-Commit+in_ok-commit-in-Commit}
 
 pub start-requires : goal.start-requires
 start-requires c =
-    let few = run_few (values_in c.args.deck.now) c.args.events.now c.loop-event.event-index c.loop-event.running c.loop-event.invariant (let l = c.loop-event-test.true in omega arith) in
-    omega (arith, few.0, c.requires.few, c.loop-event-test.true)
-
-pub commit-requires-clause-few : goal.commit-requires-clause-few
-commit-requires-clause-few c =
-    let few = run_few (values_in c.args.deck.now) c.args.events.now c.loop-event.event-index c.loop-event.running c.loop-event.invariant (let l = c.loop-event-test.true in omega arith) in
-    omega (arith, few.1, c.requires.few, c.loop-event-test.true)
+    let few = start_few (values_in c.args.deck.now) c.events-events.result.now c.loop-event.event-index c.loop-event.running c.event-item.result c.loop-event.invariant c.loop-event-test.true c.event-item.is c.in-Start.is in
+    omega (arith, few, ap starts c.events-events.ensures.listed, c.events-events.ensures.within)
 
 pub commit-requires-clause-fits : goal.commit-requires-clause-fits
 unfolding ItemsFit
 commit-requires-clause-fits c =
     let deck = c.args.deck.now in
     let item = c.event-item.result in
-    let fits : ItemsFit (length deck.items) item = subst (ItemsFit (length deck.items)) (sym c.event-item.is) (c.requires.fits c.loop-event.event-index item c.loop-event-test.true) in
+    let all : All (ItemsFit (length deck.items)) c.events-events.result.now = subst (All (ItemsFit (length deck.items))) (sym c.events-events.ensures.listed) c.requires in
+    let fits : ItemsFit (length deck.items) item = subst (ItemsFit (length deck.items)) (sym c.event-item.is) (all c.loop-event.event-index item c.loop-event-test.true) in
     let here : UpdateFits (length deck.items) c.in-Commit.update = subst (ItemsFit (length deck.items)) c.in-Commit.is fits in
     subst (λ n. UpdateFits n c.in-Commit.update) (sym (c.loop-event.invariant.sized ∙ values_length deck)) here
 
 pub loop-event-preserved : goal.loop-event-preserved
 loop-event-preserved c =
     let V = values_in c.args.deck.now in
-    let H = c.args.events.now in
+    let H = c.events-events.result.now in
     let n = c.loop-event.event-index in
     let item = c.event-item.result in
     let at : event_at H n ≡ item = get_or_default H n e.Start item c.loop-event-test.true ∙ sym c.event-item.is in

@@ -1,19 +1,13 @@
-use Rattle.std.proofs.Common.{◌<◌, List, All, length, sym, ap, subst, ◌∙◌}
+use Rattle.std.proofs.Common.{◌<◌, List, length, sym, ap, subst, ◌∙◌}
 use Rattle.air_model.specs.Decks.{values_in}
 use Rattle.live_replay.specs.declared.writes.ItemWrite.{ItemWrite}
-use Rattle.live_replay.specs.Steps.Commits.{number_at, writes_from}
 use Rattle.live_replay.specs.Steps.Replays.{Replayed}
+use Rattle.live_replay.specs.Steps.Writes.{writes_from}
 use Rattle.live_replay.proofs.ReplayFacts.{kept_writes}
-use Rattle.live_replay.proofs.WriteFacts.{writes_numbered}
 use Rattle.live_replay.proofs.replay.Replay.writes.Goals as goal
 
-pub returns-clause-are : goal.returns-clause-are
-returns-clause-are c =
+pub returns : goal.returns
+returns c =
     let Kept : Replayed → List ItemWrite = λ t. writes_from (values_in t.deck) t.history c.args.item 0 (length t.history) in
     let within : c.args.item < length c.self.inside.deck.now.items = subst (λ (t : Replayed). c.args.item < length t.deck.items) (sym c.self.view_is) c.requires in
     c.index.ensures ∙ kept_writes c.self.inside c.self.invariant c.args.item c.index.result.now within ∙ ap Kept c.self.view_is
-
-pub returns-clause-numbered : goal.returns-clause-numbered
-returns-clause-numbered c =
-    let Numbered : List ItemWrite → Type 0 = All (λ w. w.commit < number_at c.args.self.now.history (length c.args.self.now.history)) in
-    subst Numbered (sym (returns-clause-are c)) (writes_numbered (values_in c.args.self.now.deck) c.args.self.now.history c.args.item)

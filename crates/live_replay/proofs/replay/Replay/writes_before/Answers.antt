@@ -7,9 +7,9 @@ use Rattle.live_replay.proofs.replay.Replay.writes_before.Goals as goal
 
 pub before-requires : goal.before-requires
 before-requires c =
-    subst (IsNonDecreasingBy (λ (w : ItemWrite). w.cycle)) (sym c.writes.ensures.are) (writes_rise (values_in c.args.self.now.deck) c.args.self.now.history c.args.item (length c.args.self.now.history))
+    subst (IsNonDecreasingBy (λ (w : ItemWrite). w.cycle)) (sym c.writes.ensures) (writes_rise (values_in c.args.self.now.deck) c.args.self.now.history c.args.item (length c.args.self.now.history))
 
-pub returns-clause-told : goal.returns-clause-told
-returns-clause-told c =
-    c.before-2.ensures ∙ ap (count_by (λ (w : ItemWrite). ltb w.cycle c.args.cycle)) c.writes.ensures.are
+pub returns : goal.returns
+returns c =
+    c.before-2.ensures ∙ ap (count_by (λ (w : ItemWrite). ltb w.cycle c.args.cycle)) c.writes.ensures
     ∙ count_before (values_in c.args.self.now.deck) c.args.self.now.history c.args.item c.args.cycle

@@ -1,4 +1,4 @@
-use Rattle.std.proofs.Common.{◌≡◌, ◌≢◌, ◌∷◌, ◌++◌, ◌<◌, All, [], get_or, length, map, refl, sym, ap, subst, ◌∙◌, rules}
+use Rattle.std.proofs.Common.{◌≡◌, ◌≢◌, ◌++◌, ◌<◌, [], get_or, length, map, refl, sym, ap, subst, ◌∙◌, rules}
 use Rattle.std.specs.Prelude.{AllPairs}
 use Rattle.std.specs.Vec.{with_items}
 use Rattle.std.proofs.lemmas.List.{with_items_is}
@@ -7,7 +7,7 @@ use Rattle.air_history.specs.UpdateRules.{UpdateFits, item_of}
 use Rattle.air_history.specs.Histories.{ItemsFit}
 use Rattle.air_history.specs.Tables.{value_after, values_of}
 use Rattle.history_laws.proofs.RepeatLemmas as repeats
-use Rattle.live_replay.specs.Steps.Runs.{added_write, last_commits}
+use Rattle.live_replay.specs.Steps.Runs.{added_write}
 use Rattle.live_replay.proofs.RunFacts.{run_commit}
 use Rattle.live_replay.proofs.running.Running.commit.Goals as goal
 
@@ -26,18 +26,14 @@ returns c = λ V H n r l at.
     let update = c.args.update.now in
     let values : (with_items old.values c.run_event.new.values).items ≡ c.run_event.new.values = with_items_is old.values c.run_event.new.values (search rules) in
     let writes : (with_items old.writes c.add_writes.new.writes).items ≡ c.add_writes.new.writes = with_items_is old.writes c.add_writes.new.writes (search rules) in
-    let number : c.len-number.result ≡ length old.sources.items = search rules in
     run_commit V H n c.args.by c.args.seq update old _ r l at
     (ap length values ∙ c.run_event.auto.values ∙ ap length c.deref_mut.ensures.value)
     (λ i. ap (λ vs. get_or vs i 0) values ∙ c.run_event.ensures i
     ∙ ap (λ vs. value_after (values_of vs) (Commit c.args.by c.args.seq c.in_ok-copy.field-0) i) c.deref_mut.ensures.value
     ∙ ap (λ u. value_after (values_of old.values.items) (Commit c.args.by c.args.seq u) i) c.in_ok-copy.ensures)
     refl
-    (c.in_ok-push.ensures.items ∙ ap (λ s. old.sources.items ++ s ∷ []) (c.in_ok-sources.ensures ∙ ap (λ ws. last_commits ws c.reads.result.now) c.deref.ensures.value ∙ ap (last_commits old.writes.items) c.reads.ensures))
-    (subst (λ k. All (λ x. x < k) update.reads) r.sized c.requires.fits.reads)
     (ap length writes ∙ c.add_writes.auto.writes ∙ ap length c.deref_mut-2.ensures.value)
     (λ i li. ap (λ ws. get_or ws i []) writes ∙ c.in_ok-add_writes.ensures i (subst (λ ws. i < length ws) (sym c.deref_mut-2.ensures.value) li)
-    ∙ ap (λ ws. get_or ws i [] ++ added_write c.len-number.result old.starts c.deref-2.result.now c.writes.result.now i) c.deref_mut-2.ensures.value
-    ∙ ap (λ k. get_or old.writes.items i [] ++ added_write k old.starts c.deref-2.result.now c.writes.result.now i) number
-    ∙ ap (λ vs. get_or old.writes.items i [] ++ added_write (length old.sources.items) old.starts vs c.writes.result.now i) c.deref-2.ensures.value
-    ∙ ap (λ us. get_or old.writes.items i [] ++ added_write (length old.sources.items) old.starts (with_items old.values c.run_event.new.values).items us i) c.writes.ensures)
+    ∙ ap (λ ws. get_or ws i [] ++ added_write old.starts c.deref.result.now c.writes.result.now i) c.deref_mut-2.ensures.value
+    ∙ ap (λ vs. get_or old.writes.items i [] ++ added_write old.starts vs c.writes.result.now i) c.deref.ensures.value
+    ∙ ap (λ us. get_or old.writes.items i [] ++ added_write old.starts (with_items old.values c.run_event.new.values).items us i) c.writes.ensures)

@@ -20,4 +20,4 @@ returns c = λ H.
     let end : c.loop-item.item ≡ length V = omega (arith, c.loop-item-test.false, c.loop-item.auto.item-end, c.items-item-end.ensures.told, length-map c.args.deck.now.items (λ (i : Item). i.value)) in
     let all : length V ≤ c.loop-item.item = omega arith in
     let none : List ItemWrite = [] in
-    run_none V H _ (c.loop-item.invariant.0 ∙ take_all c.loop-item.item V all) refl c.new-2.ensures.items (c.loop-item.invariant.1 ∙ ap (λ n. replicate n none) end)
+    run_none V H _ (c.loop-item.invariant.0 ∙ take_all c.loop-item.item V all) refl (c.loop-item.invariant.1 ∙ ap (λ n. replicate n none) end)
