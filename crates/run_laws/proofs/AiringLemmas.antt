@@ -32,20 +32,26 @@ pub map_same : {X : Type 0} (f g : ℕ → X) (xs : List ℕ) → ((s : ℕ) →
 map_same f g [] h = refl
 map_same f g (x ∷ xs) h = ap (λ y. y ∷ map f xs) (h x) ∙ ap (λ l. g x ∷ l) (map_same f g xs h)
 
-pub more_buckets : (values : List ℕ) (air : Air) (H after : List Event) → (more : List Bucket) × (buckets_of values air (H ++ after) ≡ buckets_of values air H ++ more)
+-- What is aired behind a history: the cycles that the events behind it start.
+pub buckets_behind : (values : List ℕ) (air : Air) (H after : List Event) → buckets_of values air (H ++ after)
+    ≡ buckets_of values air H ++ flat_map (λ c. map (bucket_of values air (H ++ after) c) (range_with_len 0 (length air.slots))) (range_with_len (1 + starts H) (starts after))
 unfolding buckets_of
-more_buckets values air H after =
+buckets_behind values air H after =
     let cycle : List Event → ℕ → List Bucket = λ G c. map (bucket_of values air G c) (range_with_len 0 (length air.slots)) in
     let m = starts H in
     let n = starts after in
-    let more = flat_map (cycle (H ++ after)) (range_with_len (1 + m) n) in (
-      more,
-      ap (λ k. flat_map (cycle (H ++ after)) (range_with_len 1 k)) (starts_append H after)
-          ∙ ap (flat_map (cycle (H ++ after))) (range_append 1 m n)
-          ∙ flat_map-append (cycle (H ++ after)) (range_with_len 1 m) (range_with_len (1 + m) n)
-          ∙ ap (λ l. l ++ more) (flat_same (cycle (H ++ after)) (cycle H) 1 m
-          (λ c l. map_same (bucket_of values air (H ++ after) c) (bucket_of values air H c) (range_with_len 0 (length air.slots)) (λ s. later values air H after c s (omega arith)))),
-    )
+    let more = flat_map (cycle (H ++ after)) (range_with_len (1 + m) n) in
+    ap (λ k. flat_map (cycle (H ++ after)) (range_with_len 1 k)) (starts_append H after)
+    ∙ ap (flat_map (cycle (H ++ after))) (range_append 1 m n)
+    ∙ flat_map-append (cycle (H ++ after)) (range_with_len 1 m) (range_with_len (1 + m) n)
+    ∙ ap (λ l. l ++ more) (flat_same (cycle (H ++ after)) (cycle H) 1 m
+    (λ c l. map_same (bucket_of values air (H ++ after) c) (bucket_of values air H c) (range_with_len 0 (length air.slots)) (λ s. later values air H after c s (omega arith))))
+
+pub more_buckets : (values : List ℕ) (air : Air) (H after : List Event) → (more : List Bucket) × (buckets_of values air (H ++ after) ≡ buckets_of values air H ++ more)
+more_buckets values air H after = (
+  flat_map (λ c. map (bucket_of values air (H ++ after) c) (range_with_len 0 (length air.slots))) (range_with_len (1 + starts H) (starts after)),
+  buckets_behind values air H after,
+)
 
 pub same_buckets : (values : List ℕ) (air : Air) (H after : List Event) → starts after ≡ 0 → buckets_of values air (H ++ after) ≡ buckets_of values air H
 unfolding buckets_of

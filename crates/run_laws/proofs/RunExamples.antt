@@ -1,5 +1,5 @@
--- A run of two updaters and two cycles: what its passes tell, and what monitors may see of it.
-use Rattle.std.proofs.Common.{◌≡◌, ℕ, zero, suc, ◌+◌, ◌<◌, Some, List, [], ◌∷◌, ◌++◌, length, refl, sym, ap, subst, inl, inr, arith, length-append}
+-- A run of two updaters and two cycles: what its passes tell, what monitors may see of it, and its batches.
+use Rattle.std.proofs.Common.{◌≡◌, ℕ, zero, suc, ◌+◌, ◌<◌, Some, List, [], ◌∷◌, ◌++◌, length, All, refl, sym, ap, subst, inl, inr, arith, length-append}
 use Rattle.std.specs.Prelude.{count_by, slice_get}
 use Rattle.std.proofs.lemmas.List.Elements.{All-from_recursion, All-nil}
 use Rattle.air_history.specs.declared.histories.Event.{Event}
@@ -7,12 +7,14 @@ use Rattle.air_history.specs.declared.histories.Event.TheVariants.{Commit, Start
 use Rattle.air_history.specs.Histories.{front, is_start, starts, EventFits}
 use Rattle.air_history.specs.Tables.{table, value_after, value_on_base, write_of}
 use Rattle.air_history.specs.UpdateRules.{UpdateFits}
+use Rattle.air_model.specs.Aired.{body_of, bucket_of, buckets_of}
 use Rattle.air_model.specs.Closings.{GoesOnWithout}
 use Rattle.air_model.specs.Decks.{Deck, is_by, values_in}
 use Rattle.air_model.specs.DeckLaws.{commits_from, made_by}
 use Rattle.air_model.specs.Reports.{total_at}
 use Rattle.air_model.specs.declared.reports.LookLine.{LookLine}
 use Rattle.air_model.proofs.SessionExamples.{pair, set_to, update}
+use Rattle.run_laws.specs.Batches.{AirsByBatches, EndsWithStart}
 use Rattle.run_laws.specs.Closings.{HaveMadeAll, HaveMadeSome, IsClosing}
 use Rattle.run_laws.specs.Fronts.{AreGlances, AreLooks, EndsAtStart, IsSeen}
 
@@ -114,3 +116,28 @@ not_looks = (
   λ h. let n = ap length h.numbers in omega arith,
   λ h. let late : 1 ≡ 2 = h.last 0 (line 1 31) (omega arith) in omega arith,
 )
+
+-- ---- by which batches it was aired
+
+each_ends : All EndsWithStart ((first ∷ Start ∷ []) ∷ (second ∷ Start ∷ []) ∷ [])
+unfolding is_start starts
+each_ends = All-from_recursion EndsWithStart ((first ∷ Start ∷ []) ∷ (second ∷ Start ∷ []) ∷ []) (record { commits = first ∷ []; ends = refl; one = refl }, (record { commits = second ∷ []; ends = refl; one = refl }, tt))
+
+-- One batch a cycle, each with the commit before its start.
+pub by_batches : AirsByBatches two history ((first ∷ Start ∷ []) ∷ (second ∷ Start ∷ []) ∷ [])
+unfolding is_start starts buckets_of bucket_of body_of front
+by_batches = record { count = refl; each = each_ends; rest = []; history = refl; quiet = refl; aired = refl }
+
+-- Not by both cycles at once, nor by the first alone, nor by batches that begin with a start.
+pub not_by_batches : (AirsByBatches two history (history ∷ []) → ⊥) × (AirsByBatches two history ((first ∷ Start ∷ []) ∷ []) → ⊥)
+    × (AirsByBatches two history ((first ∷ []) ∷ (Start ∷ second ∷ Start ∷ []) ∷ []) → ⊥)
+unfolding is_start starts
+not_by_batches = (
+  λ h. let n : 1 ≡ 2 = h.count in omega (arith, n),
+  λ h. let n : 1 ≡ 2 = h.count in omega (arith, n),
+  λ h. let e : EndsWithStart (first ∷ []) = h.each 0 (first ∷ []) (omega arith) in no_start e.commits e.ends,
+)
+  where
+    no_start : (commits : List Event) → first ∷ [] ≡ commits ++ Start ∷ [] → ⊥
+    no_start [] e = cc
+    no_start (a ∷ commits) e = let n = ap length e in let more : length (commits ++ Start ∷ []) ≡ length commits + 1 = length-append commits (Start ∷ []) in omega arith

@@ -1,4 +1,5 @@
 pub mod AiredItems
+pub mod Batches
 pub mod Closings
 pub mod Fronts
 pub mod Runs

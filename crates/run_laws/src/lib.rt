@@ -3,7 +3,7 @@
 //! Each function's contract is one law of the definitions of `specs/` and of `air_model`; the bodies are empty, and no code runs.
 #![tactic(auto)]
 
-ghost use Rattle.std.specs.Prelude.{◌≡◌, ◌≤◌, ℕ, List, ◌++◌};
+ghost use Rattle.std.specs.Prelude.{◌≡◌, ◌≤◌, ℕ, List, ◌++◌, All};
 ghost use Rattle.air_history.specs.declared.histories.Event.{Event};
 ghost use Rattle.air_history.specs.Histories.{starts};
 ghost use Rattle.air_history.specs.Boards.{frame_of};
@@ -12,6 +12,7 @@ ghost use Rattle.air_model.specs.Decks.{Deck, IsDeck, IsLegal, IsWhole, values_i
 ghost use Rattle.air_model.specs.Aired.{Air, air_of, buckets_of};
 ghost use Rattle.air_model.specs.declared.reports.LookLine.{LookLine};
 ghost use Rattle.run_laws.specs.AiredItems.{AirsItems};
+ghost use Rattle.run_laws.specs.Batches.{AirsByBatches, EndsWithStart, joined};
 ghost use Rattle.run_laws.specs.Closings.{HaveMadeAll, HaveMadeSome, IsClosing};
 ghost use Rattle.run_laws.specs.Fronts.{EndsAtStart, IsSeen};
 
@@ -41,6 +42,12 @@ pub fn more_buckets_law()
         (more : List Bucket) × (buckets_of values air (H ++ later) ≡ buckets_of values air H ++ more) }
     ensures same { (values : List ℕ) (air : Air) (H later : List Event) → starts later ≡ 0 →
         buckets_of values air (H ++ later) ≡ buckets_of values air H }
+{}
+
+/// Batches that each end with their one start air the history that they make, whatever comes behind them without a start.
+pub fn batches_law()
+    ensures { (deck : Deck) (batches : List (List Event)) (rest : List Event) → All EndsWithStart batches → starts rest ≡ 0 →
+        AirsByBatches deck (joined batches ++ rest) batches }
 {}
 
 /// A line with the frame of a beginning of a history, which ends at a start, shows a cycle of the history and its total.
