@@ -1,6 +1,7 @@
 -- What the conductor's pass has seen, and the batches that are published of it.
 use Rattle.std.proofs.Common.{◌≡◌, ◌⊎◌, ℕ, ◌+◌, ◌≤◌, cond, List, [], ◌∷◌, ◌++◌, length, All, inl, inr, refl, sym, ◌∙◌, ap, subst, arith, append_assoc, length-append}
 use Rattle.std.proofs.lemmas.List.{append-nil}
+use Rattle.std.proofs.lemmas.List.Elements.{All-append, All-from_recursion, All-nil}
 use Rattle.std.proofs.lemmas.List.Sums.{sum_by-cons}
 use Rattle.air_history.specs.declared.histories.Event.{Event}
 use Rattle.air_history.specs.declared.histories.Event.TheVariants.{Commit, Start}
@@ -119,15 +120,20 @@ pub on_most : (f g : PublisherState) → PublishesOn f g → g.most ≡ f.most
 on_most f g on = ap (λ x. x.most) on.same
 
 pub publishes_none : (f : PublisherState) → PublishesOn f f
-publishes_none f = record { same = refl; batches = prefix_self f.batches }
+publishes_none f = record { same = refl; batches = ([], append-nil f.batches); each = All-nil (IsBatch (length f.values)) }
 
-pub publishes_batch : (f g : PublisherState) (b : List Event) → g ≡ with_batch f b → PublishesOn f g
-publishes_batch f g b is = record { same = is ∙ ap (λ (bs : List (List Event)). let x : PublisherState = record f { batches = bs } in x) (sym (ap (λ x. x.batches) is)); batches = (b ∷ [], sym (ap (λ x. x.batches) is)) }
+pub publishes_batch : (f g : PublisherState) (b : List Event) → g ≡ with_batch f b → IsBatch (length f.values) b → PublishesOn f g
+publishes_batch f g b is batch = record {
+  same = is ∙ ap (λ (bs : List (List Event)). let x : PublisherState = record f { batches = bs } in x) (sym (ap (λ x. x.batches) is));
+  batches = (b ∷ [], sym (ap (λ x. x.batches) is));
+  each = All-from_recursion (IsBatch (length f.values)) (b ∷ []) (batch, tt);
+}
 
 pub publishes_further : (f g h : PublisherState) → PublishesOn f g → PublishesOn g h → PublishesOn f h
 publishes_further f g h a b = record {
   same = b.same ∙ ap (λ (x : PublisherState). let y : PublisherState = record x { batches = h.batches } in y) a.same;
-  batches = prefix_trans f.batches g.batches h.batches a.batches b.batches;
+  batches = (a.batches.0 ++ b.batches.0, sym (append_assoc f.batches a.batches.0 b.batches.0) ∙ ap (λ l. l ++ b.batches.0) a.batches.1 ∙ b.batches.1);
+  each = All-append (IsBatch (length f.values)) a.batches.0 b.batches.0 a.each (subst (λ (v : List ℕ). All (IsBatch (length v)) b.batches.0) (ap (λ x. x.values) a.same) b.each);
 }
 
 -- The board of the published list, with one batch more.

@@ -1,5 +1,5 @@
 -- A deck's run, from the beginning.
-use Rattle.std.proofs.Common.{◌≡◌, ℕ, ◌+◌, ◌≤◌, Option, List, [], ◌++◌, length, inl, refl, sym, ◌∙◌, ap, subst, arith}
+use Rattle.std.proofs.Common.{◌≡◌, ℕ, ◌+◌, ◌≤◌, Option, List, [], ◌++◌, length, All, inl, refl, sym, ◌∙◌, ap, subst, arith}
 use Rattle.std.proofs.lemmas.List.{length-map}
 use Rattle.std.specs.Prelude.{Result, Ok, Err, MatchResult, OnErr, OnOk}
 use Rattle.air_base.specs.declared.verdicts.Policy.{Policy}
@@ -14,10 +14,12 @@ use Rattle.air_model.proofs.ItemOrder.{cut_items, length-order}
 use Rattle.air_devices.specs.Masts.{Changes, Masted, Sent, with_buckets}
 use Rattle.air_sender.specs.AirFaults.{FailedAt}
 use Rattle.station.specs.PassStates.{PassState}
-use Rattle.cycle_snapshot.specs.Batches.{events_in}
+use Rattle.cycle_snapshot.specs.Batches.{IsBatch, events_in}
 use Rattle.cycle_snapshot.specs.SnapshotStates.{PublisherState}
 use Rattle.update_commit.proofs.EventLemmas.{starts_none}
-use Rattle.air_jobs.specs.Published.{AreInStep, IsUpTo}
+use Rattle.run_laws.specs.Batches.{AirsByBatches, EndsWithStart}
+use Rattle.run_laws.proofs.BatchLemmas.{airs_by_batches}
+use Rattle.air_jobs.specs.Published.{AreInStep, IsUpTo, PublishesOn}
 use Rattle.air_jobs.specs.Sendings.{FailsAfter, IsAirOf, SendsCycles, SendsPart, SendsUpTo, bytes_aired}
 use Rattle.air_jobs.specs.declared.conductors.ConductFault.{ConductFault}
 use Rattle.air_jobs.specs.declared.conductors.ConductFault.TheVariants as fault
@@ -76,6 +78,18 @@ pub run_whole : (p q : PassState) (g : PublisherState) (b : Board) (n cycles : �
     → OnOk r (IsUpTo 0 q.seen g.batches × (starts q.seen ≡ cycles))
 run_whole p q g b n cycles (Ok x) new same h = (h.0.published, (let none = ap starts new ∙ starts_none in let count = h.1 in omega arith))
 run_whole p q g b n cycles (Err e) new same h = h
+
+-- What is published, each time the events of one cycle, airs what the conductor has seen.
+pub run_batches : (deck : Deck) (p q : PassState) (f g : PublisherState) (b : Board) (n : ℕ) (r : Result (Unit {0}) ConductFault) → f.batches ≡ [] → PublishesOn f g → OnOk r (AreInStep q g b × (starts q.seen ≡ starts p.seen + n))
+    → OnOk r (AirsByBatches deck q.seen g.batches)
+run_batches deck p q f g b n (Ok x) none on h =
+    let up = h.0.published in
+    let all : All (IsBatch (length f.values)) g.batches = subst (All (IsBatch (length f.values))) (ap (λ l. l ++ on.batches.0) (sym none) ∙ on.batches.1) on.each in
+    subst (λ l. AirsByBatches deck l g.batches) (sym up.begins) (airs_by_batches deck g.batches up.later (λ k d l. ends_with (length f.values) _ (all k d l)) up.rest)
+  where
+    ends_with : (n : ℕ) (batch : List Event) → IsBatch n batch → EndsWithStart batch
+    ends_with n batch is = record { commits = is.ends.0; ends = is.ends.1; one = is.ends.2 }
+run_batches deck p q f g b n (Err e) none on h = h
 
 pub run_few : (p q : PassState) (g : PublisherState) (b : Board) (n cycles : ℕ) (r : Result (Unit {0}) ConductFault) → p.seen ≡ [] → n ≡ cycles → OnOk r (AreInStep q g b × (starts q.seen ≡ starts p.seen + n))
     → OnErr r (starts q.seen ≤ starts p.seen + n) → starts q.seen ≤ cycles

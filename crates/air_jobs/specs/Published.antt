@@ -1,12 +1,12 @@
 -- How a publisher's list and a board keep up with what the conductor's pass has seen.
-use Rattle.std.specs.Prelude.{◌≡◌, ◌⊎◌, ℕ, ◌+◌, List, ◌++◌, length}
+use Rattle.std.specs.Prelude.{◌≡◌, ◌⊎◌, ℕ, ◌+◌, List, ◌++◌, length, All}
 use mathlib.Core.List.{IsPrefix}
 use Rattle.air_history.specs.declared.histories.Event.{Event}
 use Rattle.air_history.specs.Histories.{starts}
 use Rattle.air_history.specs.Boards.{Board, board_of}
 use Rattle.run_laws.specs.Fronts.{EndsAtStart}
 use Rattle.station.specs.PassStates.{PassState, with_seen}
-use Rattle.cycle_snapshot.specs.Batches.{events_in}
+use Rattle.cycle_snapshot.specs.Batches.{IsBatch, events_in}
 use Rattle.cycle_snapshot.specs.SnapshotStates.{PublisherState}
 use Rattle.air_jobs.specs.declared.conductors.ConductFault.{ConductFault}
 use Rattle.air_jobs.specs.declared.conductors.ConductFault.TheVariants as fault
@@ -31,10 +31,11 @@ pub record GoesOn (p q : PassState) : Type 0 where
   pub same : q ≡ with_seen p q.seen
   pub seen : IsPrefix p.seen q.seen
 
--- The publisher f went on to g: it has published more, and nothing else of it changed.
+-- The publisher f went on to g: it has published more, each time the events of one cycle, and nothing else of it changed.
 pub record PublishesOn (f g : PublisherState) : Type 0 where
   pub same : g ≡ record f { batches = g.batches }
   pub batches : IsPrefix f.batches g.batches
+  pub each : All (IsBatch (length f.values)) batches.0
 
 -- After a fault the published list goes up to the last start that was seen; without memory maybe up to the one before.
 abbrev pub IsPublishedUpTo : List Event → List (List Event) → ConductFault → Type 0

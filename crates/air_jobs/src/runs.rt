@@ -7,6 +7,7 @@ ghost use Rattle.air_model.specs.Aired.{air_of};
 ghost use Rattle.air_devices.specs.Masts.{Changes, with_buckets};
 ghost use Rattle.bucket_codec.specs.declared.offsets.TheConstants.{ENTRY_BYTES, HEAD_BYTES};
 ghost use Rattle.station.specs.PassStates.{new_pass};
+ghost use Rattle.run_laws.specs.Batches.{AirsByBatches};
 ghost use Rattle.cycle_snapshot.specs.SnapshotStates.{new_publisher};
 ghost use Rattle.air_jobs.specs.Published.{GoesOn, IsPublishedUpTo, IsUpTo, PublishesOn};
 ghost use Rattle.air_jobs.specs.Sendings.{IsCause, SendsPart, bytes_aired};
@@ -53,8 +54,8 @@ fn means_of<'a, R>(
 
 /// Runs the deck's conductor beside all its updaters and its monitors, on threads where there are some. Whatever the schedule,
 /// each updater committed its updates in order, or the first of them; each monitor made its looks, or the first of them; and what
-/// was sent are the buckets of the history that the conductor's pass has seen. A job that ends before its time leaves the others
-/// to go on.
+/// was sent are the buckets of the history that the conductor's pass has seen, which is aired by the batches that the publisher has
+/// then, one a cycle. A job that ends before its time leaves the others to go on.
 pub fn run_jobs<R: Threads + Wait + Sync, M: Mast + Send, G: Gate + Sync>(
     rt: &R,
     alloc: Global,
@@ -79,6 +80,7 @@ pub fn run_jobs<R: Threads + Wait + Sync, M: Mast + Send, G: Gate + Sync>(
     ensures pass { GoesOn pass.old pass.new }
     ensures publisher { PublishesOn publisher.old publisher.new }
     ensures whole { OnOk result (IsUpTo 0 pass.new.seen publisher.new.batches × (starts pass.new.seen ≡ deck.now.settings.cycles)) }
+    ensures batches { OnOk result (AirsByBatches deck.now pass.new.seen publisher.new.batches) }
     ensures few { starts pass.new.seen ≤ deck.now.settings.cycles }
     ensures published { IfErr result (IsPublishedUpTo pass.new.seen publisher.new.batches) }
     ensures aired { MatchResult result (λ _. Changes (with_buckets (bytes_aired (values_in deck.now) (air_of deck.now) pass.new.seen)) (M.state mast.old).told (M.state mast.new).told) (SendsPart M.state deck.now pass.new.seen publisher.new.batches mast.old mast.new) }

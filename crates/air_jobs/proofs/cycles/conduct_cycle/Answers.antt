@@ -1,5 +1,7 @@
-use Rattle.std.proofs.Common.{◌∙◌}
+use Rattle.std.proofs.Common.{◌∙◌, sym, subst}
 use Rattle.air_model.specs.Programs.{program as slots_of}
+use Rattle.air_jobs.specs.Published.{PublishesOn}
+use Rattle.air_jobs.proofs.CycleLemmas.{publishes_batch, publishes_none}
 use Rattle.air_jobs.proofs.SendLemmas.{cycle_failed_by, cycle_sent, front, last_board, rose_by, within_cycle}
 use Rattle.air_jobs.proofs.cycles.conduct_cycle.Goals as goal
 
@@ -36,3 +38,12 @@ returns-in-Err-clause-short g c =
 
 pub returns-in-Err-clause-cause : goal.returns-in-Err-clause-cause
 returns-in-Err-clause-cause g c = rose_by g.M.Mast.state _ _ c.args.mast.now c.air_cycle.new.mast c.in-Err.ensures.fault
+
+pub returns-in-Ok-clause-publisher : goal.returns-in-Ok-clause-publisher
+returns-in-Ok-clause-publisher g c = let adds = c.in_ok-begin_cycle.ensures.begun.1 in publishes_batch c.args.publisher.now c.begin_cycle.new.publisher adds.0 adds.1 adds.2
+
+pub returns-in-Err-clause-publisher : goal.returns-in-Err-clause-publisher
+returns-in-Err-clause-publisher g c = let adds = c.in_ok-begin_cycle.ensures.begun.1 in publishes_batch c.args.publisher.now c.begin_cycle.new.publisher adds.0 adds.1 adds.2
+
+pub returns-in_err-begin_cycle-clause-publisher : goal.returns-in_err-begin_cycle-clause-publisher
+returns-in_err-begin_cycle-clause-publisher g c = let f = c.args.publisher.now in subst (PublishesOn f) (sym c.in_err-begin_cycle.ensures.stopped.0) (publishes_none f)

@@ -5,7 +5,7 @@ use Rattle.station.specs.PassStates.{PassState}
 use Rattle.cycle_snapshot.specs.SnapshotStates.{PublisherState}
 use Rattle.update_commit.proofs.EventLemmas.{starts_none}
 use Rattle.air_jobs.specs.Crews.{IsReady}
-use Rattle.air_jobs.proofs.RunLemmas.{items_aired, new_in_step, own_air, run_aired, run_few, run_whole}
+use Rattle.air_jobs.proofs.RunLemmas.{items_aired, new_in_step, own_air, run_aired, run_batches, run_few, run_whole}
 use Rattle.air_jobs.proofs.runs.run_jobs.Goals as goal
 
 pub run_beside-requires-clause-own : goal.run_beside-requires-clause-own
@@ -35,6 +35,11 @@ pub returns-clause-whole : goal.returns-clause-whole
 returns-clause-whole g c =
     let h = c.run_beside.ensures.conducted in
     run_whole c.args.pass.now c.run_beside.new.pass c.run_beside.new.publisher c.run_beside.new.board _ _ c.run_beside.result (ap (λ (p : PassState). p.seen) c.requires.pass) (ap (λ s. s.cycles) c.settings-cycles.ensures) h.done
+
+pub returns-clause-batches : goal.returns-clause-batches
+returns-clause-batches g c =
+    let h = c.run_beside.ensures.conducted in
+    run_batches c.args.deck.now c.args.pass.now c.run_beside.new.pass c.args.publisher.now c.run_beside.new.publisher c.run_beside.new.board _ c.run_beside.result (ap (λ (f : PublisherState). f.batches) c.requires.publisher) h.publisher h.done
 
 pub returns-clause-few : goal.returns-clause-few
 returns-clause-few g c =
