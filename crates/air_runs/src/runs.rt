@@ -14,16 +14,19 @@ use air_devices::{Gate, Mast};
 use air_history::History;
 use air_jobs::{ConductFault, LookLine};
 use chunk_program::Program;
+use cycle_snapshot::Told;
 use item_catalog::Deck;
 use std::alloc::Global;
 use std::marker::Model;
 use std::sync::Wait;
 use std::thread::Threads;
 
-/// A run's history, and what its monitors saw: each one's last look beside the run, and its look at the end.
-#[derive(Debug, Drop)]
+/// A run's history; the note of its publisher, which tells all batches that the conductor published; and what the monitors saw: each
+/// one's last look beside the run, and its look at the end.
+#[derive(Drop)]
 pub struct Run {
     pub history: History,
+    pub note: Told,
     pub glances: Vec<LookLine>,
     pub looks: Vec<LookLine>,
 }
@@ -33,7 +36,7 @@ impl Model for Run {
 
     ghost Value = { Run };
 
-    ghost view = { λ r. record { history = r.history; glances = r.glances.items; looks = r.looks.items } };
+    ghost view = { λ r. record { history = r.history; batches = r.note.batches; glances = r.glances.items; looks = r.looks.items } };
 }
 
 /// Why a run wasn't done.
@@ -70,8 +73,8 @@ impl From<ConductFault> for RunFault {
     }
 }
 
-/// Runs the deck on threads: its conductor beside all its updaters and its monitors. The history is whole, the mast got exactly its
-/// buckets, and each monitor saw it. Where the mast failed, it got so many buckets of a whole history; after `NoMemory` the first
+/// Runs the deck on threads: its conductor beside all its updaters and its monitors. The history is whole, the batches that the
+/// publisher was told air it, the mast got exactly its buckets, and each monitor saw it. Where the mast failed, it got so many buckets of a whole history; after `NoMemory` the first
 /// of one, maybe none.
 pub fn run_threads<R: Threads + Wait + Sync, M: Mast + Send, G: Gate + Sync>(
     rt: &R,
@@ -102,6 +105,7 @@ pub fn run_threads<R: Threads + Wait + Sync, M: Mast + Send, G: Gate + Sync>(
         gate,
     );
     let sights = all_sights(alloc, &source, watchers);
+    let note = source.tell();
     source.close(rt);
     let history = stage.end(deck);
     conducted?;
@@ -109,6 +113,7 @@ pub fn run_threads<R: Threads + Wait + Sync, M: Mast + Send, G: Gate + Sync>(
     let Sights { glances, looks } = sights?;
     Ok(Run {
         history,
+        note,
         glances,
         looks,
     })

@@ -5,6 +5,7 @@ ghost use Rattle.std.proofs.Common.{◌↔◌};
 ghost use Rattle.air_history.specs.Histories.{starts};
 ghost use Rattle.air_model.specs.Decks.{disks_in, values_in};
 ghost use Rattle.air_devices.specs.Masts.{Changes, with_buckets};
+ghost use Rattle.run_laws.specs.Batches.{AirsByBatches};
 ghost use Rattle.cycle_snapshot.specs.SnapshotStates.{new_monitor, new_publisher};
 ghost use Rattle.air_jobs.specs.Crews.{EachWatched, passes_of};
 ghost use Rattle.air_jobs.specs.Published.{IsUpTo, PublishesOn};
@@ -102,6 +103,7 @@ impl Stage {
         ensures played { IsPlayed deck.now self.new }
         ensures publisher { PublishesOn source.old source.new }
         ensures whole { OnOk result (IsUpTo 0 self.new.pass.seen source.new.batches × (starts self.new.pass.seen ≡ deck.now.settings.cycles)) }
+        ensures batches { OnOk result (AirsByBatches deck.now self.new.pass.seen source.new.batches) }
         ensures aired { MatchResult result (λ _. Changes (with_buckets (deck_bytes deck.now self.new.pass.seen)) (M.state mast.old).told (M.state mast.new).told × ((M.state mast.new).faults ≡ (M.state mast.old).faults)) (IsSeenAnswer M.state deck.now self.new.pass.seen mast.old mast.new) }
         ensures port { (M.state mast.new).port ≡ (M.state mast.old).port }
         ensures watched { EachWatched LOOKS watchers.old watchers.new }

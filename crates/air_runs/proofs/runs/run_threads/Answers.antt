@@ -4,6 +4,9 @@ use Rattle.air_devices.specs.Masts.{Changes, with_buckets}
 use Rattle.air_jobs.specs.Crews.{EachWatched}
 use Rattle.air_jobs.specs.declared.crews.MonitorRun.{MonitorRun}
 use Rattle.air_jobs.specs.declared.runs.TheConstants.{LOOKS}
+use Rattle.cycle_snapshot.specs.Beginnings.{Beginning}
+use Rattle.run_laws.specs.Batches.{AirsByBatches}
+use Rattle.run_laws.proofs.BatchLemmas.{airs_further}
 use Rattle.air_runs.specs.RunAnswers.{IsRunAnswer, run_fault}
 use Rattle.air_runs.specs.Steps.SightSteps.{AreAllSights}
 use Rattle.air_runs.specs.declared.runs.RunFault.TheVariants as fault
@@ -98,6 +101,7 @@ returns-clause-run g c =
     let ended = c.in_ok-history.ensures.end in
     record {
       whole = ended.whole whole.1;
+      batches = subst (AirsByBatches deck H) (sym (ap (λ (l : Beginning). l.batches) c.tell-note.ensures)) (airs_further deck seen H h.batches ended.goes_on c.in_ok-conducted.ensures.batches);
       glances = glances_are deck f h runs.items now glances looks seen H given.publisher given.count given.each on watched sights whole.0 whole.1 ended.goes_on;
       looks = looks_are deck f h runs.items now glances looks seen H given.publisher given.count given.each on watched sights whole.0 whole.1 ended.goes_on;
     }
