@@ -17,9 +17,9 @@ use Rattle.air_model.specs.Tapes.{tape_read}
 use Rattle.air_model.proofs.EtherFacts.{clear_ether}
 use Rattle.air_model.specs.Draws.{words_of}
 use Rattle.listeners.specs.declared.runs.ReaderRun.{ReaderRun}
-use Rattle.listeners.specs.EtherListeners.{IsFresh}
+use Rattle.listeners.specs.EtherListeners.{IsClear, IsFresh}
 use Rattle.listeners.specs.Listeners.{AreNumbered, Listener, end_state, hears, listener_of}
-use Rattle.listeners.specs.Steps.ReaderRuns.{EachDone, IsClear, IsDone, IsReady}
+use Rattle.listeners.specs.Steps.ReaderRuns.{EachDone, IsDone, IsReady}
 use Rattle.listeners.proofs.HearLemmas.{session_is}
 use Rattle.listeners.proofs.ReaderLemmas.{keeps_number}
 
@@ -123,7 +123,7 @@ clear_odds deck clear =
     ∙ ap (λ n. let o : Odds = record { loss = 0; again = n; late = deck.settings.late } in o) clear.again ∙ ap (λ n. let o : Odds = record { loss = 0; again = 0; late = n } in o) clear.late
 
 -- Each reader hears all records.
-clear_heard : (deck : Deck) (records : List (List ℕ)) (r : ℕ) → IsClear deck → records ≡ ethers_in deck records r
+pub clear_heard : (deck : Deck) (records : List (List ℕ)) (r : ℕ) → IsClear deck → records ≡ ethers_in deck records r
 unfolding heard_by
 clear_heard deck records r clear =
     sym (ap (λ odds. heard_by deck.settings.seed r odds records) (clear_odds deck clear) ∙ clear_ether (words_of deck.settings.seed r (3 * length records)) records)

@@ -34,3 +34,9 @@ pub record IsFresh (deck : Deck) (number : ℕ) (x : EtherListener) : Type 0 whe
   pub odds : x.ether.odds ≡ odds_in deck
   pub room : x.ether.most ≡ HEAD_BYTES + ENTRY_BYTES * length deck.items
   pub heard : HeardDue deck.settings.seed number (listener_of deck number) [] x.ether x.listener
+
+-- Nothing of what is aired is lost, heard again or late.
+pub record IsClear (deck : Deck) : Type 0 where
+  pub loss : deck.settings.loss ≡ 0
+  pub again : deck.settings.again ≡ 0
+  pub late : deck.settings.late ≡ 0

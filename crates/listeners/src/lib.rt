@@ -15,4 +15,4 @@ mod verdicts;
 pub use ethers::EtherListener;
 pub use listener::Listener;
 pub use readers::{Sessions, all_hear, all_hear_tape, end_all, listeners_of, tape_sessions};
-pub use runs::{MOST_THREADS, ether_sessions};
+pub use runs::{MOST_THREADS, ether_sessions, is_clear};

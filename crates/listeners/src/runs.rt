@@ -11,8 +11,8 @@ ghost use Rattle.air_model.specs.Judges.{by_entries};
 ghost use Rattle.air_model.specs.Outputs.{odds_in, sessions_over};
 ghost use Rattle.air_model.specs.Reports.{counts_lines, verdict_lines};
 ghost use Rattle.air_model.specs.Tapes.{tape_read};
-ghost use Rattle.listeners.specs.EtherListeners.{IsFresh};
-ghost use Rattle.listeners.specs.Steps.ReaderRuns.{EachDone, IsClear, IsDone, IsReady};
+ghost use Rattle.listeners.specs.EtherListeners.{IsClear, IsFresh};
+ghost use Rattle.listeners.specs.Steps.ReaderRuns.{EachDone, IsDone, IsReady};
 
 use crate::ethers::EtherListener;
 use crate::listener::Listener;
@@ -92,8 +92,8 @@ fn listeners_in(alloc: Global, runs: Vec<ReaderRun>) -> Result<Vec<Listener>, No
     Ok(listeners)
 }
 
-/// Whether nothing of what is aired is lost, heard again or late.
-fn is_clear(deck: &Deck) -> bool
+/// Whether nothing of what is aired is lost, heard again or late: then each reader hears the tape itself.
+pub fn is_clear(deck: &Deck) -> bool
     ensures { IsTrue result ↔ IsClear deck.now }
 {
     let set = deck.settings();

@@ -2,11 +2,12 @@
 --
 -- What comes later changes no bucket of a started cycle, so the buckets that were sent stay those of the history. The
 -- program of a deck has all its items, and its board has as many values. The steps of a run cite these.
-use Rattle.std.proofs.Common.{◌≡◌, ℕ, zero, suc, ◌+◌, ◌≤◌, true, false, cond, List, [], ◌∷◌, ◌++◌, Some, length, map, refl, sym, ◌∙◌, ap, arith}
+use Rattle.std.proofs.Common.{◌≡◌, ℕ, zero, suc, ◌+◌, ◌≤◌, true, false, cond, List, [], ◌∷◌, ◌++◌, Some, length, map, refl, sym, ◌∙◌, ap, inl, inr, arith}
 use Rattle.std.specs.Prelude.{◌*◌, sum_by}
 use Rattle.std.specs.List.{flat_map, range_with_len}
 use Rattle.std.proofs.lemmas.Grind.{flat_map-append}
-use Rattle.std.proofs.lemmas.List.{append-nil, length-map, map-append}
+use Rattle.std.proofs.lemmas.Bool.{cases_Bool}
+use Rattle.std.proofs.lemmas.List.{append-nil, append_assoc, length-map, map-append}
 use Rattle.std.proofs.lemmas.List.FromFn.{length-map-range_with_len}
 use Rattle.std.proofs.lemmas.List.Sums.{sum_by-append}
 use Rattle.air_history.specs.declared.histories.Event.{Event}
@@ -150,3 +151,21 @@ module _ (deck : Deck) (G : List Event) (e : Event) (board : Board) (is : board 
 -- A commit airs nothing.
 pub commit_aired : (deck : Deck) (G : List Event) (e : Event) (sent : List (List ℕ)) → is_start e ≡ false → sent ≡ aired_bytes deck G → sent ≡ aired_bytes deck (G ++ e ∷ [])
 commit_aired deck G e sent commit so_far = so_far ∙ ap (map spelling) (sym (buckets_commit (values_in deck) (air_of deck) G e commit))
+
+one_aired : (deck : Deck) (H : List Event) (e : Event) → (rest : List (List ℕ)) × (aired_bytes deck (H ++ e ∷ []) ≡ aired_bytes deck H ++ rest)
+one_aired deck H e = elim (cases_Bool (is_start e)) as (λ _. (rest : List (List ℕ)) × (aired_bytes deck (H ++ e ∷ []) ≡ aired_bytes deck H ++ rest)) [
+  | inl start ↦ (
+    map spelling (buckets_in (values_in deck) (air_of deck) (H ++ Start ∷ []) (starts (H ++ Start ∷ []))),
+    ap (λ e. aired_bytes deck (H ++ e ∷ [])) (start_event e start) ∙ ap (map spelling) (buckets_start (values_in deck) (air_of deck) H)
+        ∙ map-append spelling (buckets_of (values_in deck) (air_of deck) H) (buckets_in (values_in deck) (air_of deck) (H ++ Start ∷ []) (starts (H ++ Start ∷ []))),
+  )
+  | inr commit ↦ ([], sym (commit_aired deck H e (aired_bytes deck H) commit refl) ∙ sym (append-nil (aired_bytes deck H)))
+]
+
+-- What the first events of a history air stands in front of what all of them air.
+pub front_aired : (deck : Deck) (H more : List Event) → (rest : List (List ℕ)) × (aired_bytes deck (H ++ more) ≡ aired_bytes deck H ++ rest)
+front_aired deck H [] = ([], ap (aired_bytes deck) (append-nil H) ∙ sym (append-nil (aired_bytes deck H)))
+front_aired deck H (e ∷ more) =
+    let one = one_aired deck H e in
+    let later = front_aired deck (H ++ e ∷ []) more in
+    (one.0 ++ later.0, ap (aired_bytes deck) (sym (append_assoc H (e ∷ []) more)) ∙ later.1 ∙ ap (λ l. l ++ later.0) one.1 ∙ append_assoc (aired_bytes deck H) one.0 later.0)

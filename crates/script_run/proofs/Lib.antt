@@ -1,3 +1,5 @@
 pub mod AiredLemmas
 pub mod PartLemmas
+pub mod PieceLemmas
 pub mod RunLoops
+pub mod TapeLemmas

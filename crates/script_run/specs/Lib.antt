@@ -1,2 +1,3 @@
 pub mod AiredBytes
+pub mod PieceRuns
 pub mod Steps

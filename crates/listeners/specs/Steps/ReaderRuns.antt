@@ -1,7 +1,6 @@
 -- For private steps alone. What a reader's run over a tape needs, and what it leaves.
 use Rattle.std.specs.Prelude.{◌≡◌, ◌<◌, ◌≤◌, ◌^◌, ℕ, true, List, [], All, None, length, map, get_or}
 use Rattle.air_model.specs.Buckets.{bucket_in}
-use Rattle.air_model.specs.Decks.{Deck}
 use Rattle.air_model.specs.Ethers.{heard_by}
 use Rattle.air_model.specs.Tapes.{tape_read}
 use Rattle.listeners.specs.declared.runs.ReaderRun.{ReaderRun}
@@ -24,9 +23,3 @@ IsDone tape before now =
 abbrev pub EachDone : List ℕ → List ReaderRun → List ReaderRun → Type 0
 EachDone tape before now =
     (length now ≡ length before) × ((k : ℕ) (d : ReaderRun) → k < length before → IsDone tape (get_or before k d) (get_or now k d))
-
--- Nothing of what is aired is lost, heard again or late.
-pub record IsClear (deck : Deck) : Type 0 where
-  pub loss : deck.settings.loss ≡ 0
-  pub again : deck.settings.again ≡ 0
-  pub late : deck.settings.late ≡ 0

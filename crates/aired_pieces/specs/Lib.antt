@@ -1,0 +1,3 @@
+pub mod Hearings
+pub mod Pieces
+pub mod Steps

@@ -1,0 +1,15 @@
+use Rattle.std.proofs.Common.{◌≡◌, ◌<◌, ◌≤◌, ◌++◌, length}
+use Rattle.air_sender.specs.TapeMasts.{told_by}
+use Rattle.script_run.specs.AiredBytes.{aired_bytes}
+use Rattle.script_run.specs.PieceRuns.{IsPieceRun}
+use Rattle.script_run.proofs.pieces.PieceRun.next_piece.Given as goal
+
+abbrev pub invariant-loop-next : goal.invariant-loop-next
+invariant-loop-next l = record {
+  kept : IsPieceRun l.deck l.self;
+  at : l.next ≡ length l.self.events.items;
+  aired : aired_bytes l.deck l.self.events.items ≡ aired_bytes l.deck l.fn.self.events.items ++ (told_by l.piece).buckets;
+  left : l.left ≤ l.cycles;
+  grown : l.left < l.cycles → length l.fn.self.events.items < length l.self.events.items;
+  from : length l.fn.self.events.items ≤ length l.self.events.items;
+}
