@@ -1,5 +1,5 @@
 -- What the pieces of a script's tape are, and what readers are that heard them all.
-use Rattle.std.proofs.Common.{◌≡◌, ℕ, ◌+◌, ◌*◌, ◌^◌, ◌<◌, ◌≤◌, None, List, [], ◌∷◌, ◌++◌, length, map, take, drop, get_or, All, refl, sym, ◌∙◌, ap, subst, arith, append_assoc, length-append}
+use Rattle.std.proofs.Common.{◌≡◌, ℕ, ◌+◌, ◌*◌, ◌^◌, ◌<◌, ◌≤◌, None, List, [], ◌++◌, length, map, take, drop, All, refl, sym, ◌∙◌, ap, subst, arith, length-append}
 use Rattle.std.proofs.lemmas.List.{get_or-append-add, get_or_append_left, take-append-drop}
 use Rattle.std.proofs.lemmas.Grind.{flat_map-append}
 use Rattle.air_history.specs.declared.histories.Event.{Event}
@@ -74,7 +74,7 @@ is_piece deck before now piece tape k few items is aired same =
     let begun = script_begins deck now k is in
     let whole : aired_bytes deck (script_history deck) ≡ (aired_bytes deck before ++ piece) ++ begun.0 = begun.1 ∙ ap (λ l. l ++ begun.0) aired in
     let short = middle (λ r. length r ≤ 24 + 4 * length deck.items) (aired_bytes deck before) piece begun.0
-        (subst (All (λ r. length r ≤ 24 + 4 * length deck.items)) whole (records_short deck (script_history deck))) in
+    (subst (All (λ r. length r ≤ 24 + 4 * length deck.items)) whole (records_short deck (script_history deck))) in
     let count = few_aired deck few in
     record {
       read = ap tape_read same ∙ whole_read piece (length (tape_of piece)) 0 (λ j d below. let s = short j d below in omega (arith, s, items)) (omega arith);

@@ -12,7 +12,11 @@ use std::alloc::Global;
 
 /// Pushes the records of a piece into a reader's ether, and lets it hear what is due after each. `TapeReader` tells whether a piece is
 /// whole. The reader goes on from piece to piece until `EtherListener::end`, or until a call runs out of memory.
-pub(crate) fn hear_piece(alloc: Global, reader: &mut EtherListener, piece: &[u8]) -> Result<(), NoMemory>
+pub(crate) fn hear_piece(
+    alloc: Global,
+    reader: &mut EtherListener,
+    piece: &[u8],
+) -> Result<(), NoMemory>
     requires whole { (tape_read piece.now).cut ≡ None }
     requires open { IsOpen reader.old }
     requires room { All (λ r. length r ≤ reader.old.ether.most) (tape_read piece.now).records }

@@ -91,8 +91,7 @@ impl AiredPieces {
         let _items = deck.items();
         self.run
             .next_piece(alloc, deck, program, self.cycles, &mut self.mast)?;
-        self.hearers
-            .hear(threads, alloc, deck, self.mast.tape())?;
+        self.hearers.hear(threads, alloc, deck, self.mast.tape())?;
         Ok(())
     }
 

@@ -1,4 +1,4 @@
-use Rattle.std.proofs.Common.{◌≡◌, ◌+◌, ◌∷◌, [], ◌++◌, ◌∙◌, true, length, ap, arith, length-append}
+use Rattle.std.proofs.Common.{◌≡◌, ◌+◌, ◌∷◌, [], ◌++◌, ◌∙◌, true, length, ap, length-append}
 use Rattle.aired_pieces.specs.declared.readers.PieceReader.{PieceReader}
 use Rattle.aired_pieces.proofs.ApartLemmas.{fresh_hearing, one_more_hearing}
 use Rattle.aired_pieces.proofs.readers.readers_of.Goals as goal

@@ -1,4 +1,4 @@
-use Rattle.std.proofs.Common.{◌≤◌, ◌+◌, ◌^◌, ◌∙◌, length, ap, arith}
+use Rattle.std.proofs.Common.{◌≤◌, ◌^◌, ◌∙◌, length, ap, arith}
 use Rattle.air_model.specs.Aired.{air_of}
 use Rattle.air_model.specs.Programs.{program}
 use Rattle.air_model.specs.Reports.{counts_lines, verdict_lines}

@@ -12,7 +12,7 @@ hear-requires-clause-whole g c κs within =
     let piece = (told_by c.next_piece.new.piece).buckets in
     let tape = c.tape.result.now in
     let is = is_piece deck before now piece tape (length now) c.requires.few (omega (arith, c.items-items.ensures.told, c.items-items.ensures.few))
-        (c.in_ok-next_piece.ensures.kept).begun c.in_ok-next_piece.ensures.aired c.tape.ensures in
+    (c.in_ok-next_piece.ensures.kept).begun c.in_ok-next_piece.ensures.aired c.tape.ensures in
     piece_whole deck (aired_bytes deck before) piece tape is
 
 pub hear-requires-clause-room : goal.hear-requires-clause-room
@@ -23,7 +23,7 @@ hear-requires-clause-room g c κs within =
     let piece = (told_by c.next_piece.new.piece).buckets in
     let tape = c.tape.result.now in
     let is = is_piece deck before now piece tape (length now) c.requires.few (omega (arith, c.items-items.ensures.told, c.items-items.ensures.few))
-        (c.in_ok-next_piece.ensures.kept).begun c.in_ok-next_piece.ensures.aired c.tape.ensures in
+    (c.in_ok-next_piece.ensures.kept).begun c.in_ok-next_piece.ensures.aired c.tape.ensures in
     piece_short deck (aired_bytes deck before) piece tape is
 
 pub hear-requires-clause-few : goal.hear-requires-clause-few
@@ -34,7 +34,7 @@ hear-requires-clause-few g c κs within =
     let piece = (told_by c.next_piece.new.piece).buckets in
     let tape = c.tape.result.now in
     let is = is_piece deck before now piece tape (length now) c.requires.few (omega (arith, c.items-items.ensures.told, c.items-items.ensures.few))
-        (c.in_ok-next_piece.ensures.kept).begun c.in_ok-next_piece.ensures.aired c.tape.ensures in
+    (c.in_ok-next_piece.ensures.kept).begun c.in_ok-next_piece.ensures.aired c.tape.ensures in
     (aired_bytes deck before, c.requires.kept.hearers, piece_few deck (aired_bytes deck before) piece tape is)
 
 pub returns-clause-kept : goal.returns-clause-kept
@@ -45,7 +45,7 @@ returns-clause-kept g c =
     let piece = (told_by c.next_piece.new.piece).buckets in
     let tape = c.tape.result.now in
     let is = is_piece deck before now piece tape (length now) c.requires.few (omega (arith, c.items-items.ensures.told, c.items-items.ensures.few))
-        (c.in_ok-next_piece.ensures.kept).begun c.in_ok-next_piece.ensures.aired c.tape.ensures in
+    (c.in_ok-next_piece.ensures.kept).begun c.in_ok-next_piece.ensures.aired c.tape.ensures in
     record {
       run = c.in_ok-next_piece.ensures.kept;
       hearers = piece_heard deck before now piece tape c.hear.new.self is c.in_ok-next_piece.ensures.aired (c.in_ok-hear.ensures (aired_bytes deck before) c.requires.kept.hearers);
