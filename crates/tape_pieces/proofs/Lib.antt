@@ -1,0 +1,5 @@
+pub mod TapeFronts
+pub mod ReadSoFar
+pub mod PieceFacts
+pub mod ReadingFacts
+pub mod HeardSoFar

@@ -1,0 +1,2 @@
+pub mod HeardTapes
+pub mod Steps

@@ -1,0 +1,49 @@
+//! The whole records at the front of a piece of a tape, which all readers hear.
+
+ghost use Rattle.std.specs.Prelude.{◌≡◌, ◌<◌, ◌+◌, ◌^◌, All, IfOk, OnOk, length, map};
+ghost use Rattle.air_model.specs.Buckets.{bucket_in};
+ghost use Rattle.air_model.specs.Tapes.{tape_read};
+ghost use Rattle.listeners.specs.Listeners.{hears};
+ghost use Rattle.receiver_core.specs.Receivers.{heard_count};
+ghost use Rattle.tape_pieces.specs.Steps.Pieces.{IsFront};
+
+use air_base::NoMemory;
+use bucket_codec::{TapeFault, check_tape};
+use listeners::{Listener, all_hear_tape};
+use std::alloc::Global;
+
+/// Lets all hear the whole records at the front of a piece, and answers how many bytes these have: what follows is nothing, or a
+/// record that the piece's end divides.
+pub(crate) fn hear_front(
+    alloc: Global,
+    listeners: &mut [Listener],
+    piece: &[u8],
+) -> Result<usize, NoMemory>
+    requires { All (λ l. heard_count l.state.counts + length (tape_read piece.now).records < 2 ^ 64) listeners.old }
+    ensures heard { OnOk result (listeners.new ≡ map (hears (map bucket_in (tape_read piece.now).records)) listeners.old) }
+    ensures front { IfOk result (IsFront piece.now) }
+{
+    let len = front_len(piece);
+    all_hear_tape(alloc, listeners, &piece[..len])?;
+    Ok(len)
+}
+
+/// How many bytes the whole records at the front of a piece have.
+fn front_len(piece: &[u8]) -> usize
+    ensures { IsFront piece.now result }
+{
+    match cut_of(piece) {
+        Some(at) => at as usize,
+        None => piece.len(),
+    }
+}
+
+/// The byte at which a piece is cut, if it is.
+fn cut_of(piece: &[u8]) -> Option<u64>
+    ensures { result ≡ (tape_read piece.now).cut }
+{
+    match check_tape(piece) {
+        Ok(()) => None,
+        Err(TapeFault::Cut { at }) => Some(at),
+    }
+}
