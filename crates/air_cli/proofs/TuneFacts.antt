@@ -1,11 +1,18 @@
 -- What the proofs of `tune` need of its definitions.
-use Rattle.std.proofs.Common.{◌≡◌, ℕ, ◌≤◌, List, length, Some, None, refl, sym, ap, ◌∙◌, subst, inl, inr}
-use Rattle.air_devices.specs.Counts.{NoCountFalls}
+use Rattle.std.proofs.Common.{◌≡◌, ℕ, ◌≤◌, List, [], length, Some, None, refl, sym, ap, ◌∙◌, subst, inl, inr}
+use Rattle.air_devices.specs.Counts.{KeepsCounts, NoCountFalls}
 use Rattle.air_devices.specs.Unchanged.{KeepsButPrinted}
 use Rattle.air_devices.specs.Shelves.{Shelved}
 use Rattle.air_status.specs.declared.status.Status.{Status}
 use Rattle.air_status.specs.declared.status.Status.TheVariants as status
 use Rattle.air_devices.specs.Told.{ToldIs, WhereTold}
+use Rattle.air_model.specs.declared.reports.CountsLine.{CountsLine}
+use Rattle.air_model.specs.declared.reports.VerdictLine.{VerdictLine}
+use Rattle.air_model.specs.Aired.{scheme_in}
+use Rattle.air_model.specs.Decks.{Deck}
+use Rattle.air_model.specs.Judges.{by_entries}
+use Rattle.air_model.specs.Outputs.{sessions_over, tune_output}
+use Rattle.air_model.specs.Reports.{Report, report_text, verdict_lines}
 use Rattle.air_model.specs.Tapes.{tape_read}
 use Rattle.deck_files.specs.NamedDecks.{DeckCause, OfDeck}
 use Rattle.deck_files.specs.RunnableDecks.{IsShort, UnrunnableCause}
@@ -15,7 +22,10 @@ use Rattle.item_catalog.proofs.GrammarFacts.{one_deck}
 use Rattle.air_cli.specs.Tune.{IsCutAt, OfTape, TuneCause, tune_meaning}
 use Rattle.air_cli.specs.Answers.{InputFailed}
 use Rattle.deck_files.proofs.CauseFacts.{where_read}
+use Rattle.air_cli.proofs.ReadFacts.{unread_since}
 use Rattle.air_cli.proofs.RefusalFacts.{IsSound, unrunnable_still, unread_still}
+use Rattle.listeners.specs.declared.readers.Sessions.{Sessions}
+use Rattle.tape_pieces.specs.HeardTapes.{AreHeard, UnheardCause}
 use Rattle.std.specs.Prelude.{⊤}
 use Rattle.delivery.specs.Given.{Given}
 use Rattle.air_cli.specs.Tune.{TuneGives, tune_given}
@@ -30,28 +40,37 @@ unfolding TuneCause UnrunnableCause DeckCause UnreadCause
 unrunnable_tune deck tape before now (status.TapeCut at) h = absurd h
 unrunnable_tune deck tape before now s h = inl h
 
--- A tape that can't be read isn't heard.
-pub unread_tune : (deck tape : List ℕ) (before now : Shelved) (s : Status) → OfDeck deck before IsShort → UnreadCause tape tape_limit before now s → TuneCause deck tape before now s
-unfolding TuneCause UnreadCause
-unread_tune deck tape before now (status.TapeCut at) can h = absurd h
-unread_tune deck tape before now s can h = inr (can, h)
+-- A tape that can't be heard gives no report.
+pub unheard_tune : (deck tape : List ℕ) (before now : Shelved) (s : Status) → OfDeck deck before IsShort → UnheardCause tape tape_limit before now s → TuneCause deck tape before now s
+unfolding TuneCause UnheardCause
+unheard_tune deck tape before now (status.TapeCut at) can h = (can, h)
+unheard_tune deck tape before now s can h = inr (can, h)
+
+-- Why a tape wasn't heard, told of the moment before the deck was read.
+pub unheard_since : (tape : List ℕ) (most : ℕ) (before mid now : Shelved) (s : Status) → mid.told.file tape ≡ before.told.file tape → KeepsCounts before.faults mid.faults
+    → UnheardCause tape most mid now s → UnheardCause tape most before now s
+unfolding UnheardCause
+unheard_since tape most before mid now (status.TapeCut at) same calm h = subst (λ file. WhereTold file (λ bytes. (length bytes ≤ most) × ((tape_read bytes).cut ≡ Some at))) same h
+unheard_since tape most before mid now s same calm h = unread_since tape most before mid now s same calm h
 
 pub wanting_tune : (deck tape : List ℕ) (before now : Shelved) → TuneCause deck tape before now status.NoMemory
 unfolding TuneCause UnrunnableCause DeckCause UnreadCause
 wanting_tune deck tape before now = inl tt
 
--- What is so of the whole tape that was read is so of the named tape.
-pub of_tape : (tape : List ℕ) (before mid : Shelved) (bytes read : List ℕ) (P : List (List ℕ) → Type 0) → ToldIs (mid.told.file tape) bytes → mid.told.file tape ≡ before.told.file tape
-    → read ≡ bytes → length bytes ≤ tape_limit → (tape_read read).cut ≡ None → P (tape_read read).records → OfTape tape before P
-of_tape tape before mid bytes read P known same is few whole p = where_read (before.told.file tape) read
+-- What is so of the whole tape that was heard is so of the named tape.
+pub of_heard : (tape : List ℕ) (before mid : Shelved) (d : Deck) (sessions : Sessions) (P : List (List ℕ) → Type 0) → (heard : AreHeard tape tape_limit mid d sessions)
+    → mid.told.file tape ≡ before.told.file tape → P (tape_read heard.bytes).records → OfTape tape before P
+of_heard tape before mid d sessions P heard same p = where_read (before.told.file tape) heard.bytes
     (λ bytes. (length bytes ≤ tape_limit) × ((tape_read bytes).cut ≡ None) × P (tape_read bytes).records)
-    (subst (λ file. ToldIs file read) same (subst (ToldIs (mid.told.file tape)) (sym is) known)) (subst (λ b. length b ≤ tape_limit) (sym is) few, whole, p)
+    (subst (λ file. ToldIs file heard.bytes) same heard.told) (heard.fits, heard.whole, p)
 
--- Where a tape that was read is cut, the named tape is.
-pub of_cut : (tape : List ℕ) (before mid : Shelved) (bytes read : List ℕ) (at : ℕ) → ToldIs (mid.told.file tape) bytes → mid.told.file tape ≡ before.told.file tape
-    → read ≡ bytes → length bytes ≤ tape_limit → (tape_read read).cut ≡ Some at → WhereTold (before.told.file tape) (IsCutAt at)
-of_cut tape before mid bytes read at known same is few cut = where_read (before.told.file tape) read (IsCutAt at)
-    (subst (λ file. ToldIs file read) same (subst (ToldIs (mid.told.file tape)) (sym is) known)) (subst (λ b. length b ≤ tape_limit) (sym is) few, cut)
+-- The report of the sessions over its records.
+pub heard_text : (tape : List ℕ) (shelf : Shelved) (d : Deck) (sessions : Sessions) (text : List ℕ) → (heard : AreHeard tape tape_limit shelf d sessions)
+    → text ≡ report_text (record { history = []; verdicts = sessions.verdicts.items; counts = sessions.counts.items; glances = []; looks = [] })
+    → text ≡ tune_output d (tape_read heard.bytes).records
+heard_text tape shelf d sessions text heard is =
+    is ∙ ap (λ (v : List VerdictLine). let r : Report = record { history = []; verdicts = v; counts = sessions.counts.items; glances = []; looks = [] } in report_text r) heard.verdicts
+    ∙ ap (λ (n : List CountsLine). let r : Report = record { history = []; verdicts = verdict_lines (sessions_over (by_entries (scheme_in d)) d (λ r. (tape_read heard.bytes).records)); counts = n; glances = []; looks = [] } in report_text r) heard.counts
 
 tune_still : (deck tape : List ℕ) (before mid now : Shelved) (s : Status) → KeepsButPrinted mid.told now.told → NoCountFalls mid.faults now.faults → TuneCause deck tape before mid s → TuneCause deck tape before now s
 unfolding TuneCause

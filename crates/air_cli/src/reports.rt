@@ -1,14 +1,14 @@
 //! The reports of `script`, `tune`, `listen` and `cast`, in memory.
 //!
-//! `script` runs the deck's script and lets each of its readers hear its own ether of the tape of it. `tune` lets them hear a
-//! given tape; `listen` reports of what they heard of an ear, and `cast` of a run that readers may hear elsewhere.
+//! `script` runs the deck's script and lets each of its readers hear its own ether of the tape of it. `tune` reports of what they
+//! heard of a given tape, `listen` of an ear, and `cast` of a run that readers may hear elsewhere.
 
-ghost use Rattle.std.specs.Prelude.{◌≡◌, ◌<◌, ◌≤◌, ◌^◌, [], length, None, IfOk};
+ghost use Rattle.std.specs.Prelude.{◌≡◌, ◌<◌, ◌≤◌, ◌^◌, [], length, IfOk};
 ghost use Rattle.air_history.specs.Histories.{starts};
 ghost use Rattle.air_model.specs.Decks.{disks_in};
-ghost use Rattle.air_model.specs.Outputs.{cast_output, script_output, script_tape, tune_output};
+ghost use Rattle.air_model.specs.Outputs.{cast_output, script_output, script_tape};
 ghost use Rattle.air_model.specs.Reports.{report_text};
-ghost use Rattle.air_model.specs.Tapes.{tape_of, tape_read};
+ghost use Rattle.air_model.specs.Tapes.{tape_of};
 ghost use Rattle.air_sender.specs.TapeMasts.{told_by};
 ghost use Rattle.deck_files.specs.FileLimits.{tape_limit};
 
@@ -19,7 +19,7 @@ use air_sender::TapeMast;
 use aired_sessions::air_script;
 use chunk_program::Program;
 use item_catalog::Deck;
-use listeners::{Sessions, tape_sessions};
+use listeners::Sessions;
 use report_texts::{Report, write_report};
 use std::alloc::Global;
 use std::thread::Threads;
@@ -50,22 +50,6 @@ pub(crate) fn script_report<T: Threads + Sync>(
         report,
         tape: aired.tape,
     })
-}
-
-/// Lets each reader of a deck hear the records of a whole tape: the report of their sessions, judged by the entries.
-pub(crate) fn tune_report(
-    alloc: Global,
-    deck: &Deck,
-    program: &Program,
-    tape: &[u8],
-) -> Result<Vec<u8>, NoMemory>
-    requires planned { program.now ≡ disks_in deck.now }
-    requires whole { (tape_read tape.now).cut ≡ None }
-    ensures { IfOk result (λ text. text.items ≡ tune_output deck.now (tape_read tape.now).records) }
-{
-    let sessions = tape_sessions(alloc, deck, program, tape)?;
-    let report = heard_report(alloc, sessions)?;
-    Ok(report)
 }
 
 /// The report of what the sessions of readers tell who know no history.

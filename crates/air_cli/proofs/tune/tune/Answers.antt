@@ -1,17 +1,17 @@
 use Rattle.std.proofs.Common.{◌≡◌, refl, ap, inl, inr, subst, sym, rules}
 use Rattle.std.specs.Io.KnownBytes.{IsAtEnd}
-use Rattle.air_model.specs.Tapes.{tape_read}
 use Rattle.air_status.specs.declared.status.Status.TheVariants as status
+use Rattle.deck_files.specs.FileLimits.{tape_limit}
 use Rattle.deck_files.specs.RunnableDecks.{IsShort}
 use Rattle.air_cli.specs.Steps.Making.{IsUnmade}
 use Rattle.delivery.specs.Given.{Given}
 use Rattle.air_cli.specs.Truths.{IsTrueTape}
-use Rattle.air_cli.specs.Tune.{OfTape, TuneCause, TuneGives, tune_given, tune_meaning}
+use Rattle.air_cli.specs.Tune.{OfTape, TuneGives, tune_given, tune_meaning}
 use Rattle.air_cli.proofs.AnswerFacts.{only_text}
 use Rattle.deck_files.proofs.CauseFacts.{of_deck}
-use Rattle.air_cli.proofs.ReadFacts.{end_still, unread_since}
+use Rattle.air_cli.proofs.ReadFacts.{end_still}
 use Rattle.delivery.proofs.CountFacts.{kept_twice}
-use Rattle.air_cli.proofs.TuneFacts.{unrunnable_tune, of_cut, of_tape, unread_tune, wanting_tune}
+use Rattle.air_cli.proofs.TuneFacts.{heard_text, of_heard, unheard_since, unheard_tune, unrunnable_tune, wanting_tune}
 use Rattle.air_cli.proofs.tune.tune.Goals as goal
 
 pub returns-in_err-deck-clause-unmade : goal.returns-in_err-deck-clause-unmade
@@ -25,47 +25,30 @@ returns-in_err-deck-clause-unmade g c =
     } in
     search (rules, h)
 
-pub returns-in_err-bytes-clause-unmade : goal.returns-in_err-bytes-clause-unmade
-returns-in_err-bytes-clause-unmade g c =
+pub returns-in_err-sessions-clause-unmade : goal.returns-in_err-sessions-clause-unmade
+returns-in_err-sessions-clause-unmade g c =
     let S = g.S.Shelf in
     let tape = c.args.tape.now in
     let before = S.state c.args.shelf.now in
     let mid = S.state c.read_runnable_deck.new.shelf in
-    let now = S.state c.read_bytes.new.shelf in
+    let now = S.state c.file_sessions.new.shelf in
     let can = of_deck c.args.name.now before c.in_ok-deck.deck IsShort c.in_ok-deck.ensures.deck c.in_ok-deck.ensures.runnable in
-    let unread = unread_since tape 1073741824 before mid now c.in_err-bytes.field-0.0 (c.read_runnable_deck.ensures.reads.rest.files tape) c.in_ok-deck.ensures.reads.calm c.in_err-bytes.ensures.refused in
-    let h : IsUnmade (tune_meaning c.args.name.now tape) before now c.in_err-bytes.field-0.0 = record {
-      cause = unread_tune c.args.name.now tape before now c.in_err-bytes.field-0.0 can unread;
-      kept = λ read. kept_twice before.faults mid.faults now.faults c.in_ok-deck.ensures.reads.calm (c.in_err-bytes.ensures.reads.kept read);
+    let unheard = unheard_since tape tape_limit before mid now c.in_err-sessions.field-0.0 (c.read_runnable_deck.ensures.reads.rest.files tape) c.in_ok-deck.ensures.reads.calm c.in_err-sessions.ensures.refused in
+    let h : IsUnmade (tune_meaning c.args.name.now tape) before now c.in_err-sessions.field-0.0 = record {
+      cause = unheard_tune c.args.name.now tape before now c.in_err-sessions.field-0.0 can unheard;
+      kept = λ read. kept_twice before.faults mid.faults now.faults c.in_ok-deck.ensures.reads.calm (c.in_err-sessions.ensures.reads.kept read);
     } in
     search (rules, h)
 
-pub returns-in-Some-clause-unmade : goal.returns-in-Some-clause-unmade
-unfolding TuneCause
-returns-in-Some-clause-unmade g c =
-    let S = g.S.Shelf in
-    let tape = c.args.tape.now in
-    let before = S.state c.args.shelf.now in
-    let mid = S.state c.read_runnable_deck.new.shelf in
-    let now = S.state c.read_bytes.new.shelf in
-    record {
-      cause = (
-        of_deck c.args.name.now before c.in_ok-deck.deck IsShort c.in_ok-deck.ensures.deck c.in_ok-deck.ensures.runnable,
-        of_cut tape before mid c.in_ok-bytes.bytes.items c.deref-bytes.result.now c.in-Some.at c.in_ok-bytes.ensures.bytes (c.read_runnable_deck.ensures.reads.rest.files tape) c.deref-bytes.ensures.value
-            c.in_ok-bytes.ensures.fits (sym c.in-Some.ensures),
-      );
-      kept = λ read. kept_twice before.faults mid.faults now.faults c.in_ok-deck.ensures.reads.calm c.in_ok-bytes.ensures.reads.calm;
-    }
-
-pub returns-in_err-text-in-None-clause-unmade : goal.returns-in_err-text-in-None-clause-unmade
-returns-in_err-text-in-None-clause-unmade g c =
+pub returns-in_err-text-clause-unmade : goal.returns-in_err-text-clause-unmade
+returns-in_err-text-clause-unmade g c =
     let S = g.S.Shelf in
     let before = S.state c.args.shelf.now in
     let mid = S.state c.read_runnable_deck.new.shelf in
-    let now = S.state c.read_bytes.new.shelf in
+    let now = S.state c.file_sessions.new.shelf in
     let h : IsUnmade (tune_meaning c.args.name.now c.args.tape.now) before now status.NoMemory = record {
       cause = wanting_tune c.args.name.now c.args.tape.now before now;
-      kept = λ read. kept_twice before.faults mid.faults now.faults c.in_ok-deck.ensures.reads.calm c.in_ok-bytes.ensures.reads.calm;
+      kept = λ read. kept_twice before.faults mid.faults now.faults c.in_ok-deck.ensures.reads.calm c.in_ok-sessions.ensures.reads.calm;
     } in
     search (rules, h)
 
@@ -76,23 +59,25 @@ returns-clause-made g c =
     let tape = c.args.tape.now in
     let before = S.state c.args.shelf.now in
     let mid = S.state c.read_runnable_deck.new.shelf in
-    let now = S.state c.read_bytes.new.shelf in
+    let now = S.state c.file_sessions.new.shelf in
     let deck = c.in_ok-deck.deck in
-    let read = c.deref-bytes.result.now in
-    let work : Given = only_text c.in_ok-text-in-None.text.items in
-    let deck_end = end_still c.args.name.now tape mid now c.read_bytes.ensures.reads.rest c.in_ok-deck.ensures.reads.end c.in_ok-bytes.ensures.reads.end in
+    let sessions = c.in_ok-sessions.sessions in
+    let heard = c.in_ok-sessions.ensures.heard in
+    let work : Given = only_text c.in_ok-text.text.items in
+    let text = heard_text tape mid deck sessions c.in_ok-text.text.items heard c.in_ok-text.ensures in
+    let deck_end = end_still c.args.name.now tape mid now c.file_sessions.ensures.reads.rest c.in_ok-deck.ensures.reads.end c.in_ok-sessions.ensures.reads.end in
     record {
       gives = (
         refl,
         of_deck c.args.name.now before deck (λ d. IsShort d × OfTape tape before (λ records. IsTrueTape d records × (work ≡ tune_given d records))) c.in_ok-deck.ensures.deck (
           c.in_ok-deck.ensures.runnable,
-          of_tape tape before mid c.in_ok-bytes.bytes.items read (λ records. IsTrueTape deck records × (work ≡ tune_given deck records)) c.in_ok-bytes.ensures.bytes (c.read_runnable_deck.ensures.reads.rest.files tape) c.deref-bytes.ensures.value
-              c.in_ok-bytes.ensures.fits (sym c.in-None.ensures) (c.tapes_are_true.ensures (tape_read read).records, ap only_text c.in_ok-text-in-None.ensures),
+          of_heard tape before mid deck sessions (λ records. IsTrueTape deck records × (work ≡ tune_given deck records)) heard (c.read_runnable_deck.ensures.reads.rest.files tape)
+              (c.tapes_are_true.ensures _, ap only_text text),
         ),
       );
       read = λ name input. elim input [
         | inl same ↦ subst (λ input. IsAtEnd (now.told.left input)) (sym same) deck_end
-        | inr same ↦ subst (λ input. IsAtEnd (now.told.left input)) (sym same) c.in_ok-bytes.ensures.reads.end
+        | inr same ↦ subst (λ input. IsAtEnd (now.told.left input)) (sym same) c.in_ok-sessions.ensures.reads.end
       ];
-      calm = kept_twice before.faults mid.faults now.faults c.in_ok-deck.ensures.reads.calm c.in_ok-bytes.ensures.reads.calm;
+      calm = kept_twice before.faults mid.faults now.faults c.in_ok-deck.ensures.reads.calm c.in_ok-sessions.ensures.reads.calm;
     }
