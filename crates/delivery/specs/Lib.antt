@@ -3,3 +3,4 @@ pub mod SentTapes
 pub mod Refusals
 pub mod Outputs
 pub mod Deliveries
+pub mod OutputPieces
