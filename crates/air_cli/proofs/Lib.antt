@@ -11,6 +11,7 @@ pub mod EndFacts
 pub mod InputFacts
 pub mod PlanFacts
 pub mod ScriptFacts
+pub mod ScriptAirings
 pub mod TuneFacts
 pub mod DrillFacts
 pub mod AuditFacts

@@ -93,7 +93,7 @@ refusal_says command sound before now s some h line steady = (h, line, steady (�
 pub untouched : (command : Meaning) (before now : Shelved) → now.told.printed ≡ before.told.printed → ((name : List ℕ) → now.told.output name ≡ before.told.output name)
     → KeepsCounts before.faults now.faults ⊎ InputFailed command before now → QuietAnswers command before now status.NoMemory
 unfolding QuietAnswers
-untouched command before now printed outputs counts = record { untouched = record { printed = printed; outputs = outputs }; counts = counts }
+untouched command before now printed outputs counts = record { untouched = inl (record { printed = printed; outputs = outputs }); counts = counts }
 
 -- The counts where there was no memory for a refusal's line: as they were, or reading an input had failed before.
 counts_wanting : (command : Meaning) → IsSound command → (before mid now : Shelved) (s : Status) → (s ≢ status.ReadFault → KeepsCounts before.faults mid.faults) → command.Refuses before mid s

@@ -31,10 +31,6 @@ unfolding ScriptCause UnrunnableCause DeckCause UnreadCause
 unrunnable_script name before now (status.TooLong bytes) h = absurd h
 unrunnable_script name before now s h = h
 
-pub wanting_script : (name : List ℕ) (before now : Shelved) → ScriptCause name before now status.NoMemory
-unfolding ScriptCause UnrunnableCause DeckCause UnreadCause
-wanting_script name before now = tt
-
 script_still : (name : List ℕ) (before mid now : Shelved) (s : Status) → KeepsButPrinted mid.told now.told → NoCountFalls mid.faults now.faults → ScriptCause name before mid s → ScriptCause name before now s
 unfolding ScriptCause
 script_still name before mid now (status.TooLong bytes) rest counts h = h

@@ -3,7 +3,7 @@
 --
 -- All of it is said by what the command means: its refusals, and what it gives, are said of the deck that the named file
 -- spells, and of the bytes of its other input; what `run` gives is that of some run of the deck.
-use Rattle.std.specs.Prelude.{◌≡◌, ◌⊎◌, ℕ, List, Some}
+use Rattle.std.specs.Prelude.{◌≡◌, ◌≢◌, ◌⊎◌, ℕ, true, List, Some}
 use Rattle.std.specs.Io.KnownBytes.{IsAtEnd}
 use Rattle.air_devices.specs.Counts.{Faults, KeepsCounts, NoCountFalls, Rose}
 use Rattle.air_devices.specs.Shelves.{Shelved}
@@ -43,9 +43,21 @@ pub record InputFailed (command : Meaning) (before now : Shelved) : Type 0 where
   pub named : command.IsInput name
   pub rose : Rose (before.faults.reading name) (now.faults.reading name)
 
--- Out of memory: nothing was printed, no output changed, and every count is as it was, or reading an input failed.
+-- A command that writes by pieces had begun its output: it is as it was, or holds the first bytes of the tape; no other output changed,
+-- nothing was printed, and no call failed.
+pub record HasBegun (command : Meaning) (before now : Shelved) : Type 0 where
+  pub pieces : command.by_pieces ≡ true
+  pub name : List ℕ
+  pub named : command.output ≡ Some name
+  pub gives : (given : Given) × command.Gives before given × OutputHoldsPart name given.tape before now
+  pub others : (other : List ℕ) → other ≢ name → now.told.output other ≡ before.told.output other
+  pub printed : now.told.printed ≡ before.told.printed
+  pub calm : KeepsCounts before.faults now.faults
+
+-- Out of memory: nothing was printed, and no output changed but one that is written by pieces; every count is as it was, or reading
+-- an input failed.
 pub record IsWanting (command : Meaning) (before now : Shelved) : Type 0 where
-  pub untouched : IsUntouched before now
+  pub untouched : IsUntouched before now ⊎ HasBegun command before now
   pub counts : KeepsCounts before.faults now.faults ⊎ InputFailed command before now
 
 -- What each status says. Where a command succeeded, its status tells whether something differs by what it gave. A refusal has

@@ -1,5 +1,5 @@
 -- The command `audit DECK REPORT`.
-use Rattle.std.specs.Prelude.{◌≡◌, ◌⊎◌, ◌≤◌, ℕ, true, List, [], length, None, ⊤}
+use Rattle.std.specs.Prelude.{◌≡◌, ◌⊎◌, ◌≤◌, ℕ, true, false, List, [], length, None, ⊤}
 use Rattle.std.specs.Io.KnownBytes.{IsAtEnd}
 use Rattle.air_devices.specs.Told.{ToldIs, WhereTold}
 use Rattle.air_devices.specs.Shelves.{Shelved}
@@ -54,4 +54,5 @@ audit_meaning deck report = record {
   Refuses = AuditCause deck report;
   Gives = AuditGives deck report;
   decided = true;
+  by_pieces = false;
 }

@@ -69,4 +69,5 @@ cast_meaning deck to old new = record {
   Refuses = CastCause deck to old new;
   Gives = CastGives deck to old new;
   decided = false;
+  by_pieces = false;
 }

@@ -30,4 +30,5 @@ drill_meaning seed size = record {
   Refuses = λ before now s. DrillCause s;
   Gives = λ before given. DrillGives seed size given;
   decided = true;
+  by_pieces = false;
 }

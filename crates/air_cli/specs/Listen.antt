@@ -60,4 +60,5 @@ listen_meaning deck on old new = record {
   Refuses = ListenCause deck on old new;
   Gives = ListenGives deck on old new;
   decided = false;
+  by_pieces = false;
 }

@@ -1,6 +1,6 @@
 -- What a command means: what it reads, when it must succeed, why it is refused, and what it gives. Each command has one such definition, in a
 -- file of its own; `Answers` says by it what each status tells.
-use Rattle.std.specs.Prelude.{ℕ, Bool, true, List, Option, None, ⊤}
+use Rattle.std.specs.Prelude.{ℕ, Bool, true, false, List, Option, None, ⊤}
 use Rattle.air_devices.specs.Shelves.{Shelved}
 use Rattle.air_status.specs.declared.status.Status.{Status}
 use Rattle.air_status.specs.declared.status.Status.TheVariants as status
@@ -8,7 +8,8 @@ use Rattle.delivery.specs.Given.{Given}
 
 -- The input files that a command names, the output that it names if any, what its inputs must be, where they are told, for
 -- nothing to refuse it, why it is refused with a status (told of the shelf as it was and as it is), what it prints and
--- writes where nothing refuses it, and whether its inputs alone decide that.
+-- writes where nothing refuses it, whether its inputs alone decide that, and whether it writes its output piece by piece, while
+-- memory may still run out.
 pub record Meaning : Type 1 where
   pub IsInput : List ℕ → Type 0
   pub output : Option (List ℕ)
@@ -16,6 +17,7 @@ pub record Meaning : Type 1 where
   pub Refuses : Shelved → Shelved → Status → Type 0
   pub Gives : Shelved → Given → Type 0
   pub decided : Bool
+  pub by_pieces : Bool
 
 -- Words of no form are refused as such.
 unfoldable pub WordsCause : Status → Type 0
@@ -31,4 +33,5 @@ no_form = record {
   Refuses = λ before now s. WordsCause s;
   Gives = λ before given. ⊥;
   decided = true;
+  by_pieces = false;
 }

@@ -35,4 +35,5 @@ plan_meaning deck = record {
   Refuses = PlanCause deck;
   Gives = PlanGives deck;
   decided = true;
+  by_pieces = false;
 }

@@ -38,4 +38,5 @@ run_meaning deck tape = record {
   Refuses = RunCause deck;
   Gives = RunGives deck;
   decided = false;
+  by_pieces = false;
 }

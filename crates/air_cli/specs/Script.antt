@@ -33,8 +33,8 @@ unfoldable pub ScriptGives : List ℕ → Shelved → Given → Type 0
 ScriptGives deck before given =
     (given.differs ≡ false) × OfDeck deck before (λ d. IsShort d × (length (script_tape d) ≤ tape_limit) × IsTrueScript d × (given ≡ script_given d))
 
--- It reads its deck, which must be one that can be run and have a tape that is short enough, and writes the tape where one is
--- named; the deck decides report and tape.
+-- It reads its deck, which must be one that can be run and have a tape that is short enough, and writes the tape piece by piece
+-- where one is named; the deck decides report and tape.
 abbrev pub script_meaning : List ℕ → Option (List ℕ) → Meaning
 script_meaning deck tape = record {
   IsInput = λ name. name ≡ deck;
@@ -43,4 +43,5 @@ script_meaning deck tape = record {
   Refuses = ScriptCause deck;
   Gives = ScriptGives deck;
   decided = true;
+  by_pieces = true;
 }

@@ -3,3 +3,4 @@ pub mod Making
 pub mod Endings
 pub mod Airing
 pub mod Calls
+pub mod Scripting

@@ -48,4 +48,5 @@ tune_meaning deck tape = record {
   Refuses = TuneCause deck tape;
   Gives = TuneGives deck tape;
   decided = true;
+  by_pieces = false;
 }

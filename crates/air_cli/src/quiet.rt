@@ -1,9 +1,9 @@
 //! The top call for the commands that need no waiting.
 //!
-//! Whatever a command prints and writes is made before anything is printed or written. The contract is one
-//! definition by cases of the status: its cause, what was printed and written, and what is left.
+//! Whatever a command prints and writes is made before anything is printed or written, but that `script` writes its tape while it
+//! airs it. The contract is one definition by cases of the status: its cause, what was printed and written, and what is left.
 
-ghost use Rattle.std.specs.Prelude.{map, string_bytes, IfErr, IfOk};
+ghost use Rattle.std.specs.Prelude.{◌≡◌, false, map, string_bytes, IfErr, IfOk};
 ghost use Rattle.air_cli.specs.Words.{HasSize, asked_of};
 ghost use Rattle.air_cli.specs.Commands.{asked_by, meaning_of, words_meaning};
 ghost use Rattle.air_cli.specs.Steps.Making.{IsMade, IsUnmade, Reads};
@@ -40,7 +40,7 @@ pub fn air_quiet<T: Threads + Sync, S: Shelf>(
     }
 }
 
-/// Runs a command: makes what it gives, and delivers it; or refuses.
+/// Runs a command.
 fn run<T: Threads + Sync, S: Shelf>(
     threads: &T,
     alloc: Global,
@@ -51,26 +51,45 @@ fn run<T: Threads + Sync, S: Shelf>(
     ensures answers { QuietAnswers (meaning_of (asked_by command.now)) (S.state shelf.old) (S.state shelf.new) result }
     ensures leaves { Leaves (meaning_of (asked_by command.now)) (S.state shelf.old) (S.state shelf.new) }
 {
+    match command {
+        Command::Script { deck, tape } => script(threads, alloc, shelf, deck, *tape),
+        _ => give(threads, alloc, shelf, command),
+    }
+}
+
+/// Makes what a command gives, and delivers it; or refuses.
+fn give<T: Threads + Sync, S: Shelf>(
+    threads: &T,
+    alloc: Global,
+    shelf: &mut S,
+    command: &Command,
+) -> Status
+    requires size { HasSize (asked_by command.now) }
+    requires whole { (meaning_of (asked_by command.now)).by_pieces ≡ false }
+    ensures answers { QuietAnswers (meaning_of (asked_by command.now)) (S.state shelf.old) (S.state shelf.new) result }
+    ensures leaves { Leaves (meaning_of (asked_by command.now)) (S.state shelf.old) (S.state shelf.new) }
+{
     let made = make(threads, alloc, shelf, command);
     give_or_refuse(alloc, shelf, command.output(), made)
 }
 
 /// What a command gives; nothing is printed or written yet.
-#[tactic(auto, using(crate::proofs::ScriptFacts::made_for, crate::proofs::ScriptFacts::unmade_for, crate::proofs::ScriptFacts::reads_for, crate::proofs::DrillFacts::made_drill, crate::proofs::DrillFacts::unmade_drill))]
+#[tactic(auto, using(crate::proofs::DrillFacts::made_drill, crate::proofs::DrillFacts::unmade_drill))]
 fn make<T: Threads + Sync, S: Shelf>(
     threads: &T,
     alloc: Global,
     shelf: &mut S,
     command: &Command,
 ) -> Result<Given, Status>
-    requires { HasSize (asked_by command.now) }
+    requires size { HasSize (asked_by command.now) }
+    requires whole { (meaning_of (asked_by command.now)).by_pieces ≡ false }
     ensures made { IfOk result (IsMade (meaning_of (asked_by command.now)) (S.state shelf.old) (S.state shelf.new)) }
     ensures unmade { IfErr result (IsUnmade (meaning_of (asked_by command.now)) (S.state shelf.old) (S.state shelf.new)) }
     ensures reads { Reads (meaning_of (asked_by command.now)) (S.state shelf.old) (S.state shelf.new) }
 {
     match command {
         Command::Plan { deck } => plan(alloc, shelf, deck),
-        Command::Script { deck, .. } => script(threads, alloc, shelf, deck),
+        Command::Script { .. } => unreachable!(),
         Command::Tune { deck, tape } => tune(alloc, shelf, deck, tape),
         Command::Drill { seed, size } => drill(threads, alloc, *seed, *size),
         Command::Audit { deck, report } => audit(alloc, shelf, deck, report),

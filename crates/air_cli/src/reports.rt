@@ -1,55 +1,37 @@
 //! The reports of `script`, `tune`, `listen` and `cast`, in memory.
 //!
-//! `script` runs the deck's script and lets each of its readers hear its own ether of the tape of it. `tune` reports of what they
-//! heard of a given tape, `listen` of an ear, and `cast` of a run that readers may hear elsewhere.
+//! `script` reports of the deck's script and of what its readers heard of it, `tune` of what they heard of a given tape, `listen` of
+//! an ear, and `cast` of a run that readers may hear elsewhere.
 
-ghost use Rattle.std.specs.Prelude.{◌≡◌, ◌<◌, ◌≤◌, ◌^◌, [], length, IfOk};
+ghost use Rattle.std.specs.Prelude.{◌≡◌, ◌<◌, ◌^◌, [], IfOk};
 ghost use Rattle.air_history.specs.Histories.{starts};
-ghost use Rattle.air_model.specs.Decks.{disks_in};
-ghost use Rattle.air_model.specs.Outputs.{cast_output, script_output, script_tape};
-ghost use Rattle.air_model.specs.Reports.{report_text};
-ghost use Rattle.air_model.specs.Tapes.{tape_of};
-ghost use Rattle.air_sender.specs.TapeMasts.{told_by};
-ghost use Rattle.deck_files.specs.FileLimits.{tape_limit};
+ghost use Rattle.air_model.specs.Decks.{script_history};
+ghost use Rattle.air_model.specs.Outputs.{cast_output, script_output, true_sessions};
+ghost use Rattle.air_model.specs.Reports.{counts_lines, report_text, verdict_lines};
 
 use air_base::NoMemory;
 use air_casts::Run;
 use air_history::{Event, History};
-use air_sender::TapeMast;
-use aired_sessions::air_script;
-use chunk_program::Program;
 use item_catalog::Deck;
 use listeners::Sessions;
 use report_texts::{Report, write_report};
 use std::alloc::Global;
-use std::thread::Threads;
 
-/// What a script comes to: the report's text, and the tape.
-#[derive(Drop)]
-pub(crate) struct Scripted {
-    pub report: Vec<u8>,
-    pub tape: TapeMast,
-}
-
-/// Runs the script of a deck: the report of its history and of its readers' sessions, and the tape of its history.
-pub(crate) fn script_report<T: Threads + Sync>(
-    threads: &T,
+/// The report of a script's history and of what its readers' sessions tell.
+pub(crate) fn script_report(
     alloc: Global,
     deck: &Deck,
-    program: &Program,
-) -> Result<Scripted, NoMemory>
-    requires planned { program.now ≡ disks_in deck.now }
-    requires size { length (script_tape deck.now) ≤ tape_limit }
-    ensures report { IfOk result (λ s. s.report.items ≡ script_output deck.now) }
-    ensures tape { IfOk result (λ s. tape_of (told_by s.tape).buckets ≡ script_tape deck.now) }
+    events: Vec<Event>,
+    sessions: Sessions,
+) -> Result<Vec<u8>, NoMemory>
+    requires events { events.items ≡ script_history deck.now }
+    requires verdicts { sessions.verdicts.items ≡ verdict_lines (true_sessions deck.now (script_history deck.now)) }
+    requires counts { sessions.counts.items ≡ counts_lines (true_sessions deck.now (script_history deck.now)) }
+    ensures { IfOk result (λ text. text.items ≡ script_output deck.now) }
 {
     deck.well_made();
-    let aired = air_script(threads, alloc, deck, program)?;
-    let report = report_of(alloc, aired.events, aired.sessions)?;
-    Ok(Scripted {
-        report,
-        tape: aired.tape,
-    })
+    let report = report_of(alloc, events, sessions)?;
+    Ok(report)
 }
 
 /// The report of what the sessions of readers tell who know no history.

@@ -1,70 +1,45 @@
-use Rattle.std.proofs.Common.{◌≡◌, ◌≤◌, false, refl, None, Some, ap₂, length, subst, sym, rules, arith}
-use Rattle.std.specs.Io.KnownBytes.{IsAtEnd}
-use Rattle.air_model.specs.Outputs.{script_tape}
-use Rattle.air_status.specs.declared.status.Status.TheVariants as status
-use Rattle.deck_files.specs.RunnableDecks.{IsShort}
-use Rattle.deck_files.specs.FileLimits.{tape_limit}
-use Rattle.air_cli.specs.Steps.Making.{IsUnmade}
-use Rattle.delivery.specs.Given.{Given}
-use Rattle.delivery.specs.SentTapes.{tape_sent}
-use Rattle.air_cli.specs.Script.{HasLongTape, ScriptCause, ScriptGives, script_given, script_meaning}
-use Rattle.air_cli.specs.Truths.{IsTrueScript}
-use Rattle.deck_files.proofs.CauseFacts.{of_deck}
-use Rattle.air_cli.proofs.ScriptFacts.{unrunnable_script, wanting_script}
+use Rattle.std.proofs.Common.{Bor, List, ℕ, inl}
+use Rattle.std.specs.Prelude.{Option}
+use Rattle.std.specs.Option.{option_map}
+use Rattle.air_cli.specs.Script.{script_meaning}
+use Rattle.air_cli.proofs.RefusalFacts.{answers_refused, leaves_refused, untouched}
+use Rattle.air_cli.proofs.ScriptAirings.{answers_aired, leaves_aired}
+use Rattle.air_cli.proofs.ScriptFacts.{reads_for, script_facts, unmade_for}
 use Rattle.air_cli.proofs.script.script.Goals as goal
 
-pub returns-in_err-deck-clause-unmade : goal.returns-in_err-deck-clause-unmade
-returns-in_err-deck-clause-unmade g c =
+pub returns-in-Ok : goal.returns-in-Ok
+returns-in-Ok g c =
     let S = g.S.Shelf in
+    let deck = c.args.name.now in
+    let output : Option (List ℕ) = option_map (λ (name : Bor (List ℕ)). name.now) c.args.output in
     let before = S.state c.args.shelf.now in
-    let now = S.state c.read_runnable_deck.new.shelf in
-    let h : IsUnmade (script_meaning c.args.name.now None) before now c.in_err-deck.field-0.0 = record {
-      cause = unrunnable_script c.args.name.now before now c.in_err-deck.field-0.0 c.in_err-deck.ensures.refused;
-      kept = c.in_err-deck.ensures.reads.kept;
-    } in
-    search (rules, h)
-
-pub returns-then-bytes-clause-unmade : goal.returns-then-bytes-clause-unmade
-unfolding ScriptCause
-returns-then-bytes-clause-unmade g c =
-    let S = g.S.Shelf in
-    let before = S.state c.args.shelf.now in
+    let mid = S.state c.read_script.new.shelf in
+    let now = S.state c.air_and_print.new.shelf in
     record {
-      cause = of_deck c.args.name.now before c.in_ok-deck.deck (λ d. HasLongTape d c.tape_len-bytes.result) c.in_ok-deck.ensures.deck
-          (record { runnable = c.in_ok-deck.ensures.runnable; counted = c.tape_len-bytes.ensures; above = omega (arith, c.if-bytes.true) });
-      kept = λ read. c.in_ok-deck.ensures.reads.calm;
+      answers = answers_aired deck output c.in-Ok.deck before mid now c.air_and_print.result c.in-Ok.ensures.made c.read_script.ensures.reads c.air_and_print.ensures.airs c.air_and_print.ensures.rest;
+      leaves = leaves_aired deck output before mid now c.read_script.ensures.reads c.air_and_print.ensures.rest c.air_and_print.ensures.counts;
     }
 
-pub returns-in_err-scripted-clause-unmade : goal.returns-in_err-scripted-clause-unmade
-returns-in_err-scripted-clause-unmade g c =
+pub returns-in-NoMemory-clause-answers : goal.returns-in-NoMemory-clause-answers
+returns-in-NoMemory-clause-answers g c =
     let S = g.S.Shelf in
-    let before = S.state c.args.shelf.now in
-    let now = S.state c.read_runnable_deck.new.shelf in
-    let h : IsUnmade (script_meaning c.args.name.now None) before now status.NoMemory = record {
-      cause = wanting_script c.args.name.now before now;
-      kept = λ read. c.in_ok-deck.ensures.reads.calm;
-    } in
-    search (rules, h)
+    let output : Option (List ℕ) = option_map (λ (name : Bor (List ℕ)). name.now) c.args.output in
+    untouched (script_meaning c.args.name.now output) (S.state c.args.shelf.now) (S.state c.read_script.new.shelf) c.read_script.ensures.reads.printed c.read_script.ensures.reads.outputs
+    (inl (c.in-Err.ensures.unmade.kept (λ e. cc (c.in-NoMemory.is, e))))
 
-pub returns-clause-made : goal.returns-clause-made
-unfolding ScriptGives
-returns-clause-made g c =
+pub returns-in_default : goal.returns-in_default
+returns-in_default g c =
     let S = g.S.Shelf in
-    let name = c.args.name.now in
+    let deck = c.args.name.now in
+    let output : Option (List ℕ) = option_map (λ (name : Bor (List ℕ)). name.now) c.args.output in
+    let meaning = script_meaning deck output in
     let before = S.state c.args.shelf.now in
-    let now = S.state c.read_runnable_deck.new.shelf in
-    let d = c.in_ok-deck.deck in
-    let work : Given = record { text = c.in_ok-scripted.scripted.report.items; tape = tape_sent (Some c.in_ok-scripted.scripted.tape); differs = false } in
+    let mid = S.state c.read_script.new.shelf in
+    let now = S.state c.refuse.new.shelf in
+    let reads = reads_for deck output before mid c.read_script.ensures.reads in
+    let unmade = unmade_for deck output before mid c.in-Err.status c.in-Err.ensures.unmade in
     record {
-      gives = (
-        refl,
-        of_deck name before d (λ d. IsShort d × (length (script_tape d) ≤ tape_limit) × IsTrueScript d × (work ≡ script_given d)) c.in_ok-deck.ensures.deck (
-          c.in_ok-deck.ensures.runnable,
-          omega (arith, c.if-bytes.false, c.tape_len-bytes.ensures),
-          record { legal = c.script_is_true.ensures.legal; bases = c.script_is_true.ensures.bases; sessions = c.script_is_true.ensures.sessions },
-          ap₂ (λ text tape. record { text = text; tape = tape; differs = false }) c.in_ok-scripted.ensures.report c.in_ok-scripted.ensures.tape,
-        ),
-      );
-      read = λ other same. subst (λ input. IsAtEnd (now.told.left input)) (sym same) c.in_ok-deck.ensures.reads.end;
-      calm = c.in_ok-deck.ensures.reads.calm;
+      answers = answers_refused meaning (script_facts deck output).sound before mid now c.in-Err.status c.refuse.result c.in_default.not-NoMemory reads unmade.cause unmade.kept
+          c.refuse.ensures.gives c.refuse.ensures.rest c.refuse.ensures.counts;
+      leaves = leaves_refused meaning before mid now reads c.refuse.ensures.rest c.refuse.ensures.counts;
     }
