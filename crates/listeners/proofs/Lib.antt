@@ -5,3 +5,4 @@ pub mod HearLemmas
 pub mod ReaderLemmas
 pub mod EtherLemmas
 pub mod RunLemmas
+pub mod PieceLemmas

@@ -14,13 +14,12 @@ use Rattle.air_model.specs.Outputs.{odds_in, sessions_over}
 use Rattle.air_model.specs.ReceiverLaws.{session_of}
 use Rattle.air_model.specs.Sessions.{State}
 use Rattle.air_model.specs.Tapes.{tape_read}
-use Rattle.air_model.proofs.EtherFacts.{clear_ether}
-use Rattle.air_model.specs.Draws.{words_of}
 use Rattle.listeners.specs.declared.runs.ReaderRun.{ReaderRun}
 use Rattle.listeners.specs.EtherListeners.{IsClear, IsFresh}
 use Rattle.listeners.specs.Listeners.{AreNumbered, Listener, end_state, hears, listener_of}
-use Rattle.listeners.specs.Steps.ReaderRuns.{EachDone, IsDone, IsReady}
+use Rattle.listeners.specs.Steps.ReaderRuns.{EachDone, IsDone, IsReady, clear_odds}
 use Rattle.listeners.proofs.HearLemmas.{session_is}
+use Rattle.listeners.proofs.PieceLemmas.{gives_all}
 use Rattle.listeners.proofs.ReaderLemmas.{keeps_number}
 
 -- ---- before anything is heard
@@ -117,23 +116,17 @@ sessions_over_each deck heard = same (range_with_len 0 (length deck.readers))
 
 -- ---- where nothing is lost, heard again or late
 
-clear_odds : (deck : Deck) → IsClear deck → odds_in deck ≡ record { loss = 0; again = 0; late = 0 }
-clear_odds deck clear =
+-- The odds of such a deck are those of a clear ether.
+odds_are_clear : (deck : Deck) → IsClear deck → odds_in deck ≡ clear_odds
+odds_are_clear deck clear =
     ap (λ n. let o : Odds = record { loss = n; again = deck.settings.again; late = deck.settings.late } in o) clear.loss
     ∙ ap (λ n. let o : Odds = record { loss = 0; again = n; late = deck.settings.late } in o) clear.again ∙ ap (λ n. let o : Odds = record { loss = 0; again = 0; late = n } in o) clear.late
 
 -- Each reader hears all records.
 pub clear_heard : (deck : Deck) (records : List (List ℕ)) (r : ℕ) → IsClear deck → records ≡ ethers_in deck records r
-unfolding heard_by
-clear_heard deck records r clear =
-    sym (ap (λ odds. heard_by deck.settings.seed r odds records) (clear_odds deck clear) ∙ clear_ether (words_of deck.settings.seed r (3 * length records)) records)
+clear_heard deck records r clear = sym (gives_all deck.settings.seed r (odds_in deck) records (odds_are_clear deck clear))
 
-pub clear_sessions : (deck : Deck) (records : List (List ℕ)) → IsClear deck → sessions_over (by_entries (scheme_in deck)) deck (λ r. records) ≡ sessions_over (by_entries (scheme_in deck)) deck (ethers_in deck records)
-clear_sessions deck records clear = same (range_with_len 0 (length deck.readers))
-  where
-    judged : ℕ → List (List ℕ) → State
-    judged r heard = session_of (by_entries (scheme_in deck)) deck r (map bucket_in heard)
-
-    same : (readers : List ℕ) → map (λ r. judged r records) readers ≡ map (λ r. judged r (ethers_in deck records r)) readers
-    same [] = refl
-    same (r ∷ readers) = ap (λ heard. judged r heard ∷ map (λ r. judged r records) readers) (clear_heard deck records r clear) ∙ ap (λ l. judged r (ethers_in deck records r) ∷ l) (same readers)
+-- The ether of each reader is clear.
+pub all_clear : (deck : Deck) (runs : List ReaderRun) → IsClear deck → length runs ≡ length deck.readers → ((k : ℕ) (d : ReaderRun) → k < length deck.readers → IsFresh deck k (get_or runs k d).reader)
+    → All (λ (run : ReaderRun). run.reader.ether.odds ≡ clear_odds) runs
+all_clear deck runs clear long fresh = λ k d below. (fresh k d (omega (arith, below, long))).odds ∙ odds_are_clear deck clear

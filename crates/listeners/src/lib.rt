@@ -8,6 +8,7 @@
 mod ethers;
 pub mod laws;
 mod listener;
+mod pieces;
 mod readers;
 mod runs;
 mod verdicts;

@@ -1,10 +1,12 @@
 //! All readers of a deck, each of which hears its own ether of a tape: side by side, with the lines of one after another.
 //!
-//! Where nothing is lost, heard again or late, each ether gives the tape itself: then all hear it together, and each record is
-//! decoded once.
+//! Where nothing is lost, heard again or late, each ether gives the tape itself: then all hear it past their ethers, a piece at a time,
+//! and each record is decoded once.
 
-ghost use Rattle.std.specs.Prelude.{◌≡◌, ◌↔◌, ℕ, ◌<◌, ◌≤◌, ◌+◌, ◌*◌, ◌^◌, All, IsTrue, None, IfOk, true, get_or, length, map};
+ghost use Rattle.std.specs.Prelude.{◌≡◌, ◌↔◌, ℕ, ◌<◌, ◌≤◌, ◌+◌, ◌*◌, ◌^◌, All, IsTrue, None, IfOk, OnOk, true, get_or, length, map};
+ghost use Rattle.std.specs.Result.{result_ok};
 ghost use Rattle.air_model.specs.Aired.{scheme_in};
+ghost use Rattle.air_model.specs.Buckets.{bucket_in};
 ghost use Rattle.air_model.specs.Decks.{disks_in};
 ghost use Rattle.air_model.specs.Ethers.{heard_by};
 ghost use Rattle.air_model.specs.Judges.{by_entries};
@@ -12,13 +14,15 @@ ghost use Rattle.air_model.specs.Outputs.{odds_in, sessions_over};
 ghost use Rattle.air_model.specs.Reports.{counts_lines, verdict_lines};
 ghost use Rattle.air_model.specs.Tapes.{tape_read};
 ghost use Rattle.listeners.specs.EtherListeners.{IsClear, IsFresh};
-ghost use Rattle.listeners.specs.Steps.ReaderRuns.{EachDone, IsDone, IsReady};
+ghost use Rattle.listeners.specs.Steps.ReaderRuns.{CanHear, EachDone, EachHeard, HasHeard, IsDone, IsReady, clear_odds};
 
 use crate::ethers::EtherListener;
 use crate::listener::Listener;
-use crate::readers::{Sessions, end_all, tape_sessions};
+use crate::pieces::{hear_piece, next_piece};
+use crate::readers::{Sessions, end_all};
 use air_base::NoMemory;
 use bucket_codec::offsets::{ENTRY_BYTES, HEAD_BYTES};
+use bucket_codec::{BucketFault, BucketView, TapeReader};
 use chunk_program::Program;
 use item_catalog::Deck;
 use std::alloc::Global;
@@ -28,7 +32,7 @@ use std::thread::Threads;
 /// In how many threads readers hear at most.
 pub const MOST_THREADS: usize = 16;
 
-/// A reader that hears a tape, and whether there was memory for all that it heard.
+/// A reader that hears a tape, and whether there was memory for all that it heard so far.
 #[derive(Drop)]
 pub(crate) struct ReaderRun {
     pub reader: EtherListener,
@@ -44,6 +48,55 @@ impl ReaderRun {
     {
         self.done = self.reader.hear_tape(alloc, tape).is_ok();
     }
+
+    /// Hears a piece of a tape past its ether, where there was memory so far.
+    #[tactic(auto, unfolding(crate::specs::Steps::ReaderRuns::CanHear, crate::specs::Steps::ReaderRuns::HasHeard))]
+    fn hear_piece(&mut self, alloc: Global, piece: &[Result<BucketView<'_>, BucketFault>])
+        requires { CanHear piece.now self.old }
+        ensures { HasHeard (map result_ok piece.now) self.old self.new }
+    {
+        if self.done {
+            self.done = hear_piece(alloc, &mut self.reader.listener, piece).is_ok();
+        }
+    }
+}
+
+/// Lets all readers hear a piece of a tape past their ethers, side by side.
+fn hear_together<T: Threads + Sync>(
+    threads: &T,
+    alloc: Global,
+    runs: &mut [ReaderRun],
+    piece: &[Result<BucketView<'_>, BucketFault>],
+)
+    requires { All (CanHear piece.now) runs.old }
+    ensures { EachHeard (map result_ok piece.now) runs.old runs.new }
+{
+    thread::for_each_mut(
+        threads,
+        runs,
+        MOST_THREADS,
+        &|_, run| { run.hear_piece(alloc, piece) },
+    );
+}
+
+/// Lets all readers hear a tape past their ethers, a piece at a time.
+fn hear_pieces<T: Threads + Sync>(
+    threads: &T,
+    alloc: Global,
+    runs: &mut [ReaderRun],
+    tape: &[u8],
+) -> Result<(), NoMemory>
+    requires whole { (tape_read tape.now).cut ≡ None }
+    requires ready { All (IsReady tape.now) runs.old }
+    ensures { OnOk result (EachHeard (map bucket_in (tape_read tape.now).records) runs.old runs.new) }
+{
+    let mut records = TapeReader::new(tape);
+    let mut piece = next_piece(alloc, &mut records)?;
+    while !piece.is_empty() {
+        hear_together(threads, alloc, runs, &piece);
+        piece = next_piece(alloc, &mut records)?;
+    }
+    Ok(())
 }
 
 /// Lets all readers hear their ethers of a tape, side by side.
@@ -59,6 +112,27 @@ fn hear_side_by_side<T: Threads + Sync>(
     thread::for_each_mut(threads, runs, MOST_THREADS, &|_, run| run.work(alloc, tape));
 }
 
+/// Lets all readers hear their ethers of a tape, or the tape itself where these are clear.
+fn hear_all<T: Threads + Sync>(
+    threads: &T,
+    alloc: Global,
+    runs: &mut [ReaderRun],
+    tape: &[u8],
+    clear: bool,
+) -> Result<(), NoMemory>
+    requires whole { (tape_read tape.now).cut ≡ None }
+    requires ready { All (IsReady tape.now) runs.old }
+    requires clear { IsTrue clear → All (λ run. run.reader.ether.odds ≡ clear_odds) runs.old }
+    ensures { OnOk result (EachDone tape.now runs.old runs.new) }
+{
+    if clear {
+        hear_pieces(threads, alloc, runs, tape)?;
+        return Ok(());
+    }
+    hear_side_by_side(threads, alloc, runs, tape);
+    Ok(())
+}
+
 /// All readers of a deck, before they hear anything.
 fn runs_of(alloc: Global, deck: &Deck, program: &Program) -> Result<Vec<ReaderRun>, NoMemory>
     requires planned { program.now ≡ disks_in deck.now }
@@ -69,7 +143,7 @@ fn runs_of(alloc: Global, deck: &Deck, program: &Program) -> Result<Vec<ReaderRu
     for r in 0..deck.readers() {
         runs.push(ReaderRun {
             reader: EtherListener::new(alloc, deck, r, program)?,
-            done: false,
+            done: true,
         })?;
     }
     Ok(runs)
@@ -118,11 +192,8 @@ pub fn ether_sessions<T: Threads + Sync>(
     ensures counts { IfOk result (λ s. s.counts.items
         ≡ counts_lines (sessions_over (by_entries (scheme_in deck.now)) deck.now (λ r. heard_by deck.now.settings.seed r (odds_in deck.now) (tape_read tape.now).records))) }
 {
-    if is_clear(deck) {
-        return tape_sessions(alloc, deck, program, tape);
-    }
     let mut runs = runs_of(alloc, deck, program)?;
-    hear_side_by_side(threads, alloc, &mut runs, tape);
+    hear_all(threads, alloc, &mut runs, tape, is_clear(deck))?;
     let listeners = listeners_in(alloc, runs)?;
     let sessions = end_all(alloc, listeners)?;
     Ok(sessions)
