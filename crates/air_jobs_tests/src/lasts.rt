@@ -7,7 +7,7 @@ use std::sync::Wait;
 use std::test::Fail;
 
 /// The last look of a monitor of two values, of which nothing was published.
-fn last_look<R: Wait>(wait: &R, alloc: Global) -> Result<Option<LookLine>, NoMemory> {
+fn line_of_last_look<R: Wait>(wait: &R, alloc: Global) -> Result<Option<LookLine>, NoMemory> {
     let (source, mut monitors) = publisher(wait, alloc, &[10, 20], 1, 5)?;
     let line = match monitors.pop() {
         Some(mut monitor) => last_look(&mut monitor, &source),
@@ -27,6 +27,6 @@ fn a_last_look_before_any_cycle_shows_the_first_values(rt: HostRuntime) -> Resul
         cycle: 0,
         total: 30,
     };
-    assert_eq!(rt; last_look(&rt, rt.alloc())?, Some(first));
+    assert_eq!(rt; line_of_last_look(&rt, rt.alloc())?, Some(first));
     Ok(())
 }
