@@ -1,9 +1,9 @@
-# Sourced by the scripts that time the whole program, from the top of the repository, with `runs` set: has the program built, makes
-# a folder $scratch that goes away at the end, and tells how long a command takes.
-program=$PWD/crates/airdisk/out/airdisk
+# Sourced by the scripts that time the whole program, from the top of the repository, with `runs` set: has the program built, or
+# takes the one that AIRDISK names, makes a folder $scratch that goes away at the end, and tells how long a command takes.
+program=${AIRDISK:-$PWD/crates/airdisk/out/airdisk}
 scratch=$(mktemp -d) || exit 1
 trap 'rm -rf "$scratch"' EXIT
-(cd crates/airdisk && rt run -- --version) >/dev/null 2>&1
+[ -n "${AIRDISK:-}" ] || (cd crates/airdisk && rt run -- --version) >/dev/null 2>&1
 [ -x "$program" ] || exit 1
 
 # each COMMAND..: the time of each run in hundredths of a millisecond, from the shell, the least first; a run ends with 0, or with 9
