@@ -123,7 +123,7 @@ fn a_tape_at_its_limit_is_heard_or_cut(rt: HostRuntime) -> Result<(), Fail> {
 }
 
 /// A case whose reading fails, and how many bytes are left.
-const fn failing(fail: &'static [u64], left: usize) -> Case {
+const fn failing_case(fail: &'static [u64], left: usize) -> Case {
     Case {
         piece: 50,
         fail,
@@ -147,10 +147,10 @@ fn where_a_call_fails_nothing_is_heard(rt: HostRuntime) -> Result<(), Fail> {
     };
     let cases = [
         nowhere,
-        failing(&[1], 0),
-        failing(&[2], 82),
-        failing(&[3], 32),
-        failing(&[4], 0),
+        failing_case(&[1], 0),
+        failing_case(&[2], 82),
+        failing_case(&[3], 32),
+        failing_case(&[4], 0),
         later,
     ];
     assert_eq!(rt; first_other(rt.alloc(), &cases)?, None);
@@ -162,6 +162,11 @@ fn the_program_hears_by_pieces_of_its_own(rt: HostRuntime) -> Result<(), Fail> {
     let mut shelf = shelf_of(rt.alloc(), TAPE, &[])?;
     let heard = heard_by(rt.alloc(), &mut shelf, "tape", None)?;
     assert_eq!(rt; is_told(&heard, Ok(ALL)), true);
+    Ok(())
+}
+
+#[test]
+fn the_program_tells_a_cut_by_pieces_of_its_own(rt: HostRuntime) -> Result<(), Fail> {
     let mut cut = shelf_of(rt.alloc(), &TAPE[..81], &[])?;
     let refused = heard_by(rt.alloc(), &mut cut, "tape", None)?;
     assert_eq!(rt; is_told(&refused, Err(Status::TapeCut { at: 46 })), true);
