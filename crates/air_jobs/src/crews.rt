@@ -10,11 +10,13 @@ ghost use Rattle.air_model.specs.Programs.{program as slots_of};
 ghost use Rattle.bucket_codec.specs.declared.offsets.TheConstants.{ENTRY_BYTES, HEAD_BYTES};
 ghost use Rattle.air_jobs.specs.Published.{AreInStep};
 ghost use Rattle.air_jobs.specs.Steps.CycleSteps.{HasConducted};
+ghost use Rattle.air_jobs.specs.declared.runs.TheConstants.{LOOKS};
 ghost use Rattle.air_jobs.specs.Crews.{EachDone, EachWatched, IsDone, IsReady, IsWatched};
 
 use crate::conductors::{ConductFault, conduct};
 use crate::means::Means;
 use crate::monitors::monitor_job;
+use crate::runs::LOOKS;
 use crate::updaters::updater_job;
 use air_base::limits::{MOST_MONITORS, MOST_UPDATERS};
 use air_devices::{Gate, Mast};
@@ -155,35 +157,33 @@ pub fn run_beside<R: Threads + Wait + Sync, M: Mast + Send, G: Gate + Sync>(
     pass: &mut ConductorPass,
     publisher: &mut Publisher,
     board: &mut Board,
-    cycles: u32,
     mast: &mut M,
     buf: &mut [u8],
     updaters: &mut [UpdaterRun],
     monitors: &mut [MonitorRun],
-    looks: u32,
     gate: &G,
 ) -> Result<(), ConductFault>
     requires own { pass.old.station ≡ means.now.station.now }
     requires step { AreInStep pass.old publisher.old board.old }
-    requires room { (starts pass.old.seen + cycles ≤ publisher.old.most) × (starts pass.old.seen + cycles + 1 < 2 ^ 32) }
+    requires room { (starts pass.old.seen + deck.now.settings.cycles ≤ publisher.old.most) × (starts pass.old.seen + deck.now.settings.cycles + 1 < 2 ^ 32) }
     requires items { length (all_items means.now.program.now) ≡ length pass.old.values }
     requires buffer { HEAD_BYTES + ENTRY_BYTES * length pass.old.values ≤ length buf.old }
     requires ready { All (IsReady means.now.station.now deck.now) updaters.old }
-    requires some { 1 ≤ looks }
-    ensures conducted { HasConducted M.state means.now.policy (slots_of means.now.program.now) cycles pass.old pass.new publisher.old publisher.new board.new mast.old mast.new result }
+    ensures conducted { HasConducted M.state means.now.policy (slots_of means.now.program.now) deck.now.settings.cycles pass.old pass.new publisher.old publisher.new board.new mast.old mast.new result }
     ensures updaters { EachDone deck.now updaters.old updaters.new }
-    ensures monitors { EachWatched looks monitors.old monitors.new }
+    ensures monitors { EachWatched LOOKS monitors.old monitors.new }
 {
     let rt = means.wait;
     let alloc = means.alloc;
     let station = means.station;
+    let cycles = deck.settings().cycles;
     let (conducted, _) = join_mut(
         rt,
         &mut || conduct(means, pass, publisher, board, cycles, mast, buf, gate),
         &mut ||
-            requires { IsSync R.row × IsSync G.row × All (IsReady station.now deck.now) updaters.now × (1 ≤ looks) }
-            ensures { EachDone deck.entry.now updaters.entry.now updaters.exit.now × EachWatched looks monitors.entry.now monitors.exit.now }
-        { update_and_watch(rt, alloc, station, deck, updaters, monitors, looks, gate) },
+            requires { IsSync R.row × IsSync G.row × All (IsReady station.now deck.now) updaters.now }
+            ensures { EachDone deck.entry.now updaters.entry.now updaters.exit.now × EachWatched LOOKS monitors.entry.now monitors.exit.now }
+        { update_and_watch(rt, alloc, station, deck, updaters, monitors, LOOKS, gate) },
     );
     conducted
 }

@@ -90,9 +90,8 @@ pub fn run_jobs<R: Threads + Wait + Sync, M: Mast + Send, G: Gate + Sync>(
     ensures monitors { EachWatched LOOKS monitors.old monitors.new }
 {
     deck.well_made();
-    let cycles = deck.settings().cycles;
     let means = means_of(rt, alloc, deck, program, station);
     run_beside(
-        &means, deck, pass, publisher, board, cycles, mast, buf, updaters, monitors, LOOKS, gate,
+        &means, deck, pass, publisher, board, mast, buf, updaters, monitors, gate,
     )
 }

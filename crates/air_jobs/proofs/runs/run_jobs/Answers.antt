@@ -1,4 +1,4 @@
-use Rattle.std.proofs.Common.{◌≡◌, ◌∙◌, All, length, sym, ap, subst, arith}
+use Rattle.std.proofs.Common.{◌≡◌, ◌∙◌, All, length, refl, sym, ap, subst, arith}
 use Rattle.air_history.specs.Histories.{starts}
 use Rattle.air_model.specs.Decks.{values_in}
 use Rattle.station.specs.PassStates.{PassState}
@@ -23,7 +23,6 @@ pub run_beside-requires-clause-room : goal.run_beside-requires-clause-room
 run_beside-requires-clause-room g c κs within =
     let none : starts c.args.pass.now.seen ≡ 0 = ap (λ (p : PassState). starts p.seen) c.requires.pass ∙ starts_none in
     let most = ap (λ (f : PublisherState). f.most) c.requires.publisher in
-    let told = ap (λ s. s.cycles) c.settings-cycles.ensures in
     let few = c.well_made.ensures.limits.settings.cycles in
     (omega arith, omega arith)
 
@@ -34,7 +33,7 @@ run_beside-requires-clause-items g c κs within =
 pub returns-clause-whole : goal.returns-clause-whole
 returns-clause-whole g c =
     let h = c.run_beside.ensures.conducted in
-    run_whole c.args.pass.now c.run_beside.new.pass c.run_beside.new.publisher c.run_beside.new.board _ _ c.run_beside.result (ap (λ (p : PassState). p.seen) c.requires.pass) (ap (λ s. s.cycles) c.settings-cycles.ensures) h.done
+    run_whole c.args.pass.now c.run_beside.new.pass c.run_beside.new.publisher c.run_beside.new.board _ _ c.run_beside.result (ap (λ (p : PassState). p.seen) c.requires.pass) refl h.done
 
 pub returns-clause-batches : goal.returns-clause-batches
 returns-clause-batches g c =
@@ -44,7 +43,7 @@ returns-clause-batches g c =
 pub returns-clause-few : goal.returns-clause-few
 returns-clause-few g c =
     let h = c.run_beside.ensures.conducted in
-    run_few c.args.pass.now c.run_beside.new.pass c.run_beside.new.publisher c.run_beside.new.board _ _ c.run_beside.result (ap (λ (p : PassState). p.seen) c.requires.pass) (ap (λ s. s.cycles) c.settings-cycles.ensures) h.done h.few
+    run_few c.args.pass.now c.run_beside.new.pass c.run_beside.new.publisher c.run_beside.new.board _ _ c.run_beside.result (ap (λ (p : PassState). p.seen) c.requires.pass) refl h.done h.few
 
 pub returns-clause-aired : goal.returns-clause-aired
 returns-clause-aired g c =
