@@ -76,7 +76,7 @@ module _ (seed number : ℕ) (first : Listener) where
       (take_all (length due) due (omega arith) ∙ ap (due_of seed number e.odds pushed) ended ∙ ap (λ x. due_of seed number x pushed true) same ∙ heard_is seed number odds pushed)
 
 -- Before any push nothing is due, and nothing was heard.
-pub none_due : (seed number : ℕ) (odds : Odds) → due_of seed number odds [] false ≡ []
+none_due : (seed number : ℕ) (odds : Odds) → due_of seed number odds [] false ≡ []
 unfolding due_of places_due
 none_due seed number odds = refl
 

@@ -4,5 +4,7 @@ pub mod CountLemmas
 pub mod HearLemmas
 pub mod ReaderLemmas
 pub mod EtherLemmas
-pub mod RunLemmas
 pub mod PieceLemmas
+pub mod RunLemmas
+pub mod ApartLemmas
+pub mod TogetherLemmas

@@ -1,5 +1,5 @@
--- All listeners hear a tape record by record: what is left of it, heard by all from there, comes to what the whole comes to.
--- The loops of `readers` cite these.
+-- All readers of a deck, who hear members one by one: the room to count them, the lines and counts at the end, and the sessions.
+-- The loops of `readers` cite these, and crates above.
 use Rattle.std.proofs.Common.{◌≡◌, ℕ, zero, suc, ◌+◌, ◌<◌, ◌≤◌, ◌^◌, Bool, true, false, Option, None, Some, List, [], ◌∷◌, ◌++◌, length, map, take, drop, get_or, set, All, refl, sym, ◌∙◌, ap, arith}
 use native.Mathlib.Numerals.{unary_clauses}
 use Rattle.std.specs.Prelude.{◌==◌, if◌then◌else◌}
@@ -7,7 +7,6 @@ use Rattle.std.specs.List.{enumerate_from, flat_map, range_with_len}
 use Rattle.std.proofs.lemmas.List.{drop-drop, drop-set-lt, get_or-drop, length-map, length-set, map-append, take-append-le, take_all, take_more, take_more_set}
 use Rattle.std.proofs.lemmas.List.Elements.{All-map}
 use Rattle.std.proofs.lemmas.List.FromFn.{length-range_with_len, map-range_with_len_more}
-use Rattle.std.proofs.lemmas.Simd.{map-map}
 use Rattle.air_model.specs.declared.reports.CountsLine.{CountsLine}
 use Rattle.air_model.specs.declared.reports.VerdictLine.{VerdictLine}
 use Rattle.air_model.specs.Aired.{scheme_in}
@@ -30,20 +29,12 @@ unfolding hears
 hears_none [] = refl
 hears_none (l ∷ A) = ap (λ B. l ∷ B) (hears_none A)
 
--- One member and then the others.
-pub heard_more : (member : Option Bucket) (members : List (Option Bucket)) (A : List Listener) → map (hears members) (map (hears_one member) A) ≡ map (hears (member ∷ members)) A
-unfolding hears
-heard_more member members A = map-map (hears members) (hears_one member) A
-
 -- There is room to count so many members more.
 abbrev pub HasRoom : ℕ → Listener → Type 0
 HasRoom n l = heard_by l.state + n < 2 ^ 64
 
 pub room_after : (member : Option Bucket) (n : ℕ) (A : List Listener) → All (HasRoom (n + 1)) A → All (HasRoom n) (map (hears_one member) A)
 room_after member n A room = All-map (HasRoom n) (hears_one member) A (λ k d below. let one = counted_one member (get_or A k d) in let most = room k d below in omega arith)
-
-pub room_for_one : (n : ℕ) (A : List Listener) → All (HasRoom (n + 1)) A → All (HasRoom 1) A
-room_for_one n A room = λ k d below. let most = room k d below in omega arith
 
 -- Readers that heard nothing yet have room for a tape's records.
 pub room_at_first : (deck : Deck) (n : ℕ) (readers : List ℕ) → n < 2 ^ 64 → All (HasRoom n) (map (listener_of deck) readers)

@@ -1,5 +1,5 @@
 -- What contracts see of a listener that hears through its own ether, and what it has heard of a pushed list.
-use Rattle.std.specs.Prelude.{◌≡◌, ◌≤◌, ℕ, ◌+◌, ◌*◌, false, List, [], length, map, take}
+use Rattle.std.specs.Prelude.{◌≡◌, ◌≤◌, ℕ, ◌+◌, ◌*◌, false, List, length, map, take}
 use Rattle.air_ether.specs.declared.ether.TheConstants.{MOST_DUE}
 use Rattle.air_ether.specs.HeardSoFar.{Ether, Follows, IsQuiet, due_of}
 use Rattle.air_model.specs.Buckets.{bucket_in}
@@ -27,13 +27,13 @@ abbrev pub HeardDue : ℕ → ℕ → Listener → List (List ℕ) → Ether →
 HeardDue seed number first pushed e l = HeardFrom seed number first pushed (length (due_of seed number e.odds pushed e.ended)) e l
 
 -- The deck's reader of a number has the ether of the deck's seed and odds and of its own number, with room for each of the deck's
--- buckets, and heard nothing.
-pub record IsFresh (deck : Deck) (number : ℕ) (x : EtherListener) : Type 0 where
+-- buckets; it was given these records, and heard what is due of them.
+pub record IsHearing (deck : Deck) (number : ℕ) (pushed : List (List ℕ)) (x : EtherListener) : Type 0 where
   pub opened : IsOpen x
-  pub pushes : x.ether.pushes ≡ 0
+  pub pushes : x.ether.pushes ≡ length pushed
   pub odds : x.ether.odds ≡ odds_in deck
   pub room : x.ether.most ≡ HEAD_BYTES + ENTRY_BYTES * length deck.items
-  pub heard : HeardDue deck.settings.seed number (listener_of deck number) [] x.ether x.listener
+  pub heard : HeardDue deck.settings.seed number (listener_of deck number) pushed x.ether x.listener
 
 -- Nothing of what is aired is lost, heard again or late.
 pub record IsClear (deck : Deck) : Type 0 where

@@ -1,3 +1,4 @@
 pub mod Listeners
 pub mod EtherListeners
+pub mod Hearings
 pub mod Steps

@@ -1,3 +1,4 @@
 -- Definitions that private steps alone speak of: no public contract cites them, nor what a public type shows.
+pub mod ApartSteps
 pub mod Endings
-pub mod ReaderRuns
+pub mod TogetherSteps

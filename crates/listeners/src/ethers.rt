@@ -10,8 +10,10 @@ ghost use Rattle.air_model.specs.Decks.{disks_in};
 ghost use Rattle.air_model.specs.Ethers.{heard_by};
 ghost use Rattle.air_model.specs.Tapes.{tape_read};
 ghost use Rattle.receiver_core.specs.Receivers.{heard_count};
+ghost use Rattle.listeners.specs.declared.ethers.TheConstants.{MOST_TAPE_RECORDS};
 ghost use Rattle.listeners.specs.Listeners.{Listener, hears};
-ghost use Rattle.listeners.specs.EtherListeners.{HeardDue, HeardFrom, IsFresh, IsOpen};
+ghost use Rattle.listeners.specs.EtherListeners.{HeardDue, HeardFrom, IsHearing, IsOpen};
+ghost use Rattle.listeners.specs.Steps.ApartSteps.{HearsPiece};
 
 use crate::listener::Listener;
 use air_base::NoMemory;
@@ -22,9 +24,12 @@ use chunk_program::Program;
 use item_catalog::Deck;
 use std::alloc::Global;
 
+/// How many records listeners hear of one tape: what they count of them fits 64 bits.
+pub const MOST_TAPE_RECORDS: u64 = 1_099_511_627_776;
+
 /// A listener, and the ether through which it hears.
 #[derive(Drop)]
-pub struct EtherListener {
+pub(crate) struct EtherListener {
     pub ether: Ether,
     pub listener: Listener,
 }
@@ -57,7 +62,7 @@ impl EtherListener {
     ) -> Result<EtherListener, NoMemory>
         requires number { number < length deck.now.readers }
         requires planned { program.now ≡ disks_in deck.now }
-        ensures { IfOk result (IsFresh deck.now number) }
+        ensures { IfOk result (IsHearing deck.now number []) }
     {
         deck.well_made();
         let set = deck.settings();
@@ -72,7 +77,7 @@ impl EtherListener {
     pub fn push(&mut self, alloc: Global, bytes: &[u8]) -> Result<(), NoMemory>
         requires open { IsOpen self.old }
         requires room { length bytes.now ≤ self.old.ether.most }
-        requires few { self.old.ether.pushes < 2 ^ 40 }
+        requires few { self.old.ether.pushes < MOST_TAPE_RECORDS }
         ensures open { OnOk result (IsOpen self.new) }
         ensures room { OnOk result (self.new.ether.most ≡ self.old.ether.most) }
         ensures odds { OnOk result (self.new.ether.odds ≡ self.old.ether.odds) }
@@ -85,33 +90,31 @@ impl EtherListener {
         Ok(())
     }
 
+    /// Pushes the records of a piece of a tape, one after another, and hears what is due after each. `TapeReader` tells whether a piece
+    /// is whole. It goes on from piece to piece until `end`, or until a call runs out of memory.
+    pub fn hear(&mut self, alloc: Global, piece: &[u8]) -> Result<(), NoMemory>
+        requires whole { (tape_read piece.now).cut ≡ None }
+        requires open { IsOpen self.old }
+        requires room { All (λ r. length r ≤ self.old.ether.most) (tape_read piece.now).records }
+        requires few { self.old.ether.pushes + length (tape_read piece.now).records ≤ MOST_TAPE_RECORDS }
+        ensures { OnOk result (HearsPiece (tape_read piece.now).records self.old self.new) }
+    {
+        let mut records = TapeReader::new(piece);
+        while let Some(bytes) = records.next_whole() {
+            self.push(alloc, bytes)?;
+        }
+        Ok(())
+    }
+
     /// Hears all the rest, where no call before ran out of memory.
     pub fn end(&mut self, alloc: Global) -> Result<(), NoMemory>
         requires open { IsOpen self.old }
-        requires few { self.old.ether.pushes ≤ 2 ^ 40 }
+        requires few { self.old.ether.pushes ≤ MOST_TAPE_RECORDS }
         ensures { (seed number : ℕ) (first : Listener) (pushed : List (List ℕ)) → HeardDue seed number first pushed self.old.ether self.old.listener →
             OnOk result (self.new.listener ≡ hears (map bucket_in (heard_by seed number self.old.ether.odds pushed)) first) }
     {
         self.ether.end();
         hear_due(alloc, &mut self.ether, &mut self.listener)?;
-        Ok(())
-    }
-
-    /// Hears its ether of a tape's records, from the first push to the end.
-    pub fn hear_tape(&mut self, alloc: Global, tape: &[u8]) -> Result<(), NoMemory>
-        requires whole { (tape_read tape.now).cut ≡ None }
-        requires open { IsOpen self.old }
-        requires begun { self.old.ether.pushes ≡ 0 }
-        requires room { All (λ r. length r ≤ self.old.ether.most) (tape_read tape.now).records }
-        requires few { length (tape_read tape.now).records ≤ 2 ^ 40 }
-        ensures { (seed number : ℕ) (first : Listener) → HeardDue seed number first [] self.old.ether self.old.listener →
-            OnOk result (self.new.listener ≡ hears (map bucket_in (heard_by seed number self.old.ether.odds (tape_read tape.now).records)) first) }
-    {
-        let mut records = TapeReader::new(tape);
-        while let Some(bytes) = records.next_whole() {
-            self.push(alloc, bytes)?;
-        }
-        self.end(alloc)?;
         Ok(())
     }
 }

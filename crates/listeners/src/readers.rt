@@ -1,28 +1,27 @@
-//! All readers of a deck, who hear a tape together: each record is decoded once.
+//! All readers of a deck: as they are before they hear anything, as they hear one member, and what they tell at the end.
 //!
 //! Every reader hears what came of a record, so a bucket that isn't wanted costs it a look at the head, and nothing is
 //! copied. What their sessions come to are the lines of a report.
 
-ghost use Rattle.std.specs.Prelude.{◌≡◌, ◌<◌, ◌≤◌, ◌+◌, ◌^◌, All, None, IfOk, OnOk, length, map};
+ghost use Rattle.std.specs.Prelude.{◌≡◌, ◌<◌, ◌+◌, ◌^◌, All, IfOk, OnOk, length, map};
 ghost use Rattle.std.specs.List.{range_with_len};
 ghost use Rattle.std.specs.Result.{result_ok};
-ghost use Rattle.air_model.specs.Aired.{scheme_in};
-ghost use Rattle.air_model.specs.Buckets.{IsInRange, bucket_in};
+ghost use Rattle.air_model.specs.Buckets.{IsInRange};
 ghost use Rattle.air_model.specs.Decks.{disks_in};
-ghost use Rattle.air_model.specs.Judges.{by_entries};
-ghost use Rattle.air_model.specs.Outputs.{sessions_over};
 ghost use Rattle.air_model.specs.Reports.{counts_lines, verdict_lines};
-ghost use Rattle.air_model.specs.Tapes.{tape_read};
 ghost use Rattle.receiver_core.specs.Receivers.{heard_count};
-ghost use Rattle.listeners.specs.Listeners.{AreNumbered, end_state, hears, hears_one, listener_of};
+ghost use Rattle.listeners.specs.Listeners.{AreNumbered, end_state, hears_one, listener_of};
 
 use crate::listener::Listener;
 use air_base::NoMemory;
 use air_model::reports::{CountsLine, VerdictLine};
-use bucket_codec::{BucketFault, BucketView, TapeReader, decode};
+use bucket_codec::{BucketFault, BucketView};
 use chunk_program::Program;
 use item_catalog::Deck;
 use std::alloc::Global;
+
+/// In how many threads readers hear at most.
+pub(crate) const MOST_THREADS: usize = 16;
 
 /// What the sessions of a deck's readers tell: their verdicts in order, reader by reader, and the counts of each.
 #[derive(Debug, Drop)]
@@ -63,19 +62,6 @@ pub fn all_hear(
     Ok(())
 }
 
-/// Lets all hear the records of a tape, or of a piece of one. `TapeReader` tells whether a tape is whole.
-pub fn all_hear_tape(alloc: Global, listeners: &mut [Listener], tape: &[u8]) -> Result<(), NoMemory>
-    requires whole { (tape_read tape.now).cut ≡ None }
-    requires counts { All (λ l. heard_count l.state.counts + length (tape_read tape.now).records < 2 ^ 64) listeners.old }
-    ensures { OnOk result (listeners.new ≡ map (hears (map bucket_in (tape_read tape.now).records)) listeners.old) }
-{
-    let mut records = TapeReader::new(tape);
-    while let Some(bytes) = records.next_whole() {
-        all_hear(alloc, listeners, &decode(bytes))?;
-    }
-    Ok(())
-}
-
 /// Ends the sessions of all, one after another.
 pub fn end_all(alloc: Global, listeners: Vec<Listener>) -> Result<Sessions, NoMemory>
     requires { AreNumbered listeners.items }
@@ -88,23 +74,4 @@ pub fn end_all(alloc: Global, listeners: Vec<Listener>) -> Result<Sessions, NoMe
         listener.end(alloc, &mut verdicts, &mut counts)?;
     }
     Ok(Sessions { verdicts, counts })
-}
-
-/// The sessions of all readers of a deck over the records of a tape. `TapeReader` tells whether a tape is whole, and
-/// `Program::plan` makes the deck's program.
-pub fn tape_sessions(
-    alloc: Global,
-    deck: &Deck,
-    program: &Program,
-    tape: &[u8],
-) -> Result<Sessions, NoMemory>
-    requires planned { program.now ≡ disks_in deck.now }
-    requires whole { (tape_read tape.now).cut ≡ None }
-    ensures verdicts { IfOk result (λ s. s.verdicts.items ≡ verdict_lines (sessions_over (by_entries (scheme_in deck.now)) deck.now (λ r. (tape_read tape.now).records))) }
-    ensures counts { IfOk result (λ s. s.counts.items ≡ counts_lines (sessions_over (by_entries (scheme_in deck.now)) deck.now (λ r. (tape_read tape.now).records))) }
-{
-    let mut listeners = listeners_of(alloc, deck, program)?;
-    all_hear_tape(alloc, &mut listeners, tape)?;
-    let sessions = end_all(alloc, listeners)?;
-    Ok(sessions)
 }

@@ -1,0 +1,103 @@
+-- Readers that hear a tape together: piece by piece, and where nothing is lost, heard again or late.
+-- The calls of `together` and `hearers` cite these.
+use Rattle.std.proofs.Common.{◌≡◌, ℕ, ◌+◌, ◌<◌, ◌≤◌, true, List, [], ◌∷◌, ◌++◌, Option, Result, length, map, get_or, All, refl, sym, ◌∙◌, ap, subst, arith, length-append}
+use Rattle.std.specs.Prelude.{IfOk}
+use Rattle.std.specs.List.{range_with_len}
+use Rattle.std.specs.Result.{result_ok}
+use Rattle.std.proofs.lemmas.List.{get_or-map, length-map, map-append, same_lists}
+use Rattle.std.proofs.lemmas.List.Elements.{All-map}
+use Rattle.std.proofs.lemmas.Simd.{map-map}
+use Rattle.air_model.specs.declared.bucket.BucketFault.{BucketFault}
+use Rattle.air_model.specs.Buckets.{Bucket, IsInRange, bucket_in}
+use Rattle.air_model.specs.Decks.{Deck}
+use Rattle.listeners.specs.declared.ethers.TheConstants.{MOST_TAPE_RECORDS}
+use Rattle.listeners.specs.declared.together.TogetherRun.{TogetherRun}
+use Rattle.listeners.specs.EtherListeners.{IsClear}
+use Rattle.listeners.specs.Hearings.{AreTogether}
+use Rattle.listeners.specs.Listeners.{Listener, hears, listener_of}
+use Rattle.listeners.specs.Steps.TogetherSteps.{CanHear, EachHeard, HasHeard, listeners_in}
+use Rattle.listeners.proofs.HearLemmas.{counted_all, pieces}
+use Rattle.listeners.proofs.ReaderLemmas.{HasRoom, hears_none}
+use Rattle.listeners.proofs.RunLemmas.{clear_heard, ethers_in, readers_over}
+
+-- ---- pieces
+
+abbrev listener_in : TogetherRun → Listener
+listener_in run = run.listener
+
+-- What runs heard side by side, their listeners heard.
+pub each_heard : (members : List (Option Bucket)) (before now : List TogetherRun) → EachHeard members before now → All (λ run. run.done ≡ true) now → listeners_in now ≡ map (hears members) (listeners_in before)
+unfolding HasHeard
+each_heard members before now each done =
+    let size : length (map listener_in now) ≡ length before = length-map now listener_in ∙ each.0 in
+    let first : length (map (hears members) (map listener_in before)) ≡ length before = length-map (map listener_in before) (hears members) ∙ length-map before listener_in in
+    same_lists (map listener_in now) (map (hears members) (map listener_in before)) (size ∙ sym first) (λ k d below. one k d (omega (arith, size)))
+  where
+    one : (k : ℕ) (d : Listener) → k < length before → get_or (map listener_in now) k d ≡ get_or (map (hears members) (map listener_in before)) k d
+    one k d below =
+        let run : TogetherRun = record { listener = d; done = true } in
+        let inside : k < length now = omega (arith, each.0) in
+        let within : k < length (map listener_in before) = omega (arith, length-map before listener_in) in
+        get_or-map listener_in now k run d inside ∙ each.1 k run below (done k run inside) ∙ ap (hears members) (sym (get_or-map listener_in before k run d below))
+        ∙ sym (get_or-map (hears members) (map listener_in before) k d d within)
+
+-- To hear one list and then another is to hear both.
+pub map_pieces : (first second : List (Option Bucket)) (A : List Listener) → map (hears second) (map (hears first) A) ≡ map (hears (first ++ second)) A
+map_pieces first second [] = refl
+map_pieces first second (l ∷ A) = ap (λ x. x ∷ map (hears second) (map (hears first) A)) (sym (pieces first second l)) ∙ ap (λ B. hears (first ++ second) l ∷ B) (map_pieces first second A)
+
+-- Where there was room for all members, there is for those that are left.
+room_left : (so_far : List (Option Bucket)) (n all : ℕ) (A : List Listener) → length so_far + n ≤ all → All (HasRoom all) A → All (HasRoom n) (map (hears so_far) A)
+room_left so_far n all A within room =
+    All-map (HasRoom n) (hears so_far) A (λ k d below. let counted = counted_all so_far (get_or A k d) in let most = room k d below in omega (arith, counted, most, within))
+
+-- So all can hear the next piece.
+pub can_hear : (records : List (List ℕ)) (so_far : List (Option Bucket)) (piece : List (Result Bucket BucketFault)) (rest : List (Option Bucket)) (before now : List TogetherRun)
+    → All (HasRoom (length records)) (listeners_in before) → map bucket_in records ≡ so_far ++ (map result_ok piece ++ rest) → listeners_in now ≡ map (hears so_far) (listeners_in before)
+    → All (λ heard. IfOk heard IsInRange) piece → All (CanHear piece) now
+unfolding CanHear
+can_hear records so_far piece rest before now room all heard range = λ k d below.
+    (range, subst (HasRoom (length piece)) (get_or-map listener_in now k d d.listener below) (left k d.listener (omega (arith, below, length-map now listener_in))))
+  where
+    within : length so_far + length piece ≤ length records
+    within = omega (arith, ap length all, length-append so_far (map result_ok piece ++ rest), length-append (map result_ok piece) rest, length-map piece result_ok, length-map records bucket_in)
+
+    left : All (HasRoom (length piece)) (map listener_in now)
+    left = subst (All (HasRoom (length piece))) (sym heard) (room_left so_far (length piece) (length records) (listeners_in before) within room)
+
+-- ---- a deck's readers, where nothing is lost, heard again or late
+
+-- All of them, before they hear anything.
+abbrev all_of : Deck → List Listener
+all_of deck = map (listener_of deck) (range_with_len 0 (length deck.readers))
+
+-- Nothing was heard.
+pub together_first : (deck : Deck) (listeners : List Listener) → IsClear deck → listeners ≡ map (listener_of deck) (range_with_len 0 (length deck.readers)) → AreTogether deck [] listeners
+together_first deck listeners clear are = record { clear = clear; heard = are ∙ sym (hears_none (all_of deck)) }
+
+-- There is room to count a piece's records.
+pub together_room : (deck : Deck) (pushed : List (List ℕ)) (listeners : List Listener) (n : ℕ) → AreTogether deck pushed listeners → length pushed + n ≤ MOST_TAPE_RECORDS → All (HasRoom n) listeners
+together_room deck pushed listeners n are few =
+    let members = map bucket_in pushed in
+    subst (All (HasRoom n)) (sym are.heard) (All-map (HasRoom n) (hears members) (all_of deck) (All-map (λ l. HasRoom n (hears members l)) (listener_of deck) (range_with_len 0 (length deck.readers))
+    (λ k d below. room (get_or (range_with_len 0 (length deck.readers)) k d))))
+  where
+    room : (r : ℕ) → HasRoom n (hears (map bucket_in pushed) (listener_of deck r))
+    room r = omega (arith, counted_all (map bucket_in pushed) (listener_of deck r), length-map pushed bucket_in, few)
+
+-- After it all heard its records too.
+pub together_heard : (deck : Deck) (pushed records : List (List ℕ)) (before now : List Listener) → AreTogether deck pushed before → now ≡ map (hears (map bucket_in records)) before → AreTogether deck (pushed ++ records) now
+together_heard deck pushed records before now are heard = record {
+  clear = are.clear;
+  heard = heard ∙ ap (map (hears (map bucket_in records))) are.heard ∙ map_pieces (map bucket_in pushed) (map bucket_in records) (all_of deck)
+      ∙ ap (λ members. map (hears members) (all_of deck)) (sym (map-append bucket_in pushed records));
+}
+
+-- Each has heard what its ether gives.
+pub together_over : (deck : Deck) (pushed : List (List ℕ)) (listeners : List Listener) → AreTogether deck pushed listeners → listeners ≡ readers_over deck (ethers_in deck pushed)
+together_over deck pushed listeners are = are.heard ∙ map-map (hears (map bucket_in pushed)) (listener_of deck) (range_with_len 0 (length deck.readers)) ∙ same (range_with_len 0 (length deck.readers))
+  where
+    same : (readers : List ℕ) → map (λ r. hears (map bucket_in pushed) (listener_of deck r)) readers ≡ map (λ r. hears (map bucket_in (ethers_in deck pushed r)) (listener_of deck r)) readers
+    same [] = refl
+    same (r ∷ readers) = ap (λ heard. hears (map bucket_in heard) (listener_of deck r) ∷ map (λ r. hears (map bucket_in pushed) (listener_of deck r)) readers) (clear_heard deck pushed r are.clear)
+        ∙ ap (λ l. hears (map bucket_in (ethers_in deck pushed r)) (listener_of deck r) ∷ l) (same readers)

@@ -1,0 +1,14 @@
+use Rattle.std.proofs.Common.{◌∷◌, [], ◌∙◌, true, ap}
+use Rattle.std.proofs.lemmas.List.{map-append}
+use Rattle.listeners.specs.declared.together.TogetherRun.{TogetherRun}
+use Rattle.listeners.specs.Listeners.{Listener, listener_of}
+use Rattle.listeners.specs.Steps.TogetherSteps.{listeners_in}
+use Rattle.listeners.proofs.ReaderLemmas.{one_more_reader}
+use Rattle.listeners.proofs.together.Together.new.Goals as goal
+
+pub loop-r-preserved : goal.loop-r-preserved
+loop-r-preserved c =
+    let run : TogetherRun = record { listener = c.in_ok-new.field-0; done = true } in
+    let listener : TogetherRun → Listener = λ run. run.listener in
+    one_more_reader (listener_of c.args.deck.now) c.loop-r.r (listeners_in c.loop-r.runs.items) (listeners_in c.push.new.self.items) c.in_ok-new.field-0 c.loop-r.invariant c.in_ok-new.ensures
+    (ap listeners_in c.in_ok-push.ensures.items ∙ map-append listener c.loop-r.runs.items (run ∷ []))

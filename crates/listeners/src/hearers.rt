@@ -1,0 +1,122 @@
+//! All readers of a deck, who hear a tape piece by piece: together, or each its own ether.
+//!
+//! Where nothing is lost, heard again or late, each ether gives the tape itself: then all hear the same. Else each record is pushed
+//! into every ether. Either way the readers step side by side, and what they come to is what the pieces have in all.
+
+ghost use Rattle.std.specs.Prelude.{◌≡◌, ◌↔◌, ◌≤◌, ◌+◌, ◌*◌, ◌++◌, ℕ, List, [], All, IfOk, IsTrue, None, OnOk, length};
+ghost use Rattle.air_model.specs.Aired.{scheme_in};
+ghost use Rattle.air_model.specs.Decks.{disks_in};
+ghost use Rattle.air_model.specs.Ethers.{heard_by};
+ghost use Rattle.air_model.specs.Judges.{by_entries};
+ghost use Rattle.air_model.specs.Outputs.{odds_in, sessions_over};
+ghost use Rattle.air_model.specs.Reports.{counts_lines, verdict_lines};
+ghost use Rattle.air_model.specs.Tapes.{tape_read};
+ghost use Rattle.bucket_codec.specs.declared.offsets.TheConstants.{ENTRY_BYTES, HEAD_BYTES};
+ghost use Rattle.listeners.specs.declared.ethers.TheConstants.{MOST_TAPE_RECORDS};
+ghost use Rattle.listeners.specs.EtherListeners.{IsClear};
+ghost use Rattle.listeners.specs.Hearings.{AreHearing, AreTogether};
+
+use crate::apart::Apart;
+use crate::readers::Sessions;
+use crate::together::Together;
+use air_base::NoMemory;
+use chunk_program::Program;
+use item_catalog::Deck;
+use std::alloc::Global;
+use std::thread::Threads;
+
+/// All readers of a deck, who hear a tape piece by piece: together, or each its own ether.
+#[derive(Drop)]
+pub enum Hearers {
+    /// Nothing is lost, heard again or late: all hear the same.
+    Together(Together),
+    /// Each hears its own ether.
+    Apart(Apart),
+}
+
+impl Hearers {
+    /// Before anything is heard. `Program::plan` makes the deck's program.
+    pub fn new(alloc: Global, deck: &Deck, program: &Program) -> Result<Hearers, NoMemory>
+        requires { program.now ≡ disks_in deck.now }
+        ensures { IfOk result (AreHearing deck.now []) }
+    {
+        if is_clear(deck) {
+            return Ok(Hearers::Together(Together::new(alloc, deck, program)?));
+        }
+        Ok(Hearers::Apart(Apart::new(alloc, deck, program)?))
+    }
+
+    /// Lets all hear a piece of the tape: a whole one, as `TapeReader` tells, whose records are of the sizes of the deck's buckets.
+    pub fn hear<T: Threads + Sync>(
+        &mut self,
+        threads: &T,
+        alloc: Global,
+        deck: &Deck,
+        piece: &[u8],
+    ) -> Result<(), NoMemory>
+        requires whole { (tape_read piece.now).cut ≡ None }
+        requires room { All (λ r. length r ≤ HEAD_BYTES + ENTRY_BYTES * length deck.now.items) (tape_read piece.now).records }
+        requires few { (pushed : List (List ℕ)) × AreHearing deck.now pushed self.old × (length pushed + length (tape_read piece.now).records ≤ MOST_TAPE_RECORDS) }
+        ensures { (pushed : List (List ℕ)) → AreHearing deck.now pushed self.old → OnOk result (AreHearing deck.now (pushed ++ (tape_read piece.now).records) self.new) }
+    {
+        match self {
+            Hearers::Together(together) => hear_together(threads, alloc, deck, together, piece),
+            Hearers::Apart(apart) => apart.hear(threads, alloc, deck, piece),
+        }
+    }
+
+    /// Ends the sessions of all, each of which has heard all that its ether gives of the pieces.
+    pub fn end<T: Threads + Sync>(
+        self,
+        threads: &T,
+        alloc: Global,
+        deck: &Deck,
+    ) -> Result<Sessions, NoMemory>
+        requires { (pushed : List (List ℕ)) × AreHearing deck.now pushed self × (length pushed ≤ MOST_TAPE_RECORDS) }
+        ensures verdicts { (pushed : List (List ℕ)) → AreHearing deck.now pushed self → IfOk result (λ s. s.verdicts.items
+            ≡ verdict_lines (sessions_over (by_entries (scheme_in deck.now)) deck.now (λ r. heard_by deck.now.settings.seed r (odds_in deck.now) pushed))) }
+        ensures counts { (pushed : List (List ℕ)) → AreHearing deck.now pushed self → IfOk result (λ s. s.counts.items
+            ≡ counts_lines (sessions_over (by_entries (scheme_in deck.now)) deck.now (λ r. heard_by deck.now.settings.seed r (odds_in deck.now) pushed))) }
+    {
+        match self {
+            Hearers::Together(together) => end_together(alloc, deck, together),
+            Hearers::Apart(apart) => apart.end(threads, alloc, deck),
+        }
+    }
+}
+
+/// Whether nothing of what is aired is lost, heard again or late.
+fn is_clear(deck: &Deck) -> bool
+    ensures { IsTrue result ↔ IsClear deck.now }
+{
+    let set = deck.settings();
+    set.loss == 0 && set.again == 0 && set.late == 0
+}
+
+/// Lets all hear a piece together: a whole piece, as `TapeReader` tells.
+fn hear_together<T: Threads + Sync>(
+    threads: &T,
+    alloc: Global,
+    deck: &Deck,
+    together: &mut Together,
+    piece: &[u8],
+) -> Result<(), NoMemory>
+    requires whole { (tape_read piece.now).cut ≡ None }
+    requires few { (pushed : List (List ℕ)) × AreTogether deck.now pushed together.old × (length pushed + length (tape_read piece.now).records ≤ MOST_TAPE_RECORDS) }
+    ensures { (pushed : List (List ℕ)) → AreTogether deck.now pushed together.old → OnOk result (AreTogether deck.now (pushed ++ (tape_read piece.now).records) together.new) }
+{
+    together.hear(threads, alloc, piece)?;
+    Ok(())
+}
+
+/// Ends the sessions of readers who heard the pieces together.
+fn end_together(alloc: Global, deck: &Deck, together: Together) -> Result<Sessions, NoMemory>
+    requires { (pushed : List (List ℕ)) × AreTogether deck.now pushed together }
+    ensures verdicts { (pushed : List (List ℕ)) → AreTogether deck.now pushed together → IfOk result (λ s. s.verdicts.items
+        ≡ verdict_lines (sessions_over (by_entries (scheme_in deck.now)) deck.now (λ r. heard_by deck.now.settings.seed r (odds_in deck.now) pushed))) }
+    ensures counts { (pushed : List (List ℕ)) → AreTogether deck.now pushed together → IfOk result (λ s. s.counts.items
+        ≡ counts_lines (sessions_over (by_entries (scheme_in deck.now)) deck.now (λ r. heard_by deck.now.settings.seed r (odds_in deck.now) pushed))) }
+{
+    let sessions = together.end(alloc)?;
+    Ok(sessions)
+}

@@ -1,0 +1,177 @@
+//! All readers of a deck, who hear the same: side by side, with each record decoded once.
+//!
+//! A tape is heard by pieces of decoded records (`pieces`): all hear one to its end, and then the next is decoded. So what all readers
+//! are is known after each piece. Contracts see their listeners.
+
+ghost use Rattle.std.specs.Prelude.{◌≡◌, ◌↔◌, ◌<◌, ◌+◌, ◌^◌, All, IsTrue, IfOk, None, OnOk, true, length, map};
+ghost use Rattle.std.specs.List.{range_with_len};
+ghost use Rattle.std.specs.Result.{result_ok};
+ghost use Rattle.air_model.specs.Buckets.{bucket_in};
+ghost use Rattle.air_model.specs.Decks.{disks_in};
+ghost use Rattle.air_model.specs.Reports.{counts_lines, verdict_lines};
+ghost use Rattle.air_model.specs.Tapes.{tape_read};
+ghost use Rattle.receiver_core.specs.Receivers.{heard_count};
+ghost use Rattle.listeners.specs.Listeners.{AreNumbered, end_state, hears, listener_of};
+ghost use Rattle.listeners.specs.Steps.TogetherSteps.{CanHear, EachHeard, HasHeard, listeners_in};
+
+use crate::listener::Listener;
+use crate::pieces::{hear_piece, next_piece};
+use crate::readers::{MOST_THREADS, Sessions, end_all};
+use air_base::NoMemory;
+use bucket_codec::{BucketFault, BucketView, TapeReader};
+use chunk_program::Program;
+use item_catalog::Deck;
+use std::alloc::Global;
+use std::marker::Model;
+use std::thread;
+use std::thread::Threads;
+
+/// A reader that hears pieces, and whether there was memory for the last of them.
+#[derive(Drop)]
+pub(crate) struct TogetherRun {
+    pub listener: Listener,
+    pub done: bool,
+}
+
+impl TogetherRun {
+    /// Hears the members of a piece, or until memory runs out.
+    #[tactic(auto, unfolding(crate::specs::Steps::TogetherSteps::CanHear, crate::specs::Steps::TogetherSteps::HasHeard))]
+    fn work(&mut self, alloc: Global, piece: &[Result<BucketView<'_>, BucketFault>])
+        requires { CanHear piece.now self.old }
+        ensures { HasHeard (map result_ok piece.now) self.old self.new }
+    {
+        self.done = hear_piece(alloc, &mut self.listener, piece).is_ok();
+    }
+}
+
+/// Lets all hear the members of a piece, side by side.
+fn hear_side_by_side<T: Threads + Sync>(
+    threads: &T,
+    alloc: Global,
+    runs: &mut [TogetherRun],
+    piece: &[Result<BucketView<'_>, BucketFault>],
+)
+    requires { All (CanHear piece.now) runs.old }
+    ensures { EachHeard (map result_ok piece.now) runs.old runs.new }
+{
+    thread::for_each_mut(
+        threads,
+        runs,
+        MOST_THREADS,
+        &|_, run| { run.work(alloc, piece) },
+    );
+}
+
+/// Whether there was memory for each.
+fn are_done(runs: &[TogetherRun]) -> bool
+    ensures { IsTrue result ↔ All (λ run. run.done ≡ true) runs.now }
+{
+    runs.iter().all(|run| run.done)
+}
+
+/// Lets all hear the members of a piece, side by side, if there is memory for each.
+fn hear_members<T: Threads + Sync>(
+    threads: &T,
+    alloc: Global,
+    runs: &mut [TogetherRun],
+    piece: &[Result<BucketView<'_>, BucketFault>],
+) -> Result<(), NoMemory>
+    requires { All (CanHear piece.now) runs.old }
+    ensures { OnOk result (listeners_in runs.new ≡ map (hears (map result_ok piece.now)) (listeners_in runs.old)) }
+{
+    hear_side_by_side(threads, alloc, runs, piece);
+    if !are_done(runs) {
+        return Err(NoMemory);
+    }
+    Ok(())
+}
+
+/// Lets all hear a tape, a piece at a time.
+fn hear_pieces<T: Threads + Sync>(
+    threads: &T,
+    alloc: Global,
+    runs: &mut [TogetherRun],
+    tape: &[u8],
+) -> Result<(), NoMemory>
+    requires whole { (tape_read tape.now).cut ≡ None }
+    requires counts { All (λ l. heard_count l.state.counts + length (tape_read tape.now).records < 2 ^ 64) (listeners_in runs.old) }
+    ensures { OnOk result (listeners_in runs.new ≡ map (hears (map bucket_in (tape_read tape.now).records)) (listeners_in runs.old)) }
+{
+    let mut records = TapeReader::new(tape);
+    let mut piece = next_piece(alloc, &mut records)?;
+    while !piece.is_empty() {
+        hear_members(threads, alloc, runs, &piece)?;
+        piece = next_piece(alloc, &mut records)?;
+    }
+    Ok(())
+}
+
+/// The listeners of all runs.
+fn listeners_of_runs(alloc: Global, runs: Vec<TogetherRun>) -> Result<Vec<Listener>, NoMemory>
+    ensures { IfOk result (λ ls. ls.items ≡ listeners_in runs.items) }
+{
+    let mut listeners = Vec::new(alloc);
+    for run in runs {
+        let TogetherRun { listener, .. } = run;
+        listeners.push(listener)?;
+    }
+    Ok(listeners)
+}
+
+/// All readers of a deck, who hear the same, side by side: each record is decoded once.
+#[derive(Drop)]
+pub struct Together {
+    runs: Vec<TogetherRun>,
+}
+
+impl Model for Together {
+    ghost use Rattle.std.specs.Prelude.{List, map};
+    ghost use Rattle.listeners.specs.Listeners.{Listener};
+
+    ghost Value = { List Listener };
+
+    ghost view = { λ t. map (λ run. run.listener) t.runs.items };
+}
+
+impl Together {
+    /// Before anything is heard. `Program::plan` makes the deck's program.
+    pub fn new(alloc: Global, deck: &Deck, program: &Program) -> Result<Together, NoMemory>
+        requires { program.now ≡ disks_in deck.now }
+        ensures { IfOk result (λ t. t ≡ map (listener_of deck.now) (range_with_len 0 (length deck.now.readers))) }
+    {
+        let mut runs = Vec::new(alloc);
+        for r in 0..deck.readers() {
+            runs.push(TogetherRun {
+                listener: Listener::new(alloc, deck, r, program)?,
+                done: true,
+            })?;
+        }
+        Ok(Together { runs })
+    }
+
+    /// Lets all hear the records of a tape, or of a piece of one. `TapeReader` tells whether a tape is whole.
+    pub fn hear<T: Threads + Sync>(
+        &mut self,
+        threads: &T,
+        alloc: Global,
+        tape: &[u8],
+    ) -> Result<(), NoMemory>
+        requires whole { (tape_read tape.now).cut ≡ None }
+        requires counts { All (λ l. heard_count l.state.counts + length (tape_read tape.now).records < 2 ^ 64) self.old }
+        ensures { OnOk result (self.new ≡ map (hears (map bucket_in (tape_read tape.now).records)) self.old) }
+    {
+        hear_pieces(threads, alloc, &mut self.runs, tape)?;
+        Ok(())
+    }
+
+    /// Ends the sessions of all, one after another.
+    pub fn end(self, alloc: Global) -> Result<Sessions, NoMemory>
+        requires { AreNumbered self }
+        ensures verdicts { IfOk result (λ s. s.verdicts.items ≡ verdict_lines (map end_state self)) }
+        ensures counts { IfOk result (λ s. s.counts.items ≡ counts_lines (map end_state self)) }
+    {
+        let listeners = listeners_of_runs(alloc, self.runs)?;
+        let sessions = end_all(alloc, listeners)?;
+        Ok(sessions)
+    }
+}
