@@ -3,7 +3,7 @@
 -- What comes later changes no bucket of a started cycle, so the buckets that were sent stay those of the history. The
 -- program of a deck has all its items, and its board has as many values. The steps of a run cite these.
 use Rattle.std.proofs.Common.{◌≡◌, ℕ, zero, suc, ◌+◌, ◌≤◌, true, false, cond, List, [], ◌∷◌, ◌++◌, Some, length, map, refl, sym, ◌∙◌, ap, inl, inr, arith}
-use Rattle.std.specs.Prelude.{◌*◌, sum_by}
+use Rattle.std.specs.Prelude.{sum_by}
 use Rattle.std.specs.List.{flat_map, range_with_len}
 use Rattle.std.proofs.lemmas.Grind.{flat_map-append}
 use Rattle.std.proofs.lemmas.Bool.{cases_Bool}
@@ -23,11 +23,8 @@ use Rattle.air_model.specs.Disks.{Disk, all_items, order}
 use Rattle.air_model.specs.Programs.{program}
 use Rattle.board_laws.specs.BoardBuckets.{cycle_buckets, cycle_bytes}
 use Rattle.board_laws.proofs.StartedBoards.{OwnCycleLaw}
-use Rattle.air_devices.specs.Masts.{Masted, Sent, fresh_mast}
-use Rattle.air_sender.specs.TapeMasts.{masted_of}
-use Rattle.script_run.specs.declared.runs.ScriptRun.{ScriptRun}
+use Rattle.air_devices.specs.Masts.{Sent}
 use Rattle.script_run.specs.AiredBytes.{aired_bytes}
-use Rattle.script_run.specs.Steps.RunSteps.{IsScriptRun}
 use Rattle.air_model.proofs.DeckLemmas.{air}
 use Rattle.air_model.proofs.ItemOrder.{cut_items, length-order}
 use Rattle.air_model.proofs.LaterLemmas.{later}
@@ -111,14 +108,6 @@ items_aired deck is =
 -- What is told twice alike is alike.
 pub told_alike : {s t : Sent} → Some s ≡ Some t → s ≡ t
 told_alike e = cc
-
--- Before any event the board is that of no event, and nothing is aired.
-pub run_begins : (deck : Deck) (r : ScriptRun) → r.events.items ≡ [] → r.board ≡ board_of (values_in deck) [] → masted_of r.tape ≡ fresh_mast → length r.room.items ≡ 24 + 4 * length deck.items → IsScriptRun deck r
-run_begins deck r none board fresh room = record {
-  stepped = board ∙ ap (board_of (values_in deck)) (sym none);
-  aired = ap (λ (s : Sent). s.buckets) (told_alike (ap (λ (m : Masted). m.told) fresh)) ∙ ap (map spelling) (sym (buckets_none (values_in deck) (air_of deck))) ∙ ap (aired_bytes deck) (sym none);
-  room = room;
-}
 
 -- A board has a value for each item.
 pub values_kept : (deck : Deck) (board : Board) (H : List Event) → board ≡ board_of (values_in deck) H → length board.values ≡ length deck.items

@@ -3,3 +3,4 @@ pub mod PartLemmas
 pub mod PieceLemmas
 pub mod RunLoops
 pub mod TapeLemmas
+pub mod TapeSizes

@@ -1,4 +1,4 @@
--- The loop over a deck's script: after k parts its events are the first k of the script's history.
+-- The events of a deck's script, one by one: after k parts they are the first k of the script's history.
 use Rattle.std.proofs.Common.{◌≡◌, ℕ, ◌+◌, ◌<◌, ◌≤◌, None, List, [], ◌∷◌, ◌++◌, length, take, get_or, sym, ◌∙◌, ap, subst, arith}
 use Rattle.std.proofs.lemmas.List.{length-take, take_all, take_more}
 use Rattle.std.proofs.lemmas.List.FromFn.{get_or-map-range_with_len, length-map-range_with_len}
@@ -9,27 +9,19 @@ use Rattle.air_history.proofs.ScanLemmas.{starts_within}
 use Rattle.air_model.specs.Decks.{Deck, IsDeck, event_of, script_history}
 use Rattle.air_model.proofs.DeckLemmas.{items_fit, events}
 use Rattle.air_model.proofs.ScriptLemmas.{script}
-use Rattle.script_run.specs.Steps.RunSteps.{CountsParts, IsScriptRun}
-use Rattle.script_run.specs.declared.runs.ScriptRun.{ScriptRun}
 
 -- The event of the part at a place.
 abbrev pub event_in : Deck → ℕ → Event
 event_in deck k = event_of deck (take k deck.script) (get_or deck.script k None)
 
-event_there : (deck : Deck) (k : ℕ) → k < length deck.script → get_or (script_history deck) k Start ≡ event_in deck k
+-- It is the event of the script's history at this place.
+pub event_there : (deck : Deck) (k : ℕ) → k < length deck.script → get_or (script_history deck) k Start ≡ event_in deck k
 unfolding script_history
 event_there deck k l = get_or-map-range_with_len (event_in deck) 0 (length deck.script) k k Start l (omega arith)
 
 pub script_length : (deck : Deck) → length (script_history deck) ≡ length deck.script
 unfolding script_history
 script_length deck = length-map-range_with_len (event_in deck) 0 (length deck.script)
-
--- After k parts: the board and the tape are those of the first k events, and the parts are counted.
-pub record HasRun (deck : Deck) (k : ℕ) (r : ScriptRun) (made : List ℕ) : Type 0 where
-  pub kept : IsScriptRun deck r
-  pub events : r.events.items ≡ take k (script_history deck)
-  pub updaters : length made ≡ length deck.updates
-  pub counts : CountsParts deck k made
 
 -- The next event's items are the catalog's.
 pub next_fits : (deck : Deck) (k : ℕ) (e : Event) → IsDeck deck → k < length deck.script → e ≡ event_in deck k → ItemsFit (length deck.items) e

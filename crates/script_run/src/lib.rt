@@ -1,11 +1,12 @@
-//! A deck's script, run part by part: its events, the board that they leave, and the tape of the cycles that they start.
+//! A deck's script, run some cycles at a time: its events, the board that they leave, and the buckets of the cycles that they start.
 //!
-//! `run_script` gives the script's whole history and the buckets that this airs. `PieceRun` gives them some cycles at a time.
+//! The pieces that `PieceRun` airs, one behind the other, are what the script's whole history airs. `tape_len` tells beforehand how
+//! long the tape of that is.
 #![tactic(auto)]
 
 mod parts;
 mod pieces;
-mod runs;
+mod tapes;
 
 pub use pieces::PieceRun;
-pub use runs::{ScriptRun, run_script};
+pub use tapes::tape_len;

@@ -3,9 +3,9 @@
 //! The buckets of the pieces, one piece behind the other, are those of the script's whole history: so no more than one piece of
 //! the tape need be kept, and one mast gathers them all.
 
-ghost use Rattle.std.specs.Prelude.{◌≡◌, ◌↔◌, ◌<◌, ◌≤◌, ◌+◌, ◌*◌, ◌^◌, ◌++◌, ◌∷◌, [], ℕ, List, false, IfOk, IsTrue, OnOk, length};
+ghost use Rattle.std.specs.Prelude.{◌≡◌, ◌↔◌, ◌<◌, ◌≤◌, ◌+◌, ◌*◌, ◌++◌, ◌∷◌, [], ℕ, List, false, cond, IfOk, IsTrue, OnOk, length};
 ghost use Rattle.air_history.specs.Boards.{board_of};
-ghost use Rattle.air_history.specs.Histories.{ItemsFit};
+ghost use Rattle.air_history.specs.Histories.{starts};
 ghost use Rattle.air_model.specs.Decks.{disks_in, script_history, values_in};
 ghost use Rattle.air_sender.specs.TapeMasts.{told_by};
 ghost use Rattle.script_run.specs.AiredBytes.{aired_bytes};
@@ -73,6 +73,8 @@ impl PieceRun {
         ensures kept { OnOk result (IsPieceRun deck.now self.new) }
         ensures aired { OnOk result (aired_bytes deck.now self.new.events.items ≡ aired_bytes deck.now self.old.events.items ++ (told_by piece.new).buckets) }
         ensures on { OnOk result (length self.old.events.items < length deck.now.script → length self.old.events.items < length self.new.events.items) }
+        ensures cycles { OnOk result (starts self.new.events.items ≤ starts self.old.events.items + cycles) }
+        ensures full { OnOk result (length self.new.events.items < length deck.now.script → starts self.new.events.items ≡ starts self.old.events.items + cycles) }
     {
         piece.clear();
         let mut left = cycles;
@@ -100,6 +102,7 @@ impl PieceRun {
         requires more { length self.old.events.items < length deck.now.script }
         ensures kept { OnOk result (IsPieceRun deck.now self.new) }
         ensures one { OnOk result (length self.new.events.items ≡ length self.old.events.items + 1) }
+        ensures cycle { IfOk result (λ started. starts self.new.events.items ≡ starts self.old.events.items + cond started 1 0) }
         ensures aired { (before : List (List ℕ)) → aired_bytes deck.now self.old.events.items ≡ before ++ (told_by piece.old).buckets →
             OnOk result (aired_bytes deck.now self.new.events.items ≡ before ++ (told_by piece.new).buckets) }
     {

@@ -1,10 +1,10 @@
-use Rattle.std.proofs.Common.{◌≡◌, ◌+◌, ◌<◌, ◌++◌, ◌∷◌, [], ◌∙◌, length, sym, ap, subst, arith}
+use Rattle.std.proofs.Common.{◌≡◌, ◌+◌, ◌<◌, ◌++◌, ◌∷◌, [], Bool, cond, ◌∙◌, length, sym, ap, subst, arith}
 use Rattle.std.proofs.lemmas.List.{with_items_is}
 use Rattle.air_history.specs.Histories.{ItemsFit, starts}
 use Rattle.air_model.specs.Decks.{values_in}
 use Rattle.control_matrix.specs.declared.board.Board.{Board}
 use Rattle.script_run.specs.Steps.RunSteps.{CountsParts}
-use Rattle.script_run.proofs.AiredLemmas.{values_kept}
+use Rattle.script_run.proofs.AiredLemmas.{starts_more, values_kept}
 use Rattle.script_run.proofs.RunLoops.{event_in, few_starts, next_fits}
 use Rattle.script_run.proofs.PieceLemmas.{piece_next}
 use Rattle.script_run.proofs.pieces.PieceRun.step.Goals as goal
@@ -37,3 +37,10 @@ returns-clause-kept c =
     (c.in_ok-event.ensures ∙ ap (event_in deck) at) grew (c.in_ok-air.ensures.board ∙ c.apply.ensures.followed (values_in deck) s.events.items c.requires.kept.stepped)
     (ap length made ∙ c.count_part.auto.made ∙ ap length c.deref_mut.ensures.value ∙ c.requires.kept.updaters)
     (subst (CountsParts deck (length s.events.items + 1)) (sym made) (subst (λ k. CountsParts deck (k + 1) c.count_part.new.made) at c.count_part.ensures)) c.in_ok-air.ensures.room
+
+pub returns-clause-cycle : goal.returns-clause-cycle
+returns-clause-cycle c =
+    let before = c.args.self.now.events.items in
+    let e = c.in_ok-event.event in
+    let grew : c.push.new.self.items ≡ before ++ e ∷ [] = c.in_ok-push.ensures.items ∙ ap (λ v. v.items ++ e ∷ []) c.in_ok-air.ensures.events in
+    ap starts grew ∙ starts_more before e ∙ ap (λ (b : Bool). starts before + cond b 1 0) (sym c.is_start-started.ensures)
