@@ -1,3 +1,1 @@
-mod ApartLemmas
-mod TogetherLemmas
 mod PieceFacts

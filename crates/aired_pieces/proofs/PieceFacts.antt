@@ -1,5 +1,5 @@
--- What the pieces of a script's tape are, and what readers are that heard them all.
-use Rattle.std.proofs.Common.{◌≡◌, ℕ, ◌+◌, ◌*◌, ◌^◌, ◌<◌, ◌≤◌, None, List, [], ◌++◌, length, map, take, drop, All, refl, sym, ◌∙◌, ap, subst, arith, length-append}
+-- What the pieces of a script's tape are, and what the sessions are of readers that heard them all.
+use Rattle.std.proofs.Common.{◌≡◌, ℕ, ◌+◌, ◌*◌, ◌<◌, ◌≤◌, None, List, [], ◌++◌, length, map, take, drop, All, refl, sym, ◌∙◌, ap, subst, arith, length-append}
 use Rattle.std.proofs.lemmas.List.{get_or-append-add, get_or_append_left, take-append-drop}
 use Rattle.std.proofs.lemmas.Grind.{flat_map-append}
 use Rattle.air_history.specs.declared.histories.Event.{Event}
@@ -7,19 +7,20 @@ use Rattle.air_model.specs.Aired.{air_of, history_tape, scheme_in}
 use Rattle.air_model.specs.AiredLaws.{CanAir}
 use Rattle.air_model.specs.Buckets.{spelling}
 use Rattle.air_model.specs.Decks.{Deck, script_history, values_in}
+use Rattle.air_model.specs.Ethers.{heard_by}
 use Rattle.air_model.specs.Judges.{by_entries}
-use Rattle.air_model.specs.Outputs.{script_tape, sessions_over, true_sessions}
+use Rattle.air_model.specs.Outputs.{odds_in, script_tape, sessions_over, true_sessions}
+use Rattle.air_model.specs.Sessions.{State}
 use Rattle.air_model.specs.Tapes.{TapeRead, record_bytes, tape_of, tape_read}
 use Rattle.air_model.proofs.ReceiverLemmas.{true_sessions_are}
 use Rattle.air_model.proofs.TapeFacts.{whole_read}
-use Rattle.listeners.specs.Listeners.{AreNumbered, Listener, end_state}
+use Rattle.listeners.specs.declared.ethers.TheConstants.{MOST_TAPE_RECORDS}
+use Rattle.listeners.specs.declared.hearers.Hearers.{Hearers}
+use Rattle.listeners.specs.Hearings.{AreHearing}
 use Rattle.listeners.proofs.ReaderLemmas.{few_records}
-use Rattle.listeners.proofs.RunLemmas.{ethers_in, numbered_over, readers_over, sessions_over_each}
 use Rattle.script_run.specs.AiredBytes.{aired_bytes}
 use Rattle.script_run.proofs.AiredLemmas.{buckets_none, front_aired}
 use Rattle.script_run.proofs.TapeLemmas.{records_short, tape_back}
-use Rattle.aired_pieces.specs.declared.hearers.Hearers.{Hearers}
-use Rattle.aired_pieces.specs.Hearings.{AreHearing}
 
 -- Two tapes one behind the other are the tape of all their records.
 pub tapes_join : (xs ys : List (List ℕ)) → tape_of (xs ++ ys) ≡ tape_of xs ++ tape_of ys
@@ -58,7 +59,7 @@ middle P xs ys zs all = λ k d below.
 pub record IsPiece (deck : Deck) (before piece : List (List ℕ)) (tape : List ℕ) : Type 0 where
   pub read : tape_read tape ≡ record { records = piece; cut = None }
   pub short : All (λ r. length r ≤ 24 + 4 * length deck.items) piece
-  pub few : length before + length piece ≤ 2 ^ 40
+  pub few : length before + length piece ≤ MOST_TAPE_RECORDS
 
 -- What a script's history airs is few records.
 pub few_aired : (deck : Deck) → length (script_tape deck) ≤ 1073741824 → length (aired_bytes deck (script_history deck)) ≤ 1073741824
@@ -89,8 +90,8 @@ piece_whole deck before piece tape p = ap (λ (t : TapeRead). t.cut) p.read
 pub piece_short : (deck : Deck) (before piece : List (List ℕ)) (tape : List ℕ) → IsPiece deck before piece tape → All (λ r. length r ≤ 24 + 4 * length deck.items) (tape_read tape).records
 piece_short deck before piece tape p = subst (λ (t : TapeRead). All (λ r. length r ≤ 24 + 4 * length deck.items) t.records) (sym p.read) p.short
 
-pub piece_few : (deck : Deck) (before piece : List (List ℕ)) (tape : List ℕ) → IsPiece deck before piece tape → length before + length (tape_read tape).records ≤ 2 ^ 40
-piece_few deck before piece tape p = subst (λ (t : TapeRead). length before + length t.records ≤ 2 ^ 40) (sym p.read) p.few
+pub piece_few : (deck : Deck) (before piece : List (List ℕ)) (tape : List ℕ) → IsPiece deck before piece tape → length before + length (tape_read tape).records ≤ MOST_TAPE_RECORDS
+piece_few deck before piece tape p = subst (λ (t : TapeRead). length before + length t.records ≤ MOST_TAPE_RECORDS) (sym p.read) p.few
 
 -- And then they were given all that was aired up to here.
 pub piece_heard : (deck : Deck) (before now : List Event) (piece : List (List ℕ)) (tape : List ℕ) (hearers : Hearers) → IsPiece deck (aired_bytes deck before) piece tape
@@ -105,11 +106,9 @@ piece_joins deck before now piece aired = ap tape_of aired ∙ tapes_join (aired
 
 -- ---- the end
 
--- Where all of a script was heard, its readers' sessions are those that its history judges.
-pub ended_sessions : (deck : Deck) (G : List Event) (listeners : List Listener) → CanAir deck (script_history deck) → G ≡ script_history deck
-    → listeners ≡ readers_over deck (ethers_in deck (aired_bytes deck G)) → (map end_state listeners ≡ true_sessions deck (script_history deck)) × AreNumbered listeners
-ended_sessions deck G listeners can all is = (
-  ap (map end_state) is ∙ sessions_over_each deck (ethers_in deck (aired_bytes deck G)) ∙ ap (λ H. sessions_over (by_entries (scheme_in deck)) deck (ethers_in deck (aired_bytes deck H))) all
-      ∙ true_sessions_are deck (script_history deck) can,
-  subst AreNumbered (sym is) (numbered_over deck (ethers_in deck (aired_bytes deck G))),
-)
+-- Where all of a script was heard, its readers' sessions are those that its history judges; so is what is told of them.
+pub ended_told : {X : Type 0} (deck : Deck) (G : List Event) (tell : List State → X) (told : X) → CanAir deck (script_history deck) → G ≡ script_history deck
+    → told ≡ tell (sessions_over (by_entries (scheme_in deck)) deck (λ r. heard_by deck.settings.seed r (odds_in deck) (aired_bytes deck G))) → told ≡ tell (true_sessions deck (script_history deck))
+ended_told deck G tell told can all is =
+    is ∙ ap (λ H. tell (sessions_over (by_entries (scheme_in deck)) deck (λ r. heard_by deck.settings.seed r (odds_in deck) (aired_bytes deck H)))) all
+    ∙ ap tell (true_sessions_are deck (script_history deck) can)

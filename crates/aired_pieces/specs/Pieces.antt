@@ -4,10 +4,10 @@ use Rattle.air_model.specs.Aired.{air_of, history_tape}
 use Rattle.air_model.specs.Decks.{Deck, values_in}
 use Rattle.air_model.specs.Tapes.{tape_of}
 use Rattle.air_sender.specs.TapeMasts.{told_by}
+use Rattle.listeners.specs.Hearings.{AreHearing}
 use Rattle.script_run.specs.AiredBytes.{aired_bytes}
 use Rattle.script_run.specs.PieceRuns.{IsPieceRun}
 use Rattle.aired_pieces.specs.declared.pieces.AiredPieces.{AiredPieces}
-use Rattle.aired_pieces.specs.Hearings.{AreHearing}
 
 -- The run is as far as its events, each reader was given the buckets that these air, and a piece has a cycle at least.
 pub record IsAiring (deck : Deck) (a : AiredPieces) : Type 0 where

@@ -1,19 +1,19 @@
 //! A deck's script on the air piece by piece, with all its readers.
 
-ghost use Rattle.std.specs.Prelude.{◌≡◌, ◌↔◌, ◌<◌, ◌≤◌, ◌++◌, ℕ, List, [], false, All, IfOk, IsTrue, None, OnOk, length};
+ghost use Rattle.std.specs.Prelude.{◌≡◌, ◌↔◌, ◌<◌, ◌≤◌, ◌+◌, ◌++◌, ℕ, List, [], false, IfOk, IsTrue, OnOk, length};
 ghost use Rattle.air_base.specs.declared.limits.TheConstants.{MOST_TAPE_BYTES};
+ghost use Rattle.air_history.specs.Histories.{starts};
 ghost use Rattle.air_model.specs.Decks.{disks_in, script_history};
 ghost use Rattle.air_model.specs.Outputs.{script_tape, true_sessions};
 ghost use Rattle.air_model.specs.Reports.{counts_lines, verdict_lines};
 ghost use Rattle.aired_pieces.specs.Pieces.{IsAiring, piece_in, tape_so_far};
 
-use crate::hearers::Hearers;
 use air_base::NoMemory;
 use air_history::Event;
 use air_sender::{TapeMast, tape_bytes};
 use chunk_program::Program;
 use item_catalog::Deck;
-use listeners::{Sessions, end_all};
+use listeners::{Hearers, Sessions};
 use script_run::PieceRun;
 use std::alloc::Global;
 use std::thread::Threads;
@@ -40,6 +40,7 @@ impl AiredPieces {
         ensures kept { IfOk result (IsAiring deck.now) }
         ensures empty { IfOk result (λ a. a.run.events.items ≡ []) }
         ensures nothing { IfOk result (λ a. tape_so_far deck.now a ≡ []) }
+        ensures size { IfOk result (λ a. a.cycles ≡ cycles) }
     {
         deck.well_made();
         Ok(AiredPieces {
@@ -87,6 +88,9 @@ impl AiredPieces {
         ensures kept { OnOk result (IsAiring deck.now self.new) }
         ensures aired { OnOk result (tape_so_far deck.now self.new ≡ tape_so_far deck.now self.old ++ piece_in self.new) }
         ensures on { OnOk result (length self.old.run.events.items < length deck.now.script → length self.old.run.events.items < length self.new.run.events.items) }
+        ensures size { OnOk result (self.new.cycles ≡ self.old.cycles) }
+        ensures cycles { OnOk result (starts self.new.run.events.items ≤ starts self.old.run.events.items + self.old.cycles) }
+        ensures full { OnOk result (length self.new.run.events.items < length deck.now.script → starts self.new.run.events.items ≡ starts self.old.run.events.items + self.old.cycles) }
     {
         let _items = deck.items();
         self.run
@@ -114,8 +118,7 @@ impl AiredPieces {
         deck.well_made();
         let _slots = program.slots();
         let AiredPieces { run, hearers, .. } = self;
-        let listeners = hearers.end(threads, alloc, deck)?;
-        let sessions = end_all(alloc, listeners)?;
+        let sessions = hearers.end(threads, alloc, deck)?;
         Ok((run.events, sessions))
     }
 }

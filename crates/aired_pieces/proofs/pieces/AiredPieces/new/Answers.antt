@@ -1,7 +1,7 @@
 use Rattle.std.proofs.Common.{length, sym, ◌∙◌, ap, subst}
 use Rattle.air_model.specs.Disks.{all_items}
+use Rattle.listeners.specs.Hearings.{AreHearing}
 use Rattle.script_run.proofs.AiredLemmas.{items_aired}
-use Rattle.aired_pieces.specs.Hearings.{AreHearing}
 use Rattle.aired_pieces.proofs.PieceFacts.{no_tape, nothing_aired}
 use Rattle.aired_pieces.proofs.pieces.AiredPieces.new.Goals as goal
 

@@ -1,5 +1,0 @@
-use Rattle.aired_pieces.proofs.TogetherLemmas.{together_first}
-use Rattle.aired_pieces.proofs.hearers.Hearers.new.Goals as goal
-
-pub returns-then-is_clear : goal.returns-then-is_clear
-returns-then-is_clear c = together_first c.args.deck.now c.in_ok-listeners_of.field-0.items (c.is_clear.ensures.0 c.if-is_clear.true) c.in_ok-listeners_of.ensures
