@@ -3,9 +3,8 @@
 ghost use Rattle.std.specs.Prelude.{◌≡◌, ◌≤◌, IfOk, length};
 ghost use Rattle.air_base.specs.declared.limits.TheConstants.{MOST_SLOTS};
 ghost use Rattle.air_model.specs.Decks.{disks_in};
+ghost use Rattle.air_model.specs.Outputs.{script_tape};
 ghost use Rattle.air_model.specs.Programs.{program};
-ghost use Rattle.air_model.specs.Tapes.{tape_of};
-ghost use Rattle.air_sender.specs.TapeMasts.{told_by};
 ghost use Rattle.aired_sessions.specs.DrillLines.{drill_line, drill_numbers, drill_output};
 ghost use Rattle.aired_sessions.specs.DrillSums.{SumsFit};
 ghost use Rattle.item_catalog.specs.declared.deck.drill.TheConstants.{MOST_DRILL_SIZE};
@@ -22,6 +21,7 @@ use air_base::NoMemory;
 use air_rows::{finish, put_numbers, row_writer};
 use chunk_program::{PlanFault, Program, cut};
 use item_catalog::{Deck, drill_deck};
+use script_run::tape_len;
 use std::alloc::Global;
 use std::thread::Threads;
 
@@ -59,12 +59,12 @@ fn short_program(alloc: Global, deck: &Deck) -> Result<Program, NoMemory>
     }
 }
 
-/// The numbers of a deck, of its history and tape, and of what its readers' sessions tell.
+/// The numbers of a deck, of its script's history and tape, and of what its readers' sessions tell.
 fn numbers_of(deck: &Deck, program: &Program, aired: &AiredScript) -> [u64; 11]
     requires planned { program.now ≡ disks_in deck.now }
     requires sums { SumsFit aired.now.sessions.counts.items }
     ensures { result
-        ≡ drill_numbers deck.now aired.now.events.items (tape_of (told_by aired.now.tape).buckets) aired.now.sessions.verdicts.items aired.now.sessions.counts.items }
+        ≡ drill_numbers deck.now aired.now.events.items (script_tape deck.now) aired.now.sessions.verdicts.items aired.now.sessions.counts.items }
 {
     let verdicts = &aired.sessions.verdicts;
     let counts = &aired.sessions.counts;
@@ -73,7 +73,7 @@ fn numbers_of(deck: &Deck, program: &Program, aired: &AiredScript) -> [u64; 11]
         count_commits(&aired.events),
         count_starts(&aired.events),
         u64::from(program.slots()),
-        aired.tape.tape().len() as u64,
+        tape_len(deck, program),
         count_accepted(verdicts),
         count_aborted(verdicts),
         count_unfinished(verdicts),

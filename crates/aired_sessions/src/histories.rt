@@ -3,7 +3,7 @@
 //! Each reader hears its own ether of the tape and judges by the entries that it hears; over such a tape that comes to what the
 //! history judges.
 
-ghost use Rattle.std.specs.Prelude.{◌≡◌, ◌≤◌, ◌+◌, ◌*◌, ◌^◌, All, List, None, IfOk, length};
+ghost use Rattle.std.specs.Prelude.{◌≡◌, ◌≤◌, ◌+◌, ◌*◌, All, List, None, IfOk, length};
 ghost use Rattle.air_base.specs.declared.limits.TheConstants.{MOST_TAPE_BYTES};
 ghost use Rattle.air_history.specs.declared.histories.Event.{Event};
 ghost use Rattle.air_model.specs.Decks.{disks_in};
@@ -12,6 +12,7 @@ ghost use Rattle.air_model.specs.Reports.{counts_lines, verdict_lines};
 ghost use Rattle.air_model.specs.Tapes.{tape_read};
 ghost use Rattle.aired_sessions.specs.HistoryTapes.{HasTape};
 ghost use Rattle.bucket_codec.specs.declared.offsets.TheConstants.{ENTRY_BYTES, HEAD_BYTES};
+ghost use Rattle.listeners.specs.declared.ethers.TheConstants.{MOST_TAPE_RECORDS};
 
 use air_base::NoMemory;
 use chunk_program::Program;
@@ -20,8 +21,8 @@ use listeners::{Sessions, ether_sessions};
 use std::alloc::Global;
 use std::thread::Threads;
 
-/// The sessions of all readers of a deck, each over its own ether of the tape of a history: those that the history judges. `run_script`
-/// tells of its tape that it is one (`events`, `tape`).
+/// The sessions of all readers of a deck, each over its own ether of the tape of a history: those that the history judges. What a
+/// run sends is such a tape, as `run_threads` tells (`aired`).
 pub fn history_sessions<T: Threads + Sync>(
     threads: &T,
     alloc: Global,
@@ -46,5 +47,5 @@ fn tape_is_whole(deck: &Deck, tape: &[u8])
     requires aired { (H : List Event) × HasTape deck.now H tape.now }
     ensures whole { (tape_read tape.now).cut ≡ None }
     ensures room { All (λ r. length r ≤ HEAD_BYTES + ENTRY_BYTES * length deck.now.items) (tape_read tape.now).records }
-    ensures few { length (tape_read tape.now).records ≤ 2 ^ 40 }
+    ensures few { length (tape_read tape.now).records ≤ MOST_TAPE_RECORDS }
 {}

@@ -1,6 +1,7 @@
-use Rattle.std.proofs.Common.{◌≤◌, length, ap, arith}
+use Rattle.std.proofs.Common.{length, ap, arith}
 use Rattle.listeners.proofs.ReaderLemmas.{few_records}
-use Rattle.aired_sessions.proofs.HistoryLemmas.{tape_back, tape_short}
+use Rattle.script_run.proofs.TapeLemmas.{tape_back}
+use Rattle.aired_sessions.proofs.HistoryLemmas.{tape_short}
 use Rattle.aired_sessions.proofs.histories.tape_is_whole.Goals as goal
 
 pub returns : goal.returns
@@ -8,7 +9,7 @@ returns c =
     let deck = c.args.deck.now in
     let tape = c.args.tape.now in
     record {
-      whole = ap (λ t. t.cut) (tape_back deck c.requires.aired.0 tape c.requires.aired.1 c.requires.few);
+      whole = ap (λ t. t.cut) (tape_back deck c.requires.aired.0 tape c.requires.aired.1.same c.requires.few);
       room = tape_short deck c.requires.aired.0 tape c.requires.aired.1 c.requires.few;
       few = omega (arith, few_records (length tape) 0 tape, c.requires.few);
     }
