@@ -1,11 +1,12 @@
 //! The program: words in, a status out.
 //!
 //! It hands its words and a shelf over files and standard output to the top call, with a gate that is open, and a mast and an ear over
-//! UDP on this machine. It says on standard error what went wrong where something did (`notes`), and ends with the status's number.
-//! `--help`, `-h` and `--version`, each as the only word, are answered here.
+//! UDP on this machine. It says on standard error what went wrong where something did (`notes`, by `plain_files` that it reads again), and
+//! ends with the status's number. `--help`, `-h` and `--version`, each as the only word, are answered here.
 #![tactic(auto)]
 
 mod notes;
+mod plain_files;
 
 use crate::notes::{explain, explain_no_memory};
 use air_base::NoMemory;
@@ -65,9 +66,7 @@ fn words_of<R: Env + Alloc<A = Global>>(rt: &R, alloc: Global) -> Result<Vec<Str
     match env::args(rt) {
         Ok(args) => {
             for word in args.skip(1) {
-                if words.push(word).is_err() {
-                    return Err(NoMemory);
-                }
+                words.push(word)?;
             }
             Ok(words)
         }

@@ -3,18 +3,17 @@
 //! It is made after the command has answered, of the same words and files, and changes neither the status nor what was printed. A
 //! file is looked into again only where it is a plain one. Where a note can't be made, there is none.
 
+use crate::plain_files::{deck_again, plain_size, read_again, tape_again};
 use air_base::NoMemory;
 use air_base::limits::{MOST_DECK_BYTES, MOST_SLOTS, MOST_TAPE_BYTES};
 use air_cli::Status;
-use air_devices::{FileShelf, NetFailure, read_file};
+use air_devices::{FileShelf, NetFailure};
 use audited_reports::audit_report;
-use deck_files::read_deck_file;
-use fault_notes::{Shown, air_note, deck_note, report_note, tape_note};
-use item_catalog::{Deck, DeckFault};
+use fault_notes::{Shown, air_note, deck_note, report_note};
+use item_catalog::DeckFault;
 use live_replay::limits::MOST_REPLAYED;
 use report_reading::limits::MOST_REPORT_BYTES;
 use std::alloc::Global;
-use std::fs;
 use std::rt::Files;
 
 /// The word at a place; an empty one where there is none.
@@ -23,37 +22,6 @@ fn word(words: &[String], place: usize) -> &str {
         Some(word) => word.as_str(),
         None => "",
     }
-}
-
-/// How many bytes a plain file has; none of what is no plain file.
-fn plain_size<R: Files>(rt: &R, name: &str) -> Option<u64> {
-    match fs::metadata(rt, name) {
-        Ok(known) if known.is_file() => Some(known.len()),
-        _ => None,
-    }
-}
-
-/// The bytes of a plain file that is read again; none where that can't be.
-fn read_again<R: Files + Print + Drop>(
-    rt: &R,
-    alloc: Global,
-    shelf: &mut FileShelf<R>,
-    name: &str,
-    limit: usize,
-) -> Option<Vec<u8>> {
-    let _size = plain_size(rt, name)?;
-    read_file(alloc, shelf, name, limit).ok()
-}
-
-/// A deck that is read again from a plain file; none where that can't be.
-fn deck_again<R: Files + Print + Drop>(
-    rt: &R,
-    alloc: Global,
-    shelf: &mut FileShelf<R>,
-    name: &str,
-) -> Option<Deck> {
-    let _size = plain_size(rt, name)?;
-    read_deck_file(alloc, shelf, name).ok()
 }
 
 /// What the system said of the last call that failed.
@@ -111,8 +79,8 @@ fn cut_note<R: Files + Print + Drop>(
     name: &str,
     at: u64,
 ) -> Result<Option<String>, NoMemory> {
-    match read_again(rt, alloc, shelf, name, MOST_TAPE_BYTES) {
-        Some(tape) => Ok(Some(tape_note(alloc, name, &tape, at)?)),
+    match tape_again(rt, alloc, shelf, name) {
+        Some(tape) => Ok(Some(tape.note(alloc, name, at)?)),
         None => {
             let name = Shown::whole(name);
             Ok(Some(format!(in alloc; "{name}: the record that begins at byte {at} is cut")?))

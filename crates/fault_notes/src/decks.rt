@@ -47,7 +47,7 @@ fn said_of<'a>(found: &'a Found, line: Line, kind: u8) -> Option<Said<'a>> {
 }
 
 /// Of whom a note tells, and what is wrong; none where that isn't found.
-fn told<'a>(found: &'a Found, kind: u8) -> Option<(Said<'a>, Said<'a>)> {
+fn note_parts<'a>(found: &'a Found, kind: u8) -> Option<(Said<'a>, Said<'a>)> {
     let Found { record, seen, .. } = found;
     let nobody = Said::numbers("", 0, 0, 0);
     match found.kind {
@@ -77,7 +77,7 @@ pub fn deck_note(
     let found = find(alloc, bytes, row)?;
     let name = Shown::whole(name);
     let place = found.place();
-    match told(&found, fault.kind) {
+    match note_parts(&found, fault.kind) {
         Some((subject, said)) => Ok(format!(in alloc;
             "{name}{place}record {row}: {subject}{said}"
         )?),

@@ -3,8 +3,8 @@
 //! The status of a refusal and its printed line come from the contracts of the commands; nothing here changes them. `records` finds
 //! the faulty record and its line, and `seen` what the records before it say. Of a deck `fields`, `names`, `limits`, `settings`
 //! and `ends` say what is wrong, by the kind of the fault, of a report `fields`, `known` and `reports`; `sayings` has the form in which
-//! they say it. `tapes` says where a tape is cut, and `systems` what the system said of a mast or an ear. No clause says what a note has:
-//! they are tested.
+//! they say it. `tapes` finds where a tape is cut while its pieces go by, and `systems` tells what the system said of a mast or an ear.
+//! No clause says what a note has: they are tested.
 #![tactic(auto)]
 
 mod decks;
@@ -27,5 +27,5 @@ mod texts;
 pub use decks::deck_note;
 pub use reports::report_note;
 pub use systems::air_note;
-pub use tapes::tape_note;
+pub use tapes::CutTape;
 pub use texts::Shown;

@@ -64,7 +64,7 @@ pub enum Test<'a> {
 
 impl Test<'_> {
     /// The item, the base or the cycle by which a part fails; none where it doesn't.
-    fn failing(self, part: &str) -> Option<u64> {
+    fn failing_number(self, part: &str) -> Option<u64> {
         let number = match self {
             Test::Item(_) | Test::Once(_) => item_of(part)?,
             Test::Base(_) | Test::Read(_) => base_of(part)?,
@@ -83,7 +83,7 @@ impl Test<'_> {
 /// The first part of a list that fails, and by what.
 pub fn first_failing<'a>(list: &'a str, test: Test<'_>) -> Option<(&'a str, u64)> {
     for part in list.split(' ') {
-        if let Some(number) = test.failing(part) {
+        if let Some(number) = test.failing_number(part) {
             return Some((part, number));
         }
     }

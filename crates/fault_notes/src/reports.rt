@@ -86,7 +86,7 @@ fn said_of<'a>(deck: Option<&Deck>, found: &'a Found, line: Line, kind: u8) -> O
 }
 
 /// Of whom a note tells, and what is wrong.
-fn told<'a>(deck: Option<&Deck>, found: &'a Found, kind: u8) -> (Said<'a>, Said<'a>) {
+fn note_parts<'a>(deck: Option<&Deck>, found: &'a Found, kind: u8) -> (Said<'a>, Said<'a>) {
     let nobody = Said::numbers("", 0, 0, 0);
     let record = &found.record;
     if !matches!(found.kind, Kind::Record) {
@@ -113,7 +113,7 @@ pub fn report_note(
     kind: u8,
 ) -> Result<String, NoMemory> {
     let found = find(alloc, bytes, row)?;
-    let (subject, said) = told(deck, &found, kind);
+    let (subject, said) = note_parts(deck, &found, kind);
     let name = Shown::whole(name);
     let place = found.place();
     Ok(format!(in alloc; "{name}{place}record {row}: {subject}{said}")?)

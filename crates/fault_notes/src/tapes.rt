@@ -1,45 +1,87 @@
-//! Where a tape is cut.
+//! Where a tape is cut, found while its pieces go by: of what was fed only the length of the record that isn't whole is kept.
+
+ghost use Rattle.std.specs.Prelude.{◌≤◌, length};
 
 use crate::sayings::Said;
 use crate::texts::Shown;
 use air_base::NoMemory;
-use bucket_codec::TapeReader;
+use bucket_codec::offsets::LENGTH_BYTES;
 use std::alloc::Global;
 
-/// The bytes of a record's length.
-const LENGTH_BYTES: usize = 4;
-
-/// What is missing of the record that begins with these bytes.
-fn missing(rest: &[u8]) -> Said<'static> {
-    let there = rest.len();
-    if there < LENGTH_BYTES {
-        let form = "of the #second# bytes of its length #first# are there";
-        return Said::numbers(form, there as u64, LENGTH_BYTES as u64, 0);
-    }
-    let wanted = u32::from_be_bytes([rest[0], rest[1], rest[2], rest[3]]);
-    let there = there - LENGTH_BYTES;
-    Said::numbers(
-        "of its #second# bytes #first# are there",
-        there as u64,
-        u64::from(wanted),
-        0,
-    )
+/// What is there of the first record of a tape that isn't whole, by the pieces that were fed: those of the tape, one after another.
+#[derive(Drop)]
+pub struct CutTape {
+    /// The record's number, counted from 1.
+    number: u64,
+    /// The bytes of its length that are there, behind zeros.
+    length_bytes: [u8; LENGTH_BYTES],
+    /// How many of its bytes are there, with those of its length.
+    there: usize,
 }
 
-/// Which record of a tape is cut: the one that begins at this byte.
-pub fn tape_note(alloc: Global, name: &str, tape: &[u8], at: u64) -> Result<String, NoMemory> {
-    let name = Shown::whole(name);
-    let mut records = TapeReader::new(tape);
-    let mut record = 1_u64;
-    for _byte in tape {
-        let Ok(Some(_)) = records.next() else {
-            break;
-        };
-        record = record.saturating_add(1);
+impl CutTape {
+    /// A tape of which nothing was fed yet.
+    pub fn new() -> CutTape {
+        CutTape::before_record(1)
     }
-    let missing = match usize::try_from(at) {
-        Ok(place) if place < tape.len() => missing(&tape[place..]),
-        _ => Said::numbers("", 0, 0, 0),
-    };
-    Ok(format!(in alloc; "{name}: record {record}, which begins at byte {at}, is cut: {missing}")?)
+
+    /// A tape that was fed up to the record with this number.
+    fn before_record(number: u64) -> CutTape {
+        CutTape {
+            number,
+            length_bytes: [0; LENGTH_BYTES],
+            there: 0,
+        }
+    }
+
+    /// Takes the next piece.
+    pub fn feed(&mut self, piece: &[u8]) {
+        let mut rest = piece;
+        while let Some((byte, more)) = rest.split_first() {
+            rest = self.take(*byte, more);
+        }
+    }
+
+    /// Takes a byte, and what belongs to its record of the bytes behind it; gives those that are left. Of a length it takes one byte.
+    fn take<'a>(&mut self, byte: u8, more: &'a [u8]) -> &'a [u8]
+        ensures { length result.now ≤ length more.now }
+    {
+        if self.there < LENGTH_BYTES {
+            let [_, second, third, last] = self.length_bytes;
+            self.length_bytes = [second, third, last, byte];
+        }
+        self.there = self.there.saturating_add(1);
+        if self.there < LENGTH_BYTES {
+            return more;
+        }
+        let size = LENGTH_BYTES + u32::from_be_bytes(self.length_bytes) as usize;
+        let count = size.saturating_sub(self.there).min(more.len());
+        self.there = self.there.saturating_add(count);
+        if size <= self.there {
+            *self = CutTape::before_record(self.number.saturating_add(1));
+        }
+        &more[count..]
+    }
+
+    /// What of the record is there; nothing where the tape ends behind a whole one.
+    fn part_note(&self) -> Said<'static> {
+        if self.there == 0 {
+            return Said::numbers("", 0, 0, 0);
+        }
+        let Some(there) = self.there.checked_sub(LENGTH_BYTES) else {
+            let form = "of the #second# bytes of its length #first# are there";
+            return Said::numbers(form, self.there as u64, LENGTH_BYTES as u64, 0);
+        };
+        let size = u32::from_be_bytes(self.length_bytes);
+        let form = "of its #second# bytes #first# are there";
+        Said::numbers(form, there as u64, u64::from(size), 0)
+    }
+
+    /// Which record of the tape is cut, once all of it was fed: the one that begins at this byte.
+    pub fn note(&self, alloc: Global, name: &str, at: u64) -> Result<String, NoMemory> {
+        let name = Shown::whole(name);
+        let record = self.number;
+        let part = self.part_note();
+        Ok(format!(in alloc; "{name}: record {record}, which begins at byte {at}, is cut: {part}")?)
+    }
 }

@@ -1,7 +1,7 @@
 //! Where a note says that a record stands, and decks that have a fault at their end.
 
 use air_base::NoMemory;
-use fault_notes::{deck_note, tape_note};
+use fault_notes::{CutTape, deck_note};
 use item_catalog::DeckFault;
 use std::alloc::Global;
 use std::test::Fail;
@@ -117,7 +117,9 @@ fn a_note_is_one_line_whatever_the_name_is(rt: HostRuntime) -> Result<(), Fail> 
 
 #[test]
 fn a_tapes_note_is_one_line_whatever_the_name_is(rt: HostRuntime) -> Result<(), Fail> {
-    let note = tape_note(rt.alloc(), NAME, b"\0\0\0\x02a", 0)?;
+    let mut tape = CutTape::new();
+    tape.feed(b"\0\0\0\x02a");
+    let note = tape.note(rt.alloc(), NAME, 0)?;
     assert_eq!(rt;
         note.as_str(),
         "a?deck??.csv: record 1, which begins at byte 0, is cut: of its 2 bytes 1 are there"
