@@ -39,6 +39,21 @@ impl Model for Run {
     ghost view = { λ r. record { history = r.history; batches = r.note.batches; glances = r.glances.items; looks = r.looks.items } };
 }
 
+impl Run {
+    /// The run with this history, this note of its publisher, and what its monitors saw.
+    fn new(history: History, note: Told, sights: Sights) -> Run
+        ensures { result ≡ record { history = history; batches = note.batches; glances = sights.glances.items; looks = sights.looks.items } }
+    {
+        let Sights { glances, looks } = sights;
+        Run {
+            history,
+            note,
+            glances,
+            looks,
+        }
+    }
+}
+
 /// Why a run wasn't done.
 #[derive(Clone, Copy, Debug, PartialEq, Eq)]
 pub enum RunFault {
@@ -74,8 +89,8 @@ impl From<ConductFault> for RunFault {
 }
 
 /// Runs the deck on threads: its conductor beside all its updaters and its monitors. The history is whole, the batches that the
-/// publisher was told air it, the mast got exactly its buckets, and each monitor saw it. Where the mast failed, it got so many buckets of a whole history; after `NoMemory` the first
-/// of one, maybe none.
+/// publisher's note tells air it, the mast got exactly its buckets, and each monitor saw it. Where the mast failed, it got so many
+/// buckets of a whole history; after `NoMemory` the first of one, maybe none.
 pub fn run_threads<R: Threads + Wait + Sync, M: Mast + Send, G: Gate + Sync>(
     rt: &R,
     alloc: Global,
@@ -110,11 +125,6 @@ pub fn run_threads<R: Threads + Wait + Sync, M: Mast + Send, G: Gate + Sync>(
     let history = stage.end(deck);
     conducted?;
     let history = history?;
-    let Sights { glances, looks } = sights?;
-    Ok(Run {
-        history,
-        note,
-        glances,
-        looks,
-    })
+    let sights = sights?;
+    Ok(Run::new(history, note, sights))
 }

@@ -36,9 +36,7 @@ fn sights_of(
     requires own { run.monitor.publisher ≡ source.now.id }
     ensures { IfOk result (λ lines. AreSights source.now number run lines.0 lines.1) }
 {
-    let Some(glance) = run.glance else {
-        return Err(NoMemory);
-    };
+    let glance = run.glance.ok_or(NoMemory)?;
     let look = last_look(&mut run.monitor, source)?;
     Ok((with_number(glance, number), with_number(look, number)))
 }

@@ -77,9 +77,9 @@ pub(crate) fn open_publisher<R: Wait>(
     let (source, monitors) = publisher(wait, alloc, &values, settings.monitors, settings.cycles)?;
     match watchers_of(alloc, monitors) {
         Ok(watchers) => Ok((source, watchers)),
-        Err(_) => {
+        Err(error) => {
             source.close(wait);
-            Err(NoMemory)
+            Err(error)
         }
     }
 }

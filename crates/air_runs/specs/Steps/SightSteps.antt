@@ -1,4 +1,4 @@
--- For private steps alone: what monitors saw, each beside the run and at its end.
+-- For private steps alone. What monitors saw, each beside the run and at its end.
 use Rattle.std.specs.Prelude.{◌≡◌, ℕ, ◌<◌, List, length, get_or, Some}
 use mathlib.Core.List.{IsPrefix}
 use Rattle.air_history.specs.declared.histories.Event.{Event}

@@ -1,4 +1,4 @@
--- For private steps alone: what the jobs of a run work on, before them and after.
+-- For private steps alone. What the jobs of a run work on, before them and after.
 use Rattle.std.specs.Prelude.{◌≡◌, ℕ, ◌<◌, ◌≤◌, ◌+◌, ◌*◌, List, [], ◌++◌, length, take, slice_get, MatchBool, Some, vec_capacity}
 use Rattle.turnstile.specs.Passes.{GateId}
 use Rattle.air_history.specs.declared.histories.Event.{Event}

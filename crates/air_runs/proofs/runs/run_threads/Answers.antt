@@ -6,7 +6,9 @@ use Rattle.air_jobs.specs.declared.crews.MonitorRun.{MonitorRun}
 use Rattle.air_jobs.specs.declared.runs.TheConstants.{LOOKS}
 use Rattle.cycle_snapshot.specs.Beginnings.{Beginning}
 use Rattle.run_laws.specs.Batches.{AirsByBatches}
+use Rattle.run_laws.specs.Runs.{IsRun, Run}
 use Rattle.run_laws.proofs.BatchLemmas.{airs_further}
+use Rattle.air_runs.specs.DeckBytes.{deck_bytes}
 use Rattle.air_runs.specs.RunAnswers.{IsRunAnswer, run_fault}
 use Rattle.air_runs.specs.Steps.SightSteps.{AreAllSights}
 use Rattle.air_runs.specs.declared.runs.RunFault.TheVariants as fault
@@ -71,8 +73,8 @@ returns-in_err-history-clause-fault g c =
     let h : IsRunAnswer state deck old new fault.NoMemory = sends_first state deck old new seen c.end-history.ensures.begins (all_sent state deck old new seen aired.0 aired.1) in
     search (rules, h)
 
-pub returns-in_err-glances-clause-fault : goal.returns-in_err-glances-clause-fault
-returns-in_err-glances-clause-fault g c =
+pub returns-in_err-sights-clause-fault : goal.returns-in_err-sights-clause-fault
+returns-in_err-sights-clause-fault g c =
     let state = g.M.Mast.state in
     let deck = c.args.deck.now in
     let old = c.args.mast.now in
@@ -94,21 +96,23 @@ returns-clause-run g c =
     let given = c.in_ok-source.ensures in
     let on = c.play-conducted.ensures.publisher in
     let watched = subst (λ old. EachWatched LOOKS old now) c.deref_mut.ensures.value c.play-conducted.ensures.watched in
-    let glances = c.in_ok-glances.field-0.glances.items in
-    let looks = c.in_ok-glances.field-0.looks.items in
-    let sights = subst (λ l. AreAllSights h l glances looks) (with_items_is runs now (watched.0 ∙ sym runs.ok.0)) c.in_ok-glances.ensures in
+    let glances = c.in_ok-sights.sights.glances.items in
+    let looks = c.in_ok-sights.sights.looks.items in
+    let sights = subst (λ l. AreAllSights h l glances looks) (with_items_is runs now (watched.0 ∙ sym runs.ok.0)) c.in_ok-sights.ensures in
     let whole = c.in_ok-conducted.ensures.whole in
     let ended = c.in_ok-history.ensures.end in
-    record {
+    subst (IsRun deck) (sym c.new.ensures) (record {
       whole = ended.whole whole.1;
       batches = subst (AirsByBatches deck H) (sym (ap (λ (l : Beginning). l.batches) c.tell-note.ensures)) (airs_further deck seen H h.batches ended.goes_on c.in_ok-conducted.ensures.batches);
       glances = glances_are deck f h runs.items now glances looks seen H given.publisher given.count given.each on watched sights whole.0 whole.1 ended.goes_on;
       looks = looks_are deck f h runs.items now glances looks seen H given.publisher given.count given.each on watched sights whole.0 whole.1 ended.goes_on;
-    }
+    })
 
 pub returns-clause-aired : goal.returns-clause-aired
 returns-clause-aired g c =
     let state = g.M.Mast.state in
+    let deck = c.args.deck.now in
     let seen = c.play-conducted.new.self.pass.seen in
     let H = c.in_ok-history.history in
-    subst (λ l. Changes (with_buckets l) (state c.args.mast.now).told (state c.play-conducted.new.mast).told) (sym (same_bytes c.args.deck.now seen H c.in_ok-history.ensures.end.goes_on)) c.in_ok-conducted.ensures.aired.0
+    let same = ap (λ (run : Run). deck_bytes deck run.history) c.new.ensures ∙ same_bytes deck seen H c.in_ok-history.ensures.end.goes_on in
+    subst (λ l. Changes (with_buckets l) (state c.args.mast.now).told (state c.play-conducted.new.mast).told) (sym same) c.in_ok-conducted.ensures.aired.0
