@@ -140,12 +140,12 @@ fn a_port_that_an_ear_has_is_refused_to_another(rt: HostRuntime) -> Result<(), F
     let tuned = [first.tune_in(port), second.tune_in(port)];
     let said = (NetCall::TuneIn, Some(port), ErrorKind::AddrInUse);
     let wanted = ([Ok(()), Err(Failed)], Some(said));
-    assert_eq!(rt; (tuned, kept(second.last_failure())), wanted);
+    assert_eq!(rt; (tuned, failure_parts(second.last_failure())), wanted);
     Ok(())
 }
 
 /// What is kept of a failure: what was done, the port, and the kind of the error.
-fn kept(failure: Option<&NetFailure>) -> Option<(NetCall, Option<u16>, ErrorKind)> {
+fn failure_parts(failure: Option<&NetFailure>) -> Option<(NetCall, Option<u16>, ErrorKind)> {
     let failure = failure?;
     Some((failure.call(), failure.port(), failure.error().kind()))
 }

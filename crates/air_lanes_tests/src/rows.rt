@@ -21,7 +21,7 @@ pub fn row(alloc: Global, length: usize, seed: u32) -> Result<Vec<u32>, Fail> {
 }
 
 /// A row of that many entries that go up by one from the first, and begin again after so many.
-pub fn rising(alloc: Global, length: usize, first: u32, period: u32) -> Result<Vec<u32>, Fail> {
+pub fn rising_row(alloc: Global, length: usize, first: u32, period: u32) -> Result<Vec<u32>, Fail> {
     let mut row = Vec::new(alloc);
     let mut step = 0u32;
     for _ in 0..length {

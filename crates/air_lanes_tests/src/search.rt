@@ -1,6 +1,6 @@
 //! `first_not_below`: the first place at which a column isn't below what is held.
 
-use crate::rows::{LENGTHS, rising, row};
+use crate::rows::{LENGTHS, rising_row, row};
 use air_lanes::first_not_below;
 use std::alloc::Global;
 use std::test::Fail;
@@ -109,8 +109,8 @@ fn first_missed_place(
     alloc: Global,
     length: usize,
 ) -> Result<Option<(usize, Option<usize>)>, Fail> {
-    let held = rising(alloc, length, 1, 1000)?;
-    let mut column = rising(alloc, length, 0, 1000)?;
+    let held = rising_row(alloc, length, 1, 1000)?;
+    let mut column = rising_row(alloc, length, 0, 1000)?;
     let answer = kernel(&column, &held);
     if answer.is_some() {
         return Ok(Some((length, answer)));

@@ -1,6 +1,6 @@
 //! `stamp`: a cycle where a mark stands.
 
-use crate::rows::{LENGTHS, entry_apart, rising, row};
+use crate::rows::{LENGTHS, entry_apart, rising_row, row};
 use air_lanes::stamp;
 use std::alloc::Global;
 use std::test::Fail;
@@ -86,7 +86,7 @@ fn the_cycle_stands_where_the_mark_is_not_zero(rt: HostRuntime) -> Result<(), Fa
 fn first_length_apart(alloc: Global) -> Result<Option<(usize, usize, Option<u32>)>, Fail> {
     for length in LENGTHS {
         let dst = row(alloc, length, 3)?;
-        let marks = rising(alloc, length, 0, 3)?;
+        let marks = rising_row(alloc, length, 0, 3)?;
         let left = kernel(alloc, &dst, &marks, 77)?;
         let told = plain(alloc, &dst, &marks, 77)?;
         if let Some((at, entry)) = entry_apart(&left, &told) {

@@ -8,7 +8,7 @@ ghost use Rattle.air_report.specs.KeptReports.{KeepsGrammar};
 ghost use Rattle.audited_reports.specs.AuditAnswers.{HasAudit, UnauditedCause};
 ghost use Rattle.audited_reports.specs.TrueAudits.{IsTrueAudit};
 
-use crate::texts::{differing, findings_text};
+use crate::texts::{differing_count, findings_text};
 use air_report::{ReadReport, ReportError, read_report};
 use air_status::Status;
 use item_catalog::Deck;
@@ -53,7 +53,7 @@ fn audit_read(
     match audit(alloc, deck, report) {
         Ok(found) => {
             let text = findings_text(alloc, &found)?;
-            let differs = differing(&found) > 0;
+            let differs = differing_count(&found) > 0;
             Ok(Audited { text, differs })
         }
         Err(AuditError::TooMuch { product }) => Err(Status::TooMuch { product }),

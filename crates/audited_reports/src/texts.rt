@@ -18,14 +18,14 @@ pub fn findings_text(alloc: Global, found: &[Finding]) -> Result<Vec<u8>, NoMemo
 {
     let mut wtr = row_writer(Vec::new(alloc));
     put_findings(alloc, &mut wtr, found)?;
-    let ns = [found.len() as u64, differing(found)];
+    let ns = [found.len() as u64, differing_count(found)];
     put_numbers(alloc, &mut wtr, b"audited", &ns)?;
     let text = finish(wtr)?;
     Ok(text)
 }
 
 /// How many findings differ.
-pub(crate) fn differing(found: &[Finding]) -> u64
+pub(crate) fn differing_count(found: &[Finding]) -> u64
     ensures { result ≡ count_by differs found.now }
 {
     let mut count = 0;
