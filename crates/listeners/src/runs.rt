@@ -20,7 +20,7 @@ use std::alloc::Global;
 use std::thread::Threads;
 
 /// The sessions of all readers of a deck, each over its own ether of the records of a tape: a whole one, as `TapeReader` tells, whose
-/// records are of the sizes of the deck's buckets, as those are that `run_script` makes. `Program::plan` makes the deck's program.
+/// records are of the sizes of the deck's buckets, as those are that `air_cycle` airs. `Program::plan` makes the deck's program.
 pub fn ether_sessions<T: Threads + Sync>(
     threads: &T,
     alloc: Global,
