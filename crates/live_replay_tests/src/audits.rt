@@ -1,6 +1,7 @@
-//! The table of reports, and its checker.
+//! The tables of reports, and their checkers.
 //!
-//! A row is a deck, a report of it, and what is found of the report's lines, each with its row.
+//! A row is a deck, a report of it, and what is found of the report's lines, each with its row; or a report with one verdict,
+//! and what is found of that line by each of three decks.
 
 use air_base::limits::MOST_DECK_BYTES;
 use air_report::limits::MOST_REPORT_BYTES;
@@ -22,6 +23,9 @@ pub enum Audit {
 
 /// The rows of findings and their causes.
 pub type Told<'a> = &'a [(u32, Option<Cause>)];
+
+/// A report, the row of its verdict, and what is found of that line alone by each of three decks.
+pub type ByDeck<'a> = (&'a [u8], u32, [Option<Cause>; 3]);
 
 /// What the audit of a report says, by a deck.
 pub fn audit_by(alloc: Global, deck: &Deck, report: &[u8]) -> Audit {
@@ -70,6 +74,32 @@ pub fn first_other(alloc: Global, rows: &[(&[u8], &[u8], Told<'_>)]) -> Option<u
         match audit_of(alloc, deck, report) {
             Audit::Found(found) if are(&found, told) => {}
             _ => return Some(place),
+        }
+    }
+    None
+}
+
+/// The place of the first deck by which something else is found of the report than told.
+fn other_deck(alloc: Global, decks: &[&[u8]; 3], told: &ByDeck<'_>) -> Option<usize> {
+    let (report, row, causes) = told;
+    for (place, (deck, cause)) in decks.iter().zip(causes.as_slice()).enumerate() {
+        let found = [(*row, *cause)];
+        if first_other(alloc, &[(*deck, *report, found.as_slice())]).is_some() {
+            return Some(place);
+        }
+    }
+    None
+}
+
+/// The places of the first report of which something else is found than told, and of the first deck by which it is.
+pub fn first_other_deck(
+    alloc: Global,
+    decks: &[&[u8]; 3],
+    rows: &[ByDeck<'_>],
+) -> Option<(usize, usize)> {
+    for (place, row) in rows.iter().enumerate() {
+        if let Some(deck) = other_deck(alloc, decks, row) {
+            return Some((place, deck));
         }
     }
     None

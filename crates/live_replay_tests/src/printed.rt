@@ -1,6 +1,6 @@
 //! Reports as `script` prints them, and the same with a line altered.
 
-use crate::audits::{Told, first_other};
+use crate::audits::{ByDeck, Told, first_other, first_other_deck};
 use live_replay::Cause::{Value, Verdict};
 use std::test::Fail;
 
@@ -13,6 +13,8 @@ const D: &[u8] =
 /// The same with the test of R-Matrix.
 const R: &[u8] =
     b"item,0,10,1\nitem,1,20,2\ndisk,2,1\nreader,0,0,1\nquery,0,0 1\nupdate,0,,0=11\nupdate,0,,1=21\nset,policy,R\n";
+/// The decks of the three policies.
+const POLICIES: [&[u8]; 3] = [F, D, R];
 /// Three updates, of which each reads what the one before wrote.
 const CHAIN: &[u8] =
     b"item,0,10,2\nitem,1,20,3\nitem,2,30,1\ndisk,3,1\nupdate,0,,0=11\nupdate,0,0,2=0+1\nupdate,0,2,1=2+1\nreader,0,0,2\nquery,0,0 1\n";
@@ -27,69 +29,29 @@ const TOP: &[u8] =
 fn a_write_of_the_second_item_splits_the_policies_from_f_matrix(
     rt: HostRuntime,
 ) -> Result<(), Fail> {
-    let rows: &[(&[u8], &[u8], Told<'_>)] = &[
+    let rows: &[ByDeck<'_>] = &[
         (
-            F,
             b"start\ncommit,0,0\ncommit,0,1\nstart\naccept,0,0,1,0@1=10 1@2=21\ncounts,0,2,2,0,0,0,0\n",
-            &[(5, None)],
+            5,
+            [None, Some(Verdict), Some(Verdict)],
         ),
         (
-            F,
             b"start\ncommit,0,0\ncommit,0,1\nstart\nabort,0,0,1,0@1=10,1@2,0\ncounts,0,2,2,0,0,0,0\n",
-            &[(5, Some(Verdict))],
+            5,
+            [Some(Verdict), None, None],
         ),
         (
-            F,
             b"start\ncommit,0,0\ncommit,0,1\nstart\naccept,0,0,1,0@1=10 1@2=22\ncounts,0,2,2,0,0,0,0\n",
-            &[(5, Some(Value))],
+            5,
+            [Some(Value), Some(Value), Some(Value)],
         ),
         (
-            F,
             b"start\ncommit,0,0\ncommit,0,1\nstart\nabort,0,0,1,0@1=11,1@2,0\ncounts,0,2,2,0,0,0,0\n",
-            &[(5, Some(Value))],
-        ),
-        (
-            D,
-            b"start\ncommit,0,0\ncommit,0,1\nstart\naccept,0,0,1,0@1=10 1@2=21\ncounts,0,2,2,0,0,0,0\n",
-            &[(5, Some(Verdict))],
-        ),
-        (
-            D,
-            b"start\ncommit,0,0\ncommit,0,1\nstart\nabort,0,0,1,0@1=10,1@2,0\ncounts,0,2,2,0,0,0,0\n",
-            &[(5, None)],
-        ),
-        (
-            D,
-            b"start\ncommit,0,0\ncommit,0,1\nstart\naccept,0,0,1,0@1=10 1@2=22\ncounts,0,2,2,0,0,0,0\n",
-            &[(5, Some(Value))],
-        ),
-        (
-            D,
-            b"start\ncommit,0,0\ncommit,0,1\nstart\nabort,0,0,1,0@1=11,1@2,0\ncounts,0,2,2,0,0,0,0\n",
-            &[(5, Some(Value))],
-        ),
-        (
-            R,
-            b"start\ncommit,0,0\ncommit,0,1\nstart\naccept,0,0,1,0@1=10 1@2=21\ncounts,0,2,2,0,0,0,0\n",
-            &[(5, Some(Verdict))],
-        ),
-        (
-            R,
-            b"start\ncommit,0,0\ncommit,0,1\nstart\nabort,0,0,1,0@1=10,1@2,0\ncounts,0,2,2,0,0,0,0\n",
-            &[(5, None)],
-        ),
-        (
-            R,
-            b"start\ncommit,0,0\ncommit,0,1\nstart\naccept,0,0,1,0@1=10 1@2=22\ncounts,0,2,2,0,0,0,0\n",
-            &[(5, Some(Value))],
-        ),
-        (
-            R,
-            b"start\ncommit,0,0\ncommit,0,1\nstart\nabort,0,0,1,0@1=11,1@2,0\ncounts,0,2,2,0,0,0,0\n",
-            &[(5, Some(Value))],
+            5,
+            [Some(Value), Some(Value), Some(Value)],
         ),
     ];
-    assert_eq!(rt; first_other(rt.alloc(), rows), None);
+    assert_eq!(rt; first_other_deck(rt.alloc(), &POLICIES, rows), None);
     Ok(())
 }
 
@@ -97,54 +59,24 @@ fn a_write_of_the_second_item_splits_the_policies_from_f_matrix(
 fn a_write_of_the_first_item_alone_splits_datacycle_from_the_others(
     rt: HostRuntime,
 ) -> Result<(), Fail> {
-    let rows: &[(&[u8], &[u8], Told<'_>)] = &[
+    let rows: &[ByDeck<'_>] = &[
         (
-            F,
             b"start\ncommit,0,0\nstart\naccept,0,0,1,0@1=10 1@2=20\ncounts,0,2,2,0,0,0,0\n",
-            &[(4, None)],
+            4,
+            [None, Some(Verdict), None],
         ),
         (
-            F,
             b"start\ncommit,0,0\nstart\nabort,0,0,1,0@1=10,1@2,0\ncounts,0,2,2,0,0,0,0\n",
-            &[(4, Some(Verdict))],
+            4,
+            [Some(Verdict), None, Some(Verdict)],
         ),
         (
-            F,
             b"start\ncommit,0,0\nstart\nunfinished,0,0,1,0@1=10\ncounts,0,2,2,0,0,0,0\n",
-            &[(4, None)],
-        ),
-        (
-            D,
-            b"start\ncommit,0,0\nstart\naccept,0,0,1,0@1=10 1@2=20\ncounts,0,2,2,0,0,0,0\n",
-            &[(4, Some(Verdict))],
-        ),
-        (
-            D,
-            b"start\ncommit,0,0\nstart\nabort,0,0,1,0@1=10,1@2,0\ncounts,0,2,2,0,0,0,0\n",
-            &[(4, None)],
-        ),
-        (
-            D,
-            b"start\ncommit,0,0\nstart\nunfinished,0,0,1,0@1=10\ncounts,0,2,2,0,0,0,0\n",
-            &[(4, None)],
-        ),
-        (
-            R,
-            b"start\ncommit,0,0\nstart\naccept,0,0,1,0@1=10 1@2=20\ncounts,0,2,2,0,0,0,0\n",
-            &[(4, None)],
-        ),
-        (
-            R,
-            b"start\ncommit,0,0\nstart\nabort,0,0,1,0@1=10,1@2,0\ncounts,0,2,2,0,0,0,0\n",
-            &[(4, Some(Verdict))],
-        ),
-        (
-            R,
-            b"start\ncommit,0,0\nstart\nunfinished,0,0,1,0@1=10\ncounts,0,2,2,0,0,0,0\n",
-            &[(4, None)],
+            4,
+            [None, None, None],
         ),
     ];
-    assert_eq!(rt; first_other(rt.alloc(), rows), None);
+    assert_eq!(rt; first_other_deck(rt.alloc(), &POLICIES, rows), None);
     Ok(())
 }
 
