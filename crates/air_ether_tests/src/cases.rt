@@ -8,14 +8,15 @@ use air_ether::Ether;
 use std::alloc::Global;
 use std::test::Fail;
 
-/// A seed, a reader's number, how many of a hundred are lost, heard again and late; what is heard after each push, and what
-/// after the end.
+/// A seed, a reader's number, how many of a hundred are lost, heard again and late; the number of pushes, and what is heard after
+/// each after which it isn't the pushed bucket alone; and what is heard after the end.
 #[derive(Drop)]
 pub struct Case<'a> {
     pub seed: u64,
     pub number: u32,
     pub odds: [u32; 3],
-    pub heard: &'a [&'a [u8]],
+    pub pushes: u8,
+    pub otherwise: &'a [(u8, &'a [u8])],
     pub left: &'a [u8],
 }
 
@@ -23,11 +24,21 @@ pub struct Case<'a> {
 #[derive(Debug, PartialEq, Eq, Drop)]
 pub enum Other {
     /// After this push, what is heard.
-    Push(usize, Vec<u8>),
+    Push(u8, Vec<u8>),
     /// What is heard after the end.
     End(Vec<u8>),
     /// Something is heard after all was.
     More,
+}
+
+/// What is told of this push, if it is one of those.
+fn told_of<'a>(pushes: &[(u8, &'a [u8])], place: u8) -> Option<&'a [u8]> {
+    for (push, heard) in pushes {
+        if *push == place {
+            return Some(*heard);
+        }
+    }
+    None
 }
 
 /// Hears all that is due; what is heard, where that isn't as told.
@@ -51,8 +62,10 @@ fn difference(alloc: Global, case: &Case<'_>) -> Result<Option<Other>, Fail> {
         return Err("odds of more than a hundred".into());
     }
     let mut ether = Ether::new(alloc, case.seed, case.number, loss, again, late, 1)?;
-    for (place, told) in case.heard.iter().enumerate() {
-        ether.push(&[place.min(255) as u8]);
+    for place in 0..case.pushes {
+        let pushed = [place];
+        ether.push(&pushed);
+        let told = told_of(case.otherwise, place).unwrap_or(pushed.as_slice());
         if let Some(heard) = heard_other(alloc, &mut ether, told)? {
             return Ok(Some(Other::Push(place, heard)));
         }
