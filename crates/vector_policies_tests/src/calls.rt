@@ -1,4 +1,4 @@
-//! Calls of an attempt as data, and the checker that makes them.
+//! Calls of an attempt as data, what the calls of both policies name, and the checker that makes them.
 
 use crate::attempts::{Attempt, Read, Unheld};
 use air_base::{Clash, NoMemory};
@@ -23,6 +23,17 @@ pub struct Case<'a> {
     pub shows: &'a str,
     pub n: u16,
     pub calls: &'a [Call<'a>],
+}
+
+/// A vector of seventeen items that were never written.
+pub const UNWRITTEN: [u32; 17] = [0; 17];
+
+/// The same, but that item 16 was written in cycle 5, and item 2 in cycle 8.
+pub const TWO_WRITTEN: [u32; 17] = [0, 0, 8, 0, 0, 0, 0, 0, 0, 0, 0, 0, 0, 0, 0, 0, 5];
+
+/// The clash with a held read.
+pub fn of(item: u16, cycle: u32) -> Option<Clash> {
+    Some(Clash { item, cycle })
 }
 
 /// In what a call is answered otherwise than told: what came in its place.

@@ -1,23 +1,11 @@
 //! Held reads of Datacycle, each case worked by hand.
 
 use crate::attempts::DataAttempt;
-use crate::calls::{Call, Case, first_other};
-use air_base::Clash;
+use crate::calls::{Call, Case, TWO_WRITTEN, UNWRITTEN, first_other, of};
 use std::test::Fail;
 
-/// A vector of seventeen items that were never written.
-const UNWRITTEN: [u32; 17] = [0; 17];
-
-/// The same, but that item 16 was written in cycle 5, and item 2 in cycle 8.
-const TWO_WRITTEN: [u32; 17] = [0, 0, 8, 0, 0, 0, 0, 0, 0, 0, 0, 0, 0, 0, 0, 0, 5];
-
-/// The same, but that item 0 was written in cycle 6.
+/// A vector of which item 0 alone was written, in cycle 6.
 const ONE_WRITTEN: [u32; 17] = [6, 0, 0, 0, 0, 0, 0, 0, 0, 0, 0, 0, 0, 0, 0, 0, 0];
-
-/// The clash with a held read.
-fn of(item: u16, cycle: u32) -> Option<Clash> {
-    Some(Clash { item, cycle })
-}
 
 #[test]
 fn held_reads_are_judged_at_the_newest_cycle(rt: HostRuntime) -> Result<(), Fail> {

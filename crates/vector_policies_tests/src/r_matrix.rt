@@ -1,23 +1,11 @@
 //! Held reads of R-Matrix, each case worked by hand.
 
 use crate::attempts::RAttempt;
-use crate::calls::{Call, Case, first_other};
-use air_base::Clash;
+use crate::calls::{Call, Case, TWO_WRITTEN, UNWRITTEN, first_other, of};
 use std::test::Fail;
 
-/// A vector of seventeen items that were never written.
-const UNWRITTEN: [u32; 17] = [0; 17];
-
-/// The same, but that item 16 was written in cycle 5, and item 2 in cycle 8.
-const TWO_WRITTEN: [u32; 17] = [0, 0, 8, 0, 0, 0, 0, 0, 0, 0, 0, 0, 0, 0, 0, 0, 5];
-
-/// The same, and item 0 in cycle 5 too.
+/// The vector of two written items, but that item 0 was written in cycle 5 too.
 const THREE_WRITTEN: [u32; 17] = [5, 0, 8, 0, 0, 0, 0, 0, 0, 0, 0, 0, 0, 0, 0, 0, 5];
-
-/// The clash with a held read.
-fn of(item: u16, cycle: u32) -> Option<Clash> {
-    Some(Clash { item, cycle })
-}
 
 #[test]
 fn a_read_is_taken_by_one_of_two_conditions(rt: HostRuntime) -> Result<(), Fail> {
