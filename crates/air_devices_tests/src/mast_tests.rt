@@ -10,14 +10,14 @@ use std::alloc::Global;
 use std::test::Fail;
 
 /// One call of a mast, and what it has to answer.
-#[derive(Drop)]
+#[derive(Clone, Copy)]
 enum Call<'a> {
     Send(&'a [u8], Result<(), Failed>),
     Finish(Result<(), Failed>),
 }
 
 /// What a mast is made with, how an aim is answered, the calls, and what was sent after them.
-#[derive(Drop)]
+#[derive(Clone, Copy)]
 struct Case<'a> {
     room: usize,
     fail: &'a [u64],
@@ -82,64 +82,66 @@ impl Played for Case<'_> {
     }
 }
 
+/// Two buckets and the end, with just the room for them.
+const TWO: Case<'static> = Case {
+    room: 11,
+    fail: &[],
+    aim: Some(Ok(())),
+    calls: &[
+        Call::Send(b"ab", Ok(())),
+        Call::Send(b"c", Ok(())),
+        Call::Finish(Ok(())),
+    ],
+    sent: b"\0\0\0\x02ab\0\0\0\x01c",
+    ended: true,
+};
+
 #[test]
 fn sent_buckets_are_a_tape(rt: HostRuntime) -> Result<(), Fail> {
     let at_first = Case {
-        room: 11,
-        fail: &[],
         aim: None,
         calls: &[],
         sent: b"",
         ended: false,
+        ..TWO
     };
     let one = Case {
-        room: 11,
-        fail: &[],
-        aim: Some(Ok(())),
         calls: &[Call::Send(b"ab", Ok(()))],
         sent: b"\0\0\0\x02ab",
         ended: false,
+        ..TWO
     };
-    let two = Case {
-        room: 11,
-        fail: &[],
-        aim: Some(Ok(())),
-        calls: &[
-            Call::Send(b"ab", Ok(())),
-            Call::Send(b"c", Ok(())),
-            Call::Finish(Ok(())),
-        ],
-        sent: b"\0\0\0\x02ab\0\0\0\x01c",
-        ended: true,
-    };
-    assert_eq!(rt; first_other_case(rt.alloc(), &[at_first, one, two])?, None);
+    assert_eq!(rt; first_other_case(rt.alloc(), &[at_first, one, TWO])?, None);
     Ok(())
 }
 
 #[test]
 fn a_mast_that_was_not_aimed_sends_too(rt: HostRuntime) -> Result<(), Fail> {
-    let case = Case {
-        room: 11,
-        fail: &[],
-        aim: None,
-        calls: &[
-            Call::Send(b"ab", Ok(())),
-            Call::Send(b"c", Ok(())),
-            Call::Finish(Ok(())),
-        ],
-        sent: b"\0\0\0\x02ab\0\0\0\x01c",
-        ended: true,
-    };
+    let case = Case { aim: None, ..TWO };
     assert_eq!(rt; case.other_in(rt.alloc())?, None);
     Ok(())
 }
 
+/// Calls of which the first, the second, the fourth and the seventh fail: the aim, a bucket, an end and one more.
+const FAILING: Case<'static> = Case {
+    room: 100,
+    fail: &[1, 2, 4, 7],
+    aim: Some(Err(Failed)),
+    calls: &[
+        Call::Send(b"ab", Err(Failed)),
+        Call::Send(b"c", Ok(())),
+        Call::Finish(Err(Failed)),
+        Call::Send(b"d", Ok(())),
+        Call::Finish(Ok(())),
+        Call::Finish(Err(Failed)),
+    ],
+    sent: b"\0\0\0\x01c\0\0\0\x01d",
+    ended: true,
+};
+
 #[test]
 fn listed_calls_of_a_mast_fail(rt: HostRuntime) -> Result<(), Fail> {
     let before_its_end = Case {
-        room: 100,
-        fail: &[1, 2, 4, 7],
-        aim: Some(Err(Failed)),
         calls: &[
             Call::Send(b"ab", Err(Failed)),
             Call::Send(b"c", Ok(())),
@@ -147,61 +149,45 @@ fn listed_calls_of_a_mast_fail(rt: HostRuntime) -> Result<(), Fail> {
         ],
         sent: b"\0\0\0\x01c",
         ended: false,
-    };
-    let ended = Case {
-        room: 100,
-        fail: &[1, 2, 4, 7],
-        aim: Some(Err(Failed)),
-        calls: &[
-            Call::Send(b"ab", Err(Failed)),
-            Call::Send(b"c", Ok(())),
-            Call::Finish(Err(Failed)),
-            Call::Send(b"d", Ok(())),
-            Call::Finish(Ok(())),
-            Call::Finish(Err(Failed)),
-        ],
-        sent: b"\0\0\0\x01c\0\0\0\x01d",
-        ended: true,
+        ..FAILING
     };
     assert_eq!(rt;
-        first_other_case(rt.alloc(), &[before_its_end, ended])?,
+        first_other_case(rt.alloc(), &[before_its_end, FAILING])?,
         None
     );
     Ok(())
 }
 
+/// Two buckets and the end, where the room is a byte too small for the second one.
+const SHORT: Case<'static> = Case {
+    room: 10,
+    fail: &[],
+    aim: None,
+    calls: &[
+        Call::Send(b"ab", Ok(())),
+        Call::Send(b"c", Err(Failed)),
+        Call::Finish(Ok(())),
+    ],
+    sent: b"\0\0\0\x02ab",
+    ended: true,
+};
+
 #[test]
 fn a_send_past_the_room_keeps_nothing(rt: HostRuntime) -> Result<(), Fail> {
     let second = Case {
-        room: 10,
-        fail: &[],
-        aim: None,
         calls: &[Call::Send(b"ab", Ok(())), Call::Send(b"c", Err(Failed))],
-        sent: b"\0\0\0\x02ab",
         ended: false,
-    };
-    let second_and_end = Case {
-        room: 10,
-        fail: &[],
-        aim: None,
-        calls: &[
-            Call::Send(b"ab", Ok(())),
-            Call::Send(b"c", Err(Failed)),
-            Call::Finish(Ok(())),
-        ],
-        sent: b"\0\0\0\x02ab",
-        ended: true,
+        ..SHORT
     };
     let first = Case {
         room: 3,
-        fail: &[],
-        aim: None,
         calls: &[Call::Send(b"a", Err(Failed))],
         sent: b"",
         ended: false,
+        ..SHORT
     };
     assert_eq!(rt;
-        first_other_case(rt.alloc(), &[second, second_and_end, first])?,
+        first_other_case(rt.alloc(), &[second, SHORT, first])?,
         None
     );
     Ok(())
