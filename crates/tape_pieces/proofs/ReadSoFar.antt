@@ -4,11 +4,14 @@ use Rattle.std.proofs.Common.{◌≡◌, ◌≤◌, ◌<◌, ◌+◌, ◌-◌, �
 use Rattle.std.specs.Io.KnownBytes.{Consumes, IsAtEnd, Keeps, prepend_known}
 use Rattle.std.proofs.lemmas.List.{append-nil, drop_at, nil_from_length, take-append-drop}
 use Rattle.std.proofs.lemmas.List.Elements.{All-append, All-nil}
+use Rattle.air_devices.specs.Shelves.{Shelved}
 use Rattle.air_devices.specs.Told.{ToldIs, WhereTold}
 use Rattle.air_model.specs.Tapes.{TapeRead, ends_inside, tape_of, tape_read}
 use Rattle.air_model.proofs.TapeFacts.{AreShort, cut_read}
+use Rattle.air_status.specs.declared.status.Status.{Status}
 use Rattle.deck_files.proofs.CauseFacts.{where_read}
-use Rattle.tape_pieces.specs.Steps.Pieces.{HasCome, IsFront, IsRest}
+use Rattle.tape_pieces.specs.HeardTapes.{UnheardCause}
+use Rattle.tape_pieces.specs.Steps.Pieces.{HasCome, IsCutBefore, IsFront, IsRest}
 use Rattle.tape_pieces.proofs.TapeFronts.{tape_joined}
 
 -- The tape of these records and then the piece were read off the front of the file, which may have so many bytes; so many of these are
@@ -110,6 +113,14 @@ cut_told {most} {file} {left} {later} {records} {piece} {after} {still} at far r
     let place : 0 + length tape ≡ at = omega arith in
     where_read file (tape ++ piece) (λ bytes. (length bytes ≤ most) × ((tape_read bytes).cut ≡ Some at)) (all_told far come)
     (omega (arith, length-append tape piece), ap (λ (t : TapeRead). t.cut) read ∙ ap (λ p. Some p) place)
+
+-- So this is why the named tape can't be heard.
+pub cut_cause : {most : ℕ} {left later : Option (List ℕ)} {records : List (List ℕ)} {piece after slice : List ℕ} {still : ℕ} (name : List ℕ) (before now : Shelved) (s : Status)
+    → IsRead most (before.told.file name) left records piece still → IsRest piece → HasCome 0 piece after left later → slice ≡ after → IsCutBefore slice (most - still) s → UnheardCause name most before now s
+unfolding UnheardCause
+cut_cause {most} {left} {later} {records} {piece} {after} {slice} {still} name before now s far rest come lent cut =
+    let same = ap length lent in
+    subst (UnheardCause name most before now) (sym cut.1) (cut_told (most - still - length slice) far rest come (omega (arith, cut.0)) (omega arith))
 
 -- ---- its limit
 

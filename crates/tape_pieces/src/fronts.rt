@@ -9,22 +9,24 @@ ghost use Rattle.tape_pieces.specs.Steps.Pieces.{IsFront};
 
 use air_base::NoMemory;
 use bucket_codec::{TapeFault, check_tape};
-use listeners::{Listener, all_hear_tape};
+use listeners::Together;
 use std::alloc::Global;
+use std::thread::Threads;
 
-/// Lets all hear the whole records at the front of a piece, and answers how many bytes these have: what follows is nothing, or a
-/// record that the piece's end divides.
-pub(crate) fn hear_front(
+/// Lets all hear the whole records at the front of a piece, side by side, and answers how many bytes these have: what follows is
+/// nothing, or a record that the piece's end divides.
+pub(crate) fn hear_front<T: Threads + Sync>(
+    threads: &T,
     alloc: Global,
-    listeners: &mut [Listener],
+    readers: &mut Together,
     piece: &[u8],
 ) -> Result<usize, NoMemory>
-    requires { All (λ l. heard_count l.state.counts + length (tape_read piece.now).records < 2 ^ 64) listeners.old }
-    ensures heard { OnOk result (listeners.new ≡ map (hears (map bucket_in (tape_read piece.now).records)) listeners.old) }
+    requires { All (λ l. heard_count l.state.counts + length (tape_read piece.now).records < 2 ^ 64) readers.old }
+    ensures heard { OnOk result (readers.new ≡ map (hears (map bucket_in (tape_read piece.now).records)) readers.old) }
     ensures front { IfOk result (IsFront piece.now) }
 {
     let len = front_len(piece);
-    all_hear_tape(alloc, listeners, &piece[..len])?;
+    readers.hear(threads, alloc, &piece[..len])?;
     Ok(len)
 }
 

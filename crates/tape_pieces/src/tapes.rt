@@ -1,12 +1,12 @@
 //! A named tape that is read by pieces to its end, and the sessions of a deck's readers over it.
 
-ghost use Rattle.std.specs.Prelude.{◌≡◌, All, IfErr, IfOk, OnOk};
+ghost use Rattle.std.specs.Prelude.{◌≡◌, ◌≤◌, [], All, IfErr, IfOk, MatchResult, OnOk, length};
 ghost use Rattle.air_model.specs.Decks.{disks_in};
 ghost use Rattle.deck_files.specs.FileLimits.{tape_limit};
 ghost use Rattle.deck_files.specs.NamedFiles.{ReadsInput};
 ghost use Rattle.receiver_core.specs.Receivers.{heard_count};
 ghost use Rattle.tape_pieces.specs.HeardTapes.{AreHeard, UnheardCause};
-ghost use Rattle.tape_pieces.specs.Steps.Pieces.{HaveHeard};
+ghost use Rattle.tape_pieces.specs.Steps.Pieces.{HaveHeard, IsCutBefore};
 
 use crate::fronts::hear_front;
 use crate::piece::Piece;
@@ -15,11 +15,12 @@ use air_devices::Shelf;
 use air_status::Status;
 use chunk_program::Program;
 use item_catalog::Deck;
-use listeners::{Listener, Sessions, end_all, listeners_of};
+use listeners::{Sessions, Together};
 use std::alloc::Global;
+use std::thread::Threads;
 
-/// How many bytes a piece of a tape has, where no record is longer.
-const PIECE_BYTES: usize = 1_048_576;
+/// How many bytes of a tape are read before they are heard, at most, where no record is longer.
+const READ_PIECE_BYTES: usize = 1_048_576;
 
 /// How many bytes a tape may have, and for how many the buffer of a piece has room at first.
 #[derive(Clone, Copy, Debug, PartialEq, Eq)]
@@ -28,8 +29,9 @@ pub struct PieceSizes {
     pub piece: usize,
 }
 
-/// The sessions of all readers of a deck over the records of a named tape. `Program::plan` makes the deck's program.
-pub fn file_sessions<S: Shelf>(
+/// The sessions of all readers of a deck over the records of a named tape, which they hear side by side. `Program::plan` makes the deck's program.
+pub fn file_sessions<T: Threads + Sync, S: Shelf>(
+    threads: &T,
     alloc: Global,
     shelf: &mut S,
     name: &str,
@@ -43,14 +45,15 @@ pub fn file_sessions<S: Shelf>(
 {
     let sizes = PieceSizes {
         tape: MOST_TAPE_BYTES,
-        piece: PIECE_BYTES,
+        piece: READ_PIECE_BYTES,
     };
-    piece_sessions(alloc, shelf, name, deck, program, sizes)
+    piece_sessions(threads, alloc, shelf, name, deck, program, sizes)
 }
 
 /// The same, where the tape is read by pieces of the given sizes.
 #[tactic(auto, unfolding(crate::specs::HeardTapes::UnheardCause, deck_files::specs::NamedFiles::UnreadCause))]
-pub fn piece_sessions<S: Shelf>(
+pub fn piece_sessions<T: Threads + Sync, S: Shelf>(
+    threads: &T,
     alloc: Global,
     shelf: &mut S,
     name: &str,
@@ -63,24 +66,24 @@ pub fn piece_sessions<S: Shelf>(
     ensures refused { IfErr result (UnheardCause name.now sizes.tape (S.state shelf.old) (S.state shelf.new)) }
     ensures reads { ReadsInput name.now result (S.state shelf.old) (S.state shelf.new) }
 {
-    let mut listeners = listeners_of(alloc, deck, program)?;
-    hear_pieces(alloc, shelf, name, &mut listeners, sizes)?;
-    let sessions = end_all(alloc, listeners)?;
+    let mut readers = Together::new(alloc, deck, program)?;
+    hear_pieces(threads, alloc, shelf, name, &mut readers, sizes)?;
+    let sessions = readers.end(alloc)?;
     Ok(sessions)
 }
 
-/// Lets all hear the records of a named tape, piece after piece, to its end: the tape is cut where the bytes begin that were read and
-/// not heard.
+/// Lets all hear the records of a named tape, piece after piece, to its end.
 #[tactic(auto, unfolding(crate::specs::HeardTapes::UnheardCause, deck_files::specs::NamedFiles::UnreadCause))]
-fn hear_pieces<S: Shelf>(
+fn hear_pieces<T: Threads + Sync, S: Shelf>(
+    threads: &T,
     alloc: Global,
     shelf: &mut S,
     name: &str,
-    listeners: &mut [Listener],
+    readers: &mut Together,
     sizes: PieceSizes,
 ) -> Result<(), Status>
-    requires { All (λ l. heard_count l.state.counts ≡ 0) listeners.old }
-    ensures heard { OnOk result (HaveHeard name.now sizes.tape (S.state shelf.old) listeners.old listeners.new) }
+    requires { All (λ l. heard_count l.state.counts ≡ 0) readers.old }
+    ensures heard { OnOk result (HaveHeard name.now sizes.tape (S.state shelf.old) readers.old readers.new) }
     ensures refused { IfErr result (UnheardCause name.now sizes.tape (S.state shelf.old) (S.state shelf.new)) }
     ensures reads { ReadsInput name.now result (S.state shelf.old) (S.state shelf.new) }
 {
@@ -94,13 +97,7 @@ fn hear_pieces<S: Shelf>(
             return Err(Status::ReadFault);
         };
         if count == 0 {
-            let rest = piece.as_slice().len();
-            if rest == 0 {
-                return Ok(());
-            }
-            return Err(Status::TapeCut {
-                at: (sizes.tape - left - rest) as u64,
-            });
+            return whole_or_cut(piece.as_slice(), sizes.tape - left);
         }
         if left < count {
             return Err(Status::TooLarge {
@@ -108,7 +105,20 @@ fn hear_pieces<S: Shelf>(
             });
         }
         left -= count;
-        let heard = hear_front(alloc, listeners, piece.as_slice())?;
+        let heard = hear_front(threads, alloc, readers, piece.as_slice())?;
         piece.let_go(heard)?;
     }
+}
+
+/// Whether a tape of so many bytes is whole, all of which were heard but these last ones: else it is cut where they begin.
+fn whole_or_cut(rest: &[u8], len: usize) -> Result<(), Status>
+    requires { length rest.now ≤ len }
+    ensures { MatchResult result (λ done. rest.now ≡ []) (IsCutBefore rest.now len) }
+{
+    if rest.is_empty() {
+        return Ok(());
+    }
+    Err(Status::TapeCut {
+        at: (len - rest.len()) as u64,
+    })
 }

@@ -12,6 +12,7 @@ use listeners::Sessions;
 use report_texts::{Report, write_report};
 use std::alloc::Global;
 use std::test::Fail;
+use std::thread::Threads;
 use tape_pieces::{PieceSizes, file_sessions, piece_sessions};
 
 /// Two items on one flat disk, one reader with one query.
@@ -69,7 +70,8 @@ pub fn shelf_of(alloc: Global, tape: &[u8], fail: &[u64]) -> Result<MemShelf, Fa
 
 /// What the reader prints that hears a named file of the shelf, or why it doesn't; by pieces of these sizes, or of those that the
 /// program has.
-pub fn heard_by(
+pub fn heard_by<R: Threads + Sync>(
+    rt: &R,
     alloc: Global,
     shelf: &mut MemShelf,
     name: &str,
@@ -77,8 +79,8 @@ pub fn heard_by(
 ) -> Result<Result<Vec<u8>, Status>, Fail> {
     let (deck, program) = deck_and_program(alloc)?;
     let sessions = match sizes {
-        Some(sizes) => piece_sessions(alloc, shelf, name, &deck, &program, sizes),
-        None => file_sessions(alloc, shelf, name, &deck, &program),
+        Some(sizes) => piece_sessions(rt, alloc, shelf, name, &deck, &program, sizes),
+        None => file_sessions(rt, alloc, shelf, name, &deck, &program),
     };
     match sessions {
         Ok(sessions) => Ok(Ok(text_of(alloc, sessions)?)),

@@ -5,6 +5,7 @@ use air_devices::Shelf;
 use air_status::Status;
 use std::alloc::Global;
 use std::test::Fail;
+use std::thread::Threads;
 use tape_pieces::PieceSizes;
 
 /// How many bytes of the tape the file has, which file is asked for, the limit, the size of a piece, the calls that fail, what is heard, and how many bytes of the
@@ -40,7 +41,7 @@ enum Other {
 }
 
 /// In what a case goes otherwise than told.
-fn other_in(alloc: Global, case: &Case) -> Result<Option<Other>, Fail> {
+fn other_in<R: Threads + Sync>(rt: &R, alloc: Global, case: &Case) -> Result<Option<Other>, Fail> {
     let Some(bytes) = TAPE.get(..case.bytes) else {
         return Ok(Some(Other::NoFront));
     };
@@ -49,10 +50,8 @@ fn other_in(alloc: Global, case: &Case) -> Result<Option<Other>, Fail> {
         tape: case.limit,
         piece: case.piece,
     };
-    if !is_told(
-        &heard_by(alloc, &mut shelf, case.name, Some(sizes))?,
-        case.told,
-    ) {
+    let heard = heard_by(rt, alloc, &mut shelf, case.name, Some(sizes))?;
+    if !is_told(&heard, case.told) {
         return Ok(Some(Other::Heard));
     }
     let mut rest = [0; 128];
@@ -61,9 +60,13 @@ fn other_in(alloc: Global, case: &Case) -> Result<Option<Other>, Fail> {
 }
 
 /// The place of the first case that goes otherwise than told, and in what.
-fn first_other(alloc: Global, cases: &[Case]) -> Result<Option<(usize, Other)>, Fail> {
+fn first_other<R: Threads + Sync>(
+    rt: &R,
+    alloc: Global,
+    cases: &[Case],
+) -> Result<Option<(usize, Other)>, Fail> {
     for (place, case) in cases.iter().enumerate() {
-        if let Some(other) = other_in(alloc, case)? {
+        if let Some(other) = other_in(rt, alloc, case)? {
             return Ok(Some((place, other)));
         }
     }
@@ -96,7 +99,7 @@ fn a_tape_past_its_limit_is_refused_wherever_it_is_cut(rt: HostRuntime) -> Resul
         past(43, 42, 7, 0),
         past(1, 0, 0, 0),
     ];
-    assert_eq!(rt; first_other(rt.alloc(), &cases)?, None);
+    assert_eq!(rt; first_other(&rt, rt.alloc(), &cases)?, None);
     Ok(())
 }
 
@@ -118,7 +121,7 @@ fn a_tape_at_its_limit_is_heard_or_cut(rt: HostRuntime) -> Result<(), Fail> {
         piece: 100,
         ..WHOLE
     };
-    assert_eq!(rt; first_other(rt.alloc(), &[cut, none, one])?, None);
+    assert_eq!(rt; first_other(&rt, rt.alloc(), &[cut, none, one])?, None);
     Ok(())
 }
 
@@ -153,14 +156,14 @@ fn where_a_call_fails_nothing_is_heard(rt: HostRuntime) -> Result<(), Fail> {
         failing_case(&[4], 0),
         later,
     ];
-    assert_eq!(rt; first_other(rt.alloc(), &cases)?, None);
+    assert_eq!(rt; first_other(&rt, rt.alloc(), &cases)?, None);
     Ok(())
 }
 
 #[test]
 fn the_program_hears_by_pieces_of_its_own(rt: HostRuntime) -> Result<(), Fail> {
     let mut shelf = shelf_of(rt.alloc(), TAPE, &[])?;
-    let heard = heard_by(rt.alloc(), &mut shelf, "tape", None)?;
+    let heard = heard_by(&rt, rt.alloc(), &mut shelf, "tape", None)?;
     assert_eq!(rt; is_told(&heard, Ok(ALL)), true);
     Ok(())
 }
@@ -168,7 +171,7 @@ fn the_program_hears_by_pieces_of_its_own(rt: HostRuntime) -> Result<(), Fail> {
 #[test]
 fn the_program_tells_a_cut_by_pieces_of_its_own(rt: HostRuntime) -> Result<(), Fail> {
     let mut cut = shelf_of(rt.alloc(), &TAPE[..81], &[])?;
-    let refused = heard_by(rt.alloc(), &mut cut, "tape", None)?;
+    let refused = heard_by(&rt, rt.alloc(), &mut cut, "tape", None)?;
     assert_eq!(rt; is_told(&refused, Err(Status::TapeCut { at: 46 })), true);
     Ok(())
 }

@@ -4,6 +4,7 @@ use crate::heard::{ALL, NOTHING, TAPE, heard_by, is_told, shelf_of};
 use air_status::Status;
 use std::alloc::Global;
 use std::test::Fail;
+use std::thread::Threads;
 use tape_pieces::PieceSizes;
 
 /// The least and the greatest length of a front of the tape, and what is heard of it.
@@ -32,7 +33,12 @@ const FRONTS: [Front; 9] = [
 ];
 
 /// The first length at which a front of the tape isn't heard as told, by pieces of this size.
-fn first_length(alloc: Global, front: &Front, piece: usize) -> Result<Option<usize>, Fail> {
+fn first_length<R: Threads + Sync>(
+    rt: &R,
+    alloc: Global,
+    front: &Front,
+    piece: usize,
+) -> Result<Option<usize>, Fail> {
     let (least, greatest, told) = *front;
     let sizes = PieceSizes { tape: 82, piece };
     for len in least..=greatest {
@@ -40,7 +46,8 @@ fn first_length(alloc: Global, front: &Front, piece: usize) -> Result<Option<usi
             return Ok(Some(len));
         };
         let mut shelf = shelf_of(alloc, bytes, &[])?;
-        if !is_told(&heard_by(alloc, &mut shelf, "tape", Some(sizes))?, told) {
+        let heard = heard_by(rt, alloc, &mut shelf, "tape", Some(sizes))?;
+        if !is_told(&heard, told) {
             return Ok(Some(len));
         }
     }
@@ -48,9 +55,14 @@ fn first_length(alloc: Global, front: &Front, piece: usize) -> Result<Option<usi
 }
 
 /// The length of the first front that isn't heard as told, by pieces of this size.
-fn first_front(alloc: Global, fronts: &[Front], piece: usize) -> Result<Option<usize>, Fail> {
+fn first_front<R: Threads + Sync>(
+    rt: &R,
+    alloc: Global,
+    fronts: &[Front],
+    piece: usize,
+) -> Result<Option<usize>, Fail> {
     for front in fronts {
-        if let Some(len) = first_length(alloc, front, piece)? {
+        if let Some(len) = first_length(rt, alloc, front, piece)? {
             return Ok(Some(len));
         }
     }
@@ -58,13 +70,14 @@ fn first_front(alloc: Global, fronts: &[Front], piece: usize) -> Result<Option<u
 }
 
 /// Returns the first of these sizes by which a front isn't heard as told, with its length.
-fn first_size(
+fn first_size<R: Threads + Sync>(
+    rt: &R,
     alloc: Global,
     fronts: &[Front],
     pieces: &[usize],
 ) -> Result<Option<(usize, usize)>, Fail> {
     for piece in pieces {
-        if let Some(len) = first_front(alloc, fronts, *piece)? {
+        if let Some(len) = first_front(rt, alloc, fronts, *piece)? {
             return Ok(Some((*piece, len)));
         }
     }
@@ -73,7 +86,7 @@ fn first_size(
 
 #[test]
 fn every_front_is_heard_or_cut(rt: HostRuntime) -> Result<(), Fail> {
-    assert_eq!(rt; first_size(rt.alloc(), &FRONTS, &[1, 10, 42])?, None);
+    assert_eq!(rt; first_size(&rt, rt.alloc(), &FRONTS, &[1, 10, 42])?, None);
     Ok(())
 }
 
@@ -83,6 +96,6 @@ fn a_tape_is_heard_whatever_the_piece(rt: HostRuntime) -> Result<(), Fail> {
         0, 1, 2, 3, 4, 5, 6, 7, 8, 9, 10, 11, 24, 39, 40, 41, 42, 43, 44, 45, 46, 47, 48, 49, 50,
         51, 79, 80, 81, 82, 83, 84,
     ];
-    assert_eq!(rt; first_size(rt.alloc(), &FRONTS[8..], &pieces)?, None);
+    assert_eq!(rt; first_size(&rt, rt.alloc(), &FRONTS[8..], &pieces)?, None);
     Ok(())
 }

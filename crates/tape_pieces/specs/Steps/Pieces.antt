@@ -1,10 +1,12 @@
 -- For private steps alone. A piece of a tape in its buffer, what a read adds to it, and what was heard of the whole tape.
-use Rattle.std.specs.Prelude.{◌≡◌, ◌≤◌, ◌⊎◌, ℕ, IsTrue, List, [], ◌++◌, length, map, take, drop, None, Option}
+use Rattle.std.specs.Prelude.{◌≡◌, ◌≤◌, ◌<◌, ◌-◌, ◌⊎◌, ℕ, IsTrue, List, [], ◌++◌, length, map, take, drop, None, Option}
 use Rattle.std.specs.Io.KnownBytes.{Consumes, IsAtEnd}
 use Rattle.air_devices.specs.Told.{ToldIs}
 use Rattle.air_devices.specs.Shelves.{Shelved}
 use Rattle.air_model.specs.Buckets.{bucket_in}
 use Rattle.air_model.specs.Tapes.{IsTape, ends_inside, tape_read}
+use Rattle.air_status.specs.declared.status.Status.{Status}
+use Rattle.air_status.specs.declared.status.Status.TheVariants as status
 use Rattle.listeners.specs.Listeners.{Listener, hears}
 
 -- The bytes that were read and not let go, and how many there is room for in all.
@@ -30,6 +32,10 @@ pub record IsFront (piece : List ℕ) (n : ℕ) : Type 0 where
   pub within : n ≤ length piece
   pub whole : IsTape (take n piece) (tape_read piece).records
   pub rest : IsRest (drop n piece)
+
+-- There are last bytes of a tape of so many that weren't heard, and it is cut where they begin.
+abbrev pub IsCutBefore : List ℕ → ℕ → Status → Type 0
+IsCutBefore rest len s = (0 < length rest) × (s ≡ status.TapeCut (len - length rest))
 
 -- There are bytes, at most so many and those of the named file where they are told, which are a whole tape: and its records were heard
 -- by all.

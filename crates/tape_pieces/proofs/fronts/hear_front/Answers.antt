@@ -6,11 +6,11 @@ use Rattle.listeners.proofs.ReaderLemmas.{HasRoom}
 use Rattle.tape_pieces.proofs.TapeFronts.{front_read}
 use Rattle.tape_pieces.proofs.fronts.hear_front.Goals as goal
 
-pub all_hear_tape-requires-clause-whole : goal.all_hear_tape-requires-clause-whole
-all_hear_tape-requires-clause-whole c = ap (λ (t : TapeRead). t.cut) (front_read c.front_len-len.ensures)
+pub hear-requires-clause-whole : goal.hear-requires-clause-whole
+hear-requires-clause-whole g c κs within = ap (λ (t : TapeRead). t.cut) (front_read c.front_len-len.ensures)
 
-pub all_hear_tape-requires-clause-counts : goal.all_hear_tape-requires-clause-counts
-all_hear_tape-requires-clause-counts c = subst (λ (t : TapeRead). All (HasRoom (length t.records)) c.args.listeners.now) (sym (front_read c.front_len-len.ensures)) c.requires
+pub hear-requires-clause-counts : goal.hear-requires-clause-counts
+hear-requires-clause-counts g c κs within = subst (λ (t : TapeRead). All (HasRoom (length t.records)) c.args.readers.now) (sym (front_read c.front_len-len.ensures)) c.requires
 
 pub returns-clause-heard : goal.returns-clause-heard
-returns-clause-heard c = c.in_ok-all_hear_tape.ensures ∙ ap (λ (t : TapeRead). map (hears (map bucket_in t.records)) c.args.listeners.now) (front_read c.front_len-len.ensures)
+returns-clause-heard g c = c.in_ok-hear.ensures ∙ ap (λ (t : TapeRead). map (hears (map bucket_in t.records)) c.args.readers.now) (front_read c.front_len-len.ensures)

@@ -9,7 +9,7 @@ abbrev pub invariant-loop-count : goal.invariant-loop-count
 invariant-loop-count g l =
     let S = g.S.Shelf in
     record {
-      far : SoFar l.sizes.tape ((S.state l.fn.shelf).told.file l.name) ((S.state l.shelf).told.left l.name) l.piece.bytes l.left l.fn.listeners l.listeners;
+      far : SoFar l.sizes.tape ((S.state l.fn.shelf).told.file l.name) ((S.state l.shelf).told.left l.name) l.piece.bytes l.left l.fn.readers l.readers;
       rest : IsRest l.piece.bytes;
       room : length l.piece.bytes < l.piece.room;
       keeps : KeepsButLeft l.name (S.state l.fn.shelf).told (S.state l.shelf).told;
