@@ -20,7 +20,7 @@ use std::alloc::Global;
 use std::thread::Threads;
 
 /// How many bytes of a tape are read before they are heard, at most, where no record is longer.
-const READ_PIECE_BYTES: usize = 1_048_576;
+const READ_PIECE_BYTES: usize = 4_194_304;
 
 /// How many bytes a tape may have, and for how many the buffer of a piece has room at first.
 #[derive(Clone, Copy, Debug, PartialEq, Eq)]
