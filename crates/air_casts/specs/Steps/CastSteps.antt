@@ -1,4 +1,4 @@
--- What a cast counts on its way.
+-- For private steps alone. What a cast counts on its way.
 use Rattle.std.specs.Prelude.{ℕ, ◌*◌, length}
 use Rattle.air_model.specs.Decks.{Deck, disks_in}
 use Rattle.air_model.specs.Programs.{program}

@@ -1,4 +1,4 @@
--- What listeners have heard of an ear so far.
+-- For private steps alone. What listeners have heard of an ear so far.
 use Rattle.std.specs.Prelude.{◌≡◌, ◌≤◌, ℕ, List, length, take, drop, map, All, Option, Some, None, ⊤}
 use Rattle.air_model.specs.Buckets.{bucket_in}
 use Rattle.listeners.specs.Listeners.{Listener, hears}
