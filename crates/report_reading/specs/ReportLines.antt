@@ -22,23 +22,27 @@ pub record ReportLines : Type 0 where
   pub glances : List LookLine
   pub looks : List LookLine
 
--- The line is of the history, of verdicts, of counts, of glances, of looks.
+-- The line, where it is one of the history.
 abbrev pub its_event : Line → Option EventLine
 its_event (l.Event line) = Some line
 its_event line = None
 
+-- The line, where it is one of verdicts.
 abbrev pub its_verdict : Line → Option VerdictLine
 its_verdict (l.Verdict line) = Some line
 its_verdict line = None
 
+-- The line, where it is one of counts.
 abbrev pub its_counts : Line → Option CountsLine
 its_counts (l.Counts line) = Some line
 its_counts line = None
 
+-- The line, where it is one of glances.
 abbrev pub its_glance : Line → Option LookLine
 its_glance (l.Glance line) = Some line
 its_glance line = None
 
+-- The line, where it is one of looks.
 abbrev pub its_look : Line → Option LookLine
 its_look (l.Look line) = Some line
 its_look line = None
@@ -63,10 +67,11 @@ abbrev pub starts_cycle : EventLine → Bool
 starts_cycle (Commit by seq) = false
 starts_cycle Start = true
 
--- The number of an updater's commits, and that of starts.
+-- The number of an updater's commits.
 abbrev pub commits_by : ℕ → List EventLine → ℕ
 commits_by by events = count_by (commits_of by) events
 
+-- The number of starts.
 abbrev pub starts_in : List EventLine → ℕ
 starts_in events = count_by starts_cycle events
 

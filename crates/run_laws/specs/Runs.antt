@@ -6,8 +6,8 @@ use Rattle.air_model.specs.declared.reports.LookLine.{LookLine}
 use Rattle.run_laws.specs.Batches.{AirsByBatches}
 use Rattle.run_laws.specs.Fronts.{AreGlances, AreLooks}
 
--- A run has a history; the batches that its publisher was told, as the publisher's note at the end has them; and what monitors saw of the
--- history: in glances beside the run, and in looks at its end.
+-- A run has a history; the batches that were published, as the publisher's note at the end tells them; and what monitors saw: glances
+-- beside the run, and looks at its end.
 pub record Run : Type 0 where
   pub history : List Event
   pub batches : List (List Event)
