@@ -1,6 +1,5 @@
 pub mod ModelLaws
 pub mod TruthLemmas
-pub mod TapeLemmas
 pub mod ReadFacts
 pub mod MakeFacts
 pub mod PlanLemmas

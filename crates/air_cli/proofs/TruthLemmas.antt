@@ -1,16 +1,9 @@
 -- The sessions that are printed are true: from the laws of the model at a deck of the grammar.
-use Rattle.std.proofs.Common.{◌≡◌, ℕ, zero, suc, ◌+◌, ◌<◌, ◌≤◌, ◌*◌, cond, Option, Some, None, List, ◌∷◌, length, map, take, get_or, refl, sym, ap, ◌∙◌, arith}
-use Rattle.std.specs.Prelude.{sum}
+use Rattle.std.proofs.Common.{◌≡◌, ℕ, zero, suc, ◌+◌, ◌<◌, ◌≤◌, ◌*◌, List, ◌∷◌, length, map, refl, ap, ◌∙◌, arith}
 use Rattle.std.specs.List.{range_with_len}
-use Rattle.std.proofs.lemmas.List.{get_or-map, length-map, same_lists}
-use Rattle.std.proofs.lemmas.List.Sums.{sum-map}
-use Rattle.std.proofs.lemmas.List.FromFn.{get_or-map-range_with_len, length-map-range_with_len}
-use Rattle.item_catalog.specs.DeckLimits.{WithinLimits, is_start_part, script_starts}
-use Rattle.air_history.specs.declared.histories.Event.{Event}
-use Rattle.air_history.specs.declared.histories.Event.TheVariants.{Start}
-use Rattle.air_history.specs.Histories.{is_start, starts}
+use Rattle.item_catalog.specs.DeckLimits.{WithinLimits}
 use Rattle.air_model.specs.Buckets.{bucket_in, spelling}
-use Rattle.air_model.specs.Decks.{Deck, IsDeck, event_of, script_history, values_in}
+use Rattle.air_model.specs.Decks.{Deck, IsDeck, script_history, values_in}
 use Rattle.air_model.specs.Draws.{words_of}
 use Rattle.air_model.specs.Ethers.{heard_by}
 use Rattle.air_model.specs.Aired.{scheme_in, air_of, buckets_of}
@@ -21,50 +14,8 @@ use Rattle.air_model.specs.Reports.{tune_text}
 use Rattle.air_model.specs.Outputs.{ether_of, odds_in}
 use Rattle.air_cli.proofs.ModelLaws.{BytesLaw, EventsLaw, HeardWasPushedLaw, ReceiverLaw, ScriptLaw}
 use Rattle.deck_files.specs.RunnableDecks.{IsShort}
+use Rattle.script_run.proofs.TapeSizes.{starts_script}
 use Rattle.air_cli.specs.Truths.{IsTrueScript, IsTrueTape}
-
--- ---- the starts of a script
-
--- The event of the part at a place.
-event_in : Deck → ℕ → Event
-event_in d k = event_of d (take k d.script) (get_or d.script k None)
-
--- One for a start.
-of_event : Event → ℕ
-of_event e = cond (is_start e) 1 0
-
-of_part : Option ℕ → ℕ
-of_part part = cond (is_start_part part) 1 0
-
-same_one : (d : Deck) (before : List (Option ℕ)) (part : Option ℕ) → of_event (event_of d before part) ≡ of_part part
-unfolding of_event of_part event_of is_start
-same_one d before None = refl
-same_one d before (Some by) = refl
-
--- The script's history has the starts of the script.
-pub starts_script : (d : Deck) → starts (script_history d) ≡ script_starts d
-unfolding starts script_history of_event of_part event_in
-starts_script d = sym (sum-map of_event H) ∙ ap sum same ∙ sum-map of_part d.script
-  where
-    n : ℕ
-    n = length d.script
-
-    H : List Event
-    H = map (event_in d) (range_with_len 0 n)
-
-    long : length H ≡ n
-    long = length-map-range_with_len (event_in d) 0 n
-
-    at : (k e : ℕ) → k < n → get_or (map of_event H) k e ≡ get_or (map of_part d.script) k e
-    at k e below =
-        get_or-map of_event H k Start e (omega (arith, long))
-        ∙ ap of_event (get_or-map-range_with_len (event_in d) 0 n k k Start below (omega arith))
-        ∙ same_one d (take k d.script) (get_or d.script k None)
-        ∙ sym (get_or-map of_part d.script k None e below)
-
-    same : map of_event H ≡ map of_part d.script
-    same = same_lists (map of_event H) (map of_part d.script) (length-map H of_event ∙ long ∙ sym (length-map d.script of_part))
-        (λ k e below. at k e (omega (arith, length-map H of_event, long)))
 
 -- ---- the script
 

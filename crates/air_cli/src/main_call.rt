@@ -1,7 +1,7 @@
 //! The top call for all commands.
 //!
-//! A command that needs no waiting is left to `air_quiet`; `run`, `cast` and `listen` are done here, in the same way: what they print
-//! and write is made before anything is printed or written, and after all was sent or heard.
+//! `run`, `cast` and `listen` are done here; whatever else the words are, they are left to `air_quiet`. What these three print and write
+//! is made, or why they are refused is known, before anything is printed or written.
 
 ghost use Rattle.std.specs.Prelude.{◌≡◌, map, string_bytes, None};
 ghost use Rattle.air_devices.specs.Masts.{nothing_sent};

@@ -90,7 +90,7 @@ fn make<T: Threads + Sync, S: Shelf>(
     match command {
         Command::Plan { deck } => plan(alloc, shelf, deck),
         Command::Script { .. } => unreachable!(),
-        Command::Tune { deck, tape } => tune(alloc, shelf, deck, tape),
+        Command::Tune { deck, tape } => tune(threads, alloc, shelf, deck, tape),
         Command::Drill { seed, size } => drill(threads, alloc, *seed, *size),
         Command::Audit { deck, report } => audit(alloc, shelf, deck, report),
     }

@@ -3,33 +3,41 @@
 //! `script` reports of the deck's script and of what its readers heard of it, `tune` of what they heard of a given tape, `listen` of
 //! an ear, and `cast` of a run that readers may hear elsewhere.
 
-ghost use Rattle.std.specs.Prelude.{◌≡◌, ◌<◌, ◌^◌, [], IfOk};
+ghost use Rattle.std.specs.Prelude.{◌≡◌, ◌<◌, ◌≤◌, ◌^◌, [], IfOk, length};
+ghost use Rattle.air_base.specs.declared.limits.TheConstants.{MOST_TAPE_BYTES};
 ghost use Rattle.air_history.specs.Histories.{starts};
-ghost use Rattle.air_model.specs.Decks.{script_history};
-ghost use Rattle.air_model.specs.Outputs.{cast_output, script_output, true_sessions};
-ghost use Rattle.air_model.specs.Reports.{counts_lines, report_text, verdict_lines};
+ghost use Rattle.air_model.specs.Decks.{disks_in, script_history};
+ghost use Rattle.air_model.specs.Outputs.{cast_output, script_output, script_tape};
+ghost use Rattle.air_model.specs.Reports.{report_text};
+ghost use Rattle.aired_pieces.specs.Pieces.{IsAiring};
 
 use air_base::NoMemory;
 use air_casts::Run;
 use air_history::{Event, History};
+use aired_pieces::AiredPieces;
+use chunk_program::Program;
 use item_catalog::Deck;
 use listeners::Sessions;
 use report_texts::{Report, write_report};
 use std::alloc::Global;
+use std::thread::Threads;
 
-/// The report of a script's history and of what its readers' sessions tell.
-pub(crate) fn script_report(
+/// The report of a script that was aired to its end: its history, and what its readers' sessions tell.
+pub(crate) fn script_report<T: Threads + Sync>(
+    threads: &T,
     alloc: Global,
     deck: &Deck,
-    events: Vec<Event>,
-    sessions: Sessions,
+    program: &Program,
+    aired: AiredPieces,
 ) -> Result<Vec<u8>, NoMemory>
-    requires events { events.items ≡ script_history deck.now }
-    requires verdicts { sessions.verdicts.items ≡ verdict_lines (true_sessions deck.now (script_history deck.now)) }
-    requires counts { sessions.counts.items ≡ counts_lines (true_sessions deck.now (script_history deck.now)) }
+    requires planned { program.now ≡ disks_in deck.now }
+    requires few { length (script_tape deck.now) ≤ MOST_TAPE_BYTES }
+    requires kept { IsAiring deck.now aired }
+    requires done { aired.run.events.items ≡ script_history deck.now }
     ensures { IfOk result (λ text. text.items ≡ script_output deck.now) }
 {
     deck.well_made();
+    let (events, sessions) = aired.end(threads, alloc, deck, program)?;
     let report = report_of(alloc, events, sessions)?;
     Ok(report)
 }

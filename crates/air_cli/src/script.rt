@@ -3,18 +3,15 @@
 //! No more than one piece of the tape is kept: every reader hears it, it is added to the output where one is named, and the script
 //! goes on. The report is made at the end, and then printed.
 
-ghost use Rattle.std.specs.Prelude.{◌≡◌, ◌<◌, ◌≤◌, ◌*◌, IfErr, IfOk, None, OnOk, length, option_map};
+ghost use Rattle.std.specs.Prelude.{◌≡◌, ◌<◌, ◌≤◌, IfErr, IfOk, None, OnOk, length, option_map};
 ghost use Rattle.air_base.specs.declared.limits.TheConstants.{MOST_TAPE_BYTES};
 ghost use Rattle.air_devices.specs.Counts.{NoCountFalls};
 ghost use Rattle.air_devices.specs.Shelves.{Shelved};
 ghost use Rattle.air_model.specs.Decks.{disks_in};
 ghost use Rattle.air_model.specs.Outputs.{script_output, script_tape};
-ghost use Rattle.air_model.specs.Programs.{program as slots_of};
 ghost use Rattle.aired_pieces.specs.Pieces.{IsAiring, tape_so_far};
-ghost use Rattle.board_laws.specs.TapeSizes.{cycle_size};
 ghost use Rattle.delivery.specs.Deliveries.{KeepsButDelivered};
 ghost use Rattle.delivery.specs.OutputPieces.{IsWritten};
-ghost use Rattle.item_catalog.specs.DeckLimits.{script_starts};
 ghost use Rattle.air_cli.specs.Answers.{Leaves, QuietAnswers};
 ghost use Rattle.air_cli.specs.Script.{script_given, script_meaning};
 ghost use Rattle.air_cli.specs.Steps.Making.{IsMade, IsUnmade, Reads};
@@ -24,19 +21,15 @@ use crate::reports::script_report;
 use crate::truths::script_is_true;
 use air_base::limits::MOST_TAPE_BYTES;
 use air_devices::Shelf;
-use air_sender::tape_bytes;
 use air_status::Status;
-use aired_pieces::AiredPieces;
-use board_laws::tape_size_law;
+use aired_pieces::{AiredPieces, piece_cycles};
 use chunk_program::Program;
 use deck_files::read_runnable_deck;
 use delivery::{append_piece, begin_output, refuse};
 use item_catalog::Deck;
+use script_run::tape_len;
 use std::alloc::Global;
 use std::thread::Threads;
-
-/// How many bytes of the tape are aired at a time, at most, where a cycle has no more.
-const PIECE_BYTES: u64 = 4_194_304;
 
 /// Airs the script of the named deck, writes its tape to the output of this name, if one is named, and prints the report; or refuses.
 pub(crate) fn script<T: Threads + Sync, S: Shelf>(
@@ -77,30 +70,6 @@ fn read_script<S: Shelf>(
     }
     script_is_true(&deck);
     Ok((deck, program))
-}
-
-/// The number of bytes of the tape of a deck's script.
-fn tape_len(deck: &Deck, program: &Program) -> u64
-    requires { program.now ≡ disks_in deck.now }
-    ensures { result ≡ length (script_tape deck.now) }
-{
-    deck.well_made();
-    tape_size_law();
-    tape_bytes(program, deck.items(), deck.script_starts())
-}
-
-/// How many cycles are aired at a time: as many as have no more than `PIECE_BYTES` bytes of the tape, but no more than the script starts,
-/// and at least one.
-fn piece_cycles(deck: &Deck, program: &Program) -> u32
-    requires { program.now ≡ disks_in deck.now }
-    ensures some { 1 ≤ result }
-    ensures few { 1 < result → result * cycle_size (length deck.now.items) (slots_of program.now) ≤ PIECE_BYTES }
-    ensures within { 1 < result → result ≤ script_starts deck.now }
-{
-    deck.well_made();
-    let cycle = tape_bytes(program, deck.items(), 1);
-    let most = (PIECE_BYTES / cycle.max(1)) as u32;
-    most.min(deck.script_starts()).max(1)
 }
 
 /// Airs a deck's script, writes its tape to the output of this name, if one is named, and then prints the report.
@@ -149,8 +118,7 @@ fn air_to_output<T: Threads + Sync, S: Shelf>(
     while !aired.is_done(deck) {
         air_piece(threads, alloc, shelf, output, deck, program, &mut aired)?;
     }
-    let (events, sessions) = aired.end(threads, alloc, deck, program)?;
-    let text = script_report(alloc, deck, events, sessions)?;
+    let text = script_report(threads, alloc, deck, program, aired)?;
     Ok(text)
 }
 

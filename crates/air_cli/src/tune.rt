@@ -1,6 +1,7 @@
 //! The command `tune`: what a named deck's readers hear of a named tape.
 //!
-//! The tape is heard piece by piece as it is read, and its whole is never in memory; nothing is printed before it was read to its end.
+//! The tape is read piece by piece, and all readers hear each piece side by side (`tape_pieces`). Nothing is printed here, and no output is
+//! written: what is given is delivered at the end.
 
 ghost use Rattle.std.specs.Prelude.{IfErr, IfOk};
 ghost use Rattle.air_cli.specs.Steps.Making.{IsMade, IsUnmade, Reads};
@@ -13,10 +14,12 @@ use air_status::Status;
 use deck_files::read_runnable_deck;
 use delivery::Given;
 use std::alloc::Global;
+use std::thread::Threads;
 use tape_pieces::file_sessions;
 
 /// The report of the named deck's readers over the named tape.
-pub(crate) fn tune<S: Shelf>(
+pub(crate) fn tune<T: Threads + Sync, S: Shelf>(
+    threads: &T,
     alloc: Global,
     shelf: &mut S,
     name: &str,
@@ -27,7 +30,7 @@ pub(crate) fn tune<S: Shelf>(
     ensures reads { Reads (tune_meaning name.now tape.now) (S.state shelf.old) (S.state shelf.new) }
 {
     let (deck, program) = read_runnable_deck(alloc, shelf, name)?;
-    let sessions = file_sessions(alloc, shelf, tape, &deck, &program)?;
+    let sessions = file_sessions(threads, alloc, shelf, tape, &deck, &program)?;
     tapes_are_true(&deck);
     let text = heard_report(alloc, sessions)?;
     Ok(Given {

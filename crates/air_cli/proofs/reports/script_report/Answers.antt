@@ -6,13 +6,13 @@ use Rattle.air_cli.proofs.RunLemmas.{report_same, script_starts_few}
 use Rattle.air_cli.proofs.reports.script_report.Goals as goal
 
 pub report_of-requires : goal.report_of-requires
-report_of-requires c =
+report_of-requires g c =
     let few = script_starts_few c.args.deck.now c.well_made.ensures.limits.script in
-    subst (λ events. starts events < 2 ^ 32) (sym c.requires.events) few
+    subst (λ events. starts events < 2 ^ 32) (sym c.in_ok-events.ensures.events) few
 
 pub returns : goal.returns
-returns c =
+returns g c =
     let H = script_history c.args.deck.now in
+    let told = c.in_ok-events.ensures in
     c.in_ok-report.ensures
-    ∙ report_same c.args.events.items H c.args.sessions.verdicts.items c.args.sessions.counts.items (true_sessions c.args.deck.now H)
-    c.requires.events c.requires.verdicts c.requires.counts
+    ∙ report_same c.in_ok-events.events.items H c.in_ok-events.sessions.verdicts.items c.in_ok-events.sessions.counts.items (true_sessions c.args.deck.now H) told.events told.verdicts told.counts

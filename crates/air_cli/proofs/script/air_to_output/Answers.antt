@@ -47,18 +47,8 @@ returns-in_err-air_piece-clause-stopped g c =
     let h : IsStopped output d before (S.state c.air_piece.new.shelf) c.in_err-air_piece.field-0.0 = c.in_err-air_piece.ensures.stopped before c.loop-shelf.invariant.written in
     search (rules, h)
 
-pub end-requires-clause-done : goal.end-requires-clause-done
-end-requires-clause-done g c κs within = c.is_done.ensures.done.0 c.loop-shelf-test.false
-
-pub returns-in_err-events-clause-stopped : goal.returns-in_err-events-clause-stopped
-returns-in_err-events-clause-stopped g c =
-    let S = g.S.Shelf in
-    let output : Option (List ℕ) = option_map (λ (name : Bor (List ℕ)). name.now) c.args.output in
-    let d = c.args.deck.now in
-    let before = S.state c.args.shelf.now in
-    let now = S.state c.loop-shelf.shelf in
-    let h : IsStopped output d before now status.NoMemory = wanting_all output d before now (all_written output d before now c.loop-shelf.aired (c.is_done.ensures.done.0 c.loop-shelf-test.false) c.loop-shelf.invariant.written) in
-    search (rules, h)
+pub script_report-requires-clause-done : goal.script_report-requires-clause-done
+script_report-requires-clause-done g c κs within = c.is_done.ensures.done.0 c.loop-shelf-test.false
 
 pub returns-in_err-text-clause-stopped : goal.returns-in_err-text-clause-stopped
 returns-in_err-text-clause-stopped g c =
