@@ -1,11 +1,13 @@
 //! A deck's script on the air piece by piece, with all its readers.
 
-ghost use Rattle.std.specs.Prelude.{◌≡◌, ◌↔◌, ◌<◌, ◌≤◌, ◌+◌, ◌++◌, ℕ, List, [], false, IfOk, IsTrue, OnOk, length};
+ghost use Rattle.std.specs.Prelude.{◌≡◌, ◌↔◌, ◌<◌, ◌≤◌, ◌+◌, ◌*◌, ◌++◌, ℕ, List, [], false, IfOk, IsTrue, OnOk, length};
 ghost use Rattle.air_base.specs.declared.limits.TheConstants.{MOST_TAPE_BYTES};
 ghost use Rattle.air_history.specs.Histories.{starts};
 ghost use Rattle.air_model.specs.Decks.{disks_in, script_history};
 ghost use Rattle.air_model.specs.Outputs.{script_tape, true_sessions};
+ghost use Rattle.air_model.specs.Programs.{program as slots_of};
 ghost use Rattle.air_model.specs.Reports.{counts_lines, verdict_lines};
+ghost use Rattle.board_laws.specs.TapeSizes.{cycle_size};
 ghost use Rattle.aired_pieces.specs.Pieces.{IsAiring, piece_in, tape_so_far};
 
 use air_base::NoMemory;
@@ -28,7 +30,7 @@ pub struct AiredPieces {
 }
 
 impl AiredPieces {
-    /// Nothing was aired yet; a piece is to have so many cycles. `Program::plan` makes the deck's program.
+    /// Nothing was aired yet; a piece is to have so many cycles, and the mast has room for the tape of these. `Program::plan` makes the deck's program.
     pub fn new(
         alloc: Global,
         deck: &Deck,
@@ -41,6 +43,7 @@ impl AiredPieces {
         ensures empty { IfOk result (λ a. a.run.events.items ≡ []) }
         ensures nothing { IfOk result (λ a. tape_so_far deck.now a ≡ []) }
         ensures size { IfOk result (λ a. a.cycles ≡ cycles) }
+        ensures room { IfOk result (λ a. a.mast.tape.room ≡ cycles * cycle_size (length deck.now.items) (slots_of program.now)) }
     {
         deck.well_made();
         Ok(AiredPieces {

@@ -13,8 +13,8 @@ use item_catalog::Deck;
 /// The most bytes of a tape that are aired at a time, where a cycle has no more.
 pub const AIRED_PIECE_BYTES: u64 = 4_194_304;
 
-/// How many cycles are aired at a time: as many as have no more than `AIRED_PIECE_BYTES` bytes of the tape, but no more than the script
-/// starts, and at least one. `Program::plan` makes the deck's program.
+/// How many cycles are aired at a time: at least one, and no more than the script starts, nor than have `AIRED_PIECE_BYTES` bytes of the
+/// tape. `Program::plan` makes the deck's program.
 pub fn piece_cycles(deck: &Deck, program: &Program) -> u32
     requires { program.now ≡ disks_in deck.now }
     ensures some { 1 ≤ result }

@@ -1,6 +1,6 @@
 //! What a deck's readers hear of a named tape that is read by pieces.
 //!
-//! Of the tape there is a piece in memory, or up to twice a record where one is longer, and what was decoded of it. Beside that memory
+//! Of the tape there is a piece in memory, or up to three times a record where one is longer, and what was decoded of it. Beside that memory
 //! has the readers, with the lines of all their verdicts: these grow with what is heard.
 //!
 //! `piece` is the one buffer that is used again, `fronts` lets readers hear the whole records at its front; a record that a

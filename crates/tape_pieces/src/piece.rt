@@ -1,7 +1,7 @@
 //! The piece of a tape that is in memory: one buffer, which is used again for each.
 //!
-//! Contracts see the bytes that were read and not let go, and the room. The buffer grows only where there is no room for one byte
-//! more: where a record is longer than it.
+//! Contracts see the bytes that were read and not let go, and the room. The buffer is made longer where there is no room for one
+//! byte more: where a record is longer than it.
 
 ghost use Rattle.std.specs.Prelude.{◌≡◌, ◌≤◌, ◌<◌, ◌+◌, ◌-◌, [], drop, length, take, vec_len, IfOk, OnOk};
 ghost use Rattle.air_devices.specs.Counts.{HasCauseIn, reading_of};
@@ -32,7 +32,7 @@ impl Model for Piece {
 }
 
 impl Piece {
-    /// No bytes, with room for so many, or for one.
+    /// No bytes, with room for some.
     pub fn new(alloc: Global, room: usize) -> Result<Piece, NoMemory>
         ensures empty { IfOk result (λ p. p.bytes ≡ []) }
         ensures room { IfOk result (λ p. length p.bytes < p.room) }

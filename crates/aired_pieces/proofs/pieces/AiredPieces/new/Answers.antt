@@ -1,5 +1,7 @@
-use Rattle.std.proofs.Common.{length, sym, ◌∙◌, ap, subst}
+use Rattle.std.proofs.Common.{◌*◌, length, sym, ◌∙◌, ap, subst}
 use Rattle.air_model.specs.Disks.{all_items}
+use Rattle.air_model.specs.Programs.{program as slots_of}
+use Rattle.board_laws.specs.TapeSizes.{cycle_size}
 use Rattle.listeners.specs.Hearings.{AreHearing}
 use Rattle.script_run.proofs.AiredLemmas.{items_aired}
 use Rattle.aired_pieces.proofs.PieceFacts.{no_tape, nothing_aired}
@@ -20,3 +22,6 @@ returns-clause-kept c =
 
 pub returns-clause-nothing : goal.returns-clause-nothing
 returns-clause-nothing c = no_tape c.args.deck.now c.in_ok-new.field-0.events.items c.in_ok-new.ensures.empty
+
+pub returns-clause-room : goal.returns-clause-room
+returns-clause-room c = c.in_ok-new-3.ensures.room ∙ c.tape_bytes.ensures ∙ ap (λ n. c.args.cycles * cycle_size n (slots_of c.args.program.now)) c.items.ensures.told
