@@ -1,5 +1,5 @@
 -- Datagrams that are taken from the front of what is still to be heard, and what listeners have heard of them.
-use Rattle.std.proofs.Common.{◌≡◌, ℕ, zero, suc, ◌+◌, ◌≤◌, ◌<◌, Option, Some, None, List, [], ◌∷◌, ◌++◌, length, map, take, drop, refl, sym, ◌∙◌, ap, subst, arith}
+use Rattle.std.proofs.Common.{◌≡◌, ℕ, zero, suc, ◌+◌, ◌≤◌, ◌<◌, Option, Some, None, All, List, [], ◌∷◌, ◌++◌, length, map, take, drop, refl, sym, ◌∙◌, ap, subst, arith}
 use Rattle.std.proofs.lemmas.List.{length-append, length-take, map-append, take_all}
 use Rattle.std.proofs.lemmas.List.Elements.{All-nil, All-push}
 use Rattle.air_model.specs.Buckets.{Bucket, bucket_in}
@@ -10,7 +10,7 @@ use Rattle.listeners.specs.Listeners.{Listener, hears, hears_one}
 use Rattle.listeners.proofs.ReaderLemmas.{hears_none}
 use Rattle.listeners.proofs.HearLemmas.{pieces}
 use Rattle.air_casts.specs.Hearings.{AreHeard, TakesJust, TakesUpTo, heard_of}
-use Rattle.air_casts.specs.Steps.EarSteps.{AreFirst, HaveHeard, HaveHeardFirst}
+use Rattle.air_casts.specs.Steps.EarSteps.{AreFirst, HaveHeard}
 use Rattle.air_casts.specs.declared.hearings.TheConstants.{MOST_HEARD_BYTES}
 
 -- ---- what was taken
@@ -104,6 +104,14 @@ over_only before now buf (heard.Bucket len) not told = absurd (not len refl)
 over_only before now buf heard.Over not told = told
 
 -- ---- what listeners have heard
+
+-- The listeners have heard so many datagrams.
+pub record HaveHeardFirst (count : ℕ) (before now : Option (List (List ℕ))) (first last : List Listener) : Type 0 where
+  pub heard : List (List ℕ)
+  pub long : length heard ≡ count
+  pub each : All (λ bytes. (1 ≤ length bytes) × (length bytes ≤ MOST_HEARD_BYTES)) heard
+  pub are : AreFirst count before now heard
+  pub same : last ≡ map (hears (map bucket_in heard)) first
 
 -- One member behind the others.
 one_behind : (o : Option Bucket) (members : List (Option Bucket)) (A : List Listener) → map (hears_one o) (map (hears members) A) ≡ map (hears (members ++ o ∷ [])) A

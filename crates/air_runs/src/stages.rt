@@ -1,7 +1,6 @@
 //! What the jobs of a run work on: how it is made, how they run on it, and how it ends.
 
-ghost use Rattle.std.specs.Prelude.{◌≡◌, ◌≤◌, [], length, All, IfOk, IsTrue, MatchResult, OnOk, vec_capacity};
-ghost use Rattle.std.proofs.Common.{◌↔◌};
+ghost use Rattle.std.specs.Prelude.{◌≡◌, ◌↔◌, ◌≤◌, [], length, All, IfOk, IsTrue, MatchResult, OnOk, vec_capacity};
 ghost use Rattle.air_history.specs.Histories.{starts};
 ghost use Rattle.air_model.specs.Decks.{disks_in, values_in};
 ghost use Rattle.air_devices.specs.Masts.{Changes, with_buckets};

@@ -5,7 +5,7 @@ ghost use Rattle.air_base.specs.declared.limits.TheConstants.{MOST_TAPE_BYTES};
 ghost use Rattle.air_model.specs.Decks.{disks_in};
 ghost use Rattle.air_model.specs.Outputs.{script_tape};
 
-use crate::decks::{deck_and_program, joined};
+use crate::decks::{deck_and_program, join};
 use crate::pieces::{Part, Piece, SoFar};
 use crate::plays::{
     CLEAR, CROWD, CROWD_LOSSY, DATACYCLE, EMPTY, LATE, LOSSY, LOST, MORE, Play, R_MATRIX,
@@ -74,7 +74,7 @@ fn airs_other<T: Threads + Sync>(
     }
     let (events, sessions) = aired.end(threads, alloc, deck, program)?;
     let text = text_of(alloc, events, sessions)?;
-    let told = joined(alloc, &[play.history, play.heard])?;
+    let told = join(alloc, &[play.history, play.heard])?;
     Ok((text.as_slice() != told.as_bytes()).then_some(Other::Report))
 }
 
@@ -84,7 +84,7 @@ fn other_in<T: Threads + Sync>(
     alloc: Global,
     case: &Case<'_>,
 ) -> Result<Option<Other>, Fail> {
-    let text = joined(alloc, case.0.deck)?;
+    let text = join(alloc, case.0.deck)?;
     let (deck, program) = deck_and_program(alloc, &text)?;
     if tape_len(&deck, &program) > MOST_TAPE_BYTES as u64 {
         return Ok(Some(Other::LongTape));

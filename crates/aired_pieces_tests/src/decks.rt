@@ -10,7 +10,7 @@ use std::alloc::{AllocError, Global};
 use std::test::Fail;
 
 /// The texts, one behind the other.
-pub fn joined(alloc: Global, parts: &[&str]) -> Result<String, AllocError> {
+pub fn join(alloc: Global, parts: &[&str]) -> Result<String, AllocError> {
     let mut text = String::new(alloc);
     for part in parts {
         text.push_str(part)?;

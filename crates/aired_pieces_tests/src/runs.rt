@@ -3,7 +3,7 @@
 ghost use Rattle.std.specs.Prelude.{◌≡◌};
 ghost use Rattle.air_model.specs.Decks.{disks_in};
 
-use crate::decks::{deck_and_program, joined};
+use crate::decks::{deck_and_program, join};
 use crate::pieces::{Part, Piece, SoFar};
 use crate::plays::{CLEAR, DATACYCLE, EMPTY, MORE, Play, STARTLESS, tape_of};
 use crate::reports::history_text;
@@ -68,7 +68,7 @@ fn runs_other(
 /// The place of the first case that goes otherwise than told, and in what.
 fn first_other(alloc: Global, cases: &[Case<'_>]) -> Result<Option<(usize, Other)>, Fail> {
     for (place, case) in cases.iter().enumerate() {
-        let text = joined(alloc, case.0.deck)?;
+        let text = join(alloc, case.0.deck)?;
         let (deck, program) = deck_and_program(alloc, &text)?;
         if let Some(other) = runs_other(alloc, &deck, &program, case)? {
             return Ok(Some((place, other)));

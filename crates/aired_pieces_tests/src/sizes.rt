@@ -2,7 +2,7 @@
 //!
 //! A record has 4 bytes of length and 24 of head, and 4 an item where its slot isn't idle. A piece has 4,194,304 bytes at most.
 
-use crate::decks::{deck_and_program, joined};
+use crate::decks::{deck_and_program, join};
 use crate::plays::ITEMS;
 use aired_pieces::piece_cycles;
 use script_run::tape_len;
@@ -32,7 +32,7 @@ fn many(alloc: Global, times: u32) -> Result<String, AllocError> {
 }
 
 /// A deck's text, with so many starts behind it.
-fn started(alloc: Global, deck: &str, starts: u32) -> Result<String, AllocError> {
+fn with_starts(alloc: Global, deck: &str, starts: u32) -> Result<String, AllocError> {
     let mut text = String::from_str(alloc, deck)?;
     for _ in 0..starts {
         text.push_str("script,s\n")?;
@@ -46,7 +46,7 @@ fn first_other_length(
     rows: &[(&str, u32, u64)],
 ) -> Result<Option<(usize, u64)>, Fail> {
     for (place, (deck, starts, told)) in rows.iter().enumerate() {
-        let text = started(alloc, deck, *starts)?;
+        let text = with_starts(alloc, deck, *starts)?;
         let (deck, program) = deck_and_program(alloc, &text)?;
         let bytes = tape_len(&deck, &program);
         if bytes != *told {
@@ -62,7 +62,7 @@ fn first_other_piece(
     rows: &[(&str, u32, u32)],
 ) -> Result<Option<(usize, u32)>, Fail> {
     for (place, (deck, starts, told)) in rows.iter().enumerate() {
-        let text = started(alloc, deck, *starts)?;
+        let text = with_starts(alloc, deck, *starts)?;
         let (deck, program) = deck_and_program(alloc, &text)?;
         let cycles = piece_cycles(&deck, &program);
         if cycles != *told {
@@ -74,7 +74,7 @@ fn first_other_piece(
 
 #[test]
 fn a_tape_is_as_long_as_its_records(rt: HostRuntime) -> Result<(), Fail> {
-    let commits = joined(rt.alloc(), &[ITEMS, "script,0 1\n"])?;
+    let commits = join(rt.alloc(), &[ITEMS, "script,0 1\n"])?;
     let most = many(rt.alloc(), 64)?;
     let rows = [
         (ONE, 0, 0),
@@ -95,7 +95,7 @@ fn a_tape_is_as_long_as_its_records(rt: HostRuntime) -> Result<(), Fail> {
 
 #[test]
 fn a_piece_has_as_many_cycles_as_fit_and_as_there_are(rt: HostRuntime) -> Result<(), Fail> {
-    let commits = joined(rt.alloc(), &[ITEMS, "script,0 1\n"])?;
+    let commits = join(rt.alloc(), &[ITEMS, "script,0 1\n"])?;
     let once = many(rt.alloc(), 1)?;
     let rows = [
         (ONE, 0, 1),

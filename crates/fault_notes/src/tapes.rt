@@ -22,13 +22,8 @@ pub struct CutTape {
 impl CutTape {
     /// A tape of which nothing was fed yet.
     pub fn new() -> CutTape {
-        CutTape::before_record(1)
-    }
-
-    /// A tape that was fed up to the record with this number.
-    fn before_record(number: u64) -> CutTape {
         CutTape {
-            number,
+            number: 1,
             length_bytes: [0; LENGTH_BYTES],
             there: 0,
         }
@@ -58,7 +53,9 @@ impl CutTape {
         let count = size.saturating_sub(self.there).min(more.len());
         self.there = self.there.saturating_add(count);
         if size <= self.there {
-            *self = CutTape::before_record(self.number.saturating_add(1));
+            self.number = self.number.saturating_add(1);
+            self.length_bytes = [0; LENGTH_BYTES];
+            self.there = 0;
         }
         &more[count..]
     }

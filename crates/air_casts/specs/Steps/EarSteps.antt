@@ -1,22 +1,13 @@
 -- For private steps alone. What listeners have heard of an ear so far.
-use Rattle.std.specs.Prelude.{◌≡◌, ◌≤◌, ℕ, List, length, take, drop, map, All, Option, Some, None, ⊤}
+use Rattle.std.specs.Prelude.{◌≡◌, ◌≤◌, ℕ, List, length, take, drop, map, Option, Some, None, ⊤}
 use Rattle.air_model.specs.Buckets.{bucket_in}
 use Rattle.listeners.specs.Listeners.{Listener, hears}
 use Rattle.air_casts.specs.Hearings.{IsHeard, heard_of}
-use Rattle.air_casts.specs.declared.hearings.TheConstants.{MOST_HEARD_BYTES}
 
 -- Just so many datagrams were taken, and this is what was heard of them.
 abbrev pub AreFirst : ℕ → Option (List (List ℕ)) → Option (List (List ℕ)) → List (List ℕ) → Type 0
 AreFirst count None now heard = ⊤
 AreFirst count (Some waiting) now heard = (count ≤ length waiting) × (now ≡ Some (drop count waiting)) × (heard ≡ map heard_of (take count waiting))
-
--- The listeners have heard so many datagrams.
-pub record HaveHeardFirst (count : ℕ) (before now : Option (List (List ℕ))) (first last : List Listener) : Type 0 where
-  pub heard : List (List ℕ)
-  pub long : length heard ≡ count
-  pub each : All (λ bytes. (1 ≤ length bytes) × (length bytes ≤ MOST_HEARD_BYTES)) heard
-  pub are : AreFirst count before now heard
-  pub same : last ≡ map (hears (map bucket_in heard)) first
 
 -- The listeners have heard what the ear gave, until its end, or until so many datagrams were heard.
 pub record HaveHeard (most : ℕ) (before now : Option (List (List ℕ))) (first last : List Listener) : Type 0 where

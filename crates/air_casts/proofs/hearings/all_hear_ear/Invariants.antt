@@ -1,6 +1,6 @@
 use Rattle.std.proofs.Common.{◌≡◌, ◌-◌, All, length}
 use Rattle.listeners.proofs.ReaderLemmas.{HasRoom}
-use Rattle.air_casts.specs.Steps.EarSteps.{HaveHeardFirst}
+use Rattle.air_casts.proofs.EarLemmas.{HaveHeardFirst}
 use Rattle.air_casts.specs.declared.hearings.TheConstants.{MOST_HEARD_BYTES}
 use Rattle.air_casts.proofs.hearings.all_hear_ear.Given as goal
 
