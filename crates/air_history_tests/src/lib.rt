@@ -1,13 +1,11 @@
-//! Tests of the three small libraries about histories: updates and the slow programs, the board, held reads.
+//! Tests of the two small libraries about histories: updates and the slow programs, and the board.
 //!
 //! A case is a row of a table: the events of a history as data, and what is asked of it with the answer. The checker
-//! of a table walks its rows and gives the place of the first that is answered otherwise, and in what. The board and the held
-//! reads are also compared with plain programs, at lengths around a block of eight and at larger ones, and the marks of descent
-//! with one that looks for each last writer from the first event again.
+//! of a table walks its rows and gives the place of the first that is answered otherwise, and in what. The board is also
+//! compared with a plain program, at lengths around a block of eight and at larger ones, and the marks of descent with one that
+//! looks for each last writer from the first event again.
 #![tactic(auto)]
 
-#[cfg(test)]
-mod attempts;
 #[cfg(test)]
 mod board_lengths;
 #[cfg(test)]
@@ -16,10 +14,6 @@ mod boards;
 mod descents;
 #[cfg(test)]
 mod generated;
-#[cfg(test)]
-mod held_lengths;
-#[cfg(test)]
-mod held_reads;
 #[cfg(test)]
 mod histories;
 #[cfg(test)]

@@ -1,10 +1,11 @@
 -- The first of eight lanes at which the column isn't below what is held, from the bits of their comparison.
-use Rattle.std.proofs.Common.{◌≡◌, ◌≤◌, ◌<◌, ◌+◌, ◌%◌, ◌^◌, ◌∙◌, ℕ, List, Bool, true, false, not, length, get_or, cond, ap, sym, refl, leb, eqb, arith}
-use lib.Lanes.{chunk, mask_l, zip2}
+use Rattle.std.proofs.Common.{◌≡◌, ◌≤◌, ◌<◌, ◌+◌, ◌-◌, ◌%◌, ◌^◌, ◌∙◌, ℕ, List, Bool, true, false, not, length, get_or, cond, ap, sym, refl, leb, eqb, map, w32, arith}
+use lib.Lanes.{chunk, mask_l, top, zip2}
+use mir.Val.{bits, hbits}
 use lib.Count.{count_trailing_zeros}
 use Rattle.std.specs.List.{prefix_len}
 use Rattle.std.proofs.lemmas.Bool.{leb-true, leb-false}
-use Rattle.std.proofs.lemmas.Simd.{length-chunk, get_or-chunk, length-zip2, get_or-zip2, first_set_mask_l, mask_l-mod}
+use Rattle.std.proofs.lemmas.Simd.{length-chunk, get_or-chunk, length-zip2, get_or-zip2, first_set_mask_l, mask_l-mod, tops_compared}
 use Rattle.std.proofs.lemmas.List.{map-id}
 use Rattle.std.proofs.lemmas.List.Sums.{prefix_len-le-length, prefix_len_passes, prefix_len_stops}
 
@@ -26,13 +27,27 @@ pub some_lane : (t : List Bool) → length t ≡ 8 → (mask_l t % 2 ^ 64 ≡ 0 
 some_lane t long some =
     ap (λ v. cond v 8 (count_trailing_zeros 64 (mask_l t % 2 ^ 64))) (sym (not_zero (mask_l t % 2 ^ 64) some)) ∙ lanes_first t long
 
--- The lowest bit of a comparison of the column's lanes with the held ones, and where it has none.
-pub first_bit : (x y : List ℕ) (m : ℕ) → length x ≡ 8 → length y ≡ 8 → m ≡ mask_l (zip2 leb y x) % 2 ^ 64 → (m ≡ 0 → ⊥) →
-    count_trailing_zeros 64 m ≡ prefix_len (λ b. not b) (zip2 leb y x)
-first_bit x y m a b is some = ap (count_trailing_zeros 64) is ∙ some_lane (zip2 leb y x) (length-zip2 leb y x (b ∙ sym a) ∙ b) (λ none. some (is ∙ none))
+-- The bits of the comparison of the column's lanes with the held ones: one for the top of each lane of what the comparison
+-- leaves.
+abbrev pub lane_bits : (column held : List ℕ) (at : ℕ) → ℕ
+lane_bits column held at = mask_l (map (top (hbits w32)) (zip2 (λ a b. cond (leb a b) (2 ^ bits w32 - 1) 0) (chunk at 8 held) (chunk at 8 column))) % 2 ^ 64
 
-pub no_bit : (x y : List ℕ) (m : ℕ) → length x ≡ 8 → length y ≡ 8 → m ≡ mask_l (zip2 leb y x) % 2 ^ 64 → m ≡ 0 → 8 ≡ prefix_len (λ b. not b) (zip2 leb y x)
-no_bit x y m a b is none = no_lane (zip2 leb y x) (length-zip2 leb y x (b ∙ sym a) ∙ b) (sym is ∙ none)
+-- The lowest of these bits, and where there is none.
+module _ (column held : List ℕ) (at : ℕ) (room : at + 8 ≤ length column) (same : length held ≡ length column) where
+  lanes_len : length (zip2 leb (chunk at 8 held) (chunk at 8 column)) ≡ 8
+  lanes_len =
+      let a = length-chunk at 8 column room in
+      let b = length-chunk at 8 held (omega arith) in
+      length-zip2 leb (chunk at 8 held) (chunk at 8 column) (b ∙ sym a) ∙ b
+
+  bits_are : lane_bits column held at ≡ mask_l (zip2 leb (chunk at 8 held) (chunk at 8 column)) % 2 ^ 64
+  bits_are = ap (λ ms. mask_l ms % 2 ^ 64) (tops_compared w32 leb (chunk at 8 held) (chunk at 8 column))
+
+  pub first_bit : (lane_bits column held at ≡ 0 → ⊥) → count_trailing_zeros 64 (lane_bits column held at) ≡ prefix_len (λ b. not b) (zip2 leb (chunk at 8 held) (chunk at 8 column))
+  first_bit some = ap (count_trailing_zeros 64) bits_are ∙ some_lane (zip2 leb (chunk at 8 held) (chunk at 8 column)) lanes_len (λ none. some (bits_are ∙ none))
+
+  pub no_bit : lane_bits column held at ≡ 0 → 8 ≡ prefix_len (λ b. not b) (zip2 leb (chunk at 8 held) (chunk at 8 column))
+  no_bit none = no_lane (zip2 leb (chunk at 8 held) (chunk at 8 column)) lanes_len (sym bits_are ∙ none)
 
 pub not_true : (b : Bool) → not b ≡ true → b ≡ false
 not_true true e = cc e
@@ -53,12 +68,6 @@ lane_is column held at k room same l =
     get_or-zip2 leb y x k 0 0 false (omega arith) (omega arith)
     ∙ ap (λ h. leb h (get_or x k 0)) (get_or-chunk at 8 held k 0 l)
     ∙ ap (λ c. leb (get_or held (at + k) 0) c) (get_or-chunk at 8 column k 0 l)
-
-lanes_len : (column held : List ℕ) (at : ℕ) → at + 8 ≤ length column → length held ≡ length column → length (zip2 leb (chunk at 8 held) (chunk at 8 column)) ≡ 8
-lanes_len column held at room same =
-    let a = length-chunk at 8 column room in
-    let b = length-chunk at 8 held (omega arith) in
-    length-zip2 leb (chunk at 8 held) (chunk at 8 column) (b ∙ sym a) ∙ b
 
 -- What the number of lanes before the first one says of the two rows.
 pub counted_within : (column held : List ℕ) (at r : ℕ) → at + 8 ≤ length column → length held ≡ length column →

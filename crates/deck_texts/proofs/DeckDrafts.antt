@@ -13,7 +13,7 @@ use Rattle.air_model.specs.Decks.{Deck, Item}
 use Rattle.item_catalog.specs.DeckEntries.{Entry}
 use Rattle.item_catalog.specs.DeckEntries as e
 use Rattle.item_catalog.specs.Decks.{plain_item, with_freqs}
-use Rattle.item_catalog.specs.Drafts.{DraftValue, deck_from, draft_of, push_at, with_entry}
+use Rattle.item_catalog.specs.Steps.Drafts.{DraftValue, deck_from, draft_of, push_at, with_entry}
 use Rattle.item_catalog.specs.declared.parts.ItemPart.{ItemPart}
 use Rattle.item_catalog.specs.declared.parts.DiskPart.{DiskPart}
 use Rattle.item_catalog.specs.declared.deck.draft.settings.Setting.{Setting}

@@ -16,7 +16,7 @@ use Rattle.text_records.specs.Kinds.{first_of}
 use Rattle.item_catalog.specs.DeckEntries.{Entry}
 use Rattle.item_catalog.specs.DeckEntries as e
 use Rattle.item_catalog.specs.DeckLimits.{DiskWithin, ReaderWithin, SettingsWithin, WithinLimits}
-use Rattle.item_catalog.specs.Drafts.{DraftValue, draft_of, with_entry}
+use Rattle.item_catalog.specs.Steps.Drafts.{DraftValue, draft_of, with_entry}
 use Rattle.item_catalog.specs.Faults.{end_tests, query_tests}
 use Rattle.item_catalog.specs.Ranges.{outside}
 use Rattle.item_catalog.specs.declared.faults.FaultKind.TheVariants as fault

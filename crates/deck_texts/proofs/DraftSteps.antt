@@ -6,7 +6,7 @@ use Rattle.text_records.specs.FirstFaults.{NoneBefore}
 use Rattle.text_records.specs.Kinds.{first_of}
 use Rattle.item_catalog.specs.DeckEntries.{Entry, entry_of}
 use Rattle.item_catalog.specs.DeckEntries as e
-use Rattle.item_catalog.specs.Drafts.{DraftValue, deck_from, draft_of, draft_tests, record_kind, with_entry}
+use Rattle.item_catalog.specs.Steps.Drafts.{DraftValue, deck_from, draft_of, draft_tests, record_kind, with_entry}
 use Rattle.item_catalog.specs.Faults.{end_tests, entries_in, kinds_at}
 use Rattle.item_catalog.specs.Grammar.{Spells}
 use Rattle.item_catalog.specs.Parts.{disks_in, items_in}

@@ -15,7 +15,7 @@ use Rattle.air_history.specs.UpdateRules.{base_holds, base_is_read, has_repeat, 
 use Rattle.air_model.specs.Decks.{IsUpdate}
 use Rattle.update_texts.specs.ListTests.{is_unread, option_any, reaches, write_reaches}
 use Rattle.text_records.specs.Kinds.{first_of}
-use Rattle.item_catalog.specs.Drafts.{DraftValue, with_entry}
+use Rattle.item_catalog.specs.Steps.Drafts.{DraftValue, with_entry}
 use Rattle.item_catalog.specs.Faults.{update_tests}
 use Rattle.item_catalog.specs.Ranges.{outside}
 use Rattle.item_catalog.specs.declared.faults.FaultKind.TheVariants as fault

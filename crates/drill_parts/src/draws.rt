@@ -14,8 +14,8 @@ use std::alloc::Global;
 /// The values of items are below this number.
 const VALUES: u32 = 1_000;
 
-/// The greatest rate of an item.
-const MOST_RATE: u32 = 100;
+/// The greatest rate that is drawn for an item.
+const MOST_DRAWN_RATE: u32 = 100;
 
 /// The amounts of writes are below this number.
 const AMOUNTS: u32 = 100;
@@ -50,7 +50,7 @@ pub fn draw_item(generator: &mut Lcg64Xsh32) -> (u64, u32)
     ensures { draw_item generator.old ≡ (record { value = result.0; rate = result.1 }, generator.new) }
 {
     let value = u64::from(draw(generator, VALUES));
-    let rate = 1 + draw(generator, MOST_RATE);
+    let rate = 1 + draw(generator, MOST_DRAWN_RATE);
     (value, rate)
 }
 

@@ -13,7 +13,7 @@ use Rattle.air_history.specs.UpdateLists.{UpdateLists}
 use Rattle.air_model.specs.Decks.{count_parts}
 use Rattle.air_model.specs.declared.deck.ReaderPlan.{ReaderPlan}
 use Rattle.item_catalog.specs.Decks.{for_each}
-use Rattle.item_catalog.specs.Drafts.{DraftValue, draft_of, draft_tests, push_at, with_entry}
+use Rattle.item_catalog.specs.Steps.Drafts.{DraftValue, draft_of, draft_tests, push_at, with_entry}
 use Rattle.item_catalog.specs.DeckEntries.{Entry}
 use Rattle.item_catalog.specs.DeckEntries as e
 use Rattle.item_catalog.specs.declared.faults.FaultKind.TheVariants as fault

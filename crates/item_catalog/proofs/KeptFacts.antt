@@ -13,7 +13,7 @@ use Rattle.air_history.specs.UpdateLists.{UpdateLists}
 use Rattle.air_model.specs.Decks.{IsQuery, IsUpdate, count_parts}
 use Rattle.air_model.specs.declared.deck.ReaderPlan.{ReaderPlan}
 use Rattle.item_catalog.specs.DeckLimits.{ReaderWithin}
-use Rattle.item_catalog.specs.Drafts.{DraftValue, push_at}
+use Rattle.item_catalog.specs.Steps.Drafts.{DraftValue, push_at}
 use Rattle.item_catalog.specs.DeckEntries.{Entry}
 use Rattle.item_catalog.specs.DeckEntries as e
 use Rattle.item_catalog.specs.Faults.{count_starts}

@@ -12,7 +12,7 @@ use Rattle.text_records.proofs.KindFacts.{none_first}
 use Rattle.text_records.proofs.PlaceFacts.{along, kinds_end}
 use Rattle.item_catalog.specs.DeckLimits.{WithinLimits}
 use Rattle.item_catalog.specs.Decks.{for_each}
-use Rattle.item_catalog.specs.Drafts.{draft_of, draft_tests}
+use Rattle.item_catalog.specs.Steps.Drafts.{draft_of, draft_tests}
 use Rattle.item_catalog.specs.DeckEntries.{Entry, entry_of}
 use Rattle.item_catalog.specs.Faults.{end_tests, entries_in, kinds_after, kinds_at, tests_of}
 use Rattle.item_catalog.specs.Grammar.{RowsSpell}

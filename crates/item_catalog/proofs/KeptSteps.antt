@@ -13,7 +13,7 @@ use Rattle.air_history.specs.UpdateLists.{UpdateLists}
 use Rattle.air_history.specs.UpdateRules.{has_repeat}
 use Rattle.air_model.specs.Decks.{IsUpdate, count_parts}
 use Rattle.air_model.specs.declared.deck.ReaderPlan.{ReaderPlan}
-use Rattle.item_catalog.specs.Drafts.{DraftValue, draft_tests, push_at, with_entry}
+use Rattle.item_catalog.specs.Steps.Drafts.{DraftValue, draft_tests, push_at, with_entry}
 use Rattle.item_catalog.specs.DeckEntries.{Entry}
 use Rattle.item_catalog.specs.DeckEntries as e
 use Rattle.text_records.specs.Kinds.{first_of}

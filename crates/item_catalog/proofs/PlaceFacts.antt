@@ -8,7 +8,7 @@ use Rattle.text_records.specs.FirstFaults.{IsLeast, NoneBefore}
 use Rattle.text_records.specs.Kinds.{first_of, least_kind, with_spelled}
 use Rattle.text_records.proofs.KindFacts.{least_applies, least_spelled, none_apply, none_spelled, rising}
 use Rattle.text_records.proofs.PlaceFacts as places
-use Rattle.item_catalog.specs.Drafts.{draft_of, record_kind, with_entry}
+use Rattle.item_catalog.specs.Steps.Drafts.{draft_of, record_kind, with_entry}
 use Rattle.item_catalog.specs.DeckEntries.{Entry, entry_of}
 use Rattle.item_catalog.specs.DeckEntries as e
 use Rattle.item_catalog.specs.Faults.{end_tests, entries_in, kinds_after, kinds_at, place_kinds, tests_of}

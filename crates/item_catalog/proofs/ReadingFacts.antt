@@ -7,7 +7,7 @@ use Rattle.text_records.specs.FirstFaults.{NoneBefore}
 use Rattle.text_records.specs.Kinds.{first_of}
 use Rattle.text_records.specs.Records.{records_of}
 use Rattle.text_records.proofs.PlaceFacts.{refused}
-use Rattle.item_catalog.specs.Drafts.{DraftValue, deck_from, draft_of, record_kind}
+use Rattle.item_catalog.specs.Steps.Drafts.{DraftValue, deck_from, draft_of, record_kind}
 use Rattle.item_catalog.specs.Steps.ReadEnds.{CanEnd, EndsBy}
 use Rattle.item_catalog.specs.DeckEntries.{entry_of}
 use Rattle.item_catalog.specs.Faults.{end_tests, entries_in, kinds_at}

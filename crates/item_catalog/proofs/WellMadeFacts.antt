@@ -17,7 +17,7 @@ use Rattle.item_catalog.specs.Parts.{queries_in, readers_in, updaters_in, update
 use Rattle.air_model.specs.Disks.{DiskSpec}
 use Rattle.item_catalog.specs.DeckLimits.{SettingsWithin, WithinLimits}
 use Rattle.item_catalog.specs.Decks.{deck_of, plain_item, with_freqs}
-use Rattle.item_catalog.specs.Drafts.{DraftValue, deck_from, draft_of}
+use Rattle.item_catalog.specs.Steps.Drafts.{DraftValue, deck_from, draft_of}
 use Rattle.item_catalog.specs.DeckEntries.{Entry}
 use Rattle.text_records.specs.Kinds.{first_of}
 use Rattle.item_catalog.specs.Faults.{end_tests}

@@ -9,6 +9,4 @@ pub mod DeckLimits
 pub mod DeckView
 pub mod Faults
 pub mod Grammar
-pub mod Drafts
-pub mod DraftView
 pub mod Steps

@@ -1,4 +1,6 @@
 -- Definitions that private steps alone speak of: no public contract cites them, nor what a public type shows.
 pub mod ListKinds
+pub mod Drafts
+pub mod DraftView
 pub mod ReadEnds
 pub mod ScriptView

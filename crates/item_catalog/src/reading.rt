@@ -5,7 +5,7 @@ ghost use Rattle.csv.specs.Records.{fields_of};
 ghost use Rattle.air_base.specs.declared.limits.TheConstants.{MOST_DECK_BYTES};
 ghost use Rattle.text_records.specs.Kinds.{first_of};
 ghost use Rattle.item_catalog.specs.DeckEntries.{entry_by, entry_of, tag_of};
-ghost use Rattle.item_catalog.specs.Drafts.{deck_from};
+ghost use Rattle.item_catalog.specs.Steps.Drafts.{deck_from};
 ghost use Rattle.item_catalog.specs.Steps.ReadEnds.{CanEnd, EndsBy};
 ghost use Rattle.item_catalog.specs.Faults.{end_tests};
 ghost use Rattle.item_catalog.specs.Grammar.{IsAnswer, Spells};

@@ -1,6 +1,7 @@
 -- The order of rooms: by what each holds, an empty one first, then the copy that goes first.
 use Rattle.std.specs.Prelude.{ℕ, ◌+◌, ◌-◌, ◌*◌, true, false, if◌then◌else◌, nat_lt, List, get_or}
 use Rattle.pix_cache.specs.declared.leaf.Leaf.{Leaf}
+use Rattle.pix_cache.specs.declared.store.TheConstants.{ITEM_NUMBERS}
 
 -- The leaf of an empty room.
 abbrev pub empty_leaf : ℕ → Leaf
@@ -16,7 +17,7 @@ nowhere = empty_leaf 0
 
 -- The weight of a room: nothing weighs 0, a copy weighs more by PIX number, and less by item number among equals.
 abbrev pub weight : Leaf → ℕ
-weight a = if a.kept then a.pix * 65538 + (65536 - a.item) + 1 else 0
+weight a = if a.kept then a.pix * (ITEM_NUMBERS + 2) + (ITEM_NUMBERS - a.item) + 1 else 0
 
 -- The lighter of two rooms, the first where they weigh the same.
 abbrev pub lighter : Leaf → Leaf → Leaf

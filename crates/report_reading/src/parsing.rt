@@ -4,7 +4,7 @@ ghost use Rattle.std.specs.Prelude.{◌≡◌, ◌<◌, drop, length};
 ghost use Rattle.air_base.specs.Pieces.{three_of, two_of};
 ghost use Rattle.csv.specs.Records.{fields_of};
 ghost use Rattle.text_records.specs.Fields.{four_of, seven_of, six_of};
-ghost use Rattle.text_records.specs.ReadAnswers.{Reads};
+ghost use Rattle.text_records.specs.Steps.ReadAnswers.{Reads};
 ghost use Rattle.text_records.specs.Spelled.{or_fault};
 ghost use Rattle.report_reading.specs.LineTexts.{abort_by, abort_of, commit_by, counts_by, ended_by, line_of, seen_by, start_by, verdict_by};
 ghost use Rattle.report_reading.specs.declared.kinds.FaultKind.TheVariants as fault;

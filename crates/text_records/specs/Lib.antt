@@ -5,4 +5,4 @@ pub mod Spelled
 pub mod Tags
 pub mod Kinds
 pub mod FirstFaults
-pub mod ReadAnswers
+pub mod Steps

@@ -44,13 +44,13 @@ impl<'a> Records<'a> {
     }
 
     /// Takes the next record, and answers whether there is one.
-    pub fn next(&mut self, record: &mut ByteRecord) -> Result<bool, NoMemory>
-        ensures { IfOk result (λ found. self.old ≡ (if found then fields_of record.new ∷ self.new else [])) }
+    pub fn next(&mut self, row: &mut ByteRecord) -> Result<bool, NoMemory>
+        ensures { IfOk result (λ found. self.old ≡ (if found then fields_of row.new ∷ self.new else [])) }
     {
         if self.has_ended {
             return Ok(false);
         }
-        match self.reader.read_byte_record(record) {
+        match self.reader.read_byte_record(row) {
             Ok(found) => Ok(found),
             Err(_) => {
                 self.has_ended = true;

@@ -2,18 +2,17 @@
 //!
 //! `calls` makes calls of an attempt by hand; `lengths` plays one beside a plain program.
 
-ghost use Rattle.std.specs.Prelude.{◌↔◌, ◌≢◌, ◌<◌, ◌≤◌, map, All, IsTrue};
+ghost use Rattle.std.specs.Prelude.{◌↔◌, ◌≢◌, ◌<◌, All, IsTrue};
 ghost use Rattle.air_history.specs.HeldReads.{IsNew};
-ghost use Rattle.air_history.specs.Clashes.{read_at};
-ghost use Rattle.air_history.specs.Reads.{last_cycle};
 ghost use Rattle.held_entries.specs.HeardReads.{heard_read};
 
-use air_base::{Clash, NoMemory};
+use crate::policy_held::PolicyHeld;
+use air_base::{Clash, NoMemory, Policy};
+use column_check::ROOM;
 use std::alloc::Global;
 use std::marker::Model;
-use vector_policies::{DataHeld, RHeld, ROOM};
 
-/// A read: its item, its cycle and the write vector heard with it.
+/// A read: its item, its cycle, and the control column or the write vector heard with it.
 pub type Read<'a> = (u16, u32, &'a [u32]);
 
 /// Why a read isn't tried or held.
@@ -21,7 +20,7 @@ pub type Read<'a> = (u16, u32, &'a [u32]);
 pub enum Unheld {
     /// Sixteen reads are held.
     Full,
-    /// Its item is held or is none of the `n`, or its vector is none of its cycle.
+    /// Its item is held or is none of the `n`, or its entries are none of its cycle.
     NotNew,
     /// It is older than the last held read, which R-Matrix doesn't allow.
     Late,
@@ -39,214 +38,104 @@ fn is_free(items: &[u16], item: u16) -> bool
 }
 
 /// Whether each entry is below the cycle.
-fn all_below(vector: &[u32], cycle: u32) -> bool
-    ensures { IsTrue result ↔ All (λ entry. entry < cycle) vector.now }
+fn all_below(entries: &[u32], cycle: u32) -> bool
+    ensures { IsTrue result ↔ All (λ entry. entry < cycle) entries.now }
 {
-    vector.iter().all(|entry| *entry < cycle)
+    entries.iter().all(|entry| *entry < cycle)
 }
 
-/// The reads that an attempt holds under a policy.
-pub trait Attempt {
-    /// Nothing held over `n` items.
-    fn new(alloc: Global, n: u16) -> Result<Self, NoMemory>;
+/// Held reads, and the items that they have.
+#[derive(Drop)]
+pub struct Attempt {
+    n: u16,
+    items: Vec<u16>,
+    held: PolicyHeld,
+}
+
+impl Model for Attempt {
+    ghost use Rattle.std.specs.Prelude.{◌≡◌, map};
+    ghost use Rattle.air_history.specs.HeldReads.{HeldReads};
+    ghost use Rattle.vector_policies_tests.specs.PolicyReads.{held_of};
+
+    ghost Value = { HeldReads };
+
+    ghost view = { λ a. held_of a.held };
+
+    ghost invariant = { λ a. ((held_of a.held).n ≡ a.n) × (map (λ r. r.item) (held_of a.held).reads ≡ a.items.items) };
+}
+
+impl Attempt {
+    /// Nothing held by the policy, over `n` items.
+    pub fn new(alloc: Global, policy: Policy, n: u16) -> Result<Attempt, NoMemory> {
+        Ok(Attempt {
+            n,
+            items: Vec::new(alloc),
+            held: PolicyHeld::new(alloc, policy, n)?,
+        })
+    }
+
+    /// Whether the read is a new one.
+    #[tactic(auto, using(crate::proofs::HeldItems::free_of))]
+    fn is_new(&self, item: u16, cycle: u32, entries: &[u32]) -> bool
+        ensures { IsTrue result → IsNew self.now (heard_read item cycle entries.now) }
+    {
+        item < self.n
+            && entries.len() == self.n as usize
+            && is_free(&self.items, item)
+            && all_below(entries, cycle)
+    }
 
     /// The clash of a new read, if it has one; none other may be tried.
-    fn clashes(&self, read: &Read<'_>) -> Result<Option<Clash>, Unheld>;
+    pub fn clashes(&self, read: &Read<'_>) -> Result<Option<Clash>, Unheld> {
+        let (item, cycle, entries) = read;
+        if !self.is_new(*item, *cycle, entries) {
+            return Err(Unheld::NotNew);
+        }
+        if *cycle < self.held.least_cycle() {
+            return Err(Unheld::Late);
+        }
+        Ok(self.held.clashes(*item, *cycle, entries))
+    }
 
     /// Holds a read that clashes with none.
-    fn hold(&mut self, read: &Read<'_>) -> Result<(), Unheld>;
+    pub fn hold(&mut self, read: &Read<'_>) -> Result<(), Unheld> {
+        let (item, cycle, entries) = read;
+        if !self.is_new(*item, *cycle, entries) {
+            return Err(Unheld::NotNew);
+        }
+        if *cycle < self.held.least_cycle() {
+            return Err(Unheld::Late);
+        }
+        if self.held.len() >= ROOM {
+            return Err(Unheld::Full);
+        }
+        if let Some(clash) = self.held.clashes(*item, *cycle, entries) {
+            return Err(Unheld::Clash(clash));
+        }
+        let Ok(()) = self.items.push(*item) else {
+            return Err(Unheld::NoMemory);
+        };
+        self.held.hold(*item, *cycle, entries);
+        Ok(())
+    }
 
     /// How many reads are held.
-    fn len(&self) -> usize;
+    pub fn len(&self) -> usize {
+        self.held.len()
+    }
 
     /// The cycle of the last read.
-    fn last(&self) -> Option<u32>;
+    pub fn last(&self) -> Option<u32> {
+        self.held.last()
+    }
 
     /// The held cycle of each item.
-    fn cycles(&self) -> &[u32];
+    pub fn cycles(&self) -> &[u32] {
+        self.held.cycles()
+    }
 
     /// Holds nothing any more.
-    fn clear(&mut self);
-}
-
-/// Held reads of Datacycle, and the items that they have.
-#[derive(Drop)]
-pub struct DataAttempt {
-    n: u16,
-    items: Vec<u16>,
-    held: DataHeld,
-}
-
-impl Model for DataAttempt {
-    ghost use Rattle.std.specs.Prelude.{◌≡◌, map};
-    ghost use Rattle.air_history.specs.HeldReads.{HeldReads};
-
-    ghost Value = { HeldReads };
-
-    ghost view = { λ a. a.held };
-
-    ghost invariant = { λ a. (a.held.n ≡ a.n) × (map (λ r. r.item) a.held.reads ≡ a.items.items) };
-}
-
-impl DataAttempt {
-    /// Whether the read is a new one.
-    #[tactic(auto, using(crate::proofs::HeldItems::free_of))]
-    fn is_new(&self, item: u16, cycle: u32, vector: &[u32]) -> bool
-        ensures { IsTrue result → IsNew self.now (heard_read item cycle vector.now) }
-    {
-        item < self.n
-            && vector.len() == self.n as usize
-            && is_free(&self.items, item)
-            && all_below(vector, cycle)
-    }
-}
-
-impl Attempt for DataAttempt {
-    fn new(alloc: Global, n: u16) -> Result<DataAttempt, NoMemory> {
-        Ok(DataAttempt {
-            n,
-            items: Vec::new(alloc),
-            held: DataHeld::new(alloc, n)?,
-        })
-    }
-
-    fn clashes(&self, read: &Read<'_>) -> Result<Option<Clash>, Unheld> {
-        let (item, cycle, vector) = read;
-        if !self.is_new(*item, *cycle, vector) {
-            return Err(Unheld::NotNew);
-        }
-        Ok(self.held.clashes(*item, *cycle, vector))
-    }
-
-    fn hold(&mut self, read: &Read<'_>) -> Result<(), Unheld> {
-        let (item, cycle, vector) = read;
-        if !self.is_new(*item, *cycle, vector) {
-            return Err(Unheld::NotNew);
-        }
-        if self.held.len() >= ROOM {
-            return Err(Unheld::Full);
-        }
-        if let Some(clash) = self.held.clashes(*item, *cycle, vector) {
-            return Err(Unheld::Clash(clash));
-        }
-        let Ok(()) = self.items.push(*item) else {
-            return Err(Unheld::NoMemory);
-        };
-        self.held.hold(*item, *cycle, vector);
-        Ok(())
-    }
-
-    fn len(&self) -> usize {
-        self.held.len()
-    }
-
-    fn last(&self) -> Option<u32> {
-        self.held.last()
-    }
-
-    fn cycles(&self) -> &[u32] {
-        self.held.cycles()
-    }
-
-    fn clear(&mut self) {
-        self.items.clear();
-        self.held.clear();
-    }
-}
-
-/// Held reads of R-Matrix, and the items that they have.
-#[derive(Drop)]
-pub struct RAttempt {
-    n: u16,
-    items: Vec<u16>,
-    held: RHeld,
-}
-
-impl Model for RAttempt {
-    ghost use Rattle.std.specs.Prelude.{◌≡◌, map};
-    ghost use Rattle.air_history.specs.HeldReads.{HeldReads};
-
-    ghost Value = { HeldReads };
-
-    ghost view = { λ a. a.held };
-
-    ghost invariant = { λ a. (a.held.n ≡ a.n) × (map (λ r. r.item) a.held.reads ≡ a.items.items) };
-}
-
-impl RAttempt {
-    /// Whether the read is a new one.
-    #[tactic(auto, using(crate::proofs::HeldItems::free_of))]
-    fn is_new(&self, item: u16, cycle: u32, vector: &[u32]) -> bool
-        ensures { IsTrue result → IsNew self.now (heard_read item cycle vector.now) }
-    {
-        item < self.n
-            && vector.len() == self.n as usize
-            && is_free(&self.items, item)
-            && all_below(vector, cycle)
-    }
-
-    /// Whether the cycle isn't below that of the last held read.
-    fn in_order(&self, cycle: u32) -> bool
-        ensures { IsTrue result → last_cycle (map read_at self.now.reads) ≤ cycle }
-    {
-        self.held.last().unwrap_or(0) <= cycle
-    }
-}
-
-impl Attempt for RAttempt {
-    fn new(alloc: Global, n: u16) -> Result<RAttempt, NoMemory> {
-        Ok(RAttempt {
-            n,
-            items: Vec::new(alloc),
-            held: RHeld::new(alloc, n)?,
-        })
-    }
-
-    fn clashes(&self, read: &Read<'_>) -> Result<Option<Clash>, Unheld> {
-        let (item, cycle, vector) = read;
-        if !self.is_new(*item, *cycle, vector) {
-            return Err(Unheld::NotNew);
-        }
-        if !self.in_order(*cycle) {
-            return Err(Unheld::Late);
-        }
-        Ok(self.held.clashes(*item, *cycle, vector))
-    }
-
-    fn hold(&mut self, read: &Read<'_>) -> Result<(), Unheld> {
-        let (item, cycle, vector) = read;
-        if !self.is_new(*item, *cycle, vector) {
-            return Err(Unheld::NotNew);
-        }
-        if !self.in_order(*cycle) {
-            return Err(Unheld::Late);
-        }
-        if self.held.len() >= ROOM {
-            return Err(Unheld::Full);
-        }
-        if let Some(clash) = self.held.clashes(*item, *cycle, vector) {
-            return Err(Unheld::Clash(clash));
-        }
-        let Ok(()) = self.items.push(*item) else {
-            return Err(Unheld::NoMemory);
-        };
-        self.held.hold(*item, *cycle, vector);
-        Ok(())
-    }
-
-    fn len(&self) -> usize {
-        self.held.len()
-    }
-
-    fn last(&self) -> Option<u32> {
-        self.held.last()
-    }
-
-    fn cycles(&self) -> &[u32] {
-        self.held.cycles()
-    }
-
-    fn clear(&mut self) {
+    pub fn clear(&mut self) {
         self.items.clear();
         self.held.clear();
     }

@@ -1,7 +1,7 @@
-//! Calls of an attempt as data, what the calls of both policies name, and the checker that makes them.
+//! Calls of an attempt as data, what the calls of several policies name, and the checker that makes them.
 
 use crate::attempts::{Attempt, Read, Unheld};
-use air_base::{Clash, NoMemory};
+use air_base::{Clash, NoMemory, Policy};
 use std::alloc::Global;
 
 /// A call, and what it has to answer. Only a read that clashes with none may be held.
@@ -25,7 +25,7 @@ pub struct Case<'a> {
     pub calls: &'a [Call<'a>],
 }
 
-/// A vector of seventeen items that were never written.
+/// The entries of seventeen items that were never written.
 pub const UNWRITTEN: [u32; 17] = [0; 17];
 
 /// The same, but that item 16 was written in cycle 5, and item 2 in cycle 8.
@@ -61,8 +61,8 @@ fn cycle_other(cycles: &[u32], told: &[u32]) -> Option<Other> {
 }
 
 /// In what trying the read is answered otherwise than told.
-fn try_other<A: Attempt>(
-    attempt: &A,
+fn try_other(
+    attempt: &Attempt,
     read: &Read<'_>,
     told: Result<Option<Clash>, Unheld>,
 ) -> Option<Other> {
@@ -71,17 +71,13 @@ fn try_other<A: Attempt>(
 }
 
 /// In what holding the read is answered otherwise than told.
-fn hold_other<A: Attempt>(
-    attempt: &mut A,
-    read: &Read<'_>,
-    told: Result<(), Unheld>,
-) -> Option<Other> {
+fn hold_other(attempt: &mut Attempt, read: &Read<'_>, told: Result<(), Unheld>) -> Option<Other> {
     let answer = attempt.hold(read);
     (answer != told).then_some(Other::Hold(answer))
 }
 
 /// In what the call is answered otherwise than told.
-fn difference<A: Attempt>(attempt: &mut A, call: &Call<'_>) -> Option<Other> {
+fn difference(attempt: &mut Attempt, call: &Call<'_>) -> Option<Other> {
     match call {
         Call::Hold(read) => hold_other(attempt, read, Ok(())),
         Call::Clashes(read, told) => try_other(attempt, read, Ok(*told)),
@@ -105,24 +101,30 @@ fn difference<A: Attempt>(attempt: &mut A, call: &Call<'_>) -> Option<Other> {
     }
 }
 
-/// The place of the first call of the case that isn't answered as told, and in what.
-fn other_in<A: Attempt + Drop>(mut attempt: A, calls: &[Call<'_>]) -> Option<(usize, Other)> {
+/// The place of the first call under the policy, over `n` items, that isn't answered as told, and in what.
+pub fn first_call(
+    alloc: Global,
+    policy: Policy,
+    n: u16,
+    calls: &[Call<'_>],
+) -> Result<Option<(usize, Other)>, NoMemory> {
+    let mut attempt = Attempt::new(alloc, policy, n)?;
     for (place, call) in calls.iter().enumerate() {
         if let Some(other) = difference(&mut attempt, call) {
-            return Some((place, other));
+            return Ok(Some((place, other)));
         }
     }
-    None
+    Ok(None)
 }
 
 /// The first case in which a call isn't answered as told, the place of that call, and in what.
-pub fn first_other<'a, A: Attempt + Drop>(
+pub fn first_other<'a>(
     alloc: Global,
+    policy: Policy,
     cases: &[Case<'a>],
 ) -> Result<Option<(&'a str, usize, Other)>, NoMemory> {
     for case in cases {
-        let attempt = A::new(alloc, case.n)?;
-        if let Some((place, other)) = other_in(attempt, case.calls) {
+        if let Some((place, other)) = first_call(alloc, policy, case.n, case.calls)? {
             return Ok(Some((case.shows, place, other)));
         }
     }

@@ -1,7 +1,7 @@
 //! Held reads of Datacycle, each case worked by hand.
 
-use crate::attempts::DataAttempt;
 use crate::calls::{Call, Case, TWO_WRITTEN, UNWRITTEN, first_other, of};
+use air_base::Policy;
 use std::test::Fail;
 
 /// A vector of which item 0 alone was written, in cycle 6.
@@ -55,7 +55,7 @@ fn held_reads_are_judged_at_the_newest_cycle(rt: HostRuntime) -> Result<(), Fail
             ],
         },
     ];
-    assert_eq!(rt; first_other::<DataAttempt>(rt.alloc(), &cases)?, None);
+    assert_eq!(rt; first_other(rt.alloc(), Policy::Datacycle, &cases)?, None);
     Ok(())
 }
 
@@ -138,7 +138,7 @@ fn an_older_read_is_judged_by_a_held_vector(rt: HostRuntime) -> Result<(), Fail>
             ],
         },
     ];
-    assert_eq!(rt; first_other::<DataAttempt>(rt.alloc(), &cases)?, None);
+    assert_eq!(rt; first_other(rt.alloc(), Policy::Datacycle, &cases)?, None);
     Ok(())
 }
 
@@ -194,6 +194,6 @@ fn sixteen_reads_are_held_at_once(rt: HostRuntime) -> Result<(), Fail> {
             ],
         },
     ];
-    assert_eq!(rt; first_other::<DataAttempt>(rt.alloc(), &cases)?, None);
+    assert_eq!(rt; first_other(rt.alloc(), Policy::Datacycle, &cases)?, None);
     Ok(())
 }

@@ -1,9 +1,9 @@
-//! Both types beside plain programs, at lengths around a block of eight and at larger ones, with up to sixteen reads held.
+//! The three types beside plain programs, at lengths around a block of eight and at larger ones, with up to sixteen reads held.
 //!
 //! The plain programs test each held read, and fill the array of held cycles read by read. A read that clashes with none is
 //! held by both, and the next one is tried.
 
-use crate::attempts::{Attempt, DataAttempt, RAttempt, Unheld};
+use crate::attempts::{Attempt, Unheld};
 use crate::plain::{Read, answer, array, read_of_seed};
 use air_base::{Clash, Policy};
 use std::alloc::Global;
@@ -51,18 +51,18 @@ impl Tally {
 
 /// Held reads and those of the plain program.
 #[derive(Drop)]
-struct Pair<A> {
+struct Pair {
     policy: Policy,
     n: u16,
-    held: A,
+    held: Attempt,
     plain: Vec<Read>,
 }
 
-impl<A: Attempt> Pair<A> {
+impl Pair {
     /// Tries the read, and holds it where there is room and it goes with all.
     fn try_read(&mut self, read: Read, tally: &mut Tally) -> Result<Option<Other>, Fail> {
         let told = answer(self.policy, &self.plain, &read);
-        let new = (read.item, read.cycle, read.vector.as_slice());
+        let new = (read.item, read.cycle, read.entries.as_slice());
         let answer = self.held.clashes(&new);
         if answer != told {
             return Ok(Some(Other::Clashes(answer)));
@@ -116,16 +116,11 @@ enum Apart {
 }
 
 /// In what the answers at a length differ from what is told of it.
-fn difference<A: Attempt + Drop>(
-    alloc: Global,
-    policy: Policy,
-    n: u16,
-    most: usize,
-) -> Result<Option<Apart>, Fail> {
+fn difference(alloc: Global, policy: Policy, n: u16, most: usize) -> Result<Option<Apart>, Fail> {
     let mut pair = Pair {
         policy,
         n,
-        held: A::new(alloc, n)?,
+        held: Attempt::new(alloc, policy, n)?,
         plain: Vec::new(alloc),
     };
     let mut tally = Tally {
@@ -143,8 +138,9 @@ fn difference<A: Attempt + Drop>(
         return Ok(Some(Apart::Most(tally.most)));
     }
     let (went, clashed, late) = (tally.went, tally.clashed, tally.late);
+    let least = if policy == Policy::FMatrix { 1000 } else { 500 };
     let told = if n > 1 {
-        went > 1000 && clashed > 500 && (late > 100) == (policy == Policy::RMatrix)
+        went > 1000 && clashed > least && (late > 100) == (policy == Policy::RMatrix)
     } else {
         went == 0 && clashed == 0 && late == 0
     };
@@ -152,13 +148,13 @@ fn difference<A: Attempt + Drop>(
 }
 
 /// The first length at which something differs, and in what.
-fn first_apart<'a, A: Attempt + Drop>(
+fn first_apart<'a>(
     alloc: Global,
     policy: Policy,
     lengths: &[Length<'a>],
 ) -> Result<Option<(&'a str, Apart)>, Fail> {
     for (shows, n, most) in lengths {
-        if let Some(apart) = difference::<A>(alloc, policy, *n, *most)? {
+        if let Some(apart) = difference(alloc, policy, *n, *most)? {
             return Ok(Some((*shows, apart)));
         }
     }
@@ -177,19 +173,19 @@ const LENGTHS: [Length<'static>; 7] = [
 ];
 
 #[test]
+fn each_answer_of_f_matrix_is_the_plain_programs(rt: HostRuntime) -> Result<(), Fail> {
+    assert_eq!(rt; first_apart(rt.alloc(), Policy::FMatrix, &LENGTHS)?, None);
+    Ok(())
+}
+
+#[test]
 fn each_answer_of_datacycle_is_the_plain_programs(rt: HostRuntime) -> Result<(), Fail> {
-    assert_eq!(rt;
-        first_apart::<DataAttempt>(rt.alloc(), Policy::Datacycle, &LENGTHS)?,
-        None
-    );
+    assert_eq!(rt; first_apart(rt.alloc(), Policy::Datacycle, &LENGTHS)?, None);
     Ok(())
 }
 
 #[test]
 fn each_answer_of_r_matrix_is_the_plain_programs(rt: HostRuntime) -> Result<(), Fail> {
-    assert_eq!(rt;
-        first_apart::<RAttempt>(rt.alloc(), Policy::RMatrix, &LENGTHS)?,
-        None
-    );
+    assert_eq!(rt; first_apart(rt.alloc(), Policy::RMatrix, &LENGTHS)?, None);
     Ok(())
 }

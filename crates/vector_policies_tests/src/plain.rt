@@ -5,17 +5,17 @@ use air_base::{Clash, Policy};
 use std::alloc::Global;
 use std::test::Fail;
 
-/// A read: its item, its cycle and its vector.
+/// A read: its item, its cycle and its entries.
 #[derive(Drop)]
 pub struct Read {
     pub item: u16,
     pub cycle: u32,
-    pub vector: Vec<u32>,
+    pub entries: Vec<u32>,
 }
 
-/// The entry of an item in the read's vector.
+/// The entry of an item that came with the read.
 fn entry(read: &Read, item: u16) -> u32 {
-    read.vector.get(item as usize).copied().unwrap_or(0)
+    read.entries.get(item as usize).copied().unwrap_or(0)
 }
 
 /// Of two clashes, where there are any, that of lesser item.
@@ -27,7 +27,7 @@ fn lesser(one: Option<Clash>, other: Option<Clash>) -> Option<Clash> {
     }
 }
 
-/// The read without its vector, if it is named.
+/// The read without its entries, if it is named.
 fn clash_if(read: &Read, is_named: bool) -> Option<Clash> {
     is_named.then_some(Clash {
         item: read.item,
@@ -35,7 +35,7 @@ fn clash_if(read: &Read, is_named: bool) -> Option<Clash> {
     })
 }
 
-/// Of the reads whose item the new vector has at their cycle or later, that of least item.
+/// Of the reads whose item the new entries have at their cycle or later, that of least item.
 fn stale(reads: &[Read], new: &Read) -> Option<Clash> {
     let mut least = None;
     for read in reads {
@@ -63,6 +63,17 @@ fn first_of_newest(reads: &[Read]) -> Option<&Read> {
         };
     }
     newest
+}
+
+/// The clash under F-Matrix: of the reads whose item the new entries have at their cycle or later, or whose own entries so have
+/// the new item, that of least item.
+fn clash_of_f(reads: &[Read], new: &Read) -> Option<Clash> {
+    let mut least = None;
+    for read in reads {
+        let is_named = entry(new, read.item) >= read.cycle || entry(read, new.item) >= new.cycle;
+        least = lesser(least, clash_if(read, is_named));
+    }
+    least
 }
 
 /// The clash under Datacycle.
@@ -106,9 +117,10 @@ pub fn answer(policy: Policy, reads: &[Read], new: &Read) -> Result<Option<Clash
         return Err(Unheld::NotNew);
     }
     match policy {
+        Policy::FMatrix => Ok(clash_of_f(reads, new)),
+        Policy::Datacycle => Ok(clash_of_data(reads, new)),
         Policy::RMatrix if is_late(reads, new) => Err(Unheld::Late),
         Policy::RMatrix => Ok(clash_of_r(reads, new)),
-        _ => Ok(clash_of_data(reads, new)),
     }
 }
 
@@ -134,8 +146,8 @@ fn row(alloc: Global, n: u16, limit: u32, seed: u32) -> Result<Vec<u32>, Fail> {
     Ok(row)
 }
 
-/// The cycle of a read of a number. Under Datacycle it is from 3 to 9. Under R-Matrix it rises with the number, so that the
-/// quiet reads are never late, and of the others most aren't.
+/// The cycle of a read of a number. It is from 3 to 9, but under R-Matrix it rises with the number, so that the quiet reads are
+/// never late, and of the others most aren't.
 fn cycle_of(policy: Policy, number: u32, is_quiet: bool, dice: u32) -> u32 {
     match policy {
         Policy::RMatrix if is_quiet => (number / 2).wrapping_add(3),
@@ -164,6 +176,6 @@ pub fn read_of_seed(
     Ok(Read {
         item: item as u16,
         cycle,
-        vector: row(alloc, n, limit, dice)?,
+        entries: row(alloc, n, limit, dice)?,
     })
 }

@@ -1,7 +1,7 @@
 //! Held reads of R-Matrix, each case worked by hand.
 
-use crate::attempts::RAttempt;
 use crate::calls::{Call, Case, TWO_WRITTEN, UNWRITTEN, first_other, of};
+use air_base::Policy;
 use std::test::Fail;
 
 /// The vector of two written items, but that item 0 was written in cycle 5 too.
@@ -82,7 +82,7 @@ fn a_read_is_taken_by_one_of_two_conditions(rt: HostRuntime) -> Result<(), Fail>
             ],
         },
     ];
-    assert_eq!(rt; first_other::<RAttempt>(rt.alloc(), &cases)?, None);
+    assert_eq!(rt; first_other(rt.alloc(), Policy::RMatrix, &cases)?, None);
     Ok(())
 }
 
@@ -139,6 +139,6 @@ fn reads_come_in_the_order_of_cycles(rt: HostRuntime) -> Result<(), Fail> {
             ],
         },
     ];
-    assert_eq!(rt; first_other::<RAttempt>(rt.alloc(), &cases)?, None);
+    assert_eq!(rt; first_other(rt.alloc(), Policy::RMatrix, &cases)?, None);
     Ok(())
 }

@@ -4,7 +4,7 @@ use Rattle.std.specs.Prelude.{◌≡◌, ◌≤◌, ℕ, Option, Some, None, len
 use Rattle.air_base.specs.declared.limits.TheConstants.{MOST_DELTA}
 use Rattle.air_model.specs.Decks.{IsDeck}
 use Rattle.item_catalog.specs.DeckLimits.{WithinLimits}
-use Rattle.item_catalog.specs.Drafts.{DraftValue, deck_from}
+use Rattle.item_catalog.specs.Steps.Drafts.{DraftValue, deck_from}
 use Rattle.text_records.specs.Kinds.{first_of}
 use Rattle.item_catalog.specs.Faults.{end_tests}
 use Rattle.item_catalog.specs.Kinds.{code_of}

@@ -8,7 +8,7 @@ ghost use Rattle.csv.specs.Records.{fields_of};
 ghost use Rattle.air_model.specs.Decks.{IsDeck};
 ghost use Rattle.text_records.specs.Kinds.{first_of};
 ghost use Rattle.item_catalog.specs.DeckLimits.{WithinLimits};
-ghost use Rattle.item_catalog.specs.Drafts.{Adds, deck_from, draft_of};
+ghost use Rattle.item_catalog.specs.Steps.Drafts.{Adds, deck_from, draft_of};
 ghost use Rattle.item_catalog.specs.Settings.{number_in};
 ghost use Rattle.item_catalog.specs.DeckEntries.{disk_by, entry_of, item_by, reader_by};
 ghost use Rattle.item_catalog.specs.Faults.{end_tests};
@@ -55,8 +55,8 @@ pub struct Draft {
 }
 
 impl Model for Draft {
-    ghost use Rattle.item_catalog.specs.Drafts.{DraftValue};
-    ghost use Rattle.item_catalog.specs.DraftView.{DraftKept, draft_seen};
+    ghost use Rattle.item_catalog.specs.Steps.Drafts.{DraftValue};
+    ghost use Rattle.item_catalog.specs.Steps.DraftView.{DraftKept, draft_seen};
 
     ghost Value = { DraftValue };
 

@@ -3,7 +3,7 @@ use Rattle.std.specs.Prelude.{◌≡◌, ◌<◌, ◌++◌, ⊤, [], ◌∷◌, 
 use Rattle.air_model.specs.Decks.{Deck}
 use Rattle.air_base.specs.declared.limits.TheConstants.{MOST_UPDATERS}
 use Rattle.text_records.specs.Kinds.{least_kind, with_spelled}
-use Rattle.text_records.specs.ReadAnswers.{Answers}
+use Rattle.text_records.specs.Steps.ReadAnswers.{Answers}
 use Rattle.text_records.specs.declared.refusals.Refusal.{Refusal}
 use Rattle.text_records.specs.declared.refusals.Refusal.TheVariants.{NoMemory}
 use Rattle.report_reading.specs.ReportFaults.{tests_of}

@@ -10,6 +10,7 @@ use Rattle.turnstile.specs.PassEntries.{Continues}
 use Rattle.turnstile.specs.Steps.SeatViews.{give_back}
 
 module _ {K E B : Type 0} (entries : K → List (ℕ × E)) (base : K → B) where
+  -- What the rule knows of a pass at a step: its view, and the slots that it has taken.
   abbrev Sat : Type 0
   Sat = Me (Option K) (View E B)
 

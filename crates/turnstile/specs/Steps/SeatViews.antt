@@ -48,10 +48,11 @@ module _ {E B : Type 0} where
   abbrev pub with_numbers : View E B → List ℕ → View E B
   with_numbers v ns = record v { sight = sight v.sight.entries ns }
 
-  -- Without its first number, and with that alone.
+  -- Without its first number.
   abbrev pub without_one : View E B → View E B
   without_one v = with_numbers v (drop 1 v.sight.numbers)
 
+  -- With its first number alone.
   abbrev pub with_one : View E B → View E B
   with_one v = with_numbers v (take 1 v.sight.numbers)
 

@@ -3,7 +3,7 @@
 -- pass is in a turn. The tickets that are out stand at the distances 0, 1, .. from the one that is served, one view
 -- each; each number below the number of passes is in just one view; and each view has seen a beginning of the one list,
 -- with all that is its own.
-use Rattle.std.specs.Prelude.{◌≡◌, ℕ, suc, ◌+◌, ◌%◌, ◌<◌, cond, leb, List, [], ◌∷◌, length, Contains, Option, Some, None}
+use Rattle.std.specs.Prelude.{◌≡◌, ℕ, suc, ◌+◌, ◌%◌, ◌^◌, ◌<◌, cond, leb, List, [], ◌∷◌, length, Contains, Option, Some, None}
 use mathlib.Core.Option.{some, none}
 use mathlib.Core.Option as maybe
 use lib.ListN.{get_elem?}
@@ -40,11 +40,12 @@ module _ {K E B : Type 0} (entries : K → List (ℕ × E)) (base : K → B) whe
     -- A view that has a number has the base and the number of passes.
     pub live : 0 < length v.sight.numbers → (v.base ≡ Some b) × (v.passes ≡ passes)
     -- Only such a view has a ticket, and the ticket is not far from the one that is served.
-    pub queues : (t : ℕ) → v.ticket ≡ Some t → (0 < length v.sight.numbers) × ((d : ℕ) × (d < queue) × (t ≡ (front + d) % 18446744073709551616))
+    pub queues : (t : ℕ) → v.ticket ≡ Some t → (0 < length v.sight.numbers) × ((d : ℕ) × (d < queue) × (t ≡ (front + d) % 2 ^ 64))
     -- Only the view whose ticket is served has noted a list, and the list stays as it is until that view gives back.
     pub turns : (l : List (ℕ × E)) → v.noted ≡ Some l → (phase ≡ out j) × (l ≡ now) × (v.ticket ≡ Some front)
     -- The two lists of a join are beginnings too, each with all entries that have its numbers.
     pub olds : (k : ℕ) (o : Sight E) → get_elem? v.old k ≡ some o → Continues o.numbers o.entries now × ((n : ℕ) → Contains o.numbers n → Contains v.sight.numbers n)
+    -- A view has such lists only while it has no ticket.
     pub old_rests : 0 < length v.old → v.ticket ≡ None
 
   -- Where the value is.
@@ -52,6 +53,8 @@ module _ {K E B : Type 0} (entries : K → List (ℕ × E)) (base : K → B) whe
   InPhase homes views now b home = (x : K) × (homes ≡ some (Some x) ∷ []) × (entries x ≡ now) × (base x ≡ b)
   InPhase homes views now b (out j) = (homes ≡ none ∷ []) × ((v : View E B) × (get_elem? views j ≡ some v) × (v.noted ≡ Some now))
 
+  -- The rule itself, of the words, the slot and the views of a state: next is the next ticket, front the one that is
+  -- served, now and based the list and the base of the value, passes the number of passes, and phase where the value is.
   pub record Kept (s : State (Option K) (View E B)) : Type 0 where
     pub next : ℕ
     pub front : ℕ
@@ -60,9 +63,9 @@ module _ {K E B : Type 0} (entries : K → List (ℕ × E)) (base : K → B) whe
     pub passes : ℕ
     pub phase : Phase
     pub words_are : s.words ≡ next ∷ front ∷ []
-    pub front_fits : front < 18446744073709551616
-    pub next_is : next ≡ (front + total waits s.views) % 18446744073709551616
-    pub few : passes < 4294967296
+    pub front_fits : front < 2 ^ 64
+    pub next_is : next ≡ (front + total waits s.views) % 2 ^ 64
+    pub few : passes < 2 ^ 32
     pub dealt : total share s.views ≡ passes
     pub once : (n : ℕ) → total (λ v. times n v.sight.numbers) s.views ≡ once_below n passes
     pub numbered : Below passes now

@@ -3,7 +3,7 @@ use Rattle.csv.specs.Records.{fields_of}
 use Rattle.text_records.specs.Kinds.{with_spelled}
 use Rattle.text_records.proofs.RowFacts.{few_records}
 use Rattle.item_catalog.specs.Kinds.{code_of}
-use Rattle.item_catalog.specs.Drafts.{DraftValue, draft_of, record_kind, with_entry}
+use Rattle.item_catalog.specs.Steps.Drafts.{DraftValue, draft_of, record_kind, with_entry}
 use Rattle.item_catalog.specs.Steps.ReadEnds.{CanEnd}
 use Rattle.item_catalog.specs.DeckEntries.{entry_of}
 use Rattle.item_catalog.specs.Faults.{entries_in}
@@ -17,7 +17,7 @@ loop-row-init c = ([], sym c.new-records.ensures, (λ place below. absurd (omega
 
 pub loop-row-preserved : goal.loop-row-preserved
 loop-row-preserved c =
-    let inv = c.loop-row.invariant in let rows = inv.0 in let row = fields_of c.next.new.record in let left = c.next.new.self in
+    let inv = c.loop-row.invariant in let rows = inv.0 in let row = fields_of c.next.new.row in let left = c.next.new.self in
     let read : c.loop-row.records ≡ row ∷ left = rw c.if-not-branch.false at c.in_ok-next.ensures in
     let none : record_kind (draft_of (entries_in rows)) (entry_of row) ≡ None = ap (λ d. record_kind d (entry_of row)) (sym inv.3) ∙ c.in-Ok.ensures.0 in (
       rows ++ row ∷ [],
@@ -48,7 +48,7 @@ returns-then-not-branch-clause-fault c =
 
 pub returns-in-Err-Kind-clause-fault : goal.returns-in-Err-Kind-clause-fault
 returns-in-Err-Kind-clause-fault c =
-    let inv = c.loop-row.invariant in let rows = inv.0 in let row = fields_of c.next.new.record in let left = c.next.new.self in
+    let inv = c.loop-row.invariant in let rows = inv.0 in let row = fields_of c.next.new.row in let left = c.next.new.self in
     let read : c.loop-row.records ≡ row ∷ left = rw c.if-not-branch.false at c.in_ok-next.ensures in
     let told : record_kind c.loop-row.draft (entry_of row) ≡ Some c.in-Err-Kind.kind = rw c.in-Err-Kind.field-0-is at c.in-Err-Kind.ensures in
     let P : ℕ → Type 0 = λ r. HasFault c.args.bytes.now r (code_of c.in-Err-Kind.kind) in

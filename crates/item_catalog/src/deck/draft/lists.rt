@@ -2,7 +2,7 @@
 
 ghost use Rattle.std.specs.Prelude.{◌≡◌, OnOk, drop};
 ghost use Rattle.csv.specs.Records.{fields_of};
-ghost use Rattle.item_catalog.specs.Drafts.{Adds, QueryRead, UpdateRead};
+ghost use Rattle.item_catalog.specs.Steps.Drafts.{Adds, QueryRead, UpdateRead};
 ghost use Rattle.item_catalog.specs.DeckEntries.{query_by, script_by, update_by};
 ghost use Rattle.air_base.specs.Pieces.{one_of, three_of, two_of};
 ghost use Rattle.item_catalog.specs.Steps.ListKinds.{seen_query_kind, seen_update_kind};

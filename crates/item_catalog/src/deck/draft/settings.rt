@@ -5,7 +5,7 @@ ghost use Rattle.std.specs.List.{list_any};
 ghost use Rattle.csv.specs.Records.{fields_of};
 ghost use Rattle.air_base.specs.Pieces.{two_of};
 ghost use Rattle.item_catalog.specs.DeckEntries.{set_by};
-ghost use Rattle.item_catalog.specs.Drafts.{Adds};
+ghost use Rattle.item_catalog.specs.Steps.Drafts.{Adds};
 ghost use Rattle.item_catalog.specs.DeckLimits.{SettingsWithin};
 ghost use Rattle.item_catalog.specs.Settings.{default_of, name_of, number_in, number_said, number_set, policy_in, policy_of, range_of, same_setting, setting_of, settings_in};
 

@@ -17,7 +17,7 @@ loop-row-init c = ([], sym c.new-records.ensures, (λ place below. absurd (omega
 
 pub loop-row-preserved : goal.loop-row-preserved
 loop-row-preserved c =
-    let inv = c.loop-row.invariant in let rows = inv.0 in let row = fields_of c.next.new.record in let left = c.next.new.self in let deck = c.args.deck.now in
+    let inv = c.loop-row.invariant in let rows = inv.0 in let row = fields_of c.next.new.row in let left = c.next.new.self in let deck = c.args.deck.now in
     let read : c.loop-row.records ≡ row ∷ left = rw c.if-not-branch.false at c.in_ok-next.ensures in
     let none : record_kind deck (sections_of (lines_of rows)) (line_of row) ≡ None = ap (λ d. record_kind deck d (line_of row)) (sym inv.3) ∙ c.in-Ok.ensures.0 in (
       rows ++ row ∷ [],
@@ -36,7 +36,7 @@ returns-then-not-branch-clause-lines c =
 
 pub returns-in-Err-Kind-clause-fault : goal.returns-in-Err-Kind-clause-fault
 returns-in-Err-Kind-clause-fault c =
-    let inv = c.loop-row.invariant in let rows = inv.0 in let row = fields_of c.next.new.record in let left = c.next.new.self in let deck = c.args.deck.now in
+    let inv = c.loop-row.invariant in let rows = inv.0 in let row = fields_of c.next.new.row in let left = c.next.new.self in let deck = c.args.deck.now in
     let read : c.loop-row.records ≡ row ∷ left = rw c.if-not-branch.false at c.in_ok-next.ensures in
     let told : record_kind deck c.loop-row.draft (line_of row) ≡ Some c.in-Err-Kind.kind = rw c.in-Err-Kind.field-0-is at c.in-Err-Kind.ensures in
     let P : ℕ → Type 0 = λ r. HasReportFault deck c.args.bytes.now r (code_of c.in-Err-Kind.kind) in

@@ -1,9 +1,10 @@
-use Rattle.std.proofs.Common.{Some, ◌∙◌, ap, subst, sym}
+use Rattle.std.proofs.Common.{◌≡◌, Some, ◌∙◌, ap, subst, sym}
 use Rattle.std.specs.Vec.{with_items}
 use Rattle.air_history.specs.Columns.{scheme_of}
 use Rattle.air_history.specs.HeldReads.{IsNew}
 use Rattle.air_model.specs.Buckets.{item_of}
 use Rattle.air_model.specs.Judges.{by_entries, heard_of}
+use Rattle.air_model.specs.Reads.{Read}
 use Rattle.air_model.specs.Sessions.{open_bucket, wanted}
 use Rattle.receiver_core.specs.Steps.Attempts.{columns_of, read, read_of}
 use Rattle.receiver_core.specs.LastReads.{in_state}
@@ -13,6 +14,7 @@ use Rattle.receiver_core.proofs.OpenLemmas.{bucket_read, new_read, offered_to, o
 use Rattle.receiver_core.proofs.KeepsLemmas.{clashes_within, few_opened, few_same, more_held, offered, same_held}
 use Rattle.receiver_core.proofs.StateLemmas.{left}
 use Rattle.receiver_core.proofs.receivers.Receiver.open.Goals as goal
+use Rattle.receiver_core.proofs.receivers.Receiver.open.Goals.{After-offer}
 
 pub try_hold-clash-requires-clause-room : goal.try_hold-clash-requires-clause-room
 try_hold-clash-requires-clause-room c =
@@ -33,17 +35,33 @@ offer-requires-clause-clash c =
     clashes_within r x c.try_hold-clash.result c.self.invariant (left (receiver_in r).reader (receiver_in r).state (item_of c.args.bucket.now.body) (ap (λ (v : Receiver). wanted v.reader v.state) c.self.view_is ∙ c.requires.wanted))
     (sym (ap (λ p. (by_entries (scheme_of p)).clash r.held.reads x) c.self.invariant.held.policy) ∙ sym c.try_hold-clash.ensures.clash)
 
+-- The read that was tried, by its parts.
+abbrev told : After-offer → Read
+told c = read c.item-item.result c.cycle-cycle.result c.value-value.result c.fill.new.out
+
+-- It is the read of the bucket.
+told_is : (c : After-offer) → read_of c.args.bucket.now ≡ told c
+told_is c = read_parts c.args.bucket.now c.item-item.result c.cycle-cycle.result c.value-value.result c.fill.new.out c.item-item.ensures c.cycle-cycle.ensures c.value-value.ensures c.fill.ensures
+
+-- It is whole.
+told_whole : (c : After-offer) → IsWholeRead c.self.inside.air.items (told c)
+told_whole c =
+    let whole = bucket_read c.args.bucket.now c.self.inside.air.items c.requires.range c.requires.busy (c.requires.counted ∙ sym (ap (λ (v : Receiver). v.air.items) c.self.view_is)) in
+    subst (IsWholeRead c.self.inside.air.items) (told_is c) whole
+
+-- Its clash with the held reads is the one that was answered.
+clash_told : (c : After-offer) → (by_entries c.self.inside.air.scheme).clash c.self.inside.held.reads (told c) ≡ c.try_hold-clash.result
+clash_told c = sym (ap (λ p. (by_entries (scheme_of p)).clash c.self.inside.held.reads (told c)) c.self.invariant.held.policy) ∙ sym c.try_hold-clash.ensures.clash
+
 pub invariant_of-self : goal.invariant_of-self
 invariant_of-self c =
     let r = c.self.inside in
-    let b = c.args.bucket.now in
     let k = c.self.invariant in
-    let x = (read c.item-item.result c.cycle-cycle.result c.value-value.result c.fill.new.out) in
-    let parts = (read_parts c.args.bucket.now c.item-item.result c.cycle-cycle.result c.value-value.result c.fill.new.out c.item-item.ensures c.cycle-cycle.ensures c.value-value.ensures c.fill.ensures) in
-    let whole = bucket_read b r.air.items c.requires.range c.requires.busy (c.requires.counted ∙ sym (ap (λ (v : Receiver). v.air.items) c.self.view_is)) in
+    let a = (goal.at.invariant_of-self c).After-offer in
+    let x = told a in
     record {
       deck = k.deck;
-      cache = offered r.air r.reader r.copies c.offer.new.copies c.try_hold-clash.result x k.cache (subst (IsWholeRead r.air.items) parts whole) c.offer.ensures;
+      cache = offered r.air r.reader r.copies c.offer.new.copies c.try_hold-clash.result x k.cache (told_whole a) c.offer.ensures;
       held = more_held r c.try_hold-clash.new.self x k c.in-None.ensures.held (ap (λ (v : Receiver). wanted v.reader v.state) c.self.view_is ∙ c.requires.wanted ∙ ap Some (sym c.item-item.ensures));
       few = few_opened r c.try_hold-clash.new.self x k c.in-None.ensures.held;
       column = sym (with_items r.column c.fill.new.out).ok.0 ∙ r.column.ok.0 ∙ k.column;
@@ -57,27 +75,24 @@ accept_if_whole-requires-clause-left c =
 pub returns-in-None : goal.returns-in-None
 returns-in-None c =
     let r = c.self.inside in
-    let b = c.args.bucket.now in
     let old = c.args.self.now in
     let k = c.self.invariant in
-    let x = (read c.item-item.result c.cycle-cycle.result c.value-value.result c.fill.new.out) in
-    let parts = (read_parts c.args.bucket.now c.item-item.result c.cycle-cycle.result c.value-value.result c.fill.new.out c.item-item.ensures c.cycle-cycle.ensures c.value-value.ensures c.fill.ensures) in
+    let a = (goal.at.returns-in-None c).After-offer in
+    let x = told a in
     c.accept_if_whole.ensures
-    ∙ opened_clear r c.try_hold-clash.new.self c.offer.new.copies x k c.in-None.ensures.held (c.offer.ensures ∙ ap (offered_to r x) c.in-None.is) (sym (ap (λ p. (by_entries (scheme_of p)).clash r.held.reads x) k.held.policy) ∙ sym c.try_hold-clash.ensures.clash ∙ c.in-None.is)
+    ∙ opened_clear r c.try_hold-clash.new.self c.offer.new.copies x k c.in-None.ensures.held (c.offer.ensures ∙ ap (offered_to r x) c.in-None.is) (clash_told a ∙ c.in-None.is)
     ∙ ap (λ (v : Receiver). in_state v (open_bucket (by_entries v.air.scheme) v.air v.reader x v.state)) c.self.view_is
-    ∙ ap (λ y. in_state old (open_bucket (by_entries old.air.scheme) old.air old.reader y old.state)) (sym parts)
+    ∙ ap (λ y. in_state old (open_bucket (by_entries old.air.scheme) old.air old.reader y old.state)) (sym (told_is a))
 
 pub invariant_of-self-in-Some : goal.invariant_of-self-in-Some
 invariant_of-self-in-Some c =
     let r = c.self.inside in
-    let b = c.args.bucket.now in
     let k = c.self.invariant in
-    let x = (read c.item-item.result c.cycle-cycle.result c.value-value.result c.fill.new.out) in
-    let parts = (read_parts c.args.bucket.now c.item-item.result c.cycle-cycle.result c.value-value.result c.fill.new.out c.item-item.ensures c.cycle-cycle.ensures c.value-value.ensures c.fill.ensures) in
-    let whole = bucket_read b r.air.items c.requires.range c.requires.busy (c.requires.counted ∙ sym (ap (λ (v : Receiver). v.air.items) c.self.view_is)) in
+    let a = (goal.at.invariant_of-self-in-Some c).After-offer in
+    let x = told a in
     record {
       deck = k.deck;
-      cache = offered r.air r.reader r.copies c.offer.new.copies c.try_hold-clash.result x k.cache (subst (IsWholeRead r.air.items) parts whole) c.offer.ensures;
+      cache = offered r.air r.reader r.copies c.offer.new.copies c.try_hold-clash.result x k.cache (told_whole a) c.offer.ensures;
       held = same_held r c.try_hold-clash.new.self k c.in-Some.ensures.held;
       few = few_same r c.try_hold-clash.new.self k c.in-Some.ensures.held;
       column = sym (with_items r.column c.fill.new.out).ok.0 ∙ r.column.ok.0 ∙ k.column;
@@ -91,13 +106,12 @@ abort-requires-clause-left c =
 pub returns-in-Some : goal.returns-in-Some
 returns-in-Some c =
     let r = c.self.inside in
-    let b = c.args.bucket.now in
     let old = c.args.self.now in
     let k = c.self.invariant in
-    let x = (read c.item-item.result c.cycle-cycle.result c.value-value.result c.fill.new.out) in
-    let parts = (read_parts c.args.bucket.now c.item-item.result c.cycle-cycle.result c.value-value.result c.fill.new.out c.item-item.ensures c.cycle-cycle.ensures c.value-value.ensures c.fill.ensures) in
+    let a = (goal.at.returns-in-Some c).After-offer in
+    let x = told a in
     c.abort.ensures
     ∙ opened_clash r c.try_hold-clash.new.self c.offer.new.copies x c.in-Some.clash k c.in-Some.ensures.held (c.offer.ensures ∙ ap (offered_to r x) c.in-Some.is)
-    (sym (ap (λ p. (by_entries (scheme_of p)).clash r.held.reads x) k.held.policy) ∙ sym c.try_hold-clash.ensures.clash ∙ c.in-Some.is)
+    (clash_told a ∙ c.in-Some.is)
     ∙ ap (λ (v : Receiver). in_state v (open_bucket (by_entries v.air.scheme) v.air v.reader x v.state)) c.self.view_is
-    ∙ ap (λ y. in_state old (open_bucket (by_entries old.air.scheme) old.air old.reader y old.state)) (sym parts)
+    ∙ ap (λ y. in_state old (open_bucket (by_entries old.air.scheme) old.air old.reader y old.state)) (sym (told_is a))

@@ -14,10 +14,12 @@ use Rattle.update_commit.specs.Receipts.{reply_in}
 use Rattle.update_commit.proofs.EventLemmas.{made_own}
 use Rattle.station.specs.EventEntries.{maker, entries_of, events_of}
 use Rattle.station.specs.PassStates.{PassState}
-use Rattle.station.specs.PassFields.{Base}
+use Rattle.station.specs.PassFields.{Base, base_in, IsPass}
 use Rattle.station.proofs.EntryLemmas.{maker_commit, count_same, lengthens}
 use Rattle.station.proofs.TurnLemmas.{Turned, base_is, after_turn, no_commit, either_way, refused}
+use Rattle.station.proofs.stations.Station.place.Given.{Over}
 use Rattle.station.proofs.stations.Station.place.Goals as goal
+use Rattle.station.proofs.stations.Station.place.Goals.{After-leave}
 
 pub add_commit-added-requires-clause-few : goal.add_commit-added-requires-clause-few
 add_commit-added-requires-clause-few g c =
@@ -43,14 +45,21 @@ leave-requires-clause-list g c =
     c.add_commit-added.ensures.events in
     subst (λ p. IfSome p.turn (λ given. Lengthens p.numbers given (entries_of new.updaters new.events))) (sym c.enter-locked.ensures.pass) longer
 
+-- The turn keeps what the pass keeps, and the pass has seen the events of the core that it gave back.
+after_leaving : (g : Over) (c : After-leave g) → IsPass c.leave.new.pass c.pass.inside.by × (base_in c.leave.new.pass ≡ base_in c.pass.inside.pass) × (events_of c.leave.new.pass.seen ≡ c.add_commit-added.new.core.events)
+after_leaving g c =
+    let pass = c.pass.inside.pass in
+    let old = c.enter-locked.result.value.core in
+    let new = c.add_commit-added.new.core in
+    let turn : Turned pass c.leave.new.pass old new = record { base = c.enter-locked.ensures.base; list = c.enter-locked.ensures.list; kept = c.add_commit-added.ensures.kept; fits = c.add_commit-added.ensures.fits; back = c.leave.ensures.pass ∙ ap (λ p. after_leave p (entries_of new.updaters new.events)) c.enter-locked.ensures.pass } in
+    after_turn c.pass.inside.by pass c.leave.new.pass old new c.pass.invariant.0 turn
+
 pub invariant_of-pass : goal.invariant_of-pass
 invariant_of-pass g c =
     let pass = c.pass.inside.pass in
     let by = c.pass.inside.by in
     let old = c.enter-locked.result.value.core in
-    let new = c.add_commit-added.new.core in
-    let turn : Turned pass c.leave.new.pass old new = record { base = c.enter-locked.ensures.base; list = c.enter-locked.ensures.list; kept = c.add_commit-added.ensures.kept; fits = c.add_commit-added.ensures.fits; back = c.leave.ensures.pass ∙ ap (λ p. after_leave p (entries_of new.updaters new.events)) c.enter-locked.ensures.pass } in
-    let after = after_turn by pass c.leave.new.pass old new c.pass.invariant.0 turn in
+    let after = after_leaving g (goal.at.invariant_of-pass g c).After-leave in
     let same = count_same (is_by by) (events_of pass.seen) old.events (no_commit by pass old c.pass.invariant.0 c.enter-locked.ensures.list) in
     (after.0, subst (λ (b : Base). by < b.1) (sym after.1) c.pass.invariant.1, c.pass.invariant.2 ∙ sym same ∙ ap (count_made by) (sym (after.2 ∙ c.in_err-added.ensures.events)))
 
@@ -59,9 +68,7 @@ returns-in_err-added-clause-seen g c =
     let pass = c.pass.inside.pass in
     let by = c.pass.inside.by in
     let old = c.enter-locked.result.value.core in
-    let new = c.add_commit-added.new.core in
-    let turn : Turned pass c.leave.new.pass old new = record { base = c.enter-locked.ensures.base; list = c.enter-locked.ensures.list; kept = c.add_commit-added.ensures.kept; fits = c.add_commit-added.ensures.fits; back = c.leave.ensures.pass ∙ ap (λ p. after_leave p (entries_of new.updaters new.events)) c.enter-locked.ensures.pass } in
-    let after = after_turn by pass c.leave.new.pass old new c.pass.invariant.0 turn in
+    let after = after_leaving g (goal.at.returns-in_err-added-clause-seen g c).After-leave in
     subst (λ (p : PassState). (before : List Event) × GoesOnWithout (is_by p.number) p.seen before × MatchResult c.from_residual.result
     (λ _. (events_of c.leave.new.pass.seen ≡ before ++ Commit p.number (count_made p.number p.seen) c.args.update ∷ []) × (reply_in c.add_commit-added.new.into ≡ reply_of p.values (events_of c.leave.new.pass.seen) (length before)))
     (λ _. events_of c.leave.new.pass.seen ≡ before)) c.pass.view_is
@@ -69,11 +76,7 @@ returns-in_err-added-clause-seen g c =
 
 pub returns-in_err-added-clause-fits : goal.returns-in_err-added-clause-fits
 returns-in_err-added-clause-fits g c =
-    let pass = c.pass.inside.pass in
-    let old = c.enter-locked.result.value.core in
-    let new = c.add_commit-added.new.core in
-    let turn : Turned pass c.leave.new.pass old new = record { base = c.enter-locked.ensures.base; list = c.enter-locked.ensures.list; kept = c.add_commit-added.ensures.kept; fits = c.add_commit-added.ensures.fits; back = c.leave.ensures.pass ∙ ap (λ p. after_leave p (entries_of new.updaters new.events)) c.enter-locked.ensures.pass } in
-    let after = after_turn c.pass.inside.by pass c.leave.new.pass old new c.pass.invariant.0 turn in
+    let after = after_leaving g (goal.at.returns-in_err-added-clause-fits g c).After-leave in
     subst (λ (p : PassState). All (EventFits p.updaters (length p.values)) (events_of c.leave.new.pass.seen)) c.pass.view_is
     (subst (λ (b : Base). All (EventFits b.1 (length b.0)) (events_of c.leave.new.pass.seen)) after.1 after.0.fits)
 
@@ -82,9 +85,7 @@ invariant_of-pass-2 g c =
     let pass = c.pass.inside.pass in
     let by = c.pass.inside.by in
     let old = c.enter-locked.result.value.core in
-    let new = c.add_commit-added.new.core in
-    let turn : Turned pass c.leave.new.pass old new = record { base = c.enter-locked.ensures.base; list = c.enter-locked.ensures.list; kept = c.add_commit-added.ensures.kept; fits = c.add_commit-added.ensures.fits; back = c.leave.ensures.pass ∙ ap (λ p. after_leave p (entries_of new.updaters new.events)) c.enter-locked.ensures.pass } in
-    let after = after_turn by pass c.leave.new.pass old new c.pass.invariant.0 turn in
+    let after = after_leaving g (goal.at.invariant_of-pass-2 g c).After-leave in
     let same = count_same (is_by by) (events_of pass.seen) old.events (no_commit by pass old c.pass.invariant.0 c.enter-locked.ensures.list) in
     let more = ap (count_made by) (after.2 ∙ c.in_ok-added.ensures.events.0) ∙ made_own by (count_made by old.events) c.args.update old.events in
     (after.0, subst (λ (b : Base). by < b.1) (sym after.1) c.pass.invariant.1, ap (λ n. n + 1) (c.pass.invariant.2 ∙ sym same) ∙ sym more)
@@ -94,9 +95,7 @@ returns-clause-seen g c =
     let pass = c.pass.inside.pass in
     let by = c.pass.inside.by in
     let old = c.enter-locked.result.value.core in
-    let new = c.add_commit-added.new.core in
-    let turn : Turned pass c.leave.new.pass old new = record { base = c.enter-locked.ensures.base; list = c.enter-locked.ensures.list; kept = c.add_commit-added.ensures.kept; fits = c.add_commit-added.ensures.fits; back = c.leave.ensures.pass ∙ ap (λ p. after_leave p (entries_of new.updaters new.events)) c.enter-locked.ensures.pass } in
-    let after = after_turn by pass c.leave.new.pass old new c.pass.invariant.0 turn in
+    let after = after_leaving g (goal.at.returns-clause-seen g c).After-leave in
     let none = no_commit by pass old c.pass.invariant.0 c.enter-locked.ensures.list in
     let same = count_same (is_by by) (events_of pass.seen) old.events none in
     let added = c.in_ok-added.ensures.events in
@@ -112,10 +111,6 @@ returns-clause-seen g c =
 
 pub returns-clause-fits : goal.returns-clause-fits
 returns-clause-fits g c =
-    let pass = c.pass.inside.pass in
-    let old = c.enter-locked.result.value.core in
-    let new = c.add_commit-added.new.core in
-    let turn : Turned pass c.leave.new.pass old new = record { base = c.enter-locked.ensures.base; list = c.enter-locked.ensures.list; kept = c.add_commit-added.ensures.kept; fits = c.add_commit-added.ensures.fits; back = c.leave.ensures.pass ∙ ap (λ p. after_leave p (entries_of new.updaters new.events)) c.enter-locked.ensures.pass } in
-    let after = after_turn c.pass.inside.by pass c.leave.new.pass old new c.pass.invariant.0 turn in
+    let after = after_leaving g (goal.at.returns-clause-fits g c).After-leave in
     subst (λ (p : PassState). All (EventFits p.updaters (length p.values)) (events_of c.leave.new.pass.seen)) c.pass.view_is
     (subst (λ (b : Base). All (EventFits b.1 (length b.0)) (events_of c.leave.new.pass.seen)) after.1 after.0.fits)

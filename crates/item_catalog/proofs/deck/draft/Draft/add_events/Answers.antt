@@ -5,7 +5,7 @@ use Rattle.air_base.specs.NumberLists.{list_of}
 use Rattle.air_history.specs.UpdateLists.{UpdateLists}
 use Rattle.air_model.specs.Decks.{count_parts}
 use Rattle.text_records.specs.Kinds.{with_spelled}
-use Rattle.item_catalog.specs.Drafts.{DraftValue, record_kind, with_entry}
+use Rattle.item_catalog.specs.Steps.Drafts.{DraftValue, record_kind, with_entry}
 use Rattle.item_catalog.specs.DeckEntries as e
 use Rattle.item_catalog.specs.DeckEntries.{script_by}
 use Rattle.item_catalog.specs.Faults.{script_passes, some_below}

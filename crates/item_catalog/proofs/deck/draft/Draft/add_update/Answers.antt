@@ -1,6 +1,6 @@
 use Rattle.std.proofs.Common.{◌≡◌, ◌∙◌, None, ap, arith, length, sym}
 use Rattle.std.proofs.lemmas.List.{length-set}
-use Rattle.item_catalog.specs.Drafts.{DraftValue, record_kind}
+use Rattle.item_catalog.specs.Steps.Drafts.{DraftValue, record_kind}
 use Rattle.text_records.specs.Kinds.{first_of}
 use Rattle.item_catalog.specs.Faults.{update_tests}
 use Rattle.item_catalog.proofs.EntryFacts.{update_tested}

@@ -6,7 +6,7 @@ use Rattle.air_history.specs.declared.updates.Write.{Write}
 use Rattle.air_history.specs.UpdateLists.{UpdateLists}
 use Rattle.air_history.specs.UpdateRules.{update_fault}
 use Rattle.item_catalog.specs.declared.faults.FaultKind.{FaultKind}
-use Rattle.item_catalog.specs.Drafts.{DraftValue, record_kind}
+use Rattle.item_catalog.specs.Steps.Drafts.{DraftValue, record_kind}
 use Rattle.item_catalog.specs.DeckEntries as e
 use Rattle.item_catalog.specs.DeckEntries.{Entry, update_by}
 use Rattle.text_records.specs.Kinds.{first_of}

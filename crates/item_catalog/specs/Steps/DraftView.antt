@@ -1,7 +1,7 @@
--- What contracts see of a deck while it is read, and what its fields keep.
+-- For private steps alone. What contracts see of a deck while it is read, and what its fields keep.
 use Rattle.std.specs.Prelude.{◌≡◌, ◌≤◌, length}
 use Rattle.air_base.specs.declared.limits.TheConstants.{MOST_DISKS, MOST_ITEMS, MOST_QUERIES, MOST_READERS, MOST_UPDATERS, MOST_UPDATES}
-use Rattle.item_catalog.specs.Drafts.{DraftValue}
+use Rattle.item_catalog.specs.Steps.Drafts.{DraftValue}
 use Rattle.item_catalog.specs.declared.deck.draft.Draft.TheInside.{Inside}
 
 -- The parts that the fields of a draft have.

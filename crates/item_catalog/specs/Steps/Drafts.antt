@@ -1,4 +1,4 @@
--- A deck while it is read: what the entries so far declare, and what one more entry adds.
+-- For private steps alone. A deck while it is read: what the entries so far declare, and what one more entry adds.
 use Rattle.std.specs.Prelude.{◌≡◌, ◌+◌, ◌++◌, ℕ, List, [], ◌∷◌, Bool, Option, Result, Ok, length, max, get_or, map, slice_set, take}
 use Rattle.air_base.specs.declared.limits.TheConstants.{MOST_READERS, MOST_UPDATERS}
 use Rattle.air_history.specs.UpdateLists.{UpdateLists}
@@ -11,7 +11,7 @@ use Rattle.item_catalog.specs.Decks.{for_each, plain_item, with_freqs}
 use Rattle.item_catalog.specs.Settings.{number_in, settings_in}
 use Rattle.item_catalog.specs.declared.deck.draft.settings.Name.TheVariants.{Delta}
 use Rattle.text_records.specs.Kinds.{least_kind, with_spelled}
-use Rattle.text_records.specs.ReadAnswers.{Answers}
+use Rattle.text_records.specs.Steps.ReadAnswers.{Answers}
 use Rattle.text_records.specs.declared.refusals.Refusal.{Refusal}
 use Rattle.item_catalog.specs.Faults.{item_tests, disk_tests, update_tests, reader_tests, query_tests, script_tests, set_tests}
 use Rattle.item_catalog.specs.declared.faults.FaultKind.{FaultKind}

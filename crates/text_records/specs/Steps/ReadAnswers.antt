@@ -1,4 +1,4 @@
--- What a call answers that reads a record.
+-- For private steps alone. What a call answers that reads a record.
 use Rattle.std.specs.Prelude.{◌≡◌, Option, Some, None, Result, Ok, Err}
 use Rattle.text_records.specs.declared.refusals.Refusal.{Refusal}
 use Rattle.text_records.specs.declared.refusals.Refusal.TheVariants.{NoMemory, Kind}

@@ -1,0 +1,2 @@
+-- Definitions that private steps alone speak of: no public contract cites them, nor what a public type shows.
+pub mod ReadAnswers

@@ -1,0 +1,117 @@
+//! The held reads of the three policies as one type, with a case a policy.
+//!
+//! A contract asks and tells what the case's own type does; `attempts` meets it.
+
+ghost use Rattle.std.specs.Prelude.{◌≡◌, ◌<◌, ◌≤◌, [], ◌∷◌, ◌++◌, length, IfOk, None};
+ghost use Rattle.air_history.specs.Clashes.{clash_by_entries};
+ghost use Rattle.air_history.specs.HeldReads.{IsNew};
+ghost use Rattle.held_entries.specs.HeardReads.{heard_read};
+ghost use Rattle.vector_policies_tests.specs.PolicyReads.{held_of, least_cycle, policy_of};
+
+use air_base::{Clash, NoMemory, Policy};
+use column_check::{Held, ROOM};
+use std::alloc::Global;
+use vector_policies::{DataHeld, RHeld};
+
+/// The held reads in order.
+#[derive(Drop)]
+pub enum PolicyHeld {
+    FMatrix(Held),
+    Datacycle(DataHeld),
+    RMatrix(RHeld),
+}
+
+impl PolicyHeld {
+    /// Nothing held by this policy, over `n` items.
+    pub fn new(alloc: Global, policy: Policy, n: u16) -> Result<PolicyHeld, NoMemory>
+        ensures items { IfOk result (λ h. (held_of h).n ≡ n) }
+        ensures reads { IfOk result (λ h. (held_of h).reads ≡ []) }
+    {
+        match policy {
+            Policy::FMatrix => Ok(PolicyHeld::FMatrix(Held::new(alloc, n)?)),
+            Policy::Datacycle => Ok(PolicyHeld::Datacycle(DataHeld::new(alloc, n)?)),
+            Policy::RMatrix => Ok(PolicyHeld::RMatrix(RHeld::new(alloc, n)?)),
+        }
+    }
+
+    /// The number of held reads.
+    pub fn len(&self) -> usize
+        ensures { result ≡ length (held_of self.now).reads }
+    {
+        match self {
+            PolicyHeld::FMatrix(held) => held.len(),
+            PolicyHeld::Datacycle(held) => held.len(),
+            PolicyHeld::RMatrix(held) => held.len(),
+        }
+    }
+
+    /// The cycle of the last held read.
+    pub fn last(&self) -> Option<u32> {
+        match self {
+            PolicyHeld::FMatrix(held) => held.last(),
+            PolicyHeld::Datacycle(held) => held.last(),
+            PolicyHeld::RMatrix(held) => held.last(),
+        }
+    }
+
+    /// The held cycle of each item.
+    pub fn cycles(&self) -> &[u32] {
+        match self {
+            PolicyHeld::FMatrix(held) => held.cycles(),
+            PolicyHeld::Datacycle(held) => held.cycles(),
+            PolicyHeld::RMatrix(held) => held.cycles(),
+        }
+    }
+
+    /// The least cycle of a further read.
+    pub fn least_cycle(&self) -> u32
+        ensures { result ≡ least_cycle self.now }
+    {
+        match self {
+            PolicyHeld::FMatrix(_) => 0,
+            PolicyHeld::Datacycle(_) => 0,
+            PolicyHeld::RMatrix(held) => held.last().unwrap_or(0),
+        }
+    }
+
+    /// The held read of least item number that clashes with the new one.
+    pub fn clashes(&self, item: u16, cycle: u32, entries: &[u32]) -> Option<Clash>
+        requires new { IsNew (held_of self.now) (heard_read item cycle entries.now) }
+        requires order { least_cycle self.now ≤ cycle }
+        ensures { result ≡ clash_by_entries (policy_of self.now) (held_of self.now).reads (heard_read item cycle entries.now) }
+    {
+        match self {
+            PolicyHeld::FMatrix(held) => held.clashes(item, cycle, entries),
+            PolicyHeld::Datacycle(held) => held.clashes(item, cycle, entries),
+            PolicyHeld::RMatrix(held) => held.clashes(item, cycle, entries),
+        }
+    }
+
+    /// Holds the new read too, after those before it.
+    pub fn hold(&mut self, item: u16, cycle: u32, entries: &[u32])
+        requires room { length (held_of self.old).reads < ROOM }
+        requires new { IsNew (held_of self.old) (heard_read item cycle entries.now) }
+        requires order { least_cycle self.old ≤ cycle }
+        requires clear { clash_by_entries (policy_of self.old) (held_of self.old).reads (heard_read item cycle entries.now) ≡ None }
+        ensures items { (held_of self.new).n ≡ (held_of self.old).n }
+        ensures reads { (held_of self.new).reads ≡ (held_of self.old).reads ++ heard_read item cycle entries.now ∷ [] }
+    {
+        match self {
+            PolicyHeld::FMatrix(held) => held.hold(item, cycle, entries),
+            PolicyHeld::Datacycle(held) => held.hold(item, cycle, entries),
+            PolicyHeld::RMatrix(held) => held.hold(item, cycle, entries),
+        }
+    }
+
+    /// Holds nothing any more.
+    pub fn clear(&mut self)
+        ensures items { (held_of self.new).n ≡ (held_of self.old).n }
+        ensures reads { (held_of self.new).reads ≡ [] }
+    {
+        match self {
+            PolicyHeld::FMatrix(held) => held.clear(),
+            PolicyHeld::Datacycle(held) => held.clear(),
+            PolicyHeld::RMatrix(held) => held.clear(),
+        }
+    }
+}
