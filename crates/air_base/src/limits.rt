@@ -4,6 +4,9 @@
 /// The most items of a deck.
 pub const MOST_ITEMS: usize = 256;
 
+/// How many numbers there are for items: each has 16 bits.
+pub const ITEM_NUMBERS: usize = 65_536;
+
 /// The most values of a board.
 pub const MOST_VALUES: usize = 1_024;
 

@@ -1,5 +1,5 @@
 -- Datagrams that are taken from the front of what is still to be heard, and what listeners have heard of them.
-use Rattle.std.proofs.Common.{◌≡◌, ℕ, zero, suc, ◌+◌, ◌≤◌, ◌<◌, Option, Some, None, All, List, [], ◌∷◌, ◌++◌, length, map, take, drop, refl, sym, ◌∙◌, ap, subst, arith}
+use Rattle.std.proofs.Common.{◌≡◌, ℕ, zero, suc, ◌+◌, ◌≤◌, ◌<◌, Option, Some, None, ⊤, All, List, [], ◌∷◌, ◌++◌, length, map, take, drop, refl, sym, ◌∙◌, ap, subst, arith}
 use Rattle.std.proofs.lemmas.List.{length-append, length-take, map-append, take_all}
 use Rattle.std.proofs.lemmas.List.Elements.{All-nil, All-push}
 use Rattle.air_model.specs.Buckets.{Bucket, bucket_in}
@@ -10,10 +10,15 @@ use Rattle.listeners.specs.Listeners.{Listener, hears, hears_one}
 use Rattle.listeners.proofs.ReaderLemmas.{hears_none}
 use Rattle.listeners.proofs.HearLemmas.{pieces}
 use Rattle.air_casts.specs.Hearings.{AreHeard, TakesJust, TakesUpTo, heard_of}
-use Rattle.air_casts.specs.Steps.EarSteps.{AreFirst, HaveHeard}
+use Rattle.air_casts.specs.Steps.EarSteps.{HaveHeard}
 use Rattle.air_casts.specs.declared.hearings.TheConstants.{MOST_HEARD_BYTES}
 
 -- ---- what was taken
+
+-- Just so many datagrams were taken, and this is what was heard of them.
+abbrev AreFirst : ℕ → Option (List (List ℕ)) → Option (List (List ℕ)) → List (List ℕ) → Type 0
+AreFirst count None now heard = ⊤
+AreFirst count (Some waiting) now heard = (count ≤ length waiting) × (now ≡ Some (drop count waiting)) × (heard ≡ map heard_of (take count waiting))
 
 drop_step : (w : List (List ℕ)) (n : ℕ) (first : List ℕ) (more : List (List ℕ)) → drop n w ≡ first ∷ more → (n < length w) × (drop (suc n) w ≡ more) × (take (suc n) w ≡ take n w ++ first ∷ [])
 drop_step [] zero first more e = cc

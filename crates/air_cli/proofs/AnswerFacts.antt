@@ -7,7 +7,7 @@ use Rattle.air_devices.specs.Shelves.{Shelved}
 use Rattle.air_status.specs.declared.status.Status.{Status}
 use Rattle.air_status.specs.declared.status.Status.TheVariants as status
 use Rattle.air_cli.specs.Meanings.{Meaning}
-use Rattle.air_cli.specs.Steps.Making.{IsMade, Reads}
+use Rattle.air_cli.specs.Steps.BeforeDelivery.{IsMade, Reads}
 use Rattle.delivery.specs.Given.{Given, given_status}
 use Rattle.delivery.specs.Outputs.{OutputHolds, OutputHoldsPart}
 use Rattle.delivery.specs.Deliveries.{KeepsButDelivered, Delivers, IsGiven}

@@ -26,7 +26,7 @@ use Rattle.live_replay.specs.declared.limits.TheConstants.{MOST_REPLAYED}
 use Rattle.report_reading.specs.ReportGrammar.{HasReportFault}
 use Rattle.air_cli.specs.Answers.{InputFailed, NoCountRose}
 use Rattle.air_cli.specs.Audit.{AuditCause, AuditGives, OfReport, audit_given, audit_meaning, report_limit}
-use Rattle.air_cli.specs.Steps.Making.{IsMade, IsUnmade, Reads}
+use Rattle.air_cli.specs.Steps.BeforeDelivery.{IsMade, IsUnmade, Reads}
 use Rattle.air_cli.specs.ToldInputs.{TellSameInputs, TellsInputs}
 use Rattle.air_cli.proofs.InputFacts.{CommandFacts, deck_fits, deck_told, of_told, unread_fits}
 use Rattle.air_cli.proofs.MakeFacts.{both_ends}

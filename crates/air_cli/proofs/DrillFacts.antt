@@ -5,7 +5,7 @@ use Rattle.air_status.specs.declared.status.Status.{Status}
 use Rattle.air_status.specs.declared.status.Status.TheVariants as status
 use Rattle.delivery.specs.Given.{Given}
 use Rattle.air_cli.specs.Drill.{DrillCause, DrillGives, drill_meaning}
-use Rattle.air_cli.specs.Steps.Making.{IsMade, IsUnmade}
+use Rattle.air_cli.specs.Steps.BeforeDelivery.{IsMade, IsUnmade}
 use Rattle.air_cli.proofs.InputFacts.{CommandFacts}
 use Rattle.air_cli.proofs.RefusalFacts.{IsSound, keeps_all}
 

@@ -7,7 +7,7 @@ use Rattle.delivery.specs.Given.{Given}
 use Rattle.air_cli.specs.Answers.{Leaves, QuietAnswers}
 use Rattle.air_cli.specs.Meanings.{Meaning}
 use Rattle.air_cli.specs.Steps.Endings.{EndsGiven, EndsUnmade}
-use Rattle.air_cli.specs.Steps.Making.{IsMade, IsUnmade, Reads}
+use Rattle.air_cli.specs.Steps.BeforeDelivery.{IsMade, IsUnmade, Reads}
 use Rattle.air_cli.proofs.AnswerFacts.{answers_made}
 use Rattle.air_cli.proofs.ReadFacts.{falls_twice}
 use Rattle.air_cli.proofs.RefusalFacts.{IsSound, answers_refused, leaves_refused, untouched}

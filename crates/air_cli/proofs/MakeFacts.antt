@@ -7,7 +7,7 @@ use Rattle.air_devices.specs.Shelves.{Shelved}
 use Rattle.air_status.specs.declared.status.Status.{Status}
 use Rattle.air_status.specs.declared.status.Status.TheVariants as status
 use Rattle.air_cli.specs.Meanings.{Meaning}
-use Rattle.air_cli.specs.Steps.Making.{IsUnmade}
+use Rattle.air_cli.specs.Steps.BeforeDelivery.{IsUnmade}
 
 -- There is a cause, and every count is as it was but where a read failed.
 pub is_unmade : (command : Meaning) (before now : Shelved) (s : Status) → command.Refuses before now s → (s ≢ status.ReadFault → KeepsCounts before.faults now.faults)

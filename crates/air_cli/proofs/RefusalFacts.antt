@@ -16,7 +16,7 @@ use Rattle.deck_files.specs.RunnableDecks.{UnrunnableCause}
 use Rattle.deck_files.specs.NamedFiles.{UnreadCause}
 use Rattle.deck_files.specs.FileLimits.{deck_limit}
 use Rattle.air_cli.specs.Meanings.{Meaning, WordsCause, no_form}
-use Rattle.air_cli.specs.Steps.Making.{Reads}
+use Rattle.air_cli.specs.Steps.BeforeDelivery.{Reads}
 use Rattle.air_cli.specs.Answers.{InputFailed, Leaves, QuietAnswers}
 use Rattle.air_cli.proofs.ReadFacts.{falls_twice}
 use Rattle.delivery.proofs.CountFacts.{kept_twice, rose_since}

@@ -23,7 +23,7 @@ use Rattle.aired_pieces.specs.Pieces.{tape_so_far}
 use Rattle.aired_pieces.specs.declared.pieces.AiredPieces.{AiredPieces}
 use Rattle.air_cli.specs.Answers.{HasBegun, IsWanting, Leaves, QuietAnswers}
 use Rattle.air_cli.specs.Script.{script_given, script_meaning}
-use Rattle.air_cli.specs.Steps.Making.{IsMade, Reads}
+use Rattle.air_cli.specs.Steps.BeforeDelivery.{IsMade, Reads}
 use Rattle.air_cli.specs.Steps.Scripting.{AirsScript, IsStopped}
 use Rattle.air_cli.specs.Untouched.{IsUntouched}
 use Rattle.air_cli.proofs.AnswerFacts.{answers_made}

@@ -6,7 +6,7 @@ use Rattle.air_devices.specs.Shelves.{Shelved}
 use Rattle.air_status.specs.declared.status.Status.{Status}
 use Rattle.air_status.specs.declared.status.Status.TheVariants as status
 use Rattle.item_catalog.proofs.GrammarFacts.{one_deck}
-use Rattle.air_cli.specs.Steps.Making.{IsMade, IsUnmade, Reads}
+use Rattle.air_cli.specs.Steps.BeforeDelivery.{IsMade, IsUnmade, Reads}
 use Rattle.delivery.specs.Given.{Given}
 use Rattle.deck_files.specs.NamedDecks.{DeckCause}
 use Rattle.deck_files.specs.RunnableDecks.{UnrunnableCause}

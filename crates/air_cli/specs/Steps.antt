@@ -1,6 +1,6 @@
 -- Definitions that private steps alone speak of: no public contract cites them, nor what a public type shows.
-pub mod Making
+pub mod BeforeDelivery
 pub mod Endings
 pub mod Airing
-pub mod Calls
+pub mod CalledWords
 pub mod Scripting

@@ -1,7 +1,7 @@
 //! The command `audit`: what the replay of a named report finds, by a named deck.
 
 ghost use Rattle.std.specs.Prelude.{IfErr, IfOk};
-ghost use Rattle.air_cli.specs.Steps.Making.{IsMade, IsUnmade, Reads};
+ghost use Rattle.air_cli.specs.Steps.BeforeDelivery.{IsMade, IsUnmade, Reads};
 ghost use Rattle.air_cli.specs.Audit.{audit_meaning};
 
 use air_devices::Shelf;

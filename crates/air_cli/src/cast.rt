@@ -12,7 +12,7 @@ ghost use Rattle.air_cli.specs.Cast.{HasSent, IsCast, cast_meaning};
 ghost use Rattle.air_cli.specs.MainWords.{Casts};
 ghost use Rattle.air_cli.specs.OnAir.{LeavesMast};
 ghost use Rattle.air_cli.specs.Steps.Airing.{IsCastRefusal, cast_status};
-ghost use Rattle.air_cli.specs.Steps.Making.{IsMade, IsUnmade, Reads};
+ghost use Rattle.air_cli.specs.Steps.BeforeDelivery.{IsMade, IsUnmade, Reads};
 
 use crate::reports::cast_report;
 use crate::truths::casts_are_true;

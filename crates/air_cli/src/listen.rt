@@ -6,7 +6,7 @@ ghost use Rattle.air_cli.specs.Listen.{HasHeard, IsListening, listen_meaning};
 ghost use Rattle.air_cli.specs.MainWords.{Listens};
 ghost use Rattle.air_cli.specs.OnAir.{LeavesEar};
 ghost use Rattle.air_cli.specs.Steps.Airing.{IsListenRefusal, hear_status};
-ghost use Rattle.air_cli.specs.Steps.Making.{IsMade, IsUnmade, Reads};
+ghost use Rattle.air_cli.specs.Steps.BeforeDelivery.{IsMade, IsUnmade, Reads};
 
 use crate::reports::heard_report;
 use crate::truths::tapes_are_true;

@@ -1,7 +1,7 @@
 //! The command `plan`: what the plan of a named deck gives.
 
 ghost use Rattle.std.specs.Prelude.{IfErr, IfOk};
-ghost use Rattle.air_cli.specs.Steps.Making.{IsMade, IsUnmade, Reads};
+ghost use Rattle.air_cli.specs.Steps.BeforeDelivery.{IsMade, IsUnmade, Reads};
 ghost use Rattle.air_cli.specs.Plan.{plan_meaning};
 
 mod rows;

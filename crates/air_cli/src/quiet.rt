@@ -6,7 +6,7 @@
 ghost use Rattle.std.specs.Prelude.{◌≡◌, false, map, string_bytes, IfErr, IfOk};
 ghost use Rattle.air_cli.specs.Words.{HasSize, asked_of};
 ghost use Rattle.air_cli.specs.Commands.{asked_by, meaning_of, words_meaning};
-ghost use Rattle.air_cli.specs.Steps.Making.{IsMade, IsUnmade, Reads};
+ghost use Rattle.air_cli.specs.Steps.BeforeDelivery.{IsMade, IsUnmade, Reads};
 ghost use Rattle.air_cli.specs.Answers.{Completes, Leaves, QuietAnswers};
 
 use crate::audit::audit;

@@ -2,7 +2,7 @@
 
 ghost use Rattle.std.specs.Prelude.{ℕ, List, IfErr, IfOk};
 ghost use Rattle.air_cli.specs.Run.{run_meaning};
-ghost use Rattle.air_cli.specs.Steps.Making.{IsMade, IsUnmade, Reads};
+ghost use Rattle.air_cli.specs.Steps.BeforeDelivery.{IsMade, IsUnmade, Reads};
 
 use air_devices::{Gate, Shelf};
 use air_status::Status;

@@ -14,7 +14,7 @@ ghost use Rattle.delivery.specs.Deliveries.{KeepsButDelivered};
 ghost use Rattle.delivery.specs.OutputPieces.{IsWritten};
 ghost use Rattle.air_cli.specs.Answers.{Leaves, QuietAnswers};
 ghost use Rattle.air_cli.specs.Script.{script_given, script_meaning};
-ghost use Rattle.air_cli.specs.Steps.Making.{IsMade, IsUnmade, Reads};
+ghost use Rattle.air_cli.specs.Steps.BeforeDelivery.{IsMade, IsUnmade, Reads};
 ghost use Rattle.air_cli.specs.Steps.Scripting.{AirsScript, IsStopped};
 
 use crate::reports::script_report;

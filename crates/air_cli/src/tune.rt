@@ -4,7 +4,7 @@
 //! written: what is given is delivered at the end.
 
 ghost use Rattle.std.specs.Prelude.{IfErr, IfOk};
-ghost use Rattle.air_cli.specs.Steps.Making.{IsMade, IsUnmade, Reads};
+ghost use Rattle.air_cli.specs.Steps.BeforeDelivery.{IsMade, IsUnmade, Reads};
 ghost use Rattle.air_cli.specs.Tune.{tune_meaning};
 
 use crate::reports::heard_report;

@@ -1,6 +1,6 @@
 -- What an ear in memory tells: everything that it has still to hear.
 use Rattle.std.specs.Prelude.{◌≡◌, ◌≤◌, ℕ, List, length, map, drop, All, Option, Some, None}
-use Rattle.air_devices.specs.Calls.{AreNew, IsNextCall}
+use Rattle.air_devices.specs.Calls.{AreNew}
 use Rattle.air_devices.specs.Ears.{Eared}
 use Rattle.air_devices.specs.declared.calls.Calls.{Calls}
 use Rattle.air_devices.specs.declared.memory_ear.MemEar.TheInside.{Inside}

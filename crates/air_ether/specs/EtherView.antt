@@ -1,5 +1,5 @@
 -- The fields of an ether.
-use Rattle.std.specs.Prelude.{◌≡◌, ◌≤◌, ◌-◌, ◌^◌, length, map, All}
+use Rattle.std.specs.Prelude.{◌≡◌, ◌≤◌, length, map, All}
 use Rattle.air_model.specs.Ethers as model
 use Rattle.air_ether.specs.declared.odds.Odds.{Odds}
 use Rattle.air_ether.specs.declared.waiting.TheConstants.{KEPT}

@@ -1,6 +1,6 @@
 //! The place in the heard list: due number by due number, at each the places in order, at each its copies.
 
-ghost use Rattle.std.specs.Prelude.{◌≡◌, ◌≤◌, ◌<◌, ◌+◌, ◌-◌, ◌%◌, ◌^◌, ◌↔◌, ℕ, length, map, true, false, IsTrue, get_or};
+ghost use Rattle.std.specs.Prelude.{◌≡◌, ◌≤◌, ◌<◌, ◌+◌, ◌-◌, ◌%◌, ℕ, length, map, true, false, IsTrue};
 ghost use Rattle.air_ether.specs.declared.ether.TheConstants.{MOST_PUSHES};
 ghost use Rattle.air_ether.specs.HeardPositions.{InWindow, copies_at, left_at, position};
 ghost use Rattle.air_ether.specs.KeptPushes.{Waits, push_of};

@@ -2,7 +2,7 @@
 //!
 //! `due_of` is what is due of a pushed list, after the end all that is heard of it. `next` gives its members one by one.
 
-ghost use Rattle.std.specs.Prelude.{◌≡◌, ℕ, ◌+◌, ◌-◌, ◌<◌, ◌≤◌, ◌^◌, List, [], ◌∷◌, ◌++◌, true, false, length, IfOk, Some, Contains, IfSome, MatchOption, slice_get};
+ghost use Rattle.std.specs.Prelude.{◌≡◌, ℕ, ◌+◌, ◌-◌, ◌<◌, ◌≤◌, List, [], ◌∷◌, ◌++◌, true, false, length, IfOk, Some, Contains, IfSome, MatchOption, slice_get};
 ghost use Rattle.air_base.specs.declared.limits.TheConstants.{MOST_SHARE};
 ghost use Rattle.air_ether.specs.HeardSoFar.{Follows, IsQuiet, due_of, left_of, limit_of};
 ghost use Rattle.air_ether.specs.declared.ether.TheConstants.{MOST_BYTES, MOST_DUE, MOST_PUSHES};

@@ -1,6 +1,6 @@
 //! What becomes of one push, by the three words that are drawn for it.
 
-ghost use Rattle.std.specs.Prelude.{◌≡◌, ◌-◌, ◌<◌, ◌≤◌, ◌^◌};
+ghost use Rattle.std.specs.Prelude.{◌≡◌, ◌-◌, ◌<◌, ◌≤◌};
 ghost use Rattle.rand_pcg.specs.Pcg.{pcg32};
 ghost use Rattle.air_ether.specs.declared.ether.TheConstants.{MOST_PUSHES};
 ghost use Rattle.air_ether.specs.PushWords.{due_by, left_by, times_by, word_after};

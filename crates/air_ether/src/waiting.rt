@@ -1,6 +1,6 @@
 //! The room for one push, and the `KEPT` rooms that the last pushes have by their places modulo `KEPT`.
 
-ghost use Rattle.std.specs.Prelude.{◌≡◌, ◌≤◌, ◌==◌, ◌^◌, ◌++◌, drop, length, All, IfOk, if◌then◌else◌};
+ghost use Rattle.std.specs.Prelude.{◌≡◌, ◌≤◌, ◌==◌, ◌++◌, drop, length, All, IfOk};
 ghost use Rattle.air_ether.specs.KeptPushes.{copies_of, push_of};
 
 use crate::odds::Hearing;

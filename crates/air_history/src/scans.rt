@@ -11,11 +11,9 @@ ghost use Rattle.air_history.specs.Descents.{descends};
 
 use crate::histories::{Event, History};
 use crate::updates::Write;
+use air_base::limits::ITEM_NUMBERS;
 use air_base::NoMemory;
 use std::alloc::Global;
-
-/// An item's number is below this one.
-const ITEM_NUMBERS: usize = 65_536;
 
 /// The last place before the cycle's start whose commit writes the item, and `None` exactly if there is none.
 /// Cycle 0 has an empty front.

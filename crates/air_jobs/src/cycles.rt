@@ -10,7 +10,7 @@ ghost use Rattle.board_laws.specs.BoardBuckets.{EntriesBelow};
 ghost use Rattle.bucket_codec.specs.declared.offsets.TheConstants.{ENTRY_BYTES, HEAD_BYTES};
 ghost use Rattle.air_sender.specs.AirFaults.{failed_slot};
 ghost use Rattle.cycle_snapshot.specs.Batches.{IsBatch, events_in};
-ghost use Rattle.cycle_snapshot.specs.BoardRuns.{step_all};
+ghost use Rattle.cycle_snapshot.specs.Steps.BoardRuns.{step_all};
 ghost use Rattle.air_jobs.specs.Published.{AreInStep, GoesOn, IsPublishedUpTo, IsUpTo, PublishesOn};
 ghost use Rattle.air_jobs.specs.declared.conductors.ConductFault.TheVariants as fault;
 ghost use Rattle.air_jobs.specs.Sendings.{IsAirOf, IsCause, SendsCycles};

@@ -1,6 +1,6 @@
 //! A monitor's job, and its last look.
 ghost use Rattle.std.specs.Prelude.{◌≡◌, ℕ, ◌<◌, ◌≤◌, MatchResult};
-ghost use Rattle.cycle_snapshot.specs.SnapshotStates.{Looked, MonitorState};
+ghost use Rattle.cycle_snapshot.specs.SnapshotStates.{Looked};
 ghost use mathlib.Core.List.{IsPrefix};
 ghost use Rattle.air_jobs.specs.Looks.{IsLineOf, LookedTimes};
 

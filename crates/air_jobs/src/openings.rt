@@ -1,5 +1,5 @@
 //! Before the jobs run: the first values, an updater for each pass, and a watcher for each monitor.
-ghost use Rattle.std.specs.Prelude.{◌≡◌, ℕ, length, map, slice_get, All, IfOk, Some};
+ghost use Rattle.std.specs.Prelude.{◌≡◌, ℕ, length, slice_get, All, IfOk, Some};
 ghost use Rattle.air_model.specs.Decks.{values_in};
 ghost use Rattle.station.specs.PassStates.{PassState, new_pass};
 ghost use Rattle.air_jobs.specs.Crews.{IsReady, passes_of, monitors_of};

@@ -3,7 +3,7 @@
 //! Groups of four blocks are passed over whole, by one test each; from the first that isn't, blocks of eight, then the places
 //! after the last whole block. `held_entries` names a clash by it.
 
-ghost use Rattle.std.specs.Prelude.{◌≡◌, ◌≤◌, ◌<◌, ◌+◌, ℕ, length, slice_index, MatchOption};
+ghost use Rattle.std.specs.Prelude.{◌≡◌, ◌≤◌, ◌<◌, ◌+◌, ℕ, length, slice_index};
 ghost use Rattle.air_lanes.specs.Kernels.{IsAnswer};
 
 use std::simd::prelude::*;

@@ -1,5 +1,5 @@
 -- Small lists, computed: from which a list goes on without commits of an updater, or without starts.
-use Rattle.std.specs.Prelude.{ℕ, List, [], ◌∷◌, None, false, refl}
+use Rattle.std.specs.Prelude.{ℕ, [], ◌∷◌, None, false, refl}
 use Rattle.air_history.specs.declared.histories.Event.{Event}
 use Rattle.air_history.specs.declared.histories.Event.TheVariants.{Commit, Start}
 use Rattle.air_history.specs.Histories.{is_start}

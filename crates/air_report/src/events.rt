@@ -2,7 +2,7 @@
 
 ghost use Rattle.std.specs.Prelude.{◌≡◌, All, IfOk, map};
 ghost use Rattle.report_reading.specs.ReportLines.{event_in};
-ghost use Rattle.air_report.specs.Steps.Making.{NamesUpdate};
+ghost use Rattle.air_report.specs.Steps.ReportsOfLines.{NamesUpdate};
 
 use air_base::NoMemory;
 use air_history::Event;

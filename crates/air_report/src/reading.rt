@@ -2,12 +2,11 @@
 
 ghost use Rattle.std.specs.Prelude.{◌≡◌, ◌+◌, ◌≤◌, ◌^◌, length, IfErr, IfOk};
 ghost use Rattle.std.specs.List.{range_with_len};
-ghost use Rattle.report_laws.specs.ReportRules.{InGrammar};
 ghost use Rattle.report_reading.specs.declared.limits.TheConstants.{MOST_REPORT_BYTES};
 ghost use Rattle.report_reading.specs.ReportGrammar.{IsReportAnswer, SpellsReport};
 ghost use Rattle.air_report.specs.ReadReports.{IsReportOf};
 ghost use Rattle.air_report.specs.KeptReports.{KeepsGrammar};
-ghost use Rattle.air_report.specs.Steps.Making.{IsMadeOf};
+ghost use Rattle.air_report.specs.Steps.ReportsOfLines.{IsMadeOf};
 
 use crate::events::events_in;
 use air_base::{NoMemory, Rows};

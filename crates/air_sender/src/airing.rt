@@ -3,10 +3,9 @@
 //! Each slot's bucket is written into the buffer and sent through the mast; no call takes memory. What was sent are the
 //! board's buckets, and so those of the history of which the board is.
 
-ghost use Rattle.std.specs.Prelude.{◌≡◌, ℕ, ◌<◌, ◌≤◌, ◌+◌, ◌*◌, List, [], ◌∷◌, length, map, IfErr, OnErr, OnOk};
+ghost use Rattle.std.specs.Prelude.{◌≡◌, ℕ, ◌<◌, ◌≤◌, ◌+◌, ◌*◌, List, [], ◌∷◌, length, IfErr, OnErr, OnOk};
 ghost use Rattle.air_base.specs.declared.limits.TheConstants.{MOST_ITEMS, MOST_SLOTS};
 ghost use Rattle.air_history.specs.declared.histories.Event.{Event};
-ghost use Rattle.air_history.specs.declared.histories.Event.TheVariants.{Start};
 ghost use Rattle.air_model.specs.Disks.{all_items};
 ghost use Rattle.air_model.specs.Programs.{program as slots_of};
 ghost use Rattle.air_model.specs.Buckets.{spelling};

@@ -13,7 +13,7 @@ use item_catalog::Deck;
 /// The most bytes of a tape that are aired at a time, where a cycle has no more.
 pub const AIRED_PIECE_BYTES: u64 = 4_194_304;
 
-/// How many cycles are aired at a time: at least one, and no more than the script starts, nor than have `AIRED_PIECE_BYTES` bytes of the
+/// How many cycles are aired at a time: one, or more where the script starts as many and they have at most `AIRED_PIECE_BYTES` bytes of the
 /// tape. `Program::plan` makes the deck's program.
 pub fn piece_cycles(deck: &Deck, program: &Program) -> u32
     requires { program.now ≡ disks_in deck.now }

@@ -1,6 +1,6 @@
 //! The text of an audit's findings: a row for each, and one that counts them.
 
-ghost use Rattle.std.specs.Prelude.{◌≡◌, ◌++◌, ◌≤◌, IfOk, OnOk, count_by, length, map};
+ghost use Rattle.std.specs.Prelude.{◌≡◌, ◌++◌, IfOk, OnOk, count_by, map};
 ghost use Rattle.csv.specs.Writing.{row_text};
 ghost use Rattle.air_model.specs.Rows.{row_writer, rows_text};
 ghost use Rattle.air_rows.specs.RowWriters.{IsReady, written_text};

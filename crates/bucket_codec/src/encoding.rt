@@ -6,7 +6,7 @@
 ghost use Rattle.std.specs.Prelude.{◌≡◌, ◌≤◌, ◌<◌, ◌+◌, ◌*◌, ◌++◌, drop, length, take, Ok};
 ghost use Rattle.std.specs.List.{flat_map};
 ghost use Rattle.byteorder.specs.Endian.{big_bytes};
-ghost use Rattle.air_model.specs.Buckets.{IsBucket, IsInRange, entries_of, reading, spelling};
+ghost use Rattle.air_model.specs.Buckets.{IsInRange, entries_of, reading, spelling};
 ghost use Rattle.bucket_codec.specs.Steps.Heads.{head_bytes, head_of};
 ghost use Rattle.bucket_codec.specs.BucketsToAir.{bucket_to_air};
 

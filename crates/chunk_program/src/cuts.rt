@@ -4,6 +4,7 @@
 //! by its number. The disks are walked in order, and each item's place is put at its number: so a place is found in one step.
 
 ghost use Rattle.std.specs.Prelude.{◌≡◌, ℕ, ◌<◌, ◌≤◌, ◌++◌, List, Some, All, IfOk, length, slice_get};
+ghost use Rattle.air_base.specs.declared.limits.TheConstants.{ITEM_NUMBERS};
 ghost use Rattle.air_model.specs.Disks.{Disk as ModelDisk, all_items, cut, order};
 ghost use Rattle.air_model.specs.Airings.{disk_number};
 ghost use Rattle.chunk_program.specs.CutConditions.{AreDeckDisks, IsCuttable};
@@ -15,9 +16,6 @@ use crate::disks::{Disk, DiskSpec, cut_items};
 use std::alloc::{AllocError, Global};
 use std::cmp::Reverse;
 use std::marker::Model;
-
-/// The most items that are told apart by numbers of 16 bits.
-const MOST_NUMBERS: usize = 65_536;
 
 /// The number of an item's disk, and the item's number within it.
 #[derive(Clone, Copy)]
@@ -49,7 +47,7 @@ impl Model for Cut {
 
 /// The rank of each item: its rate, for which greater goes first, and its number.
 fn ranks_of(alloc: Global, rates: &[u32]) -> Result<Vec<(Reverse<u32>, u16)>, AllocError>
-    requires { length rates.now ≤ MOST_NUMBERS }
+    requires { length rates.now ≤ ITEM_NUMBERS }
     ensures { IfOk result (λ v. v.items ≡ ranks rates.now) }
 {
     let mut ranked = Vec::new(alloc);
@@ -61,7 +59,7 @@ fn ranks_of(alloc: Global, rates: &[u32]) -> Result<Vec<(Reverse<u32>, u16)>, Al
 
 /// The items by greater rate, then by smaller number.
 fn order(alloc: Global, rates: &[u32]) -> Result<Vec<u16>, AllocError>
-    requires { length rates.now ≤ MOST_NUMBERS }
+    requires { length rates.now ≤ ITEM_NUMBERS }
     ensures { IfOk result (λ items. items.items ≡ order rates.now) }
 {
     let mut ranked = ranks_of(alloc, rates)?;
@@ -76,7 +74,7 @@ fn order(alloc: Global, rates: &[u32]) -> Result<Vec<u16>, AllocError>
 /// Puts the places of a disk's items into the table, whose other entries stay.
 fn put_places(places: &mut [Place], disk: u32, items: &[u16])
     requires within { All (λ i. i < length places.old) items.now }
-    requires few { length items.now ≤ MOST_NUMBERS }
+    requires few { length items.now ≤ ITEM_NUMBERS }
     ensures { (disks : List ModelDisk) (done : List ℕ) → HasPlaces disks done places.old →
         ((q i : ℕ) → slice_get items.now q ≡ Some i → IsPlace disks i (record { disk = disk; place = q })) →
         HasPlaces disks (done ++ items.now) places.new }

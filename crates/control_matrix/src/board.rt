@@ -4,7 +4,7 @@
 //! that a commit writes and `marks` for the items that it writes, so that a step takes no memory. Contracts see a board as
 //! the definition's record.
 
-ghost use Rattle.std.specs.Prelude.{◌≡◌, ℕ, ◌+◌, ◌<◌, ◌≤◌, ◌^◌, List, [], ◌∷◌, ◌++◌, length, get_or, slice_index, replicate, IfOk};
+ghost use Rattle.std.specs.Prelude.{◌≡◌, ℕ, ◌+◌, ◌<◌, ◌≤◌, ◌^◌, List, [], ◌∷◌, ◌++◌, length, get_or, replicate, IfOk};
 ghost use Rattle.air_base.specs.declared.limits.TheConstants.{MOST_VALUES};
 ghost use Rattle.air_history.specs.declared.histories.Event.{Event};
 ghost use Rattle.air_history.specs.Histories.{starts, ItemsFit};

@@ -14,7 +14,7 @@ use Rattle.air_history.specs.Boards.{Board, board_of}
 use Rattle.control_matrix.specs.BoardSteps.{step_board}
 use Rattle.control_matrix.proofs.BoardLemmas.{board_push}
 use Rattle.cycle_snapshot.specs.Batches.{IsBatch, events_in}
-use Rattle.cycle_snapshot.specs.BoardRuns.{step_all, after_batch}
+use Rattle.cycle_snapshot.specs.Steps.BoardRuns.{step_all, after_batch}
 
 -- ---- starts
 

@@ -9,7 +9,7 @@ use Rattle.cycle_snapshot.specs.declared.copies.Published.{Published}
 use Rattle.cycle_snapshot.specs.declared.copies.News.{News}
 use Rattle.cycle_snapshot.specs.Batches.{IsBatch, events_in}
 use Rattle.cycle_snapshot.specs.Beginnings.{Beginning}
-use Rattle.cycle_snapshot.specs.BoardRuns.{after_batch}
+use Rattle.cycle_snapshot.specs.Steps.BoardRuns.{after_batch}
 
 -- The copy that took in the news.
 abbrev pub after_news : Published → News → Published

@@ -1,7 +1,6 @@
 pub mod Batches
 pub mod Beginnings
 pub mod BookRule
-pub mod BoardRuns
 pub mod CopyRule
 pub mod SnapshotStates
 pub mod PublisherFields

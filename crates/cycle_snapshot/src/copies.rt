@@ -1,6 +1,6 @@
 //! What each of the two copies of `left_right` holds, and the news that both take in, one after the other.
 ghost use Rattle.std.specs.Prelude.{◌≡◌};
-ghost use Rattle.cycle_snapshot.specs.BoardRuns.{after_batch};
+ghost use Rattle.cycle_snapshot.specs.Steps.BoardRuns.{after_batch};
 
 use crate::batches::Batch;
 use crate::told::Told;

@@ -1,5 +1,5 @@
 //! The frame that a monitor keeps: cycle, values, control columns, and the total of the values.
-ghost use Rattle.std.specs.Prelude.{◌≡◌, ℕ, ◌<◌, ◌≤◌, ◌%◌, ◌^◌, List, [], length, get_or, sum, All, IfOk};
+ghost use Rattle.std.specs.Prelude.{◌≡◌, ℕ, ◌<◌, ◌%◌, ◌^◌, List, [], length, get_or, sum, All, IfOk};
 ghost use Rattle.air_history.specs.declared.histories.Event.{Event};
 ghost use Rattle.air_history.specs.Boards.{board_of, frame_of};
 

@@ -1,5 +1,5 @@
 //! A monitor: it looks at what is published, and keeps the frame of its last look.
-ghost use Rattle.std.specs.Prelude.{◌≡◌, ℕ, ◌<◌, ◌≤◌, [], length, get_or, Some, MatchResult, MatchOption};
+ghost use Rattle.std.specs.Prelude.{◌≡◌, ◌<◌, [], length, get_or, Some, MatchResult, MatchOption};
 ghost use mathlib.Core.List.{IsPrefix};
 ghost use Rattle.left_right.specs.Sides.{view};
 ghost use Rattle.cycle_snapshot.specs.declared.copies.Published.{Published};

@@ -1,5 +1,5 @@
 //! The publisher: it adds batches to a list, of which each look takes a beginning.
-ghost use Rattle.std.specs.Prelude.{◌≡◌, ◌<◌, ◌++◌, ◌∷◌, [], length, drop, Some, MatchResult, IsOk};
+ghost use Rattle.std.specs.Prelude.{◌≡◌, ◌<◌, ◌∷◌, [], length, drop, Some, MatchResult, IsOk};
 ghost use Rattle.left_right.specs.Sides.{view};
 ghost use Rattle.cycle_snapshot.specs.declared.copies.News.{News};
 ghost use Rattle.cycle_snapshot.specs.Batches.{IsBatch};

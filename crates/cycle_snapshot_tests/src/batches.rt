@@ -1,5 +1,5 @@
 //! Batches as rows of a table.
-ghost use Rattle.std.specs.Prelude.{◌≡◌, IfOk};
+ghost use Rattle.std.specs.Prelude.{IfOk};
 ghost use Rattle.cycle_snapshot.specs.Batches.{IsBatch};
 
 use air_history::{Event, Update, Write};

@@ -13,7 +13,6 @@ use Rattle.air_model.specs.Disks.{DiskSpec}
 use Rattle.air_model.specs.Decks.{Deck, IsDeck, IsQuery, Item}
 use Rattle.update_texts.specs.ListTests.{reaches}
 use Rattle.text_records.specs.Kinds.{first_of}
-use Rattle.item_catalog.specs.DeckEntries.{Entry}
 use Rattle.item_catalog.specs.DeckEntries as e
 use Rattle.item_catalog.specs.DeckLimits.{DiskWithin, ReaderWithin, SettingsWithin, WithinLimits}
 use Rattle.item_catalog.specs.Steps.Drafts.{DraftValue, draft_of, with_entry}

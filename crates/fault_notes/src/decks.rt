@@ -5,8 +5,8 @@ use crate::fields::{count_note, deck_field_note, tag_note};
 use crate::limits::{overdrawn_note, total_note};
 use crate::names::{id_note, twice_note, undeclared_note, unread_note};
 use crate::records::{Found, Kind, Record, find};
-use crate::sayings::Said;
-use crate::seen::Seen;
+use crate::records_before::RecordsBefore;
+use crate::sentences::Sentence;
 use crate::settings::setting_note;
 use crate::tags::{Line, Tag, deck_line};
 use crate::texts::Shown;
@@ -18,52 +18,52 @@ use std::alloc::Global;
 const TAGS: &str = "item, disk, update, reader, query, script and set";
 
 /// Of whom a note on a record tells.
-fn subject_of<'a>(seen: &Seen, record: &'a Record, line: Line) -> Said<'a> {
+fn subject_of<'a>(before: &RecordsBefore, record: &'a Record, line: Line) -> Sentence<'a> {
     let text = record.field(1);
     let (form, number) = match line.tag {
         Tag::Item if read_u64(text.as_bytes()).is_some() => ("#name# #text# ", 0),
-        Tag::Disk => ("#name# #first# ", seen.disks),
-        Tag::Reader => ("#name# #first# ", seen.readers),
+        Tag::Disk => ("#name# #first# ", before.disks),
+        Tag::Reader => ("#name# #first# ", before.readers),
         _ => ("the #name# ", 0),
     };
-    Said::words(form, text, line.name, "").with(number, 0, "")
+    Sentence::words(form, text, line.name, "").with(number, 0, "")
 }
 
 /// What is wrong with a record; none where that isn't found.
-fn said_of<'a>(found: &'a Found, line: Line, kind: u8) -> Option<Said<'a>> {
-    let Found { record, seen, .. } = found;
+fn sentence_of<'a>(found: &'a Found, line: Line, kind: u8) -> Option<Sentence<'a>> {
+    let Found { record, before, .. } = found;
     match kind {
         1 => Some(count_note(record, line)),
         2 => deck_field_note(record, line.form),
-        3 => Some(id_note(seen, record)),
-        4 => undeclared_note(seen, record, line.tag),
+        3 => Some(id_note(before, record)),
+        4 => undeclared_note(before, record, line.tag),
         5 => twice_note(record, line.tag),
-        7 => deck_field_note(record, line.form).or(total_note(seen, record, line.tag)),
+        7 => deck_field_note(record, line.form).or(total_note(before, record, line.tag)),
         8 => unread_note(record),
-        10 => setting_note(seen, record),
-        11 => overdrawn_note(seen, record),
+        10 => setting_note(before, record),
+        11 => overdrawn_note(before, record),
         _ => None,
     }
 }
 
 /// Of whom a note tells, and what is wrong; none where that isn't found.
-fn note_parts<'a>(found: &'a Found, kind: u8) -> Option<(Said<'a>, Said<'a>)> {
-    let Found { record, seen, .. } = found;
-    let nobody = Said::numbers("", 0, 0, 0);
+fn note_parts<'a>(found: &'a Found, kind: u8) -> Option<(Sentence<'a>, Sentence<'a>)> {
+    let Found { record, before, .. } = found;
+    let nobody = Sentence::numbers("", 0, 0, 0);
     match found.kind {
         Kind::Record => {}
-        Kind::End => return Some((nobody, end_note(seen))),
+        Kind::End => return Some((nobody, end_note(before))),
         Kind::Nothing => return None,
     }
     let Some(line) = deck_line(record.field(0)) else {
         return Some((nobody, tag_note(record, TAGS)));
     };
-    let said = said_of(found, line, kind)?;
+    let sentence = sentence_of(found, line, kind)?;
     let subject = match kind {
-        2 | 4 | 5 | 7 => subject_of(seen, record, line),
+        2 | 4 | 5 | 7 => subject_of(before, record, line),
         _ => nobody,
     };
-    Some((subject, said))
+    Some((subject, sentence))
 }
 
 /// What is wrong with a deck: the file's name and the line at which the faulty record begins, its row, and the fault.
@@ -78,8 +78,8 @@ pub fn deck_note(
     let name = Shown::whole(name);
     let place = found.place();
     match note_parts(&found, fault.kind) {
-        Some((subject, said)) => Ok(format!(in alloc;
-            "{name}{place}record {row}: {subject}{said}"
+        Some((subject, sentence)) => Ok(format!(in alloc;
+            "{name}{place}record {row}: {subject}{sentence}"
         )?),
         None => Ok(format!(in alloc; "{name}{place}{fault}")?),
     }

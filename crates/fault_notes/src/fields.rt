@@ -2,7 +2,7 @@
 
 use crate::lists::parts_in;
 use crate::records::Record;
-use crate::sayings::{Said, range};
+use crate::sentences::{Sentence, range};
 use crate::tags::{Line, has_list};
 use crate::texts::{has_outer_space, why_no_number};
 use air_base::limits::{
@@ -156,7 +156,7 @@ impl Form {
 }
 
 /// The first part of a list that isn't of its form; none where each is.
-fn list_note<'a>(name: &'static str, form: Form, list: &'a str) -> Option<Said<'a>> {
+fn list_note<'a>(name: &'static str, form: Form, list: &'a str) -> Option<Sentence<'a>> {
     if list.is_empty() {
         return None;
     }
@@ -164,17 +164,17 @@ fn list_note<'a>(name: &'static str, form: Form, list: &'a str) -> Option<Said<'
         if text.is_empty() {
             let form =
                 "has an empty part among its #name#: one space stands between two parts, and none at the ends";
-            return Some(Said::words(form, text, name, ""));
+            return Some(Sentence::words(form, text, name, ""));
         }
         if let Some(why) = form.why_not(text) {
-            return Some(Said::words("has #text# among its #name#: #why#", text, name, why));
+            return Some(Sentence::words("has #text# among its #name#: #why#", text, name, why));
         }
     }
     None
 }
 
 /// A field isn't of its form; none where it is.
-fn field_note<'a>(field: Field, text: &'a str) -> Option<Said<'a>> {
+fn field_note<'a>(field: Field, text: &'a str) -> Option<Sentence<'a>> {
     let (_, name, form, _, _) = field;
     if form.is_list() {
         return list_note(name, form, text);
@@ -185,11 +185,11 @@ fn field_note<'a>(field: Field, text: &'a str) -> Option<Said<'a>> {
     } else {
         "has the #name# #text#: #why#"
     };
-    Some(Said::words(form, text, name, why))
+    Some(Sentence::words(form, text, name, why))
 }
 
 /// A field passes a limit; none where it doesn't.
-fn limit_note<'a>(field: Field, text: &'a str) -> Option<Said<'a>> {
+fn limit_note<'a>(field: Field, text: &'a str) -> Option<Sentence<'a>> {
     let (_, name, form, least, most) = field;
     let (form, number) = if form.is_list() {
         ("has #first# #name#: ", parts_in(text))
@@ -199,7 +199,7 @@ fn limit_note<'a>(field: Field, text: &'a str) -> Option<Said<'a>> {
     if least <= number && number <= most {
         return None;
     }
-    Some(Said::words(form, "", name, "").with(number, most, range(least)))
+    Some(Sentence::words(form, "", name, "").with(number, most, range(least)))
 }
 
 /// The first field of a record that isn't of its form, or that passes a limit; none where there is none.
@@ -208,36 +208,36 @@ fn first_note<'a>(
     form: &str,
     fields: &[Field],
     by_limit: bool,
-) -> Option<Said<'a>> {
+) -> Option<Sentence<'a>> {
     for (place, written) in form.split(',').enumerate() {
         let Some(field) = field_in(fields, written) else {
             continue;
         };
         let text = record.field(place);
-        let said = if by_limit {
+        let sentence = if by_limit {
             limit_note(field, text)
         } else {
             field_note(field, text)
         };
-        if said.is_some() {
-            return said;
+        if sentence.is_some() {
+            return sentence;
         }
     }
     None
 }
 
 /// A field of a deck's record isn't of its form, or passes a limit.
-pub fn deck_field_note<'a>(record: &'a Record, form: &str) -> Option<Said<'a>> {
+pub fn deck_field_note<'a>(record: &'a Record, form: &str) -> Option<Sentence<'a>> {
     first_note(record, form, &DECK, false).or(first_note(record, form, &DECK, true))
 }
 
 /// A field of a report's record isn't of its form, or is above its range.
-pub fn report_field_note<'a>(record: &'a Record, form: &str) -> Option<Said<'a>> {
+pub fn report_field_note<'a>(record: &'a Record, form: &str) -> Option<Sentence<'a>> {
     first_note(record, form, &REPORT, false).or(first_note(record, form, &REPORT, true))
 }
 
 /// The record has another number of fields than its form.
-pub fn count_note<'a>(record: &Record, line: Line) -> Said<'a> {
+pub fn count_note<'a>(record: &Record, line: Line) -> Sentence<'a> {
     let count = record.len() as u64;
     let wanted = line.form.split(',').count() as u64;
     let tail = if wanted < count && has_list(line.tag) {
@@ -250,16 +250,16 @@ pub fn count_note<'a>(record: &Record, line: Line) -> Said<'a> {
     } else {
         "it has #first# fields, and #why# has #second#"
     };
-    Said::words(form, "", "", line.form).with(count, wanted, tail)
+    Sentence::words(form, "", "", line.form).with(count, wanted, tail)
 }
 
 /// The tag of the record is none of these.
-pub fn tag_note<'a>(record: &'a Record, name: &'static str) -> Said<'a> {
+pub fn tag_note<'a>(record: &'a Record, name: &'static str) -> Sentence<'a> {
     let text = record.field(0);
     let form = if has_outer_space(text) {
         "the tag is #text#: it has a space, and is none of #name#"
     } else {
         "the tag is #text#: none of #name#"
     };
-    Said::words(form, text, name, "")
+    Sentence::words(form, text, name, "")
 }

@@ -1,8 +1,8 @@
 //! What is wrong with a deck, a tape or a report that was refused, said in one line for a person: where it stands, and what would be right.
 //!
 //! The status of a refusal and its printed line come from the contracts of the commands; nothing here changes them. `records` finds
-//! the faulty record and its line, and `seen` what the records before it say. Of a deck `fields`, `names`, `limits`, `settings`
-//! and `ends` say what is wrong, by the kind of the fault, of a report `fields`, `known` and `reports`; `sayings` has the form in which
+//! the faulty record and its line, and `records_before` what the records before it say. Of a deck `fields`, `names`, `limits`, `settings`
+//! and `ends` say what is wrong, by the kind of the fault, of a report `fields`, `strangers` and `reports`; `sentences` has the form in which
 //! they say it. `tapes` finds where a tape is cut while its pieces go by, and `systems` tells what the system said of a mast or an ear.
 //! No clause says what a note has: they are tested.
 #![tactic(auto)]
@@ -10,15 +10,15 @@
 mod decks;
 mod ends;
 mod fields;
-mod known;
 mod limits;
 mod lists;
 mod names;
 mod records;
+mod records_before;
 mod reports;
-mod sayings;
-mod seen;
+mod sentences;
 mod settings;
+mod strangers;
 mod systems;
 mod tags;
 mod tapes;

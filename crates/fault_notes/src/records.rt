@@ -1,7 +1,7 @@
 //! The record of a row: where it begins, its fields, and what the records before it say.
 
-use crate::sayings::Said;
-use crate::seen::Seen;
+use crate::records_before::RecordsBefore;
+use crate::sentences::Sentence;
 use air_base::{NoMemory, read_u64};
 use csv::{ByteRecord, ReaderBuilder};
 use std::alloc::Global;
@@ -26,7 +26,7 @@ pub struct Found {
     pub kind: Kind,
     pub line: u64,
     pub record: Record,
-    pub seen: Seen,
+    pub before: RecordsBefore,
 }
 
 impl Record {
@@ -60,13 +60,13 @@ impl Record {
 
 impl Found {
     /// Where it stands, behind the name of the file.
-    pub fn place(&self) -> Said<'static> {
+    pub fn place(&self) -> Sentence<'static> {
         let form = match self.kind {
             Kind::Record => ":#first#: ",
             Kind::End => ": the end, ",
             Kind::Nothing => ": ",
         };
-        Said::numbers(form, self.line, 0, 0)
+        Sentence::numbers(form, self.line, 0, 0)
     }
 }
 
@@ -98,12 +98,12 @@ pub fn find(alloc: Global, bytes: &[u8], row: u32) -> Result<Found, NoMemory> {
         .flexible(true)
         .from_reader(alloc, bytes);
     let mut record = ByteRecord::new(alloc);
-    let mut seen = Seen::default();
+    let mut before = RecordsBefore::default();
     let mut kind = Kind::Nothing;
     let mut line = 0;
     for at in 1..=row {
         match records.read_byte_record(&mut record) {
-            Ok(true) if at < row => seen.add(&record, at),
+            Ok(true) if at < row => before.add(&record, at),
             Ok(true) => {
                 let place = record.position().map_or(0, |position| position.byte());
                 line = line_at(bytes, place);
@@ -118,6 +118,6 @@ pub fn find(alloc: Global, bytes: &[u8], row: u32) -> Result<Found, NoMemory> {
         kind,
         line,
         record,
-        seen,
+        before,
     })
 }

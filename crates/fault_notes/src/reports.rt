@@ -1,11 +1,11 @@
 //! What is wrong with a report that was refused.
 
 use crate::fields::{count_note, report_field_note, tag_note};
-use crate::known::{commit_note, stranger_note};
 use crate::lists::{Test, first_failing};
 use crate::records::{Found, Kind, Record, find};
-use crate::sayings::Said;
-use crate::seen::Seen;
+use crate::records_before::RecordsBefore;
+use crate::sentences::Sentence;
+use crate::strangers::{commit_note, stranger_note};
 use crate::tags::{Line, Tag, report_line, section};
 use crate::texts::Shown;
 use air_base::NoMemory;
@@ -28,30 +28,30 @@ const RULES: [&str; 8] = [
 ];
 
 /// The rule that a fault of this kind breaks.
-fn rule_of(kind: u8) -> Said<'static> {
+fn rule_of(kind: u8) -> Sentence<'static> {
     let place = usize::from(kind);
     let rule = if place < RULES.len() {
         RULES[place]
     } else {
         RULES[0]
     };
-    Said::numbers(rule, 0, 0, 0)
+    Sentence::numbers(rule, 0, 0, 0)
 }
 
 /// A line of a later section stands above; none where none does.
-fn order_note(seen: &Seen, tag: Tag) -> Option<Said<'static>> {
+fn order_note(before: &RecordsBefore, tag: Tag) -> Option<Sentence<'static>> {
     for place in section(tag) + 1..5 {
-        if let Some((row, name)) = seen.begun[place] {
+        if let Some((row, name)) = before.begun[place] {
             let form =
                 "stands below the #name# line of record #first#: first come start and commit, then accept, abort and unfinished, then counts, then glance, then look";
-            return Some(Said::words(form, "", name, "").with(u64::from(row), 0, ""));
+            return Some(Sentence::words(form, "", name, "").with(u64::from(row), 0, ""));
         }
     }
     None
 }
 
 /// A cycle of a line hasn't been started above it.
-fn cycle_note<'a>(starts: u64, record: &'a Record, tag: Tag) -> Said<'a> {
+fn cycle_note<'a>(starts: u64, record: &'a Record, tag: Tag) -> Sentence<'a> {
     let (form, text) = match tag {
         Tag::Glance | Tag::Look => (
             "has the cycle #text#: it is at most the number of start lines above, which is #second#",
@@ -68,26 +68,31 @@ fn cycle_note<'a>(starts: u64, record: &'a Record, tag: Tag) -> Said<'a> {
             ),
         },
     };
-    Said::words(form, text, "", "").with(0, starts, "")
+    Sentence::words(form, text, "", "").with(0, starts, "")
 }
 
 /// What is wrong with a line of a report; none where that isn't found.
-fn said_of<'a>(deck: Option<&Deck>, found: &'a Found, line: Line, kind: u8) -> Option<Said<'a>> {
-    let Found { record, seen, .. } = found;
+fn sentence_of<'a>(
+    deck: Option<&Deck>,
+    found: &'a Found,
+    line: Line,
+    kind: u8,
+) -> Option<Sentence<'a>> {
+    let Found { record, before, .. } = found;
     match (kind, deck) {
         (1, _) => Some(count_note(record, line)),
         (2, _) => report_field_note(record, line.form),
-        (4, _) => order_note(seen, line.tag),
-        (5, Some(deck)) => Some(commit_note(deck, seen, record)),
+        (4, _) => order_note(before, line.tag),
+        (5, Some(deck)) => Some(commit_note(deck, before, record)),
         (6, Some(deck)) => stranger_note(deck, record, line.tag),
-        (7, _) => Some(cycle_note(seen.starts, record, line.tag)),
+        (7, _) => Some(cycle_note(before.starts, record, line.tag)),
         _ => None,
     }
 }
 
 /// Of whom a note tells, and what is wrong.
-fn note_parts<'a>(deck: Option<&Deck>, found: &'a Found, kind: u8) -> (Said<'a>, Said<'a>) {
-    let nobody = Said::numbers("", 0, 0, 0);
+fn note_parts<'a>(deck: Option<&Deck>, found: &'a Found, kind: u8) -> (Sentence<'a>, Sentence<'a>) {
+    let nobody = Sentence::numbers("", 0, 0, 0);
     let record = &found.record;
     if !matches!(found.kind, Kind::Record) {
         return (nobody, rule_of(kind));
@@ -95,9 +100,12 @@ fn note_parts<'a>(deck: Option<&Deck>, found: &'a Found, kind: u8) -> (Said<'a>,
     let Some(line) = report_line(record.field(0)) else {
         return (nobody, tag_note(record, TAGS));
     };
-    match said_of(deck, found, line, kind) {
-        Some(said) if kind == 1 => (nobody, said),
-        Some(said) => (Said::words("the #name# line ", "", line.name, ""), said),
+    match sentence_of(deck, found, line, kind) {
+        Some(sentence) if kind == 1 => (nobody, sentence),
+        Some(sentence) => (
+            Sentence::words("the #name# line ", "", line.name, ""),
+            sentence,
+        ),
         None => (nobody, rule_of(kind)),
     }
 }
@@ -113,8 +121,8 @@ pub fn report_note(
     kind: u8,
 ) -> Result<String, NoMemory> {
     let found = find(alloc, bytes, row)?;
-    let (subject, said) = note_parts(deck, &found, kind);
+    let (subject, sentence) = note_parts(deck, &found, kind);
     let name = Shown::whole(name);
     let place = found.place();
-    Ok(format!(in alloc; "{name}{place}record {row}: {subject}{said}")?)
+    Ok(format!(in alloc; "{name}{place}record {row}: {subject}{sentence}")?)
 }

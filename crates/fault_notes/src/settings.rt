@@ -3,8 +3,8 @@
 ghost use Rattle.std.specs.Prelude.{◌<◌, IfSome};
 
 use crate::records::Record;
-use crate::sayings::{Said, range};
-use crate::seen::Seen;
+use crate::records_before::RecordsBefore;
+use crate::sentences::{Sentence, range};
 use crate::texts::{space_of, why_no_number};
 use air_base::limits::{MOST_CYCLES, MOST_DELTA, MOST_HEARS, MOST_MONITORS, MOST_SHARE};
 use air_base::read_u64;
@@ -35,36 +35,41 @@ pub fn setting_place(name: &str) -> Option<usize>
 }
 
 /// The value of the policy is none of its letters; none where it is one.
-fn policy_note(text: &str) -> Option<Said<'_>> {
+fn policy_note(text: &str) -> Option<Sentence<'_>> {
     if matches!(text, "F" | "D" | "R") {
         return None;
     }
     let form = "the setting policy has the value #text#: #why#F, D and R are the values";
-    Some(Said::words(form, text, "", space_of(text)))
+    Some(Sentence::words(form, text, "", space_of(text)))
 }
 
 /// A setting's value is no number within its limits; none where it is one.
-fn value_note<'a>(name: &'static str, least: u64, most: u64, text: &'a str) -> Option<Said<'a>> {
+fn value_note<'a>(
+    name: &'static str,
+    least: u64,
+    most: u64,
+    text: &'a str,
+) -> Option<Sentence<'a>> {
     let (tail, why) = match read_u64(text.as_bytes()) {
         Some(number) if least <= number && number <= most => return None,
         Some(_) => (range(least), ""),
         None => ("#why#", why_no_number(text)),
     };
     let form = "the setting #name# has the value #text#: ";
-    Some(Said::words(form, text, name, why).with(0, most, tail))
+    Some(Sentence::words(form, text, name, why).with(0, most, tail))
 }
 
 /// A setting is unknown, was set before, or can't have its value.
-pub fn setting_note<'a>(seen: &Seen, record: &'a Record) -> Option<Said<'a>> {
+pub fn setting_note<'a>(before: &RecordsBefore, record: &'a Record) -> Option<Sentence<'a>> {
     let text = record.field(1);
     let Some(place) = setting_place(text) else {
         let form =
             "there is no setting #text#: #why#policy, delta, cycles, seed, loss, again, late, monitors and hears are the settings";
-        return Some(Said::words(form, text, "", space_of(text)));
+        return Some(Sentence::words(form, text, "", space_of(text)));
     };
     let (name, least, most) = SETTINGS[place];
-    if seen.set[place] {
-        return Some(Said::words(
+    if before.set[place] {
+        return Some(Sentence::words(
             "the setting #name# was set above: each is set once",
             "",
             name,

@@ -2,7 +2,7 @@
 
 ghost use Rattle.std.specs.Prelude.{◌≤◌, length};
 
-use crate::sayings::Said;
+use crate::sentences::Sentence;
 use crate::texts::Shown;
 use air_base::NoMemory;
 use bucket_codec::offsets::LENGTH_BYTES;
@@ -61,17 +61,17 @@ impl CutTape {
     }
 
     /// What of the record is there; nothing where the tape ends behind a whole one.
-    fn part_note(&self) -> Said<'static> {
+    fn part_note(&self) -> Sentence<'static> {
         if self.there == 0 {
-            return Said::numbers("", 0, 0, 0);
+            return Sentence::numbers("", 0, 0, 0);
         }
         let Some(there) = self.there.checked_sub(LENGTH_BYTES) else {
             let form = "of the #second# bytes of its length #first# are there";
-            return Said::numbers(form, self.there as u64, LENGTH_BYTES as u64, 0);
+            return Sentence::numbers(form, self.there as u64, LENGTH_BYTES as u64, 0);
         };
         let size = u32::from_be_bytes(self.length_bytes);
         let form = "of its #second# bytes #first# are there";
-        Said::numbers(form, there as u64, u64::from(size), 0)
+        Sentence::numbers(form, there as u64, u64::from(size), 0)
     }
 
     /// Which record of the tape is cut, once all of it was fed: the one that begins at this byte.

@@ -9,7 +9,7 @@ use Rattle.air_base.specs.Numbers.{number_of}
 use Rattle.air_base.specs.NumberLists.{all_some, list_of, parts_of}
 use Rattle.air_history.specs.declared.updates.Write.{Write}
 use Rattle.air_history.specs.UpdateRules.{base_holds, base_is_read, has_repeat, item_of, update_fault}
-use Rattle.item_catalog.specs.DeckEntries.{Entry, entry_of, query_by, script_by, update_by}
+use Rattle.item_catalog.specs.DeckEntries.{query_by, script_by, update_by}
 use Rattle.item_catalog.specs.DeckEntries as e
 use Rattle.update_texts.specs.Writes.{constant, value_of, write_by, write_from, write_of, write_on_base}
 use Rattle.air_base.specs.Pieces.{cut_at, two_of}

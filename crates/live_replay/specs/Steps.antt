@@ -3,5 +3,5 @@ pub mod Writes
 pub mod Alone
 pub mod Runs
 pub mod Replays
-pub mod Names
+pub mod NamedClashes
 pub mod Lines

@@ -8,7 +8,7 @@ ghost use Rattle.air_history.specs.Reads.{IsRead, first_cycle, last_cycle, newes
 ghost use Rattle.air_history.specs.Clashes.{clash_by_history, is_late, lesser, named_clash};
 ghost use Rattle.air_history.specs.ClashLaws.{passes};
 ghost use Rattle.live_replay.specs.Findings.{all_pass, place_of, places_of};
-ghost use Rattle.live_replay.specs.Steps.Names.{NamesWithin, clash_named, named_by};
+ghost use Rattle.live_replay.specs.Steps.NamedClashes.{NamesWithin, clash_named, named_by};
 
 use crate::alone::is_consistent;
 use crate::replay::Replay;

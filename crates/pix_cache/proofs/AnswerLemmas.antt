@@ -9,7 +9,7 @@ use Rattle.air_model.proofs.MomentLemmas.{find_is}
 use Rattle.pix_cache.specs.declared.cache.KeepAnswer.{KeepAnswer}
 use Rattle.pix_cache.specs.declared.cache.KeepAnswer.TheVariants.{Replaced, Placed, Declined, Evicted}
 use Rattle.pix_cache.specs.Caches.{FindsRoom, GivesWay, HasCopy, IsLeast, copy_of}
-use Rattle.pix_cache.specs.Steps.Answers.{IsAnswer}
+use Rattle.pix_cache.specs.Steps.KeepAnswers.{IsAnswer}
 
 -- Of two copies not both go before the other.
 not_both : (pix : List ℕ) (a b : Read) → goes_before pix b a ≡ true → goes_before pix a b ≡ true → ⊥

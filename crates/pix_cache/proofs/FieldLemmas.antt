@@ -7,7 +7,7 @@ use Rattle.pix_cache.specs.declared.leaf.Leaf.{Leaf}
 use Rattle.pix_cache.specs.declared.cache.PixCache.TheInside.{Inside}
 use Rattle.pix_cache.specs.declared.cache.KeepAnswer.{KeepAnswer}
 use Rattle.pix_cache.specs.declared.cache.KeepAnswer.TheVariants.{Evicted, Placed}
-use Rattle.pix_cache.specs.Steps.Answers.{IsAnswer}
+use Rattle.pix_cache.specs.Steps.KeepAnswers.{IsAnswer}
 use Rattle.pix_cache.specs.Stores.{Stored}
 use Rattle.pix_cache.specs.Leaves.{copy_leaf, nowhere, weight}
 use Rattle.pix_cache.specs.Caches.{Cache, IsLeast, copy, copy_of}

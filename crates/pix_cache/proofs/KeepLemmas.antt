@@ -12,7 +12,7 @@ use Rattle.air_model.proofs.CopyOrders.{keep_all}
 use Rattle.pix_cache.specs.declared.leaf.Leaf.{Leaf}
 use Rattle.pix_cache.specs.declared.cache.KeepAnswer.{KeepAnswer}
 use Rattle.pix_cache.specs.declared.cache.KeepAnswer.TheVariants.{Evicted, Placed}
-use Rattle.pix_cache.specs.Steps.Answers.{IsAnswer}
+use Rattle.pix_cache.specs.Steps.KeepAnswers.{IsAnswer}
 use Rattle.pix_cache.specs.Stores.{Stored}
 use Rattle.pix_cache.specs.Leaves.{nowhere, weight}
 use Rattle.pix_cache.specs.Caches.{Cache, copy}

@@ -2,10 +2,9 @@
 use Rattle.std.specs.Prelude.{◌≡◌, ◌<◌, ◌≤◌, ℕ, true, List, [], ◌∷◌, length, map, get_or, count_by, Option, Some, None}
 use Rattle.std.specs.List.{range_with_len}
 use Rattle.std.specs.Option.{is_some, option_map}
-use Rattle.air_base.specs.declared.limits.TheConstants.{MOST_ROOM}
+use Rattle.air_base.specs.declared.limits.TheConstants.{ITEM_NUMBERS, MOST_ROOM}
 use Rattle.air_model.specs.Reads.{Read}
 use Rattle.pix_cache.specs.declared.leaf.Leaf.{Leaf}
-use Rattle.pix_cache.specs.declared.store.TheConstants.{ITEM_NUMBERS}
 use Rattle.pix_cache.specs.declared.cache.PixCache.TheInside.{Inside}
 use Rattle.pix_cache.specs.Stores.{Stored, no_store}
 use Rattle.pix_cache.specs.Leaves.{copy_leaf, nowhere}

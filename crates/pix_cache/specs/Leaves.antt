@@ -1,7 +1,7 @@
 -- The order of rooms: by what each holds, an empty one first, then the copy that goes first.
 use Rattle.std.specs.Prelude.{ℕ, ◌+◌, ◌-◌, ◌*◌, true, false, if◌then◌else◌, nat_lt, List, get_or}
 use Rattle.pix_cache.specs.declared.leaf.Leaf.{Leaf}
-use Rattle.pix_cache.specs.declared.store.TheConstants.{ITEM_NUMBERS}
+use Rattle.air_base.specs.declared.limits.TheConstants.{ITEM_NUMBERS}
 
 -- The leaf of an empty room.
 abbrev pub empty_leaf : ℕ → Leaf

@@ -1,5 +1,5 @@
 -- Definitions that private steps alone speak of: no public contract cites them, nor what a public type shows.
-pub mod Answers
+pub mod KeepAnswers
 pub mod StoreFields
 pub mod TreeFields
 pub mod Trees

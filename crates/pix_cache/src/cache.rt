@@ -3,12 +3,11 @@
 //! `places` has the room of each item that is kept, `store` what each room holds, `tree` the room to take next.
 
 ghost use Rattle.std.specs.Prelude.{◌≡◌, ◌≢◌, ◌↔◌, ◌<◌, ◌≤◌, ◌++◌, ℕ, true, [], List, length, sum_by, None, if◌then◌else◌, IfOk, MatchOption, IsPermutation, slice_set};
-ghost use Rattle.air_base.specs.declared.limits.TheConstants.{MOST_ROOM};
+ghost use Rattle.air_base.specs.declared.limits.TheConstants.{ITEM_NUMBERS, MOST_ROOM};
 ghost use Rattle.air_model.specs.Reads.{Read};
 ghost use Rattle.air_model.specs.Copies.{keep, pix_of, with_copy, without_item};
 ghost use Rattle.pix_cache.specs.Caches.{FindsRoom, GivesWay, HasCopy, IsLeast, copy, copy_of};
-ghost use Rattle.pix_cache.specs.Steps.Answers.{IsAnswer};
-ghost use Rattle.pix_cache.specs.declared.store.TheConstants.{ITEM_NUMBERS};
+ghost use Rattle.pix_cache.specs.Steps.KeepAnswers.{IsAnswer};
 ghost use Rattle.pix_cache.specs.declared.cache.KeepAnswer.TheVariants.{Declined, Evicted, Placed, Replaced};
 
 use crate::leaf::Leaf;

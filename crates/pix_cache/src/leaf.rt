@@ -1,6 +1,6 @@
 //! What the tree knows of a room: whether it holds a copy, and how that copy stands in the order.
 
-ghost use Rattle.std.specs.Prelude.{◌≡◌, false, nat_lt, if◌then◌else◌};
+ghost use Rattle.std.specs.Prelude.{◌≡◌, false, nat_lt};
 ghost use Rattle.pix_cache.specs.Leaves.{weight, lighter};
 
 /// A room, with what it holds: nothing, or a copy of an item with its PIX number.

@@ -12,4 +12,4 @@ mod store;
 mod tree;
 
 pub use cache::{KeepAnswer, PixCache};
-pub use store::{ITEM_NUMBERS, Kept};
+pub use store::Kept;

@@ -2,7 +2,7 @@
 //!
 //! Leaf s stands at place K + s for K rooms, and the children of node v at 2v and 2v + 1.
 
-ghost use Rattle.std.specs.Prelude.{◌≡◌, ◌≢◌, ◌*◌, ◌+◌, ◌≤◌, ◌<◌, ℕ, true, false, length, drop, IfOk, slice_set, get_or, map, All};
+ghost use Rattle.std.specs.Prelude.{◌≡◌, ◌*◌, ◌+◌, ◌≤◌, ◌<◌, ℕ, true, false, length, drop, IfOk, slice_set, get_or};
 ghost use Rattle.air_base.specs.declared.limits.TheConstants.{MOST_ROOM};
 ghost use Rattle.pix_cache.specs.Leaves.{nowhere, renumbered_leaf};
 ghost use Rattle.pix_cache.specs.Steps.Trees.{IsTree};

@@ -3,16 +3,12 @@
 //! A column stays where it was put until another is put over it.
 
 ghost use Rattle.std.specs.Prelude.{◌≡◌, ◌<◌, ◌≤◌, length, get_or, IfOk, slice_set};
-ghost use Rattle.air_base.specs.declared.limits.TheConstants.{MOST_ROOM};
-ghost use Rattle.pix_cache.specs.declared.store.TheConstants.{ITEM_NUMBERS};
+ghost use Rattle.air_base.specs.declared.limits.TheConstants.{ITEM_NUMBERS, MOST_ROOM};
 ghost use Rattle.pix_cache.specs.Stores.{no_store, stored_copy};
 
 use air_base::NoMemory;
 use std::alloc::Global;
 use std::marker::Model;
-
-/// How many numbers there are for items.
-pub const ITEM_NUMBERS: usize = 65_536;
 
 /// A kept copy, lent.
 #[derive(Debug, Drop)]

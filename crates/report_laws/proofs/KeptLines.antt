@@ -12,7 +12,7 @@ use Rattle.report_reading.specs.LineTexts.{line_of}
 use Rattle.report_reading.specs.ReportFaults.{comes_late, comes_next, is_begun, is_filled, is_known, is_next, kinds_after, kinds_at, lines_of, tests_of}
 use Rattle.report_reading.specs.ReportGrammar.{RowsSpellLines}
 use Rattle.report_reading.specs.ReportLines.{ReportLines, sections_of, starts_in}
-use Rattle.report_reading.specs.Steps.Answers.{with_line}
+use Rattle.report_reading.specs.Steps.RecordAnswers.{with_line}
 use Rattle.report_reading.specs.declared.kinds.FaultKind.{FaultKind}
 use Rattle.report_reading.specs.declared.kinds.FaultKind.TheVariants as fault
 use Rattle.report_reading.specs.declared.lines.EventLine.{EventLine}

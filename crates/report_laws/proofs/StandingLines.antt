@@ -18,7 +18,7 @@ use Rattle.report_reading.specs.LineTexts.{line_of}
 use Rattle.report_reading.specs.ReportFaults.{kinds_at, lines_of, tests_of}
 use Rattle.report_reading.specs.ReportGrammar.{RowsSpellLines, SpellsReport}
 use Rattle.report_reading.specs.ReportLines.{ReportLines, its_line, lines_in, sections_of, starts_in}
-use Rattle.report_reading.specs.Steps.Answers.{record_kind, with_line}
+use Rattle.report_reading.specs.Steps.RecordAnswers.{record_kind, with_line}
 use Rattle.report_reading.specs.declared.lines.EventLine.{EventLine}
 use Rattle.report_reading.specs.declared.lines.Line.{Line}
 use Rattle.report_reading.specs.declared.lines.Line.TheVariants as l

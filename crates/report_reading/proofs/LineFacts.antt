@@ -11,7 +11,7 @@ use Rattle.air_model.specs.Decks.{Deck, updates_by}
 use Rattle.text_records.specs.Kinds.{first_of}
 use Rattle.report_reading.specs.ReportFaults.{comes_late, is_begun, is_known, is_next, its_item, leads}
 use Rattle.report_reading.specs.ReportLines.{ReportLines, commits_by, commits_of, starts_in, starts_cycle}
-use Rattle.report_reading.specs.Steps.Answers.{CanPush, record_kind}
+use Rattle.report_reading.specs.Steps.RecordAnswers.{CanPush, record_kind}
 use Rattle.report_reading.specs.declared.kinds.FaultKind.{FaultKind}
 use Rattle.report_reading.specs.declared.kinds.FaultKind.TheVariants as fault
 use Rattle.report_reading.specs.declared.lines.EventLine.{EventLine}

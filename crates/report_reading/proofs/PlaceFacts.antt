@@ -17,7 +17,7 @@ use Rattle.report_reading.specs.Kinds.{code_of}
 use Rattle.report_reading.specs.LineTexts.{line_of}
 use Rattle.report_reading.specs.ReportFaults.{kinds_after, kinds_at, lines_of, place_kinds, tests_of}
 use Rattle.report_reading.specs.ReportLines.{ReportLines, its_counts, its_event, its_glance, its_look, its_verdict, sections_of}
-use Rattle.report_reading.specs.Steps.Answers.{record_kind, with_line}
+use Rattle.report_reading.specs.Steps.RecordAnswers.{record_kind, with_line}
 use Rattle.report_reading.specs.declared.kinds.FaultKind.{FaultKind}
 use Rattle.report_reading.specs.declared.lines.EventLine.{EventLine}
 use Rattle.report_reading.specs.declared.lines.Line.{Line}

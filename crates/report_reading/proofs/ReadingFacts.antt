@@ -10,7 +10,7 @@ use Rattle.report_reading.specs.LineTexts.{line_of}
 use Rattle.report_reading.specs.ReportFaults.{kinds_at, lines_of}
 use Rattle.report_reading.specs.ReportGrammar.{HasReportFault, RowsSpellLines, SpellsReport}
 use Rattle.report_reading.specs.ReportLines.{sections_of}
-use Rattle.report_reading.specs.Steps.Answers.{record_kind}
+use Rattle.report_reading.specs.Steps.RecordAnswers.{record_kind}
 use Rattle.report_reading.specs.declared.kinds.FaultKind.{FaultKind}
 use Rattle.report_reading.proofs.PlaceFacts.{judge, least_after}
 

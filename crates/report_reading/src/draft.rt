@@ -8,7 +8,7 @@ ghost use Rattle.csv.specs.Records.{fields_of};
 ghost use Rattle.report_reading.specs.LineTexts.{line_of};
 ghost use Rattle.report_reading.specs.ReportFaults.{comes_late, comes_next, is_next};
 ghost use Rattle.report_reading.specs.ReportLines.{sections_of};
-ghost use Rattle.report_reading.specs.Steps.Answers.{Adds, CanCommit, CanPush, Pushed, record_kind, with_line};
+ghost use Rattle.report_reading.specs.Steps.RecordAnswers.{Adds, CanCommit, CanPush, Pushed, record_kind, with_line};
 
 use crate::kinds::FaultKind;
 use crate::lines::{EventLine, Line};

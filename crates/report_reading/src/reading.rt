@@ -1,6 +1,6 @@
 //! The lines of reports read from texts: one pass over the records, each taken once and forgotten.
 
-ghost use Rattle.std.specs.Prelude.{◌≡◌, ◌≤◌, length, IfErr, IfOk};
+ghost use Rattle.std.specs.Prelude.{◌≤◌, length, IfErr, IfOk};
 ghost use Rattle.report_reading.specs.declared.limits.TheConstants.{MOST_REPORT_BYTES};
 ghost use Rattle.report_reading.specs.ReportGrammar.{IsReportAnswer, SpellsReport};
 

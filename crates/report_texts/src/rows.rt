@@ -1,6 +1,6 @@
 //! The rows of a report, one a line, written field by field.
 
-ghost use Rattle.std.specs.Prelude.{◌≡◌, ◌+◌, ◌<◌, ◌^◌, ◌++◌, ◌∷◌, [], ℕ, List, IfOk, OnOk, length, map};
+ghost use Rattle.std.specs.Prelude.{◌≡◌, ◌+◌, ◌<◌, ◌^◌, ◌++◌, ◌∷◌, [], ℕ, List, OnOk, length, map};
 ghost use Rattle.csv.specs.Writing.{row_text};
 ghost use Rattle.air_base.specs.Numbers.{number_text};
 ghost use Rattle.air_base.specs.NumberLists.{list_text};

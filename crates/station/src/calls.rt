@@ -2,7 +2,7 @@
 //!
 //! Each adds its one event, or answers `NoMemory`. What the pass has then seen is what it had seen, then events of other
 //! passes, then its own event where one was added.
-ghost use Rattle.std.specs.Prelude.{◌≡◌, ℕ, ◌<◌, ◌-◌, ◌^◌, List, [], ◌∷◌, ◌++◌, length, All, MatchResult, OnOk};
+ghost use Rattle.std.specs.Prelude.{◌≡◌, ◌<◌, ◌-◌, ◌^◌, List, [], ◌∷◌, ◌++◌, length, All, MatchResult, OnOk};
 ghost use Rattle.air_history.specs.declared.histories.Event.{Event};
 ghost use Rattle.air_history.specs.declared.histories.Event.TheVariants.{Commit, Start};
 ghost use Rattle.air_history.specs.UpdateRules.{UpdateFits};

@@ -1,7 +1,7 @@
 //! All passes of a station at work, and the end, when they come back.
-ghost use Rattle.std.specs.Prelude.{◌≡◌, ℕ, ◌<◌, length, slice_get, All, Contains, IfOk, IsTrue, Some};
+ghost use Rattle.std.specs.Prelude.{◌≡◌, ℕ, ◌<◌, length, All, Contains, IfOk, IsTrue, Some};
 ghost use Rattle.std.specs.Thread.{IsSync};
-ghost use Rattle.station.specs.PassStates.{PassState, new_pass, numbers_of, with_seen};
+ghost use Rattle.station.specs.PassStates.{PassState, numbers_of, with_seen};
 ghost use Rattle.station_tests.specs.Workers.{IsReady};
 
 use crate::workers::{Conductor, Task, Worker};

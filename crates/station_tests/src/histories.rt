@@ -1,5 +1,5 @@
 //! What a closed station's history has, found by the slow programs.
-ghost use Rattle.std.specs.Prelude.{◌≡◌, length};
+ghost use Rattle.std.specs.Prelude.{length};
 
 use crate::rows::{Mark, mark_of};
 use crate::workers::Worker;

@@ -2,12 +2,12 @@
 //!
 //! In a clause a turnstile is which one it is, and a pass is a `Known` (`specs/Passes`): `own` says that the pass is of this
 //! turnstile, `outside` that it is in no turn. `enter`, `leave`, `join` and `close` take no memory, and only `enter` waits.
-ghost use Rattle.std.specs.Prelude.{◌≡◌, ℕ, ◌<◌, ◌++◌, length, slice_get, Contains, IfOk, IsSome, IfSome, Some, None};
+ghost use Rattle.std.specs.Prelude.{◌≡◌, ℕ, ◌<◌, length, slice_get, Contains, IfOk, IsSome, IfSome, Some, None};
 ghost use Rattle.turnstile.specs.PassEntries.{Below, Continues, Lengthens};
 ghost use Rattle.turnstile.specs.Passes.{newcomer, after_enter, after_leave, after_join};
 
 use crate::chronicles::Chronicle;
-use crate::dealing::{alone, deal};
+use crate::dealing::{deal, vec_of_one};
 use crate::passes::{Pass, Turn};
 use crate::rule::{About, Rule, SERVING, SLOT, TICKETS};
 use crate::steps::{Compare, Draw, Leave, Serve, Unite};
@@ -73,7 +73,7 @@ impl<K: Chronicle + Drop> Turnstile<K> {
             value: Snapshot::of(&value),
             passes: u64::from(passes),
         };
-        let slots = alone(alloc, Some(value))?;
+        let slots = vec_of_one(alloc, Some(value))?;
         let Ok((table, seat)) = Table::new(alloc, &[0, 0], slots, &about) else {
             return Err(NoMemory);
         };

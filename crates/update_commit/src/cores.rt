@@ -4,7 +4,7 @@
 //! Contracts see a core as a `CoreState`: its events, the values and the number of updaters that it was made with, and for how
 //! many more events it has room. Every event fits these.
 
-ghost use Rattle.std.specs.Prelude.{◌≡◌, ℕ, ◌<◌, ◌≤◌, ◌^◌, ◌-◌, [], ◌∷◌, ◌++◌, length, get_or, All, IfOk, OnErr, MatchResult};
+ghost use Rattle.std.specs.Prelude.{◌≡◌, ◌<◌, ◌≤◌, ◌^◌, ◌-◌, [], ◌++◌, length, All, IfOk, OnErr, MatchResult};
 ghost use Rattle.air_history.specs.declared.histories.Event.TheVariants.{Commit, Start};
 ghost use Rattle.air_history.specs.UpdateRules.{UpdateFits};
 ghost use Rattle.air_history.specs.Histories.{starts, since_start, EventFits};

@@ -3,7 +3,7 @@
 //! An item is kept as long as it is declared and wasn't there before, which an array of marks tells at once: so an array has
 //! room for all that is kept, however long a list is. What a list had that isn't kept is remembered.
 
-ghost use Rattle.std.specs.Prelude.{◌≡◌, ◌<◌, ◌≤◌, ◌&&◌, get_or, length, IsTrue, nat_lt, not};
+ghost use Rattle.std.specs.Prelude.{◌≡◌, ◌<◌, ◌≤◌, ◌&&◌, length, nat_lt, not};
 ghost use Rattle.air_base.specs.Numbers.{number_of};
 ghost use Rattle.air_base.specs.NumberLists.{list_of};
 ghost use Rattle.air_base.specs.ReadParts.{ReadsTo};

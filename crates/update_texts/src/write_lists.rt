@@ -2,7 +2,7 @@
 //!
 //! As a list of items: a write is kept as long as all that it names is declared and its item wasn't written before.
 
-ghost use Rattle.std.specs.Prelude.{◌≡◌, ◌<◌, ◌≤◌, ◌||◌, IfSome, length, nat_le};
+ghost use Rattle.std.specs.Prelude.{◌≡◌, ◌<◌, ◌≤◌, ◌||◌, IfSome, length};
 ghost use Rattle.air_base.specs.NumberLists.{list_of};
 ghost use Rattle.update_texts.specs.Writes.{write_of};
 ghost use Rattle.update_texts.specs.ListTests.{is_unread, write_reaches};

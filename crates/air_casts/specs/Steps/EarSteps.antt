@@ -1,13 +1,8 @@
 -- For private steps alone. What listeners have heard of an ear so far.
-use Rattle.std.specs.Prelude.{◌≡◌, ◌≤◌, ℕ, List, length, take, drop, map, Option, Some, None, ⊤}
+use Rattle.std.specs.Prelude.{◌≡◌, ℕ, List, map, Option}
 use Rattle.air_model.specs.Buckets.{bucket_in}
 use Rattle.listeners.specs.Listeners.{Listener, hears}
-use Rattle.air_casts.specs.Hearings.{IsHeard, heard_of}
-
--- Just so many datagrams were taken, and this is what was heard of them.
-abbrev pub AreFirst : ℕ → Option (List (List ℕ)) → Option (List (List ℕ)) → List (List ℕ) → Type 0
-AreFirst count None now heard = ⊤
-AreFirst count (Some waiting) now heard = (count ≤ length waiting) × (now ≡ Some (drop count waiting)) × (heard ≡ map heard_of (take count waiting))
+use Rattle.air_casts.specs.Hearings.{IsHeard}
 
 -- The listeners have heard what the ear gave, until its end, or until so many datagrams were heard.
 pub record HaveHeard (most : ℕ) (before now : Option (List (List ℕ))) (first last : List Listener) : Type 0 where

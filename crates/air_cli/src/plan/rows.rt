@@ -3,7 +3,7 @@
 //! A row for the program, then one for each disk, each minor cycle and each item. The numbers are those that the
 //! program and the cut tell.
 
-ghost use Rattle.std.specs.Prelude.{◌≡◌, ◌<◌, ◌++◌, ◌∷◌, [], None, get_or, length, map, slice_get, IfOk, IfSome, OnOk};
+ghost use Rattle.std.specs.Prelude.{◌≡◌, ◌<◌, ◌++◌, [], None, get_or, length, map, slice_get, IfOk, IfSome, OnOk};
 ghost use Rattle.std.specs.List.{enumerate_from, range_with_len};
 ghost use Rattle.csv.specs.Writing.{row_text};
 ghost use Rattle.air_base.specs.NumberLists.{list_text};

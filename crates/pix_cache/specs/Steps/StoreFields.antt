@@ -1,9 +1,8 @@
 -- For private steps alone. The fields of the rooms: the columns of all stand one after another.
 use Rattle.std.specs.Prelude.{◌≡◌, ◌≤◌, ◌*◌, ℕ, List, length, map, get_or, take, drop}
 use Rattle.std.specs.List.{range_with_len}
-use Rattle.air_base.specs.declared.limits.TheConstants.{MOST_ROOM}
+use Rattle.air_base.specs.declared.limits.TheConstants.{ITEM_NUMBERS, MOST_ROOM}
 use Rattle.pix_cache.specs.declared.store.Slot.{Slot}
-use Rattle.pix_cache.specs.declared.store.TheConstants.{ITEM_NUMBERS}
 use Rattle.pix_cache.specs.declared.store.Store.TheInside.{Inside}
 use Rattle.pix_cache.specs.Stores.{Store, Stored, stored_copy}
 

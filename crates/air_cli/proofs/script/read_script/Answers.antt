@@ -4,7 +4,7 @@ use Rattle.air_model.specs.Outputs.{script_tape}
 use Rattle.deck_files.specs.RunnableDecks.{IsShort}
 use Rattle.delivery.specs.Given.{Given}
 use Rattle.deck_files.specs.FileLimits.{tape_limit}
-use Rattle.air_cli.specs.Steps.Making.{IsUnmade}
+use Rattle.air_cli.specs.Steps.BeforeDelivery.{IsUnmade}
 use Rattle.air_cli.specs.Script.{HasLongTape, ScriptCause, ScriptGives, script_given, script_meaning}
 use Rattle.air_cli.specs.Truths.{IsTrueScript}
 use Rattle.deck_files.proofs.CauseFacts.{of_deck}

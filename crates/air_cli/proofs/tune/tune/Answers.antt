@@ -3,7 +3,7 @@ use Rattle.std.specs.Io.KnownBytes.{IsAtEnd}
 use Rattle.air_status.specs.declared.status.Status.TheVariants as status
 use Rattle.deck_files.specs.FileLimits.{tape_limit}
 use Rattle.deck_files.specs.RunnableDecks.{IsShort}
-use Rattle.air_cli.specs.Steps.Making.{IsUnmade}
+use Rattle.air_cli.specs.Steps.BeforeDelivery.{IsUnmade}
 use Rattle.delivery.specs.Given.{Given}
 use Rattle.air_cli.specs.Truths.{IsTrueTape}
 use Rattle.air_cli.specs.Tune.{OfTape, TuneGives, tune_given, tune_meaning}

@@ -1,7 +1,7 @@
 use Rattle.std.proofs.Common.{◌≡◌, ◌+◌, length, drop, take, All}
 use Rattle.air_history.specs.Histories.{starts}
 use Rattle.air_history.specs.Tables.{BasesRead}
-use Rattle.cycle_snapshot.specs.BoardRuns.{step_all}
+use Rattle.cycle_snapshot.specs.Steps.BoardRuns.{step_all}
 use Rattle.air_jobs.proofs.cycles.apply_all.Given as goal
 
 abbrev pub invariant-loop-event : goal.invariant-loop-event

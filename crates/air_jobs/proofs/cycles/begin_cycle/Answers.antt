@@ -53,7 +53,7 @@ returns-clause-begun g c =
     let lent = c.deref.ensures.value in
     let bases = subst (All BasesRead) lent c.apply_all.ensures.bases in (
       in_step p c.start_fresh.new.pass f c.publish.new.self c.args.board.now c.apply_all.new.board fresh step c.start_fresh.ensures.on c.in_ok-publish.ensures
-          (c.apply_all.ensures.stepped ∙ ap (Rattle.cycle_snapshot.specs.BoardRuns.step_all c.args.board.now) lent) s.0 bases s.2,
+          (c.apply_all.ensures.stepped ∙ ap (Rattle.cycle_snapshot.specs.Steps.BoardRuns.step_all c.args.board.now) lent) s.0 bases s.2,
       (fresh, c.in_ok-publish.ensures, subst (λ v. IsBatch (length v) fresh) (sym step.values) s.0),
     )
 

@@ -1,5 +1,5 @@
 use Rattle.std.proofs.Common.{sym, ap, ◌∙◌, arith}
-use Rattle.cycle_snapshot.specs.BoardRuns.{step_all}
+use Rattle.cycle_snapshot.specs.Steps.BoardRuns.{step_all}
 use Rattle.cycle_snapshot.proofs.BatchLemmas.{batch_taken, batch_starts, other_items, no_cycle}
 use Rattle.cycle_snapshot.proofs.copies.absorb_batch.Goals as goal
 

@@ -7,7 +7,7 @@ use Rattle.report_reading.specs.LineTexts.{line_of}
 use Rattle.report_reading.specs.ReportFaults.{lines_of}
 use Rattle.report_reading.specs.ReportGrammar.{HasReportFault, IsReportAnswer, SpellsReport}
 use Rattle.report_reading.specs.ReportLines.{ReportLines, sections_of}
-use Rattle.report_reading.specs.Steps.Answers.{record_kind, with_line}
+use Rattle.report_reading.specs.Steps.RecordAnswers.{record_kind, with_line}
 use Rattle.report_reading.proofs.PlaceFacts.{added, none_added}
 use Rattle.report_reading.proofs.ReadingFacts.{read_all, read_fault}
 use Rattle.report_reading.proofs.reading.read_lines.Goals as goal

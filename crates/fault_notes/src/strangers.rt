@@ -2,8 +2,8 @@
 
 use crate::lists::{item_of, parts_in, times_in};
 use crate::records::Record;
-use crate::sayings::Said;
-use crate::seen::Seen;
+use crate::records_before::RecordsBefore;
+use crate::sentences::Sentence;
 use crate::tags::Tag;
 use air_base::limits::MOST_UPDATERS;
 use item_catalog::Deck;
@@ -17,31 +17,31 @@ fn updates_of(deck: &Deck, by: u64) -> u64 {
 }
 
 /// How many updates of an updater the records above commit.
-fn committed_by(seen: &Seen, by: u64) -> u64 {
+fn committed_by(before: &RecordsBefore, by: u64) -> u64 {
     if by < MOST_UPDATERS as u64 {
-        seen.commits_by[by as usize]
+        before.commits_by[by as usize]
     } else {
         0
     }
 }
 
 /// A commit isn't its updater's next in the deck.
-pub fn commit_note(deck: &Deck, seen: &Seen, record: &Record) -> Said<'static> {
+pub fn commit_note(deck: &Deck, before: &RecordsBefore, record: &Record) -> Sentence<'static> {
     let by = record.number(1);
     let there = updates_of(deck, by);
-    let next = committed_by(seen, by);
+    let next = committed_by(before, by);
     let seq = record.number(2);
     if next < there {
         let form =
             "has the seq #first#, and #second# is the next of updater #last#: the commits of an updater run from 0 without a gap";
-        return Said::numbers(form, seq, next, by);
+        return Sentence::numbers(form, seq, next, by);
     }
     let form = if there == 0 {
         "has the updater #last#, of which the deck has "
     } else {
         "has the seq #first#, and each update of updater #last# is committed above it: the deck has "
     };
-    Said::numbers(form, seq, 0, by).only(there, "update", "updates")
+    Sentence::numbers(form, seq, 0, by).only(there, "update", "updates")
 }
 
 /// A number that is no reader or monitor of the deck, which has so many; none where it is one.
@@ -50,51 +50,51 @@ fn stranger(
     count: u64,
     one: &'static str,
     several: &'static str,
-) -> Option<Said<'static>> {
+) -> Option<Sentence<'static>> {
     if number < count {
         return None;
     }
     let form = "has the #why# #first#, and the deck has ";
-    Some(Said::numbers(form, number, 0, 0).only(count, one, several))
+    Some(Sentence::numbers(form, number, 0, 0).only(count, one, several))
 }
 
 /// The first read that isn't of the query's item in its place; none where each is.
-fn read_note(query: &[u16], reads: &str) -> Option<Said<'static>> {
+fn read_note(query: &[u16], reads: &str) -> Option<Sentence<'static>> {
     for (place, part) in reads.split(' ').enumerate() {
         let first = item_of(part)?;
         let Some(item) = query.get(place) else {
             let form = "has item #first# among its reads, behind the last item of its query";
-            return Some(Said::numbers(form, first, 0, 0));
+            return Some(Sentence::numbers(form, first, 0, 0));
         };
         let second = u64::from(*item);
         if first != second {
             let form =
                 "has item #first# among its reads in the place of item #second#: reads stand in the order of the query";
-            return Some(Said::numbers(form, first, second, 0));
+            return Some(Sentence::numbers(form, first, second, 0));
         }
     }
     None
 }
 
 /// What is wrong with the refused read or the clash of an abort, whose query has this item next; none where nothing is.
-fn abort_note(next: u64, record: &Record) -> Option<Said<'static>> {
+fn abort_note(next: u64, record: &Record) -> Option<Sentence<'static>> {
     let first = item_of(record.field(5))?;
     if first != next {
         let form = "has the refused item #first#, and item #second# is the next of its query";
-        return Some(Said::numbers(form, first, next, 0));
+        return Some(Sentence::numbers(form, first, next, 0));
     }
     let first = record.number(6);
     if 0 < times_in(record.field(4), first) {
         return None;
     }
     let form = "has the clash #first#, which is no item of its reads";
-    Some(Said::numbers(form, first, 0, 0))
+    Some(Sentence::numbers(form, first, 0, 0))
 }
 
 /// The reads of an attempt don't follow its query; none where they do.
-fn items_note(query: &[u16], record: &Record, tag: Tag) -> Option<Said<'static>> {
-    if let Some(said) = read_note(query, record.field(4)) {
-        return Some(said);
+fn items_note(query: &[u16], record: &Record, tag: Tag) -> Option<Sentence<'static>> {
+    if let Some(sentence) = read_note(query, record.field(4)) {
+        return Some(sentence);
     }
     let count = parts_in(record.field(4));
     let form = match query.get(count as usize) {
@@ -105,11 +105,11 @@ fn items_note(query: &[u16], record: &Record, tag: Tag) -> Option<Said<'static>>
         None if tag != Tag::Accept => "has each item of its query, as an accept alone has",
         _ => return None,
     };
-    Some(Said::numbers(form, count, query.len() as u64, 0))
+    Some(Sentence::numbers(form, count, query.len() as u64, 0))
 }
 
 /// A verdict isn't on an attempt of the deck: by its reader, its attempt, its query or its items; none where it is.
-fn attempt_note(deck: &Deck, record: &Record, tag: Tag) -> Option<Said<'static>> {
+fn attempt_note(deck: &Deck, record: &Record, tag: Tag) -> Option<Sentence<'static>> {
     let last = record.number(1);
     let reader = match u32::try_from(last) {
         Ok(reader) if reader < deck.readers() => reader,
@@ -119,26 +119,26 @@ fn attempt_note(deck: &Deck, record: &Record, tag: Tag) -> Option<Said<'static>>
     let second = u64::from(deck.reader(reader).tries);
     if first < 1 || second < first {
         let form = "has the attempt #first#: for reader #last# it is 1 to #second#";
-        return Some(Said::numbers(form, first, second, last));
+        return Some(Sentence::numbers(form, first, second, last));
     }
     let first = record.number(2);
     let count = deck.queries(reader);
     match u32::try_from(first) {
         Ok(query) if query < count => items_note(deck.query(reader, query), record, tag),
         _ => {
-            let said = Said::numbers(
+            let sentence = Sentence::numbers(
                 "has the query #first#, and reader #last# has ",
                 first,
                 0,
                 last,
             );
-            Some(said.only(count.into(), "query", "queries"))
+            Some(sentence.only(count.into(), "query", "queries"))
         }
     }
 }
 
 /// What a line names isn't the deck's; none where it is.
-pub fn stranger_note(deck: &Deck, record: &Record, tag: Tag) -> Option<Said<'static>> {
+pub fn stranger_note(deck: &Deck, record: &Record, tag: Tag) -> Option<Sentence<'static>> {
     let number = record.number(1);
     match tag {
         Tag::Counts => stranger(number, deck.readers().into(), "reader", "readers"),

@@ -8,7 +8,7 @@ use std::fmt;
 /// A sentence in two parts, with the name of one of its values between two `#` in the place of that value. A value is told by its
 /// name's first letter.
 #[derive(Clone, Copy)]
-pub struct Said<'a> {
+pub struct Sentence<'a> {
     form: &'static str,
     tail: &'static str,
     text: &'a str,
@@ -38,15 +38,15 @@ fn range_form(count: u64) -> &'static str {
     }
 }
 
-impl<'a> Said<'a> {
+impl<'a> Sentence<'a> {
     /// A sentence with a text, the name of what that is, and why it is wrong.
     pub fn words(
         form: &'static str,
         text: &'a str,
         name: &'static str,
         why: &'static str,
-    ) -> Said<'a> {
-        Said {
+    ) -> Sentence<'a> {
+        Sentence {
             form,
             tail: "",
             text,
@@ -59,8 +59,8 @@ impl<'a> Said<'a> {
     }
 
     /// A sentence with numbers.
-    pub fn numbers(form: &'static str, first: u64, second: u64, last: u64) -> Said<'a> {
-        Said {
+    pub fn numbers(form: &'static str, first: u64, second: u64, last: u64) -> Sentence<'a> {
+        Sentence {
             form,
             tail: "",
             text: "",
@@ -73,7 +73,7 @@ impl<'a> Said<'a> {
     }
 
     /// The same with numbers, and with a second part.
-    pub fn with(mut self, first: u64, second: u64, tail: &'static str) -> Said<'a> {
+    pub fn with(mut self, first: u64, second: u64, tail: &'static str) -> Sentence<'a> {
         self.first = first;
         self.second = second;
         self.tail = tail;
@@ -81,7 +81,7 @@ impl<'a> Said<'a> {
     }
 
     /// The same, with so many things that have numbers from 0.
-    pub fn only(mut self, count: u64, one: &'static str, several: &'static str) -> Said<'a> {
+    pub fn only(mut self, count: u64, one: &'static str, several: &'static str) -> Sentence<'a> {
         self.tail = range_form(count);
         self.why = one;
         self.name = several;
@@ -90,7 +90,7 @@ impl<'a> Said<'a> {
     }
 }
 
-impl Said<'_> {
+impl Sentence<'_> {
     /// Writes the value of this name.
     fn write_value<W: fmt::Write>(&self, f: &mut fmt::Formatter<W>, name: &str) -> fmt::Result {
         let number = match name.as_bytes().first().copied() {
@@ -122,7 +122,7 @@ impl Said<'_> {
     }
 }
 
-impl fmt::Display for Said<'_> {
+impl fmt::Display for Sentence<'_> {
     fn fmt<W: fmt::Write>(&self, f: &mut fmt::Formatter<W>) -> fmt::Result {
         self.write_part(f, self.form)?;
         self.write_part(f, self.tail)

@@ -1,4 +1,4 @@
--- How a batch changes a board.
+-- For private steps alone. How a batch changes a board.
 use Rattle.std.specs.Prelude.{ℕ, Bool, ◌-◌, ◌^◌, cond, nat_lt, ◌==◌, ◌&&◌, List, length, fold}
 use Rattle.air_history.specs.declared.histories.Event.{Event}
 use Rattle.air_history.specs.Boards.{Board}

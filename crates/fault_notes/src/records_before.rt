@@ -8,7 +8,7 @@ use csv::ByteRecord;
 
 /// How many of each there are, and the sums that limits speak of; of a report also the rows at which its sections begin.
 #[derive(Clone, Copy, Default)]
-pub struct Seen {
+pub struct RecordsBefore {
     pub items: u64,
     pub disks: u64,
     pub sizes: u64,
@@ -49,7 +49,7 @@ fn number_in(record: &ByteRecord, place: usize) -> u64 {
     read_u64(text_in(record, place).as_bytes()).unwrap_or(0)
 }
 
-impl Seen {
+impl RecordsBefore {
     /// Takes one more event of the script.
     fn add_event(&mut self, event: &str) {
         raise(&mut self.events);
