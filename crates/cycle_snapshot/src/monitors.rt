@@ -67,9 +67,14 @@ impl Monitor {
         };
         let (reader, list) = take_frame(reader, &mut self.kept, &self.told);
         self.reader = Some(reader);
-        self.seen = list.ok_or(NoMemory)?;
-        self.looks = self.looks.saturating_add(1);
-        Ok(())
+        match list {
+            Some(list) => {
+                self.seen = list;
+                self.looks = self.looks.saturating_add(1);
+                Ok(())
+            }
+            None => Err(NoMemory),
+        }
     }
 
     /// The monitor knows the list that was told: its next look goes on from it.
