@@ -16,7 +16,7 @@ use Rattle.air_casts.specs.declared.hearings.TheConstants.{MOST_HEARD_BYTES}
 -- ---- what was taken
 
 -- Just so many datagrams were taken, and this is what was heard of them.
-abbrev AreFirst : ℕ → Option (List (List ℕ)) → Option (List (List ℕ)) → List (List ℕ) → Type 0
+abbrev pub AreFirst : ℕ → Option (List (List ℕ)) → Option (List (List ℕ)) → List (List ℕ) → Type 0
 AreFirst count None now heard = ⊤
 AreFirst count (Some waiting) now heard = (count ≤ length waiting) × (now ≡ Some (drop count waiting)) × (heard ≡ map heard_of (take count waiting))
 
