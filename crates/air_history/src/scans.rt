@@ -11,8 +11,8 @@ ghost use Rattle.air_history.specs.Descents.{descends};
 
 use crate::histories::{Event, History};
 use crate::updates::Write;
-use air_base::limits::ITEM_NUMBERS;
 use air_base::NoMemory;
+use air_base::limits::ITEM_NUMBERS;
 use std::alloc::Global;
 
 /// The last place before the cycle's start whose commit writes the item, and `None` exactly if there is none.
