@@ -237,12 +237,23 @@ const GREATEST: &[&str] = &["listen", "deck", "65535"];
 fn the_least_and_the_greatest_port_are_taken(rt: HostRuntime) {
     let all: Parts<'_> = &[Part::Text("accept,0,0,1,0@1=10 1@1=20\ncounts,0,2,0,0,0,0,0\n")];
     let taken = listen("a port that is taken", 2, &[], Status::Ok, all);
-    for words in &[LEAST, GREATEST] {
-        let case = Case {
-            words,
-            ..taken.case
-        };
-        let air = AirCase { case, ..taken };
-        assert_eq!(rt; first_other(&rt, rt.alloc(), &[air]), None);
-    }
+    let least = Case {
+        words: LEAST,
+        ..taken.case
+    };
+    let greatest = Case {
+        words: GREATEST,
+        ..taken.case
+    };
+    let cases = [
+        AirCase {
+            case: least,
+            ..taken
+        },
+        AirCase {
+            case: greatest,
+            ..taken
+        },
+    ];
+    assert_eq!(rt; first_other(&rt, rt.alloc(), &cases), None);
 }

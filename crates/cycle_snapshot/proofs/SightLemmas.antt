@@ -11,8 +11,8 @@ use Rattle.cycle_snapshot.specs.declared.copies.Published.{Published}
 use Rattle.cycle_snapshot.specs.declared.copies.News.{News}
 use Rattle.cycle_snapshot.specs.Batches.{IsBatch, events_in}
 use Rattle.cycle_snapshot.specs.Beginnings.{Beginning}
-use Rattle.cycle_snapshot.specs.Steps.BoardRuns.{step_all}
-use Rattle.cycle_snapshot.specs.CopyRule.{after_news, IsPublished, Follows, Agrees, Keeps, Sees, IsNext}
+use Rattle.cycle_snapshot.specs.Steps.BoardRuns.{after_news, step_all}
+use Rattle.cycle_snapshot.specs.CopyRule.{IsPublished, Follows, Agrees, Keeps, Sees, IsNext}
 use Rattle.cycle_snapshot.proofs.PrefixLemmas.{prefix_self, prefix_trans}
 use Rattle.cycle_snapshot.proofs.BatchLemmas.{events_more, starts_events, board_values, board_all, batch_taken}
 

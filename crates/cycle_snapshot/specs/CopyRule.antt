@@ -9,11 +9,6 @@ use Rattle.cycle_snapshot.specs.declared.copies.Published.{Published}
 use Rattle.cycle_snapshot.specs.declared.copies.News.{News}
 use Rattle.cycle_snapshot.specs.Batches.{IsBatch, events_in}
 use Rattle.cycle_snapshot.specs.Beginnings.{Beginning}
-use Rattle.cycle_snapshot.specs.Steps.BoardRuns.{after_batch}
-
--- The copy that took in the news.
-abbrev pub after_news : Published → News → Published
-after_news x news = record { board = after_batch x.board news.items news.batch; values = x.values; most = x.most; list = news.list }
 
 -- The board is that of the published batches, of which there are no more than the most.
 pub record IsPublished (x : Published) : Type 0 where

@@ -52,7 +52,7 @@ fn absorb_batch(board: &mut Board, news: &News)
 }
 
 impl Absorb<News> for Published {
-    ghost use Rattle.cycle_snapshot.specs.CopyRule.{after_news};
+    ghost use Rattle.cycle_snapshot.specs.Steps.BoardRuns.{after_news};
 
     type State = Published;
 

@@ -3,7 +3,8 @@ ghost use Rattle.std.specs.Prelude.{◌≡◌, ◌<◌, ◌∷◌, [], length, d
 ghost use Rattle.left_right.specs.Sides.{view};
 ghost use Rattle.cycle_snapshot.specs.declared.copies.News.{News};
 ghost use Rattle.cycle_snapshot.specs.Batches.{IsBatch};
-ghost use Rattle.cycle_snapshot.specs.CopyRule.{after_news, IsPublished, IsNext};
+ghost use Rattle.cycle_snapshot.specs.CopyRule.{IsPublished, IsNext};
+ghost use Rattle.cycle_snapshot.specs.Steps.BoardRuns.{after_news};
 ghost use Rattle.cycle_snapshot.specs.SnapshotStates.{with_batch, list_of};
 
 use crate::batches::Batch;

@@ -9,5 +9,4 @@ pub mod laws;
 pub mod r_matrix;
 
 pub use datacycle::DataHeld;
-pub use held_entries::ROOM;
 pub use r_matrix::RHeld;

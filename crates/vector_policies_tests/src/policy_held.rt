@@ -1,6 +1,6 @@
 //! The held reads of the three policies as one type, with a case a policy.
 //!
-//! A contract asks and tells what the case's own type does; `attempts` meets it.
+//! A contract asks what the case's own type does, and tells what `attempts` needs.
 
 ghost use Rattle.std.specs.Prelude.{◌≡◌, ◌<◌, ◌≤◌, [], ◌∷◌, ◌++◌, length, IfOk, None};
 ghost use Rattle.air_history.specs.Clashes.{clash_by_entries};

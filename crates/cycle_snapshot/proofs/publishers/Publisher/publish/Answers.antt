@@ -3,7 +3,8 @@ use Rattle.left_right.specs.Sides.{view}
 use Rattle.cycle_snapshot.specs.Batches.{IsBatch}
 use Rattle.cycle_snapshot.specs.Beginnings.{Beginning}
 use Rattle.cycle_snapshot.specs.BookRule.{head_of}
-use Rattle.cycle_snapshot.specs.CopyRule.{after_news, IsNext, IsPublished}
+use Rattle.cycle_snapshot.specs.CopyRule.{IsNext, IsPublished}
+use Rattle.cycle_snapshot.specs.Steps.BoardRuns.{after_news}
 use Rattle.cycle_snapshot.specs.Steps.NewsStates.{NewsState}
 use Rattle.cycle_snapshot.specs.PublisherFields.{publisher_of}
 use Rattle.cycle_snapshot.specs.SnapshotStates.{PublisherState, with_batch}
