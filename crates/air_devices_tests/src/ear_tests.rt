@@ -2,103 +2,99 @@
 //!
 //! The buffer has room for three bytes, so that longer buckets are cut.
 
-ghost use Rattle.std.specs.Prelude.{◌≤◌, length, All, IfOk};
+ghost use Rattle.std.specs.Prelude.{◌≤◌, length, All, IfOk, IsSome};
 
-use crate::played::{Played, first_other_case};
-use air_devices::{Ear, Failed, Heard, MemEar};
+use crate::played::{Other, Played, first_other_case};
+use crate::shelves::{Answer, told_parts};
+use air_devices::{Ear, Heard, MemEar, ReadFileError};
 use std::alloc::Global;
 use std::test::Fail;
 
-/// What a call of `hear` answers.
-#[derive(Drop)]
-enum Told<'a> {
-    Bytes(&'a [u8]),
-    End,
-    Failure,
-}
-
-/// What an ear is made with, how tuning in is answered, and what each call of `hear` answers.
-#[derive(Drop)]
+/// The buckets that are to be heard, with spaces between them, the calls that fail, whether tuning in is done, and what is
+/// heard: a row is `>` and the bytes, or nothing at the end, and `!` where it fails.
+#[derive(Clone, Copy)]
 struct Case<'a> {
-    heard: &'a [&'a [u8]],
+    heard: &'a str,
     fail: &'a [u64],
-    tuned: Result<(), Failed>,
-    hears: &'a [Told<'a>],
+    tuned: bool,
+    script: &'a str,
 }
 
-/// In what a case went otherwise than told.
-#[derive(Clone, Copy, Debug, PartialEq, Eq)]
-enum Other {
-    Tuned(Result<(), Failed>),
-    /// The call of `hear` at this place, and its answer.
-    Heard(usize, Result<Heard, Failed>),
-}
-
-/// Copies of the buckets; empty ones are left out.
-fn copies(alloc: Global, buckets: &[&[u8]]) -> Result<Vec<Vec<u8>>, Fail>
+/// The buckets; empty ones are left out.
+fn buckets(alloc: Global, heard: &str) -> Result<Vec<Vec<u8>>, Fail>
     ensures { IfOk result (λ all. All (λ bytes. 1 ≤ length bytes.items) all.items) }
 {
     let mut all = Vec::new(alloc);
-    for bytes in buckets {
-        if !bytes.is_empty() {
-            all.push(Vec::from_slice(alloc, bytes)?)?;
+    for bucket in heard.split(' ') {
+        if !bucket.is_empty() {
+            all.push(Vec::from_slice(alloc, bucket.as_bytes())?)?;
         }
     }
     Ok(all)
 }
 
-/// Whether an answer is as told, with these bytes in the buffer.
-fn is_told(answer: &Result<Heard, Failed>, buf: &[u8], told: &Told<'_>) -> bool {
-    match told {
-        Told::Bytes(bytes) => match answer {
-            Ok(Heard::Bucket(len)) => buf.get(..*len) == Some(*bytes),
-            _ => false,
-        },
-        Told::End => *answer == Ok(Heard::Over),
-        Told::Failure => *answer == Err(Failed),
+/// What is heard in place of what is told: so many bytes, none at the end.
+fn heard_other<E: Ear>(ear: &mut E, told: &Result<&[u8], ReadFileError>) -> Option<Answer>
+    requires { IsSome (E.state ear.old).port }
+    ensures { IsSome (E.state ear.new).port }
+{
+    let mut buf = [0; 3];
+    let (answer, front) = match ear.hear(&mut buf) {
+        Ok(Heard::Bucket(len)) => (Ok(len), &buf[..len]),
+        Ok(Heard::Over) => (Ok(0), &buf[..0]),
+        Err(_) => (Err(ReadFileError::Failed), &buf[..0]),
+    };
+    let is_told = match told {
+        Ok(bytes) => answer.is_ok() && *bytes == front,
+        Err(fault) => answer == Err(*fault),
+    };
+    (!is_told).then_some(answer)
+}
+
+/// The place of the first row that isn't heard as told, in a buffer for three bytes, and what is heard.
+pub fn first_misheard<E: Ear>(ear: &mut E, script: &str) -> Option<(usize, Answer)>
+    requires { IsSome (E.state ear.old).port }
+{
+    for (place, row) in script.split(';').enumerate() {
+        let Some((_, told)) = told_parts(row) else {
+            return Some((place, Err(ReadFileError::NoMemory)));
+        };
+        if let Some(answer) = heard_other(ear, &told) {
+            return Some((place, answer));
+        }
     }
+    None
 }
 
 impl Played for Case<'_> {
-    type Other = Other;
-
     fn other_in(&self, alloc: Global) -> Result<Option<Other>, Fail> {
-        let heard = copies(alloc, self.heard)?;
-        let mut ear = MemEar::new(heard, Vec::from_slice(alloc, self.fail)?);
-        let tuned = ear.tune_in(4000);
-        if tuned != self.tuned {
-            return Ok(Some(Other::Tuned(tuned)));
+        let fail = Vec::from_slice(alloc, self.fail)?;
+        let mut ear = MemEar::new(buckets(alloc, self.heard)?, fail);
+        if ear.tune_in(4000).is_ok() != self.tuned {
+            return Ok(Some(("tuned", None)));
         }
-        for (place, told) in self.hears.iter().enumerate() {
-            let mut buf = [0; 3];
-            let answer = ear.hear(&mut buf);
-            if !is_told(&answer, &buf, told) {
-                return Ok(Some(Other::Heard(place, answer)));
-            }
-        }
-        Ok(None)
+        let other = first_misheard(&mut ear, self.script);
+        Ok(other.is_some().then_some(("heard", other)))
     }
 }
 
 #[test]
 fn buckets_are_heard_in_order_and_then_the_end(rt: HostRuntime) -> Result<(), Fail> {
     let none = Case {
-        heard: &[],
+        heard: "",
         fail: &[],
-        tuned: Ok(()),
-        hears: &[Told::End, Told::End],
+        tuned: true,
+        script: ">;>",
     };
     let two = Case {
-        heard: &[b"ab", b"c"],
-        fail: &[],
-        tuned: Ok(()),
-        hears: &[Told::Bytes(b"ab"), Told::Bytes(b"c"), Told::End, Told::End],
+        heard: "ab c",
+        script: ">ab;>c;>;>",
+        ..none
     };
     let long = Case {
-        heard: &[b"abcd", b"abc", b"e"],
-        fail: &[],
-        tuned: Ok(()),
-        hears: &[Told::Bytes(b"abc"), Told::Bytes(b"abc"), Told::Bytes(b"e")],
+        heard: "abcd abc e",
+        script: ">abc;>abc;>e",
+        ..none
     };
     assert_eq!(rt; first_other_case(rt.alloc(), &[none, two, long])?, None);
     Ok(())
@@ -107,16 +103,10 @@ fn buckets_are_heard_in_order_and_then_the_end(rt: HostRuntime) -> Result<(), Fa
 #[test]
 fn listed_calls_of_an_ear_fail(rt: HostRuntime) -> Result<(), Fail> {
     let case = Case {
-        heard: &[b"ab", b"c"],
+        heard: "ab c",
         fail: &[1, 3, 5],
-        tuned: Err(Failed),
-        hears: &[
-            Told::Bytes(b"ab"),
-            Told::Failure,
-            Told::Bytes(b"c"),
-            Told::Failure,
-            Told::End,
-        ],
+        tuned: false,
+        script: ">ab;!;>c;!;>",
     };
     assert_eq!(rt; case.other_in(rt.alloc())?, None);
     Ok(())

@@ -2,83 +2,76 @@
 //!
 //! A bucket takes its own bytes and four more: two buckets of two bytes and one take eleven.
 
-use crate::played::{Played, first_other_case};
+use crate::played::{Other, Played, first_other_case};
+use crate::shelves::{Answer, told_parts};
 use air_base::limits::MOST_DATAGRAM_BYTES;
-use air_devices::{Failed, Mast, MemMast};
+use air_devices::{Mast, MemMast, ReadFileError};
 use byte_rooms::TapeRoom;
 use std::alloc::Global;
 use std::test::Fail;
 
-/// One call of a mast, and what it has to answer.
-#[derive(Clone, Copy)]
-enum Call<'a> {
-    Send(&'a [u8], Result<(), Failed>),
-    Finish(Result<(), Failed>),
-}
-
-/// What a mast is made with, how an aim is answered, the calls, and what was sent after them.
+/// What a mast is made with, whether an aim, if there is one, is done, the script, and what was sent after it. A row of the
+/// script is a bucket, or nothing for the end, and `>` where it is sent or `!` where that fails.
 #[derive(Clone, Copy)]
 struct Case<'a> {
     room: usize,
     fail: &'a [u64],
-    aim: Option<Result<(), Failed>>,
-    calls: &'a [Call<'a>],
-    sent: &'a [u8],
+    aim: Option<bool>,
+    script: &'a str,
+    sent: &'a str,
     ended: bool,
 }
 
-/// In what a case went otherwise than told.
-#[derive(Clone, Copy, Debug, PartialEq, Eq)]
-enum Other {
-    Aim(Result<(), Failed>),
-    /// The call at this place, and its answer; none where it may not be made.
-    Call(usize, Option<Result<(), Failed>>),
-    Sent,
-    Ended(bool),
-}
-
-/// The mast's answer to a send; none where the bucket is empty or past the longest, and may not be sent.
-fn send<M: Mast>(mast: &mut M, bytes: &[u8]) -> Option<Result<(), Failed>> {
-    if bytes.is_empty() || bytes.len() > MOST_DATAGRAM_BYTES {
-        return None;
+/// The mast's answer to a send, or to the end where there are no bytes; too large, where they are past the longest, and may
+/// not be sent.
+pub fn send<M: Mast>(mast: &mut M, bytes: &[u8]) -> Answer {
+    if bytes.len() > MOST_DATAGRAM_BYTES {
+        return Err(ReadFileError::TooLarge);
     }
-    Some(mast.send(bytes))
+    let done = if bytes.is_empty() {
+        mast.finish()
+    } else {
+        mast.send(bytes)
+    };
+    match done {
+        Ok(()) => Ok(0),
+        Err(_) => Err(ReadFileError::Failed),
+    }
 }
 
-/// The first call that isn't answered as told.
-fn first_other<M: Mast>(mast: &mut M, calls: &[Call<'_>]) -> Option<Other> {
-    for (place, call) in calls.iter().enumerate() {
-        let (answer, told) = match call {
-            Call::Send(bytes, told) => (send(mast, bytes), *told),
-            Call::Finish(told) => (Some(mast.finish()), *told),
+/// The place of the first row that isn't answered as told, and the answer.
+fn first_other<M: Mast>(mast: &mut M, script: &str) -> Option<(usize, Answer)> {
+    for (place, row) in script.split(';').enumerate() {
+        let Some((bytes, told)) = told_parts(row) else {
+            return Some((place, Err(ReadFileError::NoMemory)));
         };
-        if answer != Some(told) {
-            return Some(Other::Call(place, answer));
+        let answer = send(mast, bytes.as_bytes());
+        if answer != told.map(|_| 0) {
+            return Some((place, answer));
         }
     }
     None
 }
 
 impl Played for Case<'_> {
-    type Other = Other;
-
     fn other_in(&self, alloc: Global) -> Result<Option<Other>, Fail> {
         let fail = Vec::from_slice(alloc, self.fail)?;
         let mut mast = MemMast::new(alloc, self.room, fail)?;
         if let Some(told) = self.aim {
-            let answer = mast.aim(4000);
-            if answer != told {
-                return Ok(Some(Other::Aim(answer)));
+            if mast.aim(4000).is_ok() != told {
+                return Ok(Some(("aim", None)));
             }
         }
-        let other = first_other(&mut mast, self.calls);
-        if other.is_some() {
-            return Ok(other);
+        if !self.script.is_empty() {
+            let other = first_other(&mut mast, self.script);
+            if other.is_some() {
+                return Ok(Some(("call", other)));
+            }
         }
-        if mast.sent() != self.sent {
-            return Ok(Some(Other::Sent));
+        if mast.sent() != self.sent.as_bytes() {
+            return Ok(Some(("sent", None)));
         }
-        Ok((mast.ended() != self.ended).then_some(Other::Ended(mast.ended())))
+        Ok((mast.ended() != self.ended).then_some(("ended", None)))
     }
 }
 
@@ -86,108 +79,78 @@ impl Played for Case<'_> {
 const TWO: Case<'static> = Case {
     room: 11,
     fail: &[],
-    aim: Some(Ok(())),
-    calls: &[
-        Call::Send(b"ab", Ok(())),
-        Call::Send(b"c", Ok(())),
-        Call::Finish(Ok(())),
-    ],
-    sent: b"\0\0\0\x02ab\0\0\0\x01c",
+    aim: Some(true),
+    script: "ab>;c>;>",
+    sent: "\0\0\0\x02ab\0\0\0\x01c",
     ended: true,
 };
 
 #[test]
-fn sent_buckets_are_a_tape(rt: HostRuntime) -> Result<(), Fail> {
+fn sent_buckets_are_a_tape_also_of_a_mast_that_was_not_aimed(rt: HostRuntime) -> Result<(), Fail> {
     let at_first = Case {
         aim: None,
-        calls: &[],
-        sent: b"",
+        script: "",
+        sent: "",
         ended: false,
         ..TWO
     };
     let one = Case {
-        calls: &[Call::Send(b"ab", Ok(()))],
-        sent: b"\0\0\0\x02ab",
+        script: "ab>",
+        sent: "\0\0\0\x02ab",
         ended: false,
         ..TWO
     };
-    assert_eq!(rt; first_other_case(rt.alloc(), &[at_first, one, TWO])?, None);
-    Ok(())
-}
-
-#[test]
-fn a_mast_that_was_not_aimed_sends_too(rt: HostRuntime) -> Result<(), Fail> {
-    let case = Case { aim: None, ..TWO };
-    assert_eq!(rt; case.other_in(rt.alloc())?, None);
-    Ok(())
-}
-
-/// Calls of which the first, the second, the fourth and the seventh fail: the aim, a bucket, an end and one more.
-const FAILING: Case<'static> = Case {
-    room: 100,
-    fail: &[1, 2, 4, 7],
-    aim: Some(Err(Failed)),
-    calls: &[
-        Call::Send(b"ab", Err(Failed)),
-        Call::Send(b"c", Ok(())),
-        Call::Finish(Err(Failed)),
-        Call::Send(b"d", Ok(())),
-        Call::Finish(Ok(())),
-        Call::Finish(Err(Failed)),
-    ],
-    sent: b"\0\0\0\x01c\0\0\0\x01d",
-    ended: true,
-};
-
-#[test]
-fn listed_calls_of_a_mast_fail(rt: HostRuntime) -> Result<(), Fail> {
-    let before_its_end = Case {
-        calls: &[
-            Call::Send(b"ab", Err(Failed)),
-            Call::Send(b"c", Ok(())),
-            Call::Finish(Err(Failed)),
-        ],
-        sent: b"\0\0\0\x01c",
-        ended: false,
-        ..FAILING
-    };
+    let unaimed = Case { aim: None, ..TWO };
     assert_eq!(rt;
-        first_other_case(rt.alloc(), &[before_its_end, FAILING])?,
+        first_other_case(rt.alloc(), &[at_first, one, TWO, unaimed])?,
         None
     );
     Ok(())
 }
 
-/// Two buckets and the end, where the room is a byte too small for the second one.
-const SHORT: Case<'static> = Case {
-    room: 10,
-    fail: &[],
-    aim: None,
-    calls: &[
-        Call::Send(b"ab", Ok(())),
-        Call::Send(b"c", Err(Failed)),
-        Call::Finish(Ok(())),
-    ],
-    sent: b"\0\0\0\x02ab",
-    ended: true,
-};
+#[test]
+fn listed_calls_of_a_mast_fail(rt: HostRuntime) -> Result<(), Fail> {
+    let all = Case {
+        room: 100,
+        fail: &[1, 2, 4, 7],
+        aim: Some(false),
+        script: "ab!;c>;!;d>;>;!",
+        sent: "\0\0\0\x01c\0\0\0\x01d",
+        ended: true,
+    };
+    let before_its_end = Case {
+        script: "ab!;c>;!",
+        sent: "\0\0\0\x01c",
+        ended: false,
+        ..all
+    };
+    assert_eq!(rt; first_other_case(rt.alloc(), &[before_its_end, all])?, None);
+    Ok(())
+}
 
 #[test]
 fn a_send_past_the_room_keeps_nothing(rt: HostRuntime) -> Result<(), Fail> {
+    let short = Case {
+        room: 10,
+        fail: &[],
+        aim: None,
+        script: "ab>;c!;>",
+        sent: "\0\0\0\x02ab",
+        ended: true,
+    };
     let second = Case {
-        calls: &[Call::Send(b"ab", Ok(())), Call::Send(b"c", Err(Failed))],
+        script: "ab>;c!",
         ended: false,
-        ..SHORT
+        ..short
     };
     let first = Case {
         room: 3,
-        calls: &[Call::Send(b"a", Err(Failed))],
-        sent: b"",
-        ended: false,
-        ..SHORT
+        script: "a!",
+        sent: "",
+        ..second
     };
     assert_eq!(rt;
-        first_other_case(rt.alloc(), &[second, SHORT, first])?,
+        first_other_case(rt.alloc(), &[second, short, first])?,
         None
     );
     Ok(())

@@ -2,8 +2,8 @@
 //!
 //! A name may have 4,096 bytes, as the system has it with the one behind its end, and sixteen files may be read.
 
-use crate::shelves::{Call, first_other};
-use air_devices::{Failed, FileShelf, Shelf};
+use crate::shelves::first_other;
+use air_devices::{FileShelf, Shelf};
 use std::alloc::{AllocError, Global};
 use std::rt::Files;
 use std::test::Fail;
@@ -24,74 +24,50 @@ fn a_name_of_4094_bytes_is_read_and_one_past_4096_fails(rt: HostRuntime) -> Resu
     fs::write(&rt, "l.deck", b"item,0\n")?;
     let within = name_behind(rt.alloc(), 2044)?;
     let past = name_behind(rt.alloc(), 2046)?;
-    let read = [Call::ReadWhole(within.as_str(), 7, b"item,0\n")];
-    let refused = [
-        Call::Pick(past.as_str(), Err(Failed)),
-        Call::Read(past.as_str(), Err(Failed)),
-        Call::Append(past.as_str(), b"a", Err(Failed)),
-        Call::Create(past.as_str(), Err(Failed)),
-    ];
+    let lengths = (within.len(), past.len());
+    let script = format!(in rt.alloc();
+        "whole {within} 7>item,0\n;pick {past} !;read {past} !;append {past} a!;create {past} !"
+    )?;
     let mut shelf = FileShelf::new(rt.clone()?);
-    let other = (
-        first_other(rt.alloc(), &mut shelf, &read),
-        first_other(rt.alloc(), &mut shelf, &refused),
-    );
+    let other = first_other(rt.alloc(), &mut shelf, script.as_str());
     let kept = shelf.last_failure().map(|failure| failure.name().len());
     fs::remove_file(&rt, "l.deck")?;
-    let lengths = (within.len(), past.len());
-    assert_eq!(rt;
-        (lengths, other, kept),
-        ((4094, 4098), (None, None), Some(4096))
-    );
+    assert_eq!(rt; (lengths, other, kept), ((4094, 4098), None, Some(4096)));
     Ok(())
 }
 
 /// Seventeen files.
-const FILES: [&str; 17] = [
-    "room.a", "room.b", "room.c", "room.d", "room.e", "room.f", "room.g", "room.h", "room.i",
-    "room.j", "room.k", "room.l", "room.m", "room.n", "room.o", "room.p", "room.q",
-];
+const FILES: &str =
+    "room.a room.b room.c room.d room.e room.f room.g room.h room.i room.j room.k room.l room.m room.n \
+    room.o room.p room.q";
 
-/// Makes the seventeen files.
-fn make_files<R: Files>(rt: &R) -> io::Result<()> {
-    for name in FILES {
+/// Makes the files, and lets the shelf pick each: the place of the first that it doesn't pick.
+fn first_refused<R: Files, S: Shelf>(rt: &R, shelf: &mut S) -> io::Result<Option<usize>> {
+    let mut refused = None;
+    for (place, name) in FILES.split(' ').enumerate() {
         fs::write(rt, name, b"item")?;
+        if shelf.pick(name).is_err() {
+            refused = refused.or(Some(place));
+        }
     }
-    Ok(())
+    Ok(refused)
 }
 
-/// Removes the seventeen files.
+/// Removes the files.
 fn remove_files<R: Files>(rt: &R) -> io::Result<()> {
-    for name in FILES {
+    for name in FILES.split(' ') {
         fs::remove_file(rt, name)?;
     }
     Ok(())
 }
 
-/// The place of the first file that the shelf doesn't pick.
-fn first_refused<S: Shelf>(shelf: &mut S) -> Option<usize> {
-    for (place, name) in FILES.iter().enumerate() {
-        if shelf.pick(name).is_err() {
-            return Some(place);
-        }
-    }
-    None
-}
-
 #[test]
 fn sixteen_files_are_picked_and_a_seventeenth_fails(rt: HostRuntime) -> Result<(), Fail> {
-    make_files(&rt)?;
     let mut shelf = FileShelf::new(rt.clone()?);
-    let refused = first_refused(&mut shelf);
-    let calls = [
-        Call::Read("room.p", Ok(b"item")),
-        Call::Pick("room.a", Ok(())),
-        Call::Pick("room.q", Err(Failed)),
-        Call::Read("room.a", Ok(b"item")),
-        Call::Create("room.a", Err(Failed)),
-        Call::Create("room.q", Ok(())),
-    ];
-    let other = first_other(rt.alloc(), &mut shelf, &calls);
+    let refused = first_refused(&rt, &mut shelf)?;
+    let script =
+        "read room.p >item;pick room.a >;pick room.q !;read room.a >item;create room.a !;create room.q >";
+    let other = first_other(rt.alloc(), &mut shelf, script);
     remove_files(&rt)?;
     assert_eq!(rt; (refused, other), (Some(16), None));
     Ok(())

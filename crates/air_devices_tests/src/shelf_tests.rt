@@ -1,99 +1,86 @@
-//! Calls of the shelf in memory with their answers: each once with ample memory, the calls that fail, and the room.
+//! Scripts of the shelf in memory: each call once with ample memory, the calls that fail, and the room.
 //!
 //! The shelf has the file `deck` of seven bytes, and the outputs `tape` and `report`.
 
-use crate::played::{Played, first_other_case};
-use crate::shelves::{Answer, Call, first_other};
-use air_devices::{Failed, MemShelf, ReadFileError};
+use crate::played::{Other, Played, first_other_case};
+use crate::shelves::first_other;
+use air_devices::MemShelf;
 use std::alloc::Global;
 use std::test::Fail;
 
-/// What a shelf in memory is made with, the calls, and what it holds after them.
+/// What a shelf in memory is made with, its script, and what it holds after it.
 #[derive(Clone, Copy)]
 struct Case<'a> {
     room: usize,
     fail: &'a [u64],
-    calls: &'a [Call<'a>],
-    tape: &'a [u8],
-    report: &'a [u8],
-    printed: &'a [u8],
+    script: &'a str,
+    tape: &'a str,
+    report: &'a str,
+    printed: &'a str,
 }
 
-/// No room, no failure and no call; nothing is held.
+/// No room and no failure; nothing is held.
 const NOTHING: Case<'static> = Case {
     room: 0,
     fail: &[],
-    calls: &[],
-    tape: b"",
-    report: b"",
-    printed: b"",
+    script: "",
+    tape: "",
+    report: "",
+    printed: "",
 };
 
-/// In what a case went otherwise than told.
-#[derive(Clone, Copy, Debug, PartialEq, Eq)]
-enum Other {
-    Call(usize, Answer),
-    Tape,
-    Report,
-    Printed,
-    OutputForFile,
+/// The file.
+fn files(alloc: Global) -> Result<Vec<(String, Vec<u8>)>, Fail> {
+    let name = String::from_str(alloc, "deck")?;
+    let file = (name, Vec::from_slice(alloc, b"item,0\n")?);
+    Ok(Vec::from_array(alloc, [file])?)
+}
+
+/// The names of the outputs.
+fn outputs(alloc: Global) -> Result<Vec<String>, Fail> {
+    let tape = String::from_str(alloc, "tape")?;
+    let report = String::from_str(alloc, "report")?;
+    Ok(Vec::from_array(alloc, [tape, report])?)
 }
 
 /// A shelf in memory with the file and the outputs.
 fn shelf(alloc: Global, room: usize, fail: &[u64]) -> Result<MemShelf, Fail> {
-    let mut files = Vec::new(alloc);
-    files.push((
-        String::from_str(alloc, "deck")?,
-        Vec::from_slice(alloc, b"item,0\n")?,
-    ))?;
-    let mut outputs = Vec::new(alloc);
-    outputs.push(String::from_str(alloc, "tape")?)?;
-    outputs.push(String::from_str(alloc, "report")?)?;
     let fail = Vec::from_slice(alloc, fail)?;
+    let (files, outputs) = (files(alloc)?, outputs(alloc)?);
     Ok(MemShelf::new(alloc, files, outputs, room, fail)?)
 }
 
-/// Whether the shelf has an output of this name with these bytes.
-fn holds(shelf: &MemShelf, name: &str, bytes: &[u8]) -> bool {
-    shelf.output(name).is_some_and(|output| output == bytes)
+/// What the shelf holds otherwise than told.
+fn part_other(shelf: &MemShelf, case: &Case<'_>) -> Option<Other> {
+    let (tape, report) = (case.tape.as_bytes(), case.report.as_bytes());
+    if shelf.output("tape") != Some(tape) {
+        return Some(("tape", None));
+    }
+    if shelf.output("report") != Some(report) {
+        return Some(("report", None));
+    }
+    if shelf.printed() != case.printed.as_bytes() {
+        return Some(("printed", None));
+    }
+    let output = shelf.output("deck");
+    output.is_some().then_some(("an output for the file", None))
 }
 
 impl Played for Case<'_> {
-    type Other = Other;
-
     fn other_in(&self, alloc: Global) -> Result<Option<Other>, Fail> {
         let mut shelf = shelf(alloc, self.room, self.fail)?;
-        if let Some((place, answer)) = first_other(alloc, &mut shelf, self.calls) {
-            return Ok(Some(Other::Call(place, answer)));
+        let other = first_other(alloc, &mut shelf, self.script);
+        if other.is_some() {
+            return Ok(Some(("call", other)));
         }
-        if !holds(&shelf, "tape", self.tape) {
-            return Ok(Some(Other::Tape));
-        }
-        if !holds(&shelf, "report", self.report) {
-            return Ok(Some(Other::Report));
-        }
-        if shelf.printed() != self.printed {
-            return Ok(Some(Other::Printed));
-        }
-        if shelf.output("deck").is_some() {
-            return Ok(Some(Other::OutputForFile));
-        }
-        Ok(None)
+        Ok(part_other(&shelf, self))
     }
 }
 
 #[test]
 fn a_picked_file_is_read_to_its_end(rt: HostRuntime) -> Result<(), Fail> {
     let case = Case {
-        calls: &[
-            Call::Read("deck", Ok(b"")),
-            Call::Pick("deck", Ok(())),
-            Call::Read("deck", Ok(b"item")),
-            Call::Read("deck", Ok(b",0\n")),
-            Call::Read("deck", Ok(b"")),
-            Call::Pick("deck", Ok(())),
-            Call::Read("deck", Ok(b"item")),
-        ],
+        script: "read deck >;pick deck >;read deck >item;read deck >,0\n;read deck >;pick deck >;read deck >item",
         ..NOTHING
     };
     assert_eq!(rt; case.other_in(rt.alloc())?, None);
@@ -104,25 +91,15 @@ fn a_picked_file_is_read_to_its_end(rt: HostRuntime) -> Result<(), Fail> {
 fn an_output_has_what_was_appended_and_a_created_one_nothing(rt: HostRuntime) -> Result<(), Fail> {
     let appended = Case {
         room: 10,
-        calls: &[
-            Call::Append("tape", b"ab", Ok(())),
-            Call::Append("tape", b"c", Ok(())),
-            Call::Append("report", b"d", Ok(())),
-        ],
-        tape: b"abc",
-        report: b"d",
+        script: "append tape ab>;append tape c>;append report d>",
+        tape: "abc",
+        report: "d",
         ..NOTHING
     };
     let created = Case {
-        room: 10,
-        calls: &[
-            Call::Append("tape", b"ab", Ok(())),
-            Call::Append("tape", b"c", Ok(())),
-            Call::Append("report", b"d", Ok(())),
-            Call::Create("tape", Ok(())),
-        ],
-        report: b"d",
-        ..NOTHING
+        script: "append tape ab>;append tape c>;append report d>;create tape >",
+        tape: "",
+        ..appended
     };
     assert_eq!(rt; first_other_case(rt.alloc(), &[appended, created])?, None);
     Ok(())
@@ -132,22 +109,16 @@ fn an_output_has_what_was_appended_and_a_created_one_nothing(rt: HostRuntime) ->
 fn what_fits_is_written_and_the_rest_fails(rt: HostRuntime) -> Result<(), Fail> {
     let all_fits = Case {
         room: 10,
-        calls: &[Call::Print(b"ab", Ok(())), Call::Print(b"c", Ok(()))],
-        printed: b"abc",
+        script: "print out ab>;print out c>",
+        printed: "abc",
         ..NOTHING
     };
     let three_fit = Case {
         room: 3,
-        calls: &[
-            Call::Append("tape", b"ab", Ok(())),
-            Call::Append("tape", b"cd", Err(Failed)),
-            Call::Append("report", b"abc", Ok(())),
-            Call::Print(b"abcd", Err(Failed)),
-        ],
-        tape: b"abc",
-        report: b"abc",
-        printed: b"abc",
-        ..NOTHING
+        script: "append tape ab>;append tape cd!;append report abc>;print out abcd!",
+        tape: "abc",
+        report: "abc",
+        ..all_fits
     };
     assert_eq!(rt; first_other_case(rt.alloc(), &[all_fits, three_fit])?, None);
     Ok(())
@@ -158,29 +129,15 @@ fn listed_calls_and_those_of_other_names_fail(rt: HostRuntime) -> Result<(), Fai
     let listed = Case {
         room: 10,
         fail: &[1, 3, 5, 6, 9],
-        calls: &[
-            Call::Pick("deck", Err(Failed)),
-            Call::Pick("deck", Ok(())),
-            Call::Read("deck", Err(Failed)),
-            Call::Read("deck", Ok(b"item")),
-            Call::Create("tape", Err(Failed)),
-            Call::Append("tape", b"ab", Err(Failed)),
-            Call::Append("tape", b"c", Ok(())),
-            Call::Print(b"d", Ok(())),
-            Call::Print(b"e", Err(Failed)),
-        ],
-        tape: b"c",
-        printed: b"d",
+        script: "pick deck !;pick deck >;read deck !;read deck >item;create tape !;append tape ab!;append tape c>;\
+            print out d>;print out e!",
+        tape: "c",
+        printed: "d",
         ..NOTHING
     };
     let named_otherwise = Case {
         room: 3,
-        calls: &[
-            Call::Pick("tape", Err(Failed)),
-            Call::Read("tape", Ok(b"")),
-            Call::Create("deck", Err(Failed)),
-            Call::Append("deck", b"a", Err(Failed)),
-        ],
+        script: "pick tape !;read tape >;create deck !;append deck a!",
         ..NOTHING
     };
     assert_eq!(rt;
@@ -194,16 +151,9 @@ fn listed_calls_and_those_of_other_names_fail(rt: HostRuntime) -> Result<(), Fai
 fn a_whole_file_is_read_up_to_the_limit(rt: HostRuntime) -> Result<(), Fail> {
     let copied = Case {
         room: 7,
-        calls: &[
-            Call::ReadWhole("deck", 100, b"item,0\n"),
-            Call::Create("tape", Ok(())),
-            Call::Append("tape", b"item,0\n", Ok(())),
-            Call::Print(b"item,0\n", Ok(())),
-            Call::Pick("deck", Ok(())),
-            Call::Read("deck", Ok(b"item")),
-        ],
-        tape: b"item,0\n",
-        printed: b"item,0\n",
+        script: "whole deck 100>item,0\n;create tape >;append tape item,0\n>;print out item,0\n>;pick deck >;read deck >item",
+        tape: "item,0\n",
+        printed: "item,0\n",
         ..NOTHING
     };
     assert_eq!(rt; copied.other_in(rt.alloc())?, None);
@@ -213,19 +163,12 @@ fn a_whole_file_is_read_up_to_the_limit(rt: HostRuntime) -> Result<(), Fail> {
 #[test]
 fn a_file_past_the_limit_or_torn_is_refused(rt: HostRuntime) -> Result<(), Fail> {
     let limited = Case {
-        calls: &[
-            Call::ReadWhole("deck", 7, b"item,0\n"),
-            Call::RefuseWhole("deck", 6, ReadFileError::TooLarge),
-            Call::Read("deck", Ok(b"")),
-            Call::RefuseWhole("deck", 2, ReadFileError::TooLarge),
-            Call::Read("deck", Ok(b"m,0\n")),
-            Call::RefuseWhole("desk", 7, ReadFileError::Failed),
-        ],
+        script: "whole deck 7>item,0\n;whole deck 6!large;read deck >;whole deck 2!large;read deck >m,0\n;whole desk 7!",
         ..NOTHING
     };
     let torn = Case {
         fail: &[2],
-        calls: &[Call::RefuseWhole("deck", 7, ReadFileError::Failed)],
+        script: "whole deck 7!",
         ..NOTHING
     };
     assert_eq!(rt; first_other_case(rt.alloc(), &[limited, torn])?, None);
@@ -236,11 +179,7 @@ fn a_file_past_the_limit_or_torn_is_refused(rt: HostRuntime) -> Result<(), Fail>
 fn a_failing_pick_leaves_what_was_left(rt: HostRuntime) -> Result<(), Fail> {
     let case = Case {
         fail: &[3],
-        calls: &[
-            Call::RefuseWhole("deck", 2, ReadFileError::TooLarge),
-            Call::Pick("deck", Err(Failed)),
-            Call::Read("deck", Ok(b"m,0\n")),
-        ],
+        script: "whole deck 2!large;pick deck !;read deck >m,0\n",
         ..NOTHING
     };
     assert_eq!(rt; case.other_in(rt.alloc())?, None);

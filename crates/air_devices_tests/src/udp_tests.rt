@@ -3,11 +3,11 @@
 //! At the other end stands a socket of the test. A datagram to this machine waits at the socket of its port from the moment
 //! that its send returns, so that what was sent is there to be heard.
 
-ghost use Rattle.std.specs.Prelude.{◌≤◌, ◌<◌, length, IsSome};
-
 use crate::broken::Broken;
+use crate::ear_tests::first_misheard;
+use crate::mast_tests::send;
 use air_base::limits::MOST_DATAGRAM_BYTES;
-use air_devices::{Ear, Failed, Heard, Mast, NetCall, NetFailure, UdpEar, UdpMast};
+use air_devices::{Ear, Failed, Mast, NetCall, NetFailure, UdpEar, UdpMast};
 use std::alloc::Global;
 use std::io::{self, ErrorKind};
 use std::net::{Net, SocketAddr, UdpSocket};
@@ -27,17 +27,6 @@ fn plain_socket<R: Net>(net: &R) -> io::Result<(UdpSocket, u16)> {
     Ok((socket, port))
 }
 
-/// The mast's answer to a send of these bytes, or of the end mark where there are none; none where they are past the longest.
-fn send<M: Mast>(mast: &mut M, bytes: &[u8]) -> Option<Result<(), Failed>> {
-    if bytes.is_empty() {
-        return Some(mast.finish());
-    }
-    if bytes.len() > MOST_DATAGRAM_BYTES {
-        return None;
-    }
-    Some(mast.send(bytes))
-}
-
 /// The place of the first datagram that the mast doesn't send, or that doesn't come to the socket as it was sent.
 fn first_lost<M: Mast>(
     mast: &mut M,
@@ -46,7 +35,7 @@ fn first_lost<M: Mast>(
     datagrams: &[&[u8]],
 ) -> io::Result<Option<usize>> {
     for (place, bytes) in datagrams.iter().enumerate() {
-        if send(mast, bytes) != Some(Ok(())) {
+        if send(mast, bytes).is_err() {
             return Ok(Some(place));
         }
         let count = far.recv(buf)?;
@@ -79,54 +68,24 @@ fn free_port<R: Net>(net: &R) -> io::Result<u16> {
     Ok(port)
 }
 
-/// A datagram, and what is heard of it: the bytes in the buffer, or none where it is the end.
-type Sent<'a> = (&'a [u8], Option<&'a [u8]>);
-
-/// Whether the ear hears so.
-fn is_heard(answer: &Result<Heard, Failed>, buf: &[u8], told: Option<&[u8]>) -> bool {
-    match answer {
-        Ok(Heard::Bucket(len)) => told.is_some() && buf.get(..*len) == told,
-        Ok(Heard::Over) => told.is_none(),
-        Err(_) => false,
+/// Sends these datagrams to a port.
+fn send_all(far: &UdpSocket, port: u16, datagrams: &str) -> io::Result<()> {
+    for bytes in datagrams.split(' ') {
+        far.send_to(bytes.as_bytes(), loopback(port))?;
     }
-}
-
-/// The place of the first datagram to this port that the ear hears otherwise than told, in a buffer for three bytes.
-fn first_misheard<E: Ear>(
-    ear: &mut E,
-    far: &UdpSocket,
-    port: u16,
-    sent: &[Sent<'_>],
-) -> io::Result<Option<usize>>
-    requires { IsSome (E.state ear.old).port }
-{
-    for (place, (bytes, told)) in sent.iter().enumerate() {
-        far.send_to(bytes, loopback(port))?;
-        let mut buf = [0; 3];
-        let answer = ear.hear(&mut buf);
-        if !is_heard(&answer, &buf, *told) {
-            return Ok(Some(place));
-        }
-    }
-    Ok(None)
+    Ok(())
 }
 
 #[test]
 fn an_ear_hears_datagrams_cut_to_its_buffer_and_an_empty_one_as_the_end(
     rt: HostRuntime,
 ) -> Result<(), Fail> {
-    let sent: [Sent<'_>; 5] = [
-        (b"ab", Some(b"ab")),
-        (b"abcd", Some(b"abc")),
-        (b"e", Some(b"e")),
-        (b"", None),
-        (b"abc", Some(b"abc")),
-    ];
     let (far, _) = plain_socket(&rt)?;
     let port = free_port(&rt)?;
     let mut ear = UdpEar::new(rt.clone()?);
     let tuned = ear.tune_in(port);
-    let misheard = first_misheard(&mut ear, &far, port, &sent)?;
+    send_all(&far, port, "ab abcd e  abc")?;
+    let misheard = first_misheard(&mut ear, ">ab;>abc;>e;>;>abc");
     let told = (tuned, misheard, ear.last_failure().is_none());
     assert_eq!(rt; told, (Ok(()), None, true));
     Ok(())
@@ -150,53 +109,49 @@ fn failure_parts(failure: Option<&NetFailure>) -> Option<(NetCall, Option<u16>, 
     Some((failure.call(), failure.port(), failure.error().kind()))
 }
 
-/// What a failure says in place of what is told; an empty text where there is none.
-fn said_otherwise(
+/// Adds a row: what a call that fails says, behind `done` where it doesn't fail.
+fn add_said(
     alloc: Global,
+    text: &mut String,
+    answer: Result<(), Failed>,
     failure: Option<&NetFailure>,
-    told: &str,
-) -> Result<Option<String>, Fail> {
-    let text = match failure {
-        Some(failure) => format!(in alloc; "{failure}")?,
-        None => String::new(alloc),
-    };
-    Ok((text.as_str() != told).then_some(text))
+) -> Result<(), Fail> {
+    if answer.is_ok() {
+        text.push_str("done ")?;
+    }
+    if let Some(failure) = failure {
+        text.push_str(format!(in alloc; "{failure}\n")?.as_str())?;
+    }
+    Ok(())
 }
 
 #[test]
 fn a_mast_says_what_failed(rt: HostRuntime) -> Result<(), Fail> {
-    let alloc = rt.alloc();
+    let mut text = String::new(rt.alloc());
     let mut mast = UdpMast::new(Broken);
     let ended = mast.finish();
-    let told = "sending the end to no port: there is nothing to send from";
-    let end_other = said_otherwise(alloc, mast.last_failure(), told)?;
+    add_said(rt.alloc(), &mut text, ended, mast.last_failure())?;
     let aimed = mast.aim(4000);
-    let told = "aiming at port 4000: broken pipe";
-    let aim_other = said_otherwise(alloc, mast.last_failure(), told)?;
+    add_said(rt.alloc(), &mut text, aimed, mast.last_failure())?;
     let sent = mast.send(b"a");
-    let told = "sending to port 4000: there is nothing to send from";
-    let send_other = said_otherwise(alloc, mast.last_failure(), told)?;
-    let said = [(ended, end_other), (aimed, aim_other), (sent, send_other)];
-    let wanted = [
-        (Err(Failed), None),
-        (Err(Failed), None),
-        (Err(Failed), None),
-    ];
-    assert_eq!(rt; said, wanted);
+    add_said(rt.alloc(), &mut text, sent, mast.last_failure())?;
+    let told = "sending the end to no port: there is nothing to send from\n\
+        aiming at port 4000: broken pipe\n\
+        sending to port 4000: there is nothing to send from\n";
+    assert_eq!(rt; text.as_str(), told);
     Ok(())
 }
 
 #[test]
 fn an_ear_says_what_failed(rt: HostRuntime) -> Result<(), Fail> {
-    let alloc = rt.alloc();
+    let mut text = String::new(rt.alloc());
     let mut ear = UdpEar::new(Broken);
     let tuned = ear.tune_in(4000);
-    let told = "tuning in to port 4000: broken pipe";
-    let tune_other = said_otherwise(alloc, ear.last_failure(), told)?;
-    let heard = ear.hear(&mut [0; 3]);
-    let told = "hearing on port 4000: there is nothing to hear with";
-    let hear_other = said_otherwise(alloc, ear.last_failure(), told)?;
-    let said = ((tuned, tune_other), (heard, hear_other));
-    assert_eq!(rt; said, ((Err(Failed), None), (Err(Failed), None)));
+    add_said(rt.alloc(), &mut text, tuned, ear.last_failure())?;
+    let heard = ear.hear(&mut [0; 3]).map(|_| ());
+    add_said(rt.alloc(), &mut text, heard, ear.last_failure())?;
+    let told = "tuning in to port 4000: broken pipe\n\
+        hearing on port 4000: there is nothing to hear with\n";
+    assert_eq!(rt; text.as_str(), told);
     Ok(())
 }
