@@ -33,13 +33,14 @@ fn buckets(alloc: Global, heard: &str) -> Result<Vec<Vec<u8>>, Fail>
     Ok(all)
 }
 
-/// What is heard in place of what is told: so many bytes, none at the end.
-fn heard_other<E: Ear>(ear: &mut E, told: &Result<&[u8], ReadFileError>) -> Option<Answer>
+/// What is heard in place of what is told: so many bytes, none at the end; no memory, which is never told, for a bucket without bytes.
+pub fn heard_other<E: Ear>(ear: &mut E, told: &Result<&[u8], ReadFileError>) -> Option<Answer>
     requires { IsSome (E.state ear.old).port }
     ensures { IsSome (E.state ear.new).port }
 {
     let mut buf = [0; 3];
     let (answer, front) = match ear.hear(&mut buf) {
+        Ok(Heard::Bucket(0)) => (Err(ReadFileError::NoMemory), &buf[..0]),
         Ok(Heard::Bucket(len)) => (Ok(len), &buf[..len]),
         Ok(Heard::Over) => (Ok(0), &buf[..0]),
         Err(_) => (Err(ReadFileError::Failed), &buf[..0]),
@@ -51,12 +52,13 @@ fn heard_other<E: Ear>(ear: &mut E, told: &Result<&[u8], ReadFileError>) -> Opti
     (!is_told).then_some(answer)
 }
 
-/// The place of the first row that isn't heard as told, in a buffer for three bytes, and what is heard.
-pub fn first_misheard<E: Ear>(ear: &mut E, script: &str) -> Option<(usize, Answer)>
+/// The place of the first row that isn't heard as told, in a buffer for three bytes, and what is heard; no memory, which is never
+/// told, where it is no row.
+fn first_misheard<E: Ear>(ear: &mut E, script: &str) -> Option<(usize, Answer)>
     requires { IsSome (E.state ear.old).port }
 {
     for (place, row) in script.split(';').enumerate() {
-        let Some((_, told)) = told_parts(row) else {
+        let Some(("", told)) = told_parts(row) else {
             return Some((place, Err(ReadFileError::NoMemory)));
         };
         if let Some(answer) = heard_other(ear, &told) {

@@ -20,7 +20,7 @@ fn remove_files<R: Files>(rt: &R, names: &str) -> io::Result<()> {
 }
 
 /// Plays a script on a new shelf over files: the place of the first row that is answered otherwise, and the answer.
-fn played<R: Files + Print + Clone + Drop>(
+fn first_other_anew<R: Files + Print + Clone + Drop>(
     rt: &R,
     alloc: Global,
     script: &str,
@@ -48,7 +48,7 @@ fn files_are_written_and_read_back(rt: HostRuntime) -> Result<(), Fail> {
 fn an_emptied_file_is_read_whole_as_no_bytes(rt: HostRuntime) -> Result<(), Fail> {
     let script =
         "create emptied.deck >;append emptied.deck item>;create emptied.deck >;whole emptied.deck 0>";
-    let other = played(&rt, rt.alloc(), script)?;
+    let other = first_other_anew(&rt, rt.alloc(), script)?;
     fs::remove_file(&rt, "emptied.deck")?;
     assert_eq!(rt; other, None);
     Ok(())
@@ -62,7 +62,7 @@ fn a_read_of_another_name_than_the_one_picked_last_fails(rt: HostRuntime) -> Res
         "read picked.tape >;pick picked.tape >;pick picked.deck >;read picked.tape !;read picked.deck >item;\
         pick picked.none !;read picked.none !;read picked.deck >;pick picked.tape >;read picked.deck !;\
         read ./picked.tape !;read picked.tape >tape";
-    let other = played(&rt, rt.alloc(), script)?;
+    let other = first_other_anew(&rt, rt.alloc(), script)?;
     remove_files(&rt, "picked.deck picked.tape")?;
     assert_eq!(rt; other, None);
     Ok(())
@@ -88,7 +88,7 @@ fn first_not_kept<R: Files + Print + Clone + Drop>(
     for place in 0..16 {
         let (read, written) = (place / 4, place % 4);
         let script = kept_script(alloc, NAMES[read], NAMES[written])?;
-        if let Some(other) = played(rt, alloc, script.as_str())? {
+        if let Some(other) = first_other_anew(rt, alloc, script.as_str())? {
             return Ok(Some((read, written, other)));
         }
     }

@@ -1,8 +1,8 @@
-//! Tests of the devices as tables: calls with their answers, and what a device holds after them.
+//! Tests of the devices: scripts of calls with their answers, and what a device holds after them.
 //!
-//! `shelves` has the calls of a shelf and their checker; `shelf_tests` plays them on the shelf in memory, `file_tests` and
+//! `shelves` says what a row is, and has the checker of a shelf; `shelf_tests` plays them on the shelf in memory, `file_tests` and
 //! `room_tests` on the one over files, `failure_tests` also where each call fails (`broken`). `mast_tests` plays calls on
-//! the mast in memory, and adds to a tape, `ear_tests` on the ear; `udp_tests` sends and hears over real sockets;
+//! the mast in memory, and adds to a tape, `ear_tests` on the ear; `udp_tests` sends and hears over real sockets, by the checkers of both;
 //! `refusal_tests` prints refusals. `played` walks over their cases.
 #![tactic(auto)]
 

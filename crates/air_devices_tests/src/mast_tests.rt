@@ -39,14 +39,14 @@ pub fn send<M: Mast>(mast: &mut M, bytes: &[u8]) -> Answer {
     }
 }
 
-/// The place of the first row that isn't answered as told, and the answer.
+/// The place of the first row that isn't answered as told, and the answer; no memory, which is never told, where it is no row.
 fn first_other<M: Mast>(mast: &mut M, script: &str) -> Option<(usize, Answer)> {
     for (place, row) in script.split(';').enumerate() {
         let Some((bytes, told)) = told_parts(row) else {
             return Some((place, Err(ReadFileError::NoMemory)));
         };
         let answer = send(mast, bytes.as_bytes());
-        if answer != told.map(|_| 0) {
+        if answer != told.map(|bytes| bytes.len()) {
             return Some((place, answer));
         }
     }

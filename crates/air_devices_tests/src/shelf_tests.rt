@@ -1,4 +1,4 @@
-//! Scripts of the shelf in memory: each call once with ample memory, the calls that fail, and the room.
+//! Scripts of the shelf in memory: each call with ample memory, the calls that fail, and the room.
 //!
 //! The shelf has the file `deck` of seven bytes, and the outputs `tape` and `report`.
 
@@ -29,7 +29,7 @@ const NOTHING: Case<'static> = Case {
     printed: "",
 };
 
-/// The file.
+/// The one file, as a list.
 fn files(alloc: Global) -> Result<Vec<(String, Vec<u8>)>, Fail> {
     let name = String::from_str(alloc, "deck")?;
     let file = (name, Vec::from_slice(alloc, b"item,0\n")?);

@@ -1,13 +1,13 @@
 //! Calls of a shelf as a text, and the first of them that isn't answered as told, with the answer.
 //!
-//! A script is rows with `;` between them. A row is a call, a name, and the bytes or the limit, and then the answer: `>` and the
+//! A script is rows with `;` between them. A row is a call, a name (a print's may be any word), and the bytes or the limit, and then the answer: `>` and the
 //! bytes that were read, or nothing where it was done; or `!`, where it fails, and `!large` where a whole file is past the limit.
 //! So `read deck >item` reads four bytes. Any shelf serves: each call goes through the trait alone.
 
 use air_devices::{ReadFileError, Shelf, read_file};
 use std::alloc::Global;
 
-/// What a call answered in place of what is told: how many bytes it read, or why not.
+/// What a call answered: how many bytes it read or heard, none where it was done, or why not.
 pub type Answer = Result<usize, ReadFileError>;
 
 /// A row's call, and the answer that is told.
@@ -16,10 +16,10 @@ pub fn told_parts(row: &str) -> Option<(&str, Result<&[u8], ReadFileError>)> {
         return Some((call, Ok(bytes.as_bytes())));
     }
     let (call, fault) = row.split_once('!')?;
-    let fault = if fault == "large" {
-        ReadFileError::TooLarge
-    } else {
-        ReadFileError::Failed
+    let fault = match fault {
+        "" => ReadFileError::Failed,
+        "large" => ReadFileError::TooLarge,
+        _ => return None,
     };
     Some((call, Err(fault)))
 }
@@ -43,9 +43,14 @@ fn answer_to<S: Shelf>(alloc: Global, shelf: &mut S, call: &str) -> Result<Vec<u
     let (name, bytes) = rest.split_once(' ').unwrap_or((rest, ""));
     let done = match what {
         "read" => return read_bytes(alloc, shelf, name),
-        "whole" => return read_file(alloc, shelf, name, bytes.parse().unwrap_or(0)),
-        "pick" => shelf.pick(name),
-        "create" => shelf.create(name),
+        "whole" => {
+            let Ok(limit) = bytes.parse() else {
+                return Err(ReadFileError::NoMemory);
+            };
+            return read_file(alloc, shelf, name, limit);
+        }
+        "pick" if bytes.is_empty() => shelf.pick(name),
+        "create" if bytes.is_empty() => shelf.create(name),
         "append" => shelf.append(name, bytes.as_bytes()),
         "print" => shelf.print(bytes.as_bytes()),
         _ => return Err(ReadFileError::NoMemory),

@@ -3,11 +3,14 @@
 //! At the other end stands a socket of the test. A datagram to this machine waits at the socket of its port from the moment
 //! that its send returns, so that what was sent is there to be heard.
 
+ghost use Rattle.std.specs.Prelude.{IsSome};
+
 use crate::broken::Broken;
-use crate::ear_tests::first_misheard;
+use crate::ear_tests::heard_other;
 use crate::mast_tests::send;
+use crate::shelves::{Answer, told_parts};
 use air_base::limits::MOST_DATAGRAM_BYTES;
-use air_devices::{Ear, Failed, Mast, NetCall, NetFailure, UdpEar, UdpMast};
+use air_devices::{Ear, Failed, Mast, NetCall, NetFailure, ReadFileError, UdpEar, UdpMast};
 use std::alloc::Global;
 use std::io::{self, ErrorKind};
 use std::net::{Net, SocketAddr, UdpSocket};
@@ -68,12 +71,26 @@ fn free_port<R: Net>(net: &R) -> io::Result<u16> {
     Ok(port)
 }
 
-/// Sends these datagrams to a port.
-fn send_all(far: &UdpSocket, port: u16, datagrams: &str) -> io::Result<()> {
-    for bytes in datagrams.split(' ') {
+/// Sends the datagram of each row to the ear's port, and lets the ear hear it: the place of the first that isn't heard as told, and
+/// what is heard. A row is the datagram, `>` and the bytes that are heard.
+fn first_misheard<E: Ear>(
+    far: &UdpSocket,
+    port: u16,
+    ear: &mut E,
+    script: &str,
+) -> io::Result<Option<(usize, Answer)>>
+    requires { IsSome (E.state ear.old).port }
+{
+    for (place, row) in script.split(';').enumerate() {
+        let Some((bytes, told)) = told_parts(row) else {
+            return Ok(Some((place, Err(ReadFileError::NoMemory))));
+        };
         far.send_to(bytes.as_bytes(), loopback(port))?;
+        if let Some(answer) = heard_other(ear, &told) {
+            return Ok(Some((place, answer)));
+        }
     }
-    Ok(())
+    Ok(None)
 }
 
 #[test]
@@ -84,8 +101,7 @@ fn an_ear_hears_datagrams_cut_to_its_buffer_and_an_empty_one_as_the_end(
     let port = free_port(&rt)?;
     let mut ear = UdpEar::new(rt.clone()?);
     let tuned = ear.tune_in(port);
-    send_all(&far, port, "ab abcd e  abc")?;
-    let misheard = first_misheard(&mut ear, ">ab;>abc;>e;>;>abc");
+    let misheard = first_misheard(&far, port, &mut ear, "ab>ab;abcd>abc;e>e;>;abc>abc")?;
     let told = (tuned, misheard, ear.last_failure().is_none());
     assert_eq!(rt; told, (Ok(()), None, true));
     Ok(())
