@@ -66,17 +66,33 @@ pub fn heard_by<E: Ear>(
     }
 }
 
-/// What came where a case doesn't go as it is told: how many bytes of text, or the fault.
-fn other_in(alloc: Global, case: &Case<'_>) -> Result<Option<Result<usize, HearFault>>, Fail> {
-    let heard = copies(alloc, case.heard)?;
+/// What came of these datagrams where the case's session isn't the one that is told: how many bytes of text, or the fault.
+fn other_of(
+    alloc: Global,
+    heard: Vec<Vec<u8>>,
+    case: &Case<'_>,
+) -> Result<Option<Result<usize, HearFault>>, Fail>
+    requires { All (λ bytes. 1 ≤ length bytes.items) heard.items }
+{
     let mut ear = MemEar::new(heard, Vec::from_slice(alloc, case.fail)?);
-    let deck = deck_text(case.hears_one);
-    Ok(match (heard_by(alloc, deck, &mut ear)?, case.told) {
-        (Ok(text), Ok(told)) if text.as_slice() == told => None,
-        (Err(fault), Err(told)) if fault == told => None,
-        (Ok(text), _) => Some(Ok(text.len())),
-        (Err(fault), _) => Some(Err(fault)),
-    })
+    let came = heard_by(alloc, deck_text(case.hears_one), &mut ear)?;
+    let is_told = match (&came, &case.told) {
+        (Ok(text), Ok(told)) => text.as_slice() == *told,
+        (Err(fault), Err(told)) => fault == told,
+        _ => false,
+    };
+    if is_told {
+        return Ok(None);
+    }
+    Ok(Some(match came {
+        Ok(text) => Ok(text.len()),
+        Err(fault) => Err(fault),
+    }))
+}
+
+/// The same of the case's own datagrams.
+fn other_in(alloc: Global, case: &Case<'_>) -> Result<Option<Result<usize, HearFault>>, Fail> {
+    other_of(alloc, copies(alloc, case.heard)?, case)
 }
 
 /// The place of the first case that doesn't go as it is told, and what came.
@@ -123,11 +139,8 @@ fn datagrams_are_heard_to_the_end(rt: HostRuntime) -> Result<(), Fail> {
 #[test]
 fn a_datagram_past_the_room_is_one_datagram(rt: HostRuntime) -> Result<(), Fail> {
     let long = vec![in rt.alloc(); 0u8; MOST_HEARD_BYTES + 1]?;
-    let case = Case {
-        heard: &[BUCKET_0, long.as_slice(), BUCKET_1],
-        ..FAULTY
-    };
-    assert_eq!(rt; first_other(rt.alloc(), &[case])?, None);
+    let heard = copies(rt.alloc(), &[BUCKET_0, long.as_slice(), BUCKET_1])?;
+    assert_eq!(rt; other_of(rt.alloc(), heard, &FAULTY)?, None);
     Ok(())
 }
 
