@@ -1,4 +1,4 @@
-//! A push whose value is a text of its own: its failure tells of no memory too.
+//! A push whose value is a text of its own, in a function whose one refusal is out of memory.
 
 use air_base::NoMemory;
 use std::alloc::Global;
@@ -12,7 +12,7 @@ fn list_of(alloc: Global, text: Vec<u8>) -> Result<Vec<Vec<u8>>, NoMemory> {
 }
 
 #[test]
-fn a_push_of_a_text_may_want_memory(rt: HostRuntime) -> Result<(), Fail> {
+fn a_text_is_pushed_where_the_refusal_is_out_of_memory(rt: HostRuntime) -> Result<(), Fail> {
     let texts = list_of(rt.alloc(), Vec::from_array(rt.alloc(), [7_u8, 8])?)?;
     let held = texts.first().map(|text| text.as_slice());
     assert_eq!(rt; (texts.len(), held), (1, Some([7, 8].as_slice())));

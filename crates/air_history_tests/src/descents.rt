@@ -48,36 +48,57 @@ fn plain(alloc: Global, events: &[Event], place: usize) -> Result<Vec<bool>, Fai
     Ok(marks)
 }
 
-/// The first place whose marks differ from the plain program's, and how many places were compared.
-fn first_other(alloc: Global, history: &History) -> Result<Option<u64>, Fail> {
+/// The place of the first mark that differs, and the mark that came, or none where the marks have ended; where they go on past
+/// those told, the first of the rest.
+fn mark_apart(marks: &[bool], told: &[bool]) -> Option<(usize, Option<bool>)> {
+    for (place, mark) in told.iter().enumerate() {
+        let came = marks.get(place).copied();
+        if came != Some(*mark) {
+            return Some((place, came));
+        }
+    }
+    let end = told.len();
+    (marks.len() != end).then_some((end, marks.get(end).copied()))
+}
+
+/// The first place whose marks differ from the plain program's, and the first of them that does.
+fn first_other(
+    alloc: Global,
+    history: &History,
+) -> Result<Option<(u64, (usize, Option<bool>))>, Fail> {
     for place in 0..history.len() {
         let marks = descends(alloc, history, place)?;
-        if marks.as_slice() != plain(alloc, history.events(), place as usize)?.as_slice() {
-            return Ok(Some(place));
+        let told = plain(alloc, history.events(), place as usize)?;
+        if let Some(mark) = mark_apart(&marks, &told) {
+            return Ok(Some((place, mark)));
         }
     }
     Ok(None)
 }
 
-/// The seed of the first history of that many events that has another place, and that place.
-fn first_seed(rt: &impl Abort, alloc: Global, length: u64) -> Result<Option<(u64, u64)>, Fail> {
+/// A seed, a place of the history that it makes, and the mark there that differs.
+type Apart = (u64, u64, (usize, Option<bool>));
+
+/// The seed of the first history of that many events that has such a place, with that place and its mark.
+fn first_seed(rt: &impl Abort, alloc: Global, length: u64) -> Result<Option<Apart>, Fail> {
     for seed in 0..SEEDS {
-        if let Some(place) = first_other(alloc, &random_history(rt, alloc, seed, length)?)? {
-            return Ok(Some((seed, place)));
+        let history = random_history(rt, alloc, seed, length)?;
+        if let Some((place, mark)) = first_other(alloc, &history)? {
+            return Ok(Some((seed, place, mark)));
         }
     }
     Ok(None)
 }
 
-/// The first of these lengths that has such a history, with its seed and that place.
+/// The first of these lengths that has such a history, with what is apart in it.
 fn first_length(
     rt: &impl Abort,
     alloc: Global,
     lengths: &[u64],
-) -> Result<Option<(u64, u64, u64)>, Fail> {
+) -> Result<Option<(u64, Apart)>, Fail> {
     for length in lengths {
-        if let Some((seed, place)) = first_seed(rt, alloc, *length)? {
-            return Ok(Some((*length, seed, place)));
+        if let Some(apart) = first_seed(rt, alloc, *length)? {
+            return Ok(Some((*length, apart)));
         }
     }
     Ok(None)
