@@ -12,7 +12,7 @@ use Rattle.air_cli.specs.Script.{script_meaning}
 use Rattle.air_cli.specs.Tune.{tune_meaning}
 use Rattle.air_cli.specs.Words.{Asked, AsksAudit, AsksDrill, AsksPlan, AsksRun, AsksScript, AsksTune}
 
--- The same, each file by the bytes of its name.
+-- What this command of the code asks for, each file by the bytes of its name.
 abbrev pub asked_by : Command → Asked
 asked_by (command.Plan deck) = AsksPlan deck.now
 asked_by (command.Script deck tape) = AsksScript deck.now (option_map (λ name. name.now) tape)

@@ -2,7 +2,7 @@
 
 use air_cli::Status;
 use air_cli_cases::cases::{Case, Other, Part, Parts, difference, first_other, three_parts};
-use air_cli_cases::first::{FIRST, PLAN, SCRIPT, SCRIPT_TAPE, TUNE, ends};
+use air_cli_cases::first::{FIRST, PLAN, SCRIPT, SCRIPT_TAPE, ends};
 use std::alloc::Global;
 use std::thread::Threads;
 

@@ -1,6 +1,6 @@
 //! The jobs side by side: the conductor's beside those of all updaters and all monitors.
 //!
-//! Each job's clause is carried out, whatever the schedule: a job that ends for want of memory, or since the mast failed, leaves
+//! Each job's clause is carried out, whatever the schedule: a job that ends out of memory, or since the mast failed, leaves
 //! the others to go on to their own ends.
 ghost use Rattle.std.specs.Prelude.{◌≡◌, ◌<◌, ◌≤◌, ◌+◌, ◌*◌, ◌^◌, length, All};
 ghost use Rattle.std.specs.Thread.{IsSync};

@@ -68,6 +68,14 @@ fn put_reader(text: &mut Vec<u8>, reader: u16) -> Result<(), NoMemory> {
     Ok(())
 }
 
+/// All readers, with their queries.
+fn put_readers(text: &mut Vec<u8>) -> Result<(), NoMemory> {
+    for reader in 0..8u16 {
+        put_reader(text, reader)?;
+    }
+    Ok(())
+}
+
 /// The deck, with so many monitors.
 fn deck_of(alloc: Global, monitors: u32) -> Result<Vec<u8>, NoMemory> {
     let mut text = Vec::new(alloc);
@@ -75,9 +83,7 @@ fn deck_of(alloc: Global, monitors: u32) -> Result<Vec<u8>, NoMemory> {
     for by in 0..4u16 {
         put_updates(&mut text, by)?;
     }
-    for reader in 0..8u16 {
-        put_reader(&mut text, reader)?;
-    }
+    put_readers(&mut text)?;
     text.extend_from_slice(b"set,cycles,20\nset,seed,7\nset,loss,5\nset,again,3\nset,late,10\n")?;
     put_row(&mut text, &[("set,monitors,", monitors)])?;
     Ok(text)

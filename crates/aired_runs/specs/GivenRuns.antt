@@ -19,7 +19,7 @@ pub record IsGivenRun (deck : Deck) (given : Given) (run : Run) : Type 0 where
   pub true_is : IsTrueRun deck run
   pub given_is : given ≡ run_given deck run
 
--- Why a deck that has a program isn't run: its tape would be too long. Want of memory has no cause.
+-- Why a deck that has a program isn't run: its tape would be too long. Out of memory has no cause.
 unfoldable pub IsRunRefusal : Deck → Status → Type 0
 IsRunRefusal deck (status.TooLong bytes) = IsLongRun deck bytes
 IsRunRefusal deck status.NoMemory = ⊤

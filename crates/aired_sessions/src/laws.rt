@@ -1,4 +1,4 @@
-//! The laws of drills: why nothing but want of memory refuses one. Each is carried by a function that does nothing.
+//! The laws of drills: why nothing refuses one but that memory ran out. Each is carried by a function that does nothing.
 
 ghost use Rattle.std.specs.Prelude.{ℕ, ◌*◌, ◌<◌, ◌≤◌, ◌^◌, length};
 ghost use Rattle.air_base.specs.declared.limits.TheConstants.{MOST_TAPE_BYTES};

@@ -18,7 +18,7 @@ pub fn begin_output<S: Shelf>(shelf: &mut S, output: Option<&str>) -> Result<(),
 }
 
 /// Adds a piece to the output of this name, if one is named. Told of the moment when the output was begun: where it held the pieces
-/// before, it holds this piece behind them; where the write fails, it holds a beginning of every tape that begins so.
+/// before, it holds this piece behind them; where the write fails, it is as it was before, or holds a beginning of every tape that begins so.
 ///
 /// The shelf is given the name anew for each piece. Over real files nothing is told of an output, and each piece goes to the file that has
 /// the name then: where the output was renamed or replaced between two pieces, the later ones go to what took its place, and no answer

@@ -10,7 +10,7 @@ use Rattle.air_model.specs.Aired.{Air, air_of, bucket_of, buckets_of}
 use Rattle.air_model.specs.Buckets.{Bucket}
 use Rattle.air_model.specs.Closings.{GoesOnWithout}
 use Rattle.air_model.specs.Decks.{Deck, values_in}
-use Rattle.run_laws.specs.Batches.{AirsByBatches, EndsWithStart, aired_by, joined, last_buckets}
+use Rattle.run_laws.specs.Batches.{AirsByBatches, EndsWithStart, aired_by, events_in, last_buckets}
 use Rattle.run_laws.proofs.AiringLemmas.{buckets_behind, same_buckets}
 use Rattle.run_laws.proofs.StartFacts.{starts_append, starts_none, starts_one}
 
@@ -19,10 +19,10 @@ batch_starts : (b : List Event) → EndsWithStart b → starts b ≡ 1
 batch_starts b is = ap starts is.ends ∙ (let a = starts_append is.commits (Start ∷ []) in let one = starts_one in let none = is.one in omega arith)
 
 -- There are as many starts as batches.
-all_starts : (bs : List (List Event)) → All EndsWithStart bs → starts (joined bs) ≡ length bs
+all_starts : (bs : List (List Event)) → All EndsWithStart bs → starts (events_in bs) ≡ length bs
 all_starts [] all = starts_none
 all_starts (b ∷ bs) all =
-    let a = starts_append b (joined bs) in
+    let a = starts_append b (events_in bs) in
     let one = batch_starts b (All-head EndsWithStart b bs all) in
     let rest = all_starts bs (All-tail EndsWithStart b bs all) in
     omega arith
@@ -45,16 +45,16 @@ module _ (values : List ℕ) (air : Air) where
 
   -- Behind a history its batches air their cycles.
   all_more : (G : List Event) (bs : List (List Event)) → All EndsWithStart bs
-      → buckets_of values air (G ++ joined bs) ≡ buckets_of values air G ++ flat_map (λ n. last_buckets values air (G ++ joined (take n bs))) (range_with_len 1 (length bs))
+      → buckets_of values air (G ++ events_in bs) ≡ buckets_of values air G ++ flat_map (λ n. last_buckets values air (G ++ events_in (take n bs))) (range_with_len 1 (length bs))
   all_more G [] all = ap (buckets_of values air) (append-nil G) ∙ sym (append-nil (buckets_of values air G))
   all_more G (b ∷ bs) all =
-      let f : ℕ → List Bucket = λ n. last_buckets values air (G ++ joined (take n (b ∷ bs))) in
-      let g : ℕ → List Bucket = λ n. last_buckets values air ((G ++ b) ++ joined (take n bs)) in
+      let f : ℕ → List Bucket = λ n. last_buckets values air (G ++ events_in (take n (b ∷ bs))) in
+      let g : ℕ → List Bucket = λ n. last_buckets values air ((G ++ b) ++ events_in (take n bs)) in
       let first : last_buckets values air (G ++ b) ≡ f 1 = ap (λ l. last_buckets values air (G ++ l)) (sym (append-nil b)) in
       let next : (n : ℕ) → g n ≡ f (n + 1) = λ n.
       let up : suc n ≡ n + 1 = omega arith in
-      ap (last_buckets values air) (append_assoc G b (joined (take n bs))) ∙ ap f up in
-      ap (buckets_of values air) (sym (append_assoc G b (joined bs)))
+      ap (last_buckets values air) (append_assoc G b (events_in (take n bs))) ∙ ap f up in
+      ap (buckets_of values air) (sym (append_assoc G b (events_in bs)))
       ∙ all_more (G ++ b) bs (All-tail EndsWithStart b bs all)
       ∙ ap (λ l. l ++ flat_map g (range_with_len 1 (length bs))) (one_more G b (batch_starts b (All-head EndsWithStart b bs all)))
       ∙ append_assoc (buckets_of values air G) (last_buckets values air (G ++ b)) (flat_map g (range_with_len 1 (length bs)))
@@ -69,21 +69,21 @@ module _ (values : List ℕ) (air : Air) where
   unfolding buckets_of starts
   none_aired = refl
 
-  pub joined_air : (bs : List (List Event)) → All EndsWithStart bs → buckets_of values air (joined bs) ≡ aired_by values air bs
+  pub joined_air : (bs : List (List Event)) → All EndsWithStart bs → buckets_of values air (events_in bs) ≡ aired_by values air bs
   joined_air bs all = all_more [] bs all ∙ ap (λ l. l ++ aired_by values air bs) none_aired
 
 -- Batches air the history that they make, whatever comes behind without a start.
-pub airs_by_batches : (deck : Deck) (batches : List (List Event)) (rest : List Event) → All EndsWithStart batches → starts rest ≡ 0 → AirsByBatches deck (joined batches ++ rest) batches
+pub airs_by_batches : (deck : Deck) (batches : List (List Event)) (rest : List Event) → All EndsWithStart batches → starts rest ≡ 0 → AirsByBatches deck (events_in batches ++ rest) batches
 airs_by_batches deck batches rest all none =
     let values = values_in deck in
     let air = air_of deck in
     record {
-      count = let a = starts_append (joined batches) rest in let b = all_starts batches all in omega arith;
+      count = let a = starts_append (events_in batches) rest in let b = all_starts batches all in omega arith;
       each = all;
       rest = rest;
       history = refl;
       quiet = none;
-      aired = same_buckets values air (joined batches) rest none ∙ joined_air values air batches all;
+      aired = same_buckets values air (events_in batches) rest none ∙ joined_air values air batches all;
     }
 
 -- So they do where the history goes on without a start.
@@ -91,5 +91,5 @@ pub airs_further : (deck : Deck) (seen H : List Event) (batches : List (List Eve
 unfolding starts
 airs_further deck seen H batches (others, is, none) by =
     let none_more : starts (by.rest ++ others) ≡ 0 = let a = starts_append by.rest others in let b = by.quiet in omega (arith, a, b, none) in
-    let same : joined batches ++ (by.rest ++ others) ≡ H = sym (append_assoc (joined batches) by.rest others) ∙ ap (λ l. l ++ others) (sym by.history) ∙ sym is in
+    let same : events_in batches ++ (by.rest ++ others) ≡ H = sym (append_assoc (events_in batches) by.rest others) ∙ ap (λ l. l ++ others) (sym by.history) ∙ sym is in
     subst (λ l. AirsByBatches deck l batches) same (airs_by_batches deck batches (by.rest ++ others) by.each none_more)

@@ -15,8 +15,8 @@ pub record EndsWithStart (batch : List Event) : Type 0 where
   pub one : starts commits ≡ 0
 
 -- The events of batches, in order.
-abbrev pub joined : List (List Event) → List Event
-joined batches = flat_map (λ batch. batch) batches
+abbrev pub events_in : List (List Event) → List Event
+events_in batches = flat_map (λ batch. batch) batches
 
 -- The buckets of the last cycle that a history starts, slot by slot.
 abbrev pub last_buckets : List ℕ → Air → List Event → List Bucket
@@ -24,7 +24,7 @@ last_buckets values air G = map (bucket_of values air G (starts G)) (range_with_
 
 -- What batches air, one after another: after each the cycle that it ends with, from the history as far as this batch goes.
 abbrev pub aired_by : List ℕ → Air → List (List Event) → List Bucket
-aired_by values air batches = flat_map (λ n. last_buckets values air (joined (take n batches))) (range_with_len 1 (length batches))
+aired_by values air batches = flat_map (λ n. last_buckets values air (events_in (take n batches))) (range_with_len 1 (length batches))
 
 -- A history of the deck is aired by these batches: there is one for each of its cycles, and each ends with its start; joined they are
 -- the history up to its last start; and what the history airs is what they air, one after another.
@@ -32,6 +32,6 @@ pub record AirsByBatches (deck : Deck) (H : List Event) (batches : List (List Ev
   pub count : length batches ≡ starts H
   pub each : All EndsWithStart batches
   pub rest : List Event
-  pub history : H ≡ joined batches ++ rest
+  pub history : H ≡ events_in batches ++ rest
   pub quiet : starts rest ≡ 0
   pub aired : buckets_of (values_in deck) (air_of deck) H ≡ aired_by (values_in deck) (air_of deck) batches

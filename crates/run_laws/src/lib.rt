@@ -12,7 +12,7 @@ ghost use Rattle.air_model.specs.Decks.{Deck, IsDeck, IsLegal, IsWhole, values_i
 ghost use Rattle.air_model.specs.Aired.{Air, air_of, buckets_of};
 ghost use Rattle.air_model.specs.declared.reports.LookLine.{LookLine};
 ghost use Rattle.run_laws.specs.AiredItems.{AirsItems};
-ghost use Rattle.run_laws.specs.Batches.{AirsByBatches, EndsWithStart, joined};
+ghost use Rattle.run_laws.specs.Batches.{AirsByBatches, EndsWithStart, events_in};
 ghost use Rattle.run_laws.specs.Closings.{HaveMadeAll, HaveMadeSome, IsClosing};
 ghost use Rattle.run_laws.specs.Fronts.{EndsAtStart, IsSeen};
 
@@ -47,7 +47,7 @@ pub fn more_buckets_law()
 /// Batches that each end with their one start air the history that they make, whatever comes behind them without a start.
 pub fn batches_law()
     ensures { (deck : Deck) (batches : List (List Event)) (rest : List Event) → All EndsWithStart batches → starts rest ≡ 0 →
-        AirsByBatches deck (joined batches ++ rest) batches }
+        AirsByBatches deck (events_in batches ++ rest) batches }
 {}
 
 /// A line with the frame of a beginning of a history, which ends at a start, shows a cycle of the history and its total.

@@ -58,7 +58,7 @@ impl PieceRun {
 
     /// Runs on until so many cycles were aired, or to the end of the script: afterwards the mast has the buckets of these cycles alone.
     /// `Program::plan` makes the deck's program. The mast wants room for so many cycles, as `tape_bytes` tells it; a send that it has no
-    /// room for counts as want of memory. The run is kept from `new` on, until a call runs out of memory.
+    /// room for counts as out of memory. The run is kept from `new` on, until a call runs out of memory.
     pub fn next_piece(
         &mut self,
         alloc: Global,

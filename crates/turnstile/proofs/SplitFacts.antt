@@ -1,6 +1,6 @@
 -- A pass gives up its first number to a new one.
 use Rattle.std.proofs.Common.{◌≡◌, ℕ, ◌+◌, ◌<◌, List, [], ◌∷◌, ◌++◌, length, set, sym, refl, ap, ◌∙◌, subst, ⊎_elim, arith, take, drop}
-use Rattle.std.specs.Prelude.{Option, None, Contains}
+use Rattle.std.specs.Prelude.{None, Contains}
 use Rattle.std.proofs.lemmas.Option.{none-some}
 use Rattle.atomic_table.specs.Table.{Splits}
 use Rattle.atomic_table.proofs.Lists.{at_snoc}

@@ -1,6 +1,6 @@
 -- The rule holds of a new table.
 use Rattle.std.proofs.Common.{ℕ, ◌<◌, List, [], ◌∷◌, sym, refl, ap, ◌∙◌, subst, arith}
-use Rattle.std.specs.Prelude.{Option, Some}
+use Rattle.std.specs.Prelude.{Some}
 use Rattle.std.proofs.lemmas.Option.{none-some}
 use mathlib.Core.Option.{some-ne-none}
 use Rattle.atomic_table.specs.Table.{opening}

@@ -4,8 +4,10 @@ ghost use Rattle.std.specs.Prelude.{ℕ, List};
 /// A value that stands for a list of entries, each beside the number of the pass that made it, and for a base, plain data
 /// that no turn changes.
 pub trait Chronicle {
+    /// What stands in the list, beside the number of the pass that made it.
     type Entry;
 
+    /// The plain data that no turn changes.
     type Base;
 
     ghost entries: { Self → List (ℕ × Self.Entry) };

@@ -20,6 +20,7 @@ pub struct About<K> {
     pub passes: u64,
 }
 
+/// The rule of the words and the slot.
 pub struct Rule;
 
 impl<K: Chronicle> TableRule<Option<K>, View<K::Entry, K::Base>, About<K>> for Rule {

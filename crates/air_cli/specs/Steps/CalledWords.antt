@@ -5,7 +5,7 @@ use Rattle.air_cli.specs.declared.calls.Call.TheVariants as call
 use Rattle.air_cli.specs.MainWords.{Called, Casts, Listens, OnShelf}
 use Rattle.air_cli.specs.Words.{AsksRun}
 
--- The same.
+-- What this call is for, each file by the bytes of its name.
 abbrev pub called_by : Call → Called
 called_by (call.Run deck tape) = OnShelf (Some (AsksRun deck.now tape.now))
 called_by (call.Cast deck port) = Casts deck.now port
