@@ -50,19 +50,23 @@ fn text_of(alloc: Global, sessions: Sessions) -> Result<Vec<u8>, Fail> {
     Ok(text)
 }
 
-/// What the reader of a deck prints that hears this ear, or why it doesn't.
-pub fn heard_by<E: Ear>(
+/// What came where the reader of a deck that hears this ear doesn't print what is told: how many bytes of text, or the fault.
+pub fn heard_other<E: Ear>(
     alloc: Global,
     deck: &[u8],
     ear: &mut E,
-) -> Result<Result<Vec<u8>, HearFault>, Fail>
+    told: Result<&[u8], HearFault>,
+) -> Result<Option<Result<usize, HearFault>>, Fail>
     requires size { length deck.now ≤ MOST_DECK_BYTES }
     requires untuned { (E.state ear.old).port ≡ None }
 {
     let (deck, program) = deck_and_program(alloc, deck)?;
     match ear_sessions(alloc, &deck, &program, ear, 4000) {
-        Ok(sessions) => Ok(Ok(text_of(alloc, sessions)?)),
-        Err(fault) => Ok(Err(fault)),
+        Ok(sessions) => {
+            let text = text_of(alloc, sessions)?;
+            Ok((told != Ok(text.as_slice())).then_some(Ok(text.len())))
+        }
+        Err(fault) => Ok((told != Err(fault)).then_some(Err(fault))),
     }
 }
 
@@ -75,19 +79,7 @@ fn other_of(
     requires { All (λ bytes. 1 ≤ length bytes.items) heard.items }
 {
     let mut ear = MemEar::new(heard, Vec::from_slice(alloc, case.fail)?);
-    let came = heard_by(alloc, deck_text(case.hears_one), &mut ear)?;
-    let is_told = match (&came, &case.told) {
-        (Ok(text), Ok(told)) => text.as_slice() == *told,
-        (Err(fault), Err(told)) => fault == told,
-        _ => false,
-    };
-    if is_told {
-        return Ok(None);
-    }
-    Ok(Some(match came {
-        Ok(text) => Ok(text.len()),
-        Err(fault) => Err(fault),
-    }))
+    heard_other(alloc, deck_text(case.hears_one), &mut ear, case.told)
 }
 
 /// The same of the case's own datagrams.

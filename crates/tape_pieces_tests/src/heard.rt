@@ -32,6 +32,19 @@ pub const ALL: &'static [u8] = b"accept,0,0,1,0@1=10 1@1=20\ncounts,0,2,0,0,2,0,
 /// The same over nothing.
 pub const NOTHING: &'static [u8] = b"unfinished,0,0,1,\ncounts,0,0,0,0,0,0,0\n";
 
+/// In what a case goes otherwise than told.
+#[derive(Clone, Copy, Debug, PartialEq, Eq)]
+pub enum Other {
+    /// The tape isn't so long.
+    NoFront,
+    /// What is printed differs at this place first, where it has this byte, or none at its end.
+    Byte(usize, Option<u8>),
+    /// The tape isn't heard, and why.
+    Status(Status),
+    /// How many bytes of the file are left.
+    Left(usize),
+}
+
 /// The deck with its program.
 fn deck_and_program(alloc: Global) -> Result<(Deck, Program), Fail>
     ensures { IfOk result (λ both. both.1 ≡ disks_in both.0) }
@@ -88,11 +101,19 @@ pub fn heard_by<R: Threads + Sync>(
     }
 }
 
-/// Whether this is what is told.
-pub fn is_told(heard: &Result<Vec<u8>, Status>, told: Result<&[u8], Status>) -> bool {
-    match (heard, told) {
-        (Ok(text), Ok(told)) => text.as_slice() == told,
-        (Err(status), Err(told)) => *status == told,
-        _ => false,
+/// In what this is other than told; a text in place of a status is by its first byte.
+pub fn other_than(heard: &Result<Vec<u8>, Status>, told: Result<&[u8], Status>) -> Option<Other> {
+    let text = match heard {
+        Ok(text) => text.as_slice(),
+        Err(status) => return (told != Err(*status)).then_some(Other::Status(*status)),
+    };
+    let Ok(told) = told else {
+        return Some(Other::Byte(0, text.first().copied()));
+    };
+    for (place, byte) in text.iter().enumerate() {
+        if told.get(place) != Some(byte) {
+            return Some(Other::Byte(place, Some(*byte)));
+        }
     }
+    (text.len() < told.len()).then_some(Other::Byte(text.len(), None))
 }

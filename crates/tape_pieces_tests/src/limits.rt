@@ -1,6 +1,6 @@
 //! Tapes past their limit, and those whose reading fails.
 
-use crate::heard::{ALL, NOTHING, TAPE, heard_by, is_told, shelf_of};
+use crate::heard::{ALL, NOTHING, Other, TAPE, heard_by, other_than, shelf_of};
 use air_devices::Shelf;
 use air_status::Status;
 use std::alloc::Global;
@@ -8,14 +8,13 @@ use std::test::Fail;
 use std::thread::Threads;
 use tape_pieces::PieceSizes;
 
-/// How many bytes of the tape the file has, which file is asked for, the limit, the size of a piece, the calls that fail, what is heard, and how many bytes of the
-/// file are left.
+/// How many bytes of the tape the file has, which file is asked for, the limit and the size of a piece, or none for those that the
+/// program has, the calls that fail, what is heard, and how many bytes of the file are left.
 #[derive(Clone, Copy)]
 struct Case {
     bytes: usize,
     name: &'static str,
-    limit: usize,
-    piece: usize,
+    sizes: Option<PieceSizes>,
     fail: &'static [u64],
     told: Result<&'static [u8], Status>,
     left: usize,
@@ -25,20 +24,14 @@ struct Case {
 const WHOLE: Case = Case {
     bytes: 82,
     name: "tape",
-    limit: 82,
-    piece: 16,
+    sizes: Some(PieceSizes {
+        tape: 82,
+        piece: 16,
+    }),
     fail: &[],
     told: Ok(ALL),
     left: 0,
 };
-
-/// In what a case goes otherwise.
-#[derive(Clone, Copy, Debug, PartialEq, Eq)]
-enum Other {
-    NoFront,
-    Heard,
-    Left(usize),
-}
 
 /// In what a case goes otherwise than told.
 fn other_in<R: Threads + Sync>(rt: &R, alloc: Global, case: &Case) -> Result<Option<Other>, Fail> {
@@ -46,13 +39,9 @@ fn other_in<R: Threads + Sync>(rt: &R, alloc: Global, case: &Case) -> Result<Opt
         return Ok(Some(Other::NoFront));
     };
     let mut shelf = shelf_of(alloc, bytes, case.fail)?;
-    let sizes = PieceSizes {
-        tape: case.limit,
-        piece: case.piece,
-    };
-    let heard = heard_by(rt, alloc, &mut shelf, case.name, Some(sizes))?;
-    if !is_told(&heard, case.told) {
-        return Ok(Some(Other::Heard));
+    let heard = heard_by(rt, alloc, &mut shelf, case.name, case.sizes)?;
+    if let Some(other) = other_than(&heard, case.told) {
+        return Ok(Some(other));
     }
     let mut rest = [0; 128];
     let left = shelf.read("tape", &mut rest)?;
@@ -77,8 +66,7 @@ fn first_other<R: Threads + Sync>(
 const fn past(bytes: usize, limit: usize, piece: usize, left: usize) -> Case {
     Case {
         bytes,
-        limit,
-        piece,
+        sizes: Some(PieceSizes { tape: limit, piece }),
         told: Err(Status::TooLarge {
             limit: limit as u64,
         }),
@@ -107,18 +95,24 @@ fn a_tape_past_its_limit_is_refused_wherever_it_is_cut(rt: HostRuntime) -> Resul
 fn a_tape_at_its_limit_is_heard_or_cut(rt: HostRuntime) -> Result<(), Fail> {
     let cut = Case {
         bytes: 43,
-        limit: 43,
+        sizes: Some(PieceSizes {
+            tape: 43,
+            piece: 16,
+        }),
         told: Err(Status::TapeCut { at: 42 }),
         ..WHOLE
     };
     let none = Case {
         bytes: 0,
-        limit: 0,
+        sizes: Some(PieceSizes { tape: 0, piece: 16 }),
         told: Ok(NOTHING),
         ..WHOLE
     };
     let one = Case {
-        piece: 100,
+        sizes: Some(PieceSizes {
+            tape: 82,
+            piece: 100,
+        }),
         ..WHOLE
     };
     assert_eq!(rt; first_other(&rt, rt.alloc(), &[cut, none, one])?, None);
@@ -128,7 +122,10 @@ fn a_tape_at_its_limit_is_heard_or_cut(rt: HostRuntime) -> Result<(), Fail> {
 /// A case whose reading fails, and how many bytes are left.
 const fn failing_case(fail: &'static [u64], left: usize) -> Case {
     Case {
-        piece: 50,
+        sizes: Some(PieceSizes {
+            tape: 82,
+            piece: 50,
+        }),
         fail,
         told: Err(Status::ReadFault),
         left,
@@ -144,9 +141,8 @@ fn where_a_call_fails_nothing_is_heard(rt: HostRuntime) -> Result<(), Fail> {
         ..WHOLE
     };
     let later = Case {
-        piece: 50,
-        fail: &[6],
-        ..WHOLE
+        told: Ok(ALL),
+        ..failing_case(&[6], 0)
     };
     let cases = [
         nowhere,
@@ -161,17 +157,16 @@ fn where_a_call_fails_nothing_is_heard(rt: HostRuntime) -> Result<(), Fail> {
 }
 
 #[test]
-fn the_program_hears_by_pieces_of_its_own(rt: HostRuntime) -> Result<(), Fail> {
-    let mut shelf = shelf_of(rt.alloc(), TAPE, &[])?;
-    let heard = heard_by(&rt, rt.alloc(), &mut shelf, "tape", None)?;
-    assert_eq!(rt; is_told(&heard, Ok(ALL)), true);
-    Ok(())
-}
-
-#[test]
-fn the_program_tells_a_cut_by_pieces_of_its_own(rt: HostRuntime) -> Result<(), Fail> {
-    let mut cut = shelf_of(rt.alloc(), &TAPE[..81], &[])?;
-    let refused = heard_by(&rt, rt.alloc(), &mut cut, "tape", None)?;
-    assert_eq!(rt; is_told(&refused, Err(Status::TapeCut { at: 46 })), true);
+fn the_program_hears_or_tells_a_cut_by_pieces_of_its_own(rt: HostRuntime) -> Result<(), Fail> {
+    let heard = Case {
+        sizes: None,
+        ..WHOLE
+    };
+    let cut = Case {
+        bytes: 81,
+        told: Err(Status::TapeCut { at: 46 }),
+        ..heard
+    };
+    assert_eq!(rt; first_other(&rt, rt.alloc(), &[heard, cut])?, None);
     Ok(())
 }

@@ -1,6 +1,6 @@
 //! Each front of the tape, by pieces of many sizes: so each record is divided at each of its bytes, and the tape is cut at each.
 
-use crate::heard::{ALL, NOTHING, TAPE, heard_by, is_told, shelf_of};
+use crate::heard::{ALL, NOTHING, Other, TAPE, heard_by, other_than, shelf_of};
 use air_status::Status;
 use std::alloc::Global;
 use std::test::Fail;
@@ -32,53 +32,53 @@ const FRONTS: [Front; 9] = [
     (82, 82, Ok(ALL)),
 ];
 
-/// The first length at which a front of the tape isn't heard as told, by pieces of this size.
+/// The first length at which a front of the tape isn't heard as told, by pieces of this size, and in what.
 fn first_length<R: Threads + Sync>(
     rt: &R,
     alloc: Global,
     front: &Front,
     piece: usize,
-) -> Result<Option<usize>, Fail> {
+) -> Result<Option<(usize, Other)>, Fail> {
     let (least, greatest, told) = *front;
     let sizes = PieceSizes { tape: 82, piece };
     for len in least..=greatest {
         let Some(bytes) = TAPE.get(..len) else {
-            return Ok(Some(len));
+            return Ok(Some((len, Other::NoFront)));
         };
         let mut shelf = shelf_of(alloc, bytes, &[])?;
         let heard = heard_by(rt, alloc, &mut shelf, "tape", Some(sizes))?;
-        if !is_told(&heard, told) {
-            return Ok(Some(len));
+        if let Some(other) = other_than(&heard, told) {
+            return Ok(Some((len, other)));
         }
     }
     Ok(None)
 }
 
-/// The length of the first front that isn't heard as told, by pieces of this size.
+/// The length of the first front that isn't heard as told, by pieces of this size, and in what.
 fn first_front<R: Threads + Sync>(
     rt: &R,
     alloc: Global,
     fronts: &[Front],
     piece: usize,
-) -> Result<Option<usize>, Fail> {
+) -> Result<Option<(usize, Other)>, Fail> {
     for front in fronts {
-        if let Some(len) = first_length(rt, alloc, front, piece)? {
-            return Ok(Some(len));
+        if let Some(other) = first_length(rt, alloc, front, piece)? {
+            return Ok(Some(other));
         }
     }
     Ok(None)
 }
 
-/// Returns the first of these sizes by which a front isn't heard as told, with its length.
+/// Returns the first of these sizes by which a front isn't heard as told, with its length, and in what.
 fn first_size<R: Threads + Sync>(
     rt: &R,
     alloc: Global,
     fronts: &[Front],
     pieces: &[usize],
-) -> Result<Option<(usize, usize)>, Fail> {
+) -> Result<Option<(usize, usize, Other)>, Fail> {
     for piece in pieces {
-        if let Some(len) = first_front(rt, alloc, fronts, *piece)? {
-            return Ok(Some((*piece, len)));
+        if let Some((len, other)) = first_front(rt, alloc, fronts, *piece)? {
+            return Ok(Some((*piece, len, other)));
         }
     }
     Ok(None)
