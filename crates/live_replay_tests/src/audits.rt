@@ -21,6 +21,17 @@ pub enum Audit {
     Other,
 }
 
+/// What came of a report in place of what is told.
+#[derive(Clone, Copy, Debug, PartialEq, Eq)]
+pub enum Other {
+    /// At this place of the findings stands this one, or none.
+    Finding(usize, Option<Finding>),
+    /// The product that is too much.
+    TooMuch(u64),
+    /// The texts are no deck or no report of it, or there was no memory.
+    NoAudit,
+}
+
 /// The rows of findings and their causes.
 pub type Told<'a> = &'a [(u32, Option<Cause>)];
 
@@ -58,48 +69,54 @@ pub fn audit_of(alloc: Global, deck: &[u8], report: &[u8]) -> Audit {
     }
 }
 
-/// The findings are those told.
-fn are(found: &[Finding], told: Told<'_>) -> bool {
+/// What came of an audit, where it doesn't find what is told.
+pub fn other_in(audit: &Audit, told: Told<'_>) -> Option<Other> {
+    let found = match audit {
+        Audit::Found(found) => found,
+        Audit::TooMuch(product) => return Some(Other::TooMuch(*product)),
+        Audit::Other => return Some(Other::NoAudit),
+    };
     for (place, finding) in found.iter().enumerate() {
         if told.get(place) != Some(&(finding.row, finding.differs)) {
-            return false;
+            return Some(Other::Finding(place, Some(*finding)));
         }
     }
-    found.len() == told.len()
+    (found.len() != told.len()).then_some(Other::Finding(found.len(), None))
 }
 
-/// The place of the first row of which something else is found than told.
-pub fn first_other(alloc: Global, rows: &[(&[u8], &[u8], Told<'_>)]) -> Option<usize> {
+/// The place of the first row of which something else is found than told, and what came.
+pub fn first_other(alloc: Global, rows: &[(&[u8], &[u8], Told<'_>)]) -> Option<(usize, Other)> {
     for (place, (deck, report, told)) in rows.iter().enumerate() {
-        match audit_of(alloc, deck, report) {
-            Audit::Found(found) if are(&found, told) => {}
-            _ => return Some(place),
+        let audit = audit_of(alloc, deck, report);
+        if let Some(other) = other_in(&audit, told) {
+            return Some((place, other));
         }
     }
     None
 }
 
-/// The place of the first deck by which something else is found of the report than told.
-fn other_deck(alloc: Global, decks: &[&[u8]; 3], told: &ByDeck<'_>) -> Option<usize> {
+/// The place of the first deck by which something else is found of the report than told, and what came.
+fn other_deck(alloc: Global, decks: &[&[u8]; 3], told: &ByDeck<'_>) -> Option<(usize, Other)> {
     let (report, row, causes) = told;
     for (place, (deck, cause)) in decks.iter().zip(causes.as_slice()).enumerate() {
         let found = [(*row, *cause)];
-        if first_other(alloc, &[(*deck, *report, found.as_slice())]).is_some() {
-            return Some(place);
+        let audit = audit_of(alloc, deck, report);
+        if let Some(other) = other_in(&audit, &found) {
+            return Some((place, other));
         }
     }
     None
 }
 
-/// The places of the first report of which something else is found than told, and of the first deck by which it is.
+/// The places of the first report of which something else is found than told, and of the first deck by which it is, and what came.
 pub fn first_other_deck(
     alloc: Global,
     decks: &[&[u8]; 3],
     rows: &[ByDeck<'_>],
-) -> Option<(usize, usize)> {
+) -> Option<(usize, usize, Other)> {
     for (place, row) in rows.iter().enumerate() {
-        if let Some(deck) = other_deck(alloc, decks, row) {
-            return Some((place, deck));
+        if let Some((deck, other)) = other_deck(alloc, decks, row) {
+            return Some((place, deck, other));
         }
     }
     None

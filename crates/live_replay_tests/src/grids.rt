@@ -70,28 +70,37 @@ fn letter(finding: Finding) -> u8 {
     }
 }
 
-/// The letters of what is found of each line, by a policy; none where nothing is found.
-fn letters(alloc: Global, policy: &[u8], reads: Reads<'_>) -> Result<Vec<u8>, AllocError> {
+/// The place of the first line of which something else is found than told, by a policy, and the letter that came; none where the
+/// findings end, or nothing is found.
+fn other_letter(
+    alloc: Global,
+    policy: &[u8],
+    reads: Reads<'_>,
+    told: &[u8],
+) -> Result<Option<(usize, Option<char>)>, AllocError> {
     let mut deck = Vec::from_slice(alloc, DECK)?;
     deck.extend_from_slice(policy)?;
     let report = report(alloc, reads)?;
-    let mut letters = Vec::new(alloc);
-    if let Audit::Found(found) = audit_of(alloc, &deck, &report) {
-        for finding in &found {
-            letters.push(letter(*finding))?;
+    let Audit::Found(found) = audit_of(alloc, &deck, &report) else {
+        return Ok(Some((0, None)));
+    };
+    for (place, finding) in found.iter().enumerate() {
+        let came = letter(*finding);
+        if told.get(place) != Some(&came) {
+            return Ok(Some((place, Some(came as char))));
         }
     }
-    Ok(letters)
+    Ok((found.len() != told.len()).then_some((found.len(), None)))
 }
 
-/// The place of the first policy and line of which something else is found than told.
+/// The places of the first row and line of which something else is found than told, and the letter that came, if one did.
 fn first_other(
     alloc: Global,
     rows: &[(&[u8], Reads<'_>, &[u8])],
-) -> Result<Option<usize>, AllocError> {
+) -> Result<Option<(usize, usize, Option<char>)>, AllocError> {
     for (place, (policy, reads, told)) in rows.iter().enumerate() {
-        if letters(alloc, policy, *reads)?.as_slice() != *told {
-            return Ok(Some(place));
+        if let Some((line, came)) = other_letter(alloc, policy, *reads, told)? {
+            return Ok(Some((place, line, came)));
         }
     }
     Ok(None)

@@ -17,8 +17,11 @@ const DECK: &[u8] = b"item,0,10,1\ndisk,1,1\nreader,0,0,1\nquery,0,0\nset,monito
 enum Said {
     /// So many lines agree, and no line differs.
     Agree(usize),
+    /// So many lines agree, and others differ.
+    Differ(usize),
     /// The product that is too much.
     TooMuch(u64),
+    /// There is no audit.
     Other,
 }
 
@@ -63,7 +66,7 @@ fn audit_summary(
             if agree == found.len() {
                 Said::Agree(agree)
             } else {
-                Said::Other
+                Said::Differ(agree)
             }
         }
         Audit::TooMuch(product) => Said::TooMuch(product),
@@ -71,18 +74,20 @@ fn audit_summary(
     })
 }
 
-/// The place of the first report of which something else is said than told.
+/// The place of the first report of which something else is said than told, and what is said; the number of all, where the deck is
+/// none.
 fn first_other(
     alloc: Global,
     rows: &[(&[(&[u8], usize)], Said)],
-) -> Result<Option<usize>, NoMemory> {
+) -> Result<Option<(usize, Said)>, NoMemory> {
     let Some(deck) = deck_of(alloc, &repeat(alloc, DECK, b"update,0,,0=1\n", COMMITS)?) else {
-        return Ok(Some(rows.len()));
+        return Ok(Some((rows.len(), Said::Other)));
     };
     let history = history(alloc)?;
     for (place, (lines, told)) in rows.iter().enumerate() {
-        if audit_summary(alloc, &deck, &history, lines)? != *told {
-            return Ok(Some(place));
+        let said = audit_summary(alloc, &deck, &history, lines)?;
+        if said != *told {
+            return Ok(Some((place, said)));
         }
     }
     Ok(None)

@@ -1,6 +1,6 @@
 //! Glances and looks: the totals of cycles.
 
-use crate::audits::{Told, first_other};
+use crate::audits::{Other, Told, audit_of, first_other, other_in};
 use live_replay::Cause;
 use live_replay::Cause::{Total, Value};
 use std::alloc::{AllocError, Global};
@@ -17,8 +17,9 @@ const FRONT: &[u8] =
 /// Four lines of monitors behind the front, and what is found of each of them.
 type Behind<'a> = (&'a [u8], [Option<Cause>; 4]);
 
-/// The place of the first four lines of which something else is found than told.
-fn first_behind(alloc: Global, rows: &[Behind<'_>]) -> Result<Option<usize>, AllocError> {
+/// The place of the first four lines of which something else is found than told, and what came: the findings of the four stand at
+/// the places 1 to 4.
+fn first_behind(alloc: Global, rows: &[Behind<'_>]) -> Result<Option<(usize, Other)>, AllocError> {
     for (place, (lines, causes)) in rows.iter().enumerate() {
         let mut report = Vec::from_slice(alloc, FRONT)?;
         report.extend_from_slice(lines)?;
@@ -30,8 +31,9 @@ fn first_behind(alloc: Global, rows: &[Behind<'_>]) -> Result<Option<usize>, All
             (10, third),
             (11, fourth),
         ];
-        if first_other(alloc, &[(DECK, report.as_slice(), told.as_slice())]).is_some() {
-            return Ok(Some(place));
+        let audit = audit_of(alloc, DECK, &report);
+        if let Some(other) = other_in(&audit, &told) {
+            return Ok(Some((place, other)));
         }
     }
     Ok(None)
