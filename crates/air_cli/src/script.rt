@@ -1,7 +1,7 @@
 //! The command `script`: the script of a named deck on the air, piece by piece.
 //!
-//! No more than one piece of the tape is kept: every reader hears it, it is added to the output where one is named, and the script
-//! goes on. The report is made at the end, and then printed.
+//! No more than one piece of the tape is kept, beside what waits in the ethers: every reader hears it, it is added to the output
+//! where one is named, and the script goes on. The report is made at the end, and then printed.
 
 ghost use Rattle.std.specs.Prelude.{◌≡◌, ◌<◌, ◌≤◌, IfErr, IfOk, None, OnOk, length, option_map};
 ghost use Rattle.air_base.specs.declared.limits.TheConstants.{MOST_TAPE_BYTES};

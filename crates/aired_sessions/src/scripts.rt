@@ -22,7 +22,8 @@ pub struct AiredScript {
     pub sessions: Sessions,
 }
 
-/// Airs the script of a deck piece by piece, and lets each reader hear its own ether of the tape, of which no more than a piece is kept.
+/// Airs the script of a deck piece by piece, and lets each reader hear its own ether of the tape, of which no more than a piece is
+/// kept, beside what waits in the ethers.
 pub fn air_script<T: Threads + Sync>(
     threads: &T,
     alloc: Global,
