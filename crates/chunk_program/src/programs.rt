@@ -31,7 +31,7 @@ const MOST_SLOTS: u64 = limits::MOST_SLOTS;
 /// Why there is no program.
 #[derive(Clone, Copy, Debug, PartialEq, Eq)]
 pub enum PlanFault {
-    /// The program would have so many slots, more than 16,384.
+    /// The program would have so many slots, more than `MOST_SLOTS`.
     TooLong { slots: u64 },
     /// There was no memory.
     NoMemory,
@@ -120,7 +120,8 @@ impl Program {
         })
     }
 
-    /// The disks of a program can be aired, they hold 1 to 256 items numbered from 0, and its slots carry no others.
+    /// The disks of a program can be aired, they hold items numbered from 0, at most `MOST_ITEMS` and at least one, and its slots carry no
+    /// others.
     pub fn well_made(&self)
         ensures airable { IsAirable self.now }
         ensures some { 1 ≤ length (all_items self.now) }
