@@ -50,13 +50,30 @@ fn text_of(alloc: Global, sessions: Sessions) -> Result<Vec<u8>, Fail> {
     Ok(text)
 }
 
-/// What came where the reader of a deck that hears this ear doesn't print what is told: how many bytes of text, or the fault.
+/// What came where something else is told: the place of the first other byte of the text, with that byte, or none at its end; or the
+/// fault. Where a fault is told, a text is by its first byte.
+type Came = Result<(usize, Option<u8>), HearFault>;
+
+/// The place of the first byte that isn't told, and that byte, or none where the text ends before.
+fn byte_apart(text: &[u8], told: Result<&[u8], HearFault>) -> Option<(usize, Option<u8>)> {
+    let Ok(told) = told else {
+        return Some((0, text.first().copied()));
+    };
+    for (place, byte) in text.iter().enumerate() {
+        if told.get(place) != Some(byte) {
+            return Some((place, Some(*byte)));
+        }
+    }
+    (text.len() < told.len()).then_some((text.len(), None))
+}
+
+/// What came where the reader of a deck that hears this ear doesn't print what is told.
 pub fn heard_other<E: Ear>(
     alloc: Global,
     deck: &[u8],
     ear: &mut E,
     told: Result<&[u8], HearFault>,
-) -> Result<Option<Result<usize, HearFault>>, Fail>
+) -> Result<Option<Came>, Fail>
     requires size { length deck.now ≤ MOST_DECK_BYTES }
     requires untuned { (E.state ear.old).port ≡ None }
 {
@@ -64,18 +81,17 @@ pub fn heard_other<E: Ear>(
     match ear_sessions(alloc, &deck, &program, ear, 4000) {
         Ok(sessions) => {
             let text = text_of(alloc, sessions)?;
-            Ok((told != Ok(text.as_slice())).then_some(Ok(text.len())))
+            match byte_apart(&text, told) {
+                Some(apart) => Ok(Some(Ok(apart))),
+                None => Ok(None),
+            }
         }
         Err(fault) => Ok((told != Err(fault)).then_some(Err(fault))),
     }
 }
 
-/// What came of these datagrams where the case's session isn't the one that is told: how many bytes of text, or the fault.
-fn other_of(
-    alloc: Global,
-    heard: Vec<Vec<u8>>,
-    case: &Case<'_>,
-) -> Result<Option<Result<usize, HearFault>>, Fail>
+/// What came of these datagrams where the case's session isn't the one that is told.
+fn other_of(alloc: Global, heard: Vec<Vec<u8>>, case: &Case<'_>) -> Result<Option<Came>, Fail>
     requires { All (λ bytes. 1 ≤ length bytes.items) heard.items }
 {
     let mut ear = MemEar::new(heard, Vec::from_slice(alloc, case.fail)?);
@@ -83,15 +99,12 @@ fn other_of(
 }
 
 /// The same of the case's own datagrams.
-fn other_in(alloc: Global, case: &Case<'_>) -> Result<Option<Result<usize, HearFault>>, Fail> {
+fn other_in(alloc: Global, case: &Case<'_>) -> Result<Option<Came>, Fail> {
     other_of(alloc, copies(alloc, case.heard)?, case)
 }
 
 /// The place of the first case that doesn't go as it is told, and what came.
-fn first_other(
-    alloc: Global,
-    cases: &[Case<'_>],
-) -> Result<Option<(usize, Result<usize, HearFault>)>, Fail> {
+fn first_other(alloc: Global, cases: &[Case<'_>]) -> Result<Option<(usize, Came)>, Fail> {
     for (place, case) in cases.iter().enumerate() {
         if let Some(came) = other_in(alloc, case)? {
             return Ok(Some((place, came)));
