@@ -54,7 +54,8 @@ fn text_of(alloc: Global, sessions: Sessions) -> Result<Vec<u8>, Fail> {
 /// fault. Where a fault is told, a text is by its first byte.
 type Came = Result<(usize, Option<u8>), HearFault>;
 
-/// The place of the first byte that isn't told, and that byte, or none where the text ends before.
+/// The place of the first byte that isn't told, with that byte, or without one where the text ends too early; none where the text is as
+/// told. Where a fault is told, the place is 0.
 fn byte_apart(text: &[u8], told: Result<&[u8], HearFault>) -> Option<(usize, Option<u8>)> {
     let Ok(told) = told else {
         return Some((0, text.first().copied()));
