@@ -1,0 +1,5 @@
+pub mod Commits
+pub mod SmallBoards
+pub mod SmallHistories
+pub mod SmallReads
+pub mod SmallCores

@@ -1,0 +1,64 @@
+//! Pins of `air_base`: numbers and lists of them as texts, and a list of values.
+#![tactic(auto, unfolding(air_base::specs::Numbers::number_of, air_base::specs::Numbers::number_text, air_base::specs::NumberLists::all_some, air_base::specs::NumberLists::bad_part_at))]
+
+ghost use Rattle.std.specs.Prelude.{◌≡◌, ◌⊎◌, [], ◌∷◌, codes, Some, None, MatchResult};
+ghost use Rattle.air_base.specs.declared.number_lists.ListFault.TheVariants.{BadNumber, NoMemory as NoRoom};
+
+use air_base::{ListFault, NoMemory, Values, read_list, read_u64, write_u64};
+use std::alloc::Global;
+
+/// A value goes to its own place.
+pub fn another_value_replaced(list: &mut Values)
+    requires { list.old ≡ 10 ∷ 20 ∷ [] }
+    ensures { list.new ≡ 10 ∷ 5 ∷ [] }
+{
+    list.put(1, 5);
+}
+
+/// A double space makes an empty part, which is no number: it begins at byte 2, not one further (place one byte on).
+pub fn double_space_taken(alloc: Global, text: &[u8]) -> Result<Vec<u64>, ListFault>
+    requires { text.now ≡ codes "1  2" }
+    ensures { MatchResult result (λ _. ⊥) (λ fault. (fault ≡ BadNumber 2) ⊎ (fault ≡ NoRoom)) }
+{
+    read_list(alloc, text)
+}
+
+/// After out of memory nothing is written. Else all digits are, the last one too (last digit not written).
+pub fn half_written_after_no_memory(out: &mut Vec<u8>) -> Result<(), NoMemory>
+    requires { out.old.items ≡ codes "x" }
+    ensures { MatchResult result (λ _. out.new.items ≡ codes "x120") (λ _. out.new.items ≡ codes "x") }
+{
+    write_u64(120, out)
+}
+
+/// No number has a zero before others.
+pub fn leading_zero_taken(text: &[u8]) -> Option<u64>
+    requires { text.now ≡ codes "07" }
+    ensures { result ≡ None }
+{
+    read_u64(text)
+}
+
+/// The number is what its digits say, and not how many they are.
+pub fn length_for_the_number(text: &[u8]) -> Option<u64>
+    requires { text.now ≡ codes "12345" }
+    ensures { result ≡ Some 12345 }
+{
+    read_u64(text)
+}
+
+/// No number has a sign.
+pub fn plus_sign_taken(text: &[u8]) -> Option<u64>
+    requires { text.now ≡ codes "+7" }
+    ensures { result ≡ None }
+{
+    read_u64(text)
+}
+
+/// A number of more than 64 bits is none.
+pub fn too_great_number_is_the_greatest(text: &[u8]) -> Option<u64>
+    requires { text.now ≡ codes "18446744073709551620" }
+    ensures { result ≡ None }
+{
+    read_u64(text)
+}

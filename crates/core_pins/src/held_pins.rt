@@ -1,0 +1,51 @@
+//! Pins of `held_entries`: what is searched for among held reads.
+#![tactic(auto, unfolding(air_history::specs::Clashes::least))]
+
+ghost use Rattle.std.specs.Prelude.{◌≡◌, [], ◌∷◌, Some};
+ghost use Rattle.core_pins.specs.SmallReads.{heard, two};
+
+use air_base::Clash;
+use held_entries::{HeldEntries, lesser_clash};
+
+/// A clash has the cycle in which its item is held, and not the entry that reaches it.
+pub fn entry_for_the_held_cycle(held: &HeldEntries, entries: &[u32]) -> Option<Clash>
+    requires held { held.now ≡ two (heard 0 1 0 0 0) (heard 1 2 0 0 0) }
+    requires entries { entries.now ≡ 0 ∷ 5 ∷ 0 ∷ [] }
+    ensures { result ≡ Some (record { item = 1; cycle = 2 }) }
+{
+    held.least_reached(entries)
+}
+
+/// The last cycle isn't the first.
+pub fn first_cycle_for_last(held: &HeldEntries) -> Option<u32>
+    requires { held.now ≡ two (heard 0 1 0 0 0) (heard 1 3 0 0 0) }
+    ensures { result ≡ Some 3 }
+{
+    held.last()
+}
+
+/// Of two clashes that of lesser item is named, also where it comes later.
+pub fn first_held_for_least(best: Option<Clash>, clash: Clash) -> Clash
+    requires best { best ≡ Some (record { item = 5; cycle = 1 }) }
+    requires clash { clash ≡ record { item = 2; cycle = 3 } }
+    ensures { result ≡ record { item = 2; cycle = 3 } }
+{
+    lesser_clash(best, clash)
+}
+
+/// A held read keeps the entries that were heard with it.
+pub fn hold_forgets_the_column(held: &mut HeldEntries, entries: &[u32])
+    requires held { held.old ≡ record { n = 3; reads = [] } }
+    requires entries { entries.now ≡ 0 ∷ 1 ∷ 1 ∷ [] }
+    ensures { held.new ≡ record { n = 3; reads = heard 1 2 0 1 1 ∷ [] } }
+{
+    held.hold(1, 2, entries);
+}
+
+/// An entry of the cycle itself is not below it.
+pub fn not_above_for_below(held: &HeldEntries) -> Option<Clash>
+    requires { held.now ≡ two (heard 0 4 0 0 2) (heard 1 4 0 0 3) }
+    ensures { result ≡ Some (record { item = 1; cycle = 4 }) }
+{
+    held.least_having(2, 3)
+}

@@ -1,0 +1,46 @@
+//! Pins of `vector_policies`: whether a read goes together with held ones under Datacycle and R-Matrix.
+#![tactic(auto, unfolding(air_history::specs::Clashes::least, air_history::specs::Clashes::clash_by_entries))]
+
+ghost use Rattle.std.specs.Prelude.{◌≡◌, [], ◌∷◌, Some, None};
+ghost use Rattle.core_pins.specs.SmallReads.{heard, two};
+
+use air_base::Clash;
+use vector_policies::{DataHeld, RHeld};
+
+/// Datacycle names a read of the newest held cycle where its vector has the new item at the new cycle. The oldest held cycle
+/// does not decide that (oldest cycle for newest).
+pub fn another_cycle_for_the_newest(held: &DataHeld, vector: &[u32]) -> Option<Clash>
+    requires held { held.now ≡ two (heard 0 2 0 0 0) (heard 1 4 0 0 3) }
+    requires vector { vector.now ≡ 0 ∷ 0 ∷ 0 ∷ [] }
+    ensures { result ≡ Some (record { item = 1; cycle = 4 }) }
+{
+    held.clashes(2, 3, vector)
+}
+
+/// R-Matrix names the held read that is stale, whichever was held first. It does so where the new item was written since the
+/// first held cycle, be it before the last one (last cycle for first).
+pub fn first_named_for_the_stale(held: &RHeld, vector: &[u32]) -> Option<Clash>
+    requires held { held.now ≡ two (heard 0 2 0 0 0) (heard 1 3 0 0 2) }
+    requires vector { vector.now ≡ 0 ∷ 4 ∷ 2 ∷ [] }
+    ensures { result ≡ Some (record { item = 1; cycle = 3 }) }
+{
+    held.clashes(2, 5, vector)
+}
+
+/// In a new newest cycle Datacycle names the held read that is stale there.
+pub fn newest_named_for_the_stale(held: &DataHeld, vector: &[u32]) -> Option<Clash>
+    requires held { held.now ≡ two (heard 0 2 0 0 0) (heard 1 4 0 0 0) }
+    requires vector { vector.now ≡ 3 ∷ 0 ∷ 0 ∷ [] }
+    ensures { result ≡ Some (record { item = 0; cycle = 2 }) }
+{
+    held.clashes(2, 5, vector)
+}
+
+/// R-Matrix takes a read of an item that wasn't written since the first held cycle, though a held read is stale.
+pub fn second_condition_forgotten(held: &RHeld, vector: &[u32]) -> Option<Clash>
+    requires held { held.now ≡ two (heard 0 2 0 0 0) (heard 1 3 0 0 0) }
+    requires vector { vector.now ≡ 3 ∷ 0 ∷ 0 ∷ [] }
+    ensures { result ≡ None }
+{
+    held.clashes(2, 5, vector)
+}
