@@ -1,0 +1,4 @@
+pub mod SmallEthers
+pub mod SmallCaches
+pub mod SmallPrograms
+pub mod SmallAirings

@@ -1,0 +1,27 @@
+-- What a small board airs over a small program.
+use Rattle.std.specs.Prelude.{ℕ, List, [], ◌∷◌, None, map}
+use Rattle.air_history.specs.Boards.{Board}
+use Rattle.air_model.specs.Buckets.{Bucket, Body, Idle, Column, spelling}
+use Rattle.air_devices.specs.Masts.{Sent}
+
+-- A board of two items in cycle 2, of which item 1 was written in cycle 1 from item 0.
+abbrev pub pair : Board
+pair = record {
+  cycle = 2;
+  values = 11 ∷ 12 ∷ [];
+  columns = (1 ∷ 0 ∷ []) ∷ (1 ∷ 1 ∷ []) ∷ [];
+  vector = 1 ∷ 1 ∷ [];
+}
+
+-- A bucket of cycle 2.
+abbrev pub bucket : ℕ → Body → Bucket
+bucket slot body = record { edition = 0; cycle = 2; slot = slot; body = body }
+
+-- The buckets of its cycle where item 0 comes twice, item 1 once, and one slot is idle.
+abbrev pub four_buckets : List (List ℕ)
+four_buckets = map spelling
+    (bucket 0 (Column 0 11 (1 ∷ 0 ∷ [])) ∷ bucket 1 (Column 1 12 (1 ∷ 1 ∷ [])) ∷ bucket 2 (Column 0 11 (1 ∷ 0 ∷ [])) ∷ bucket 3 (Idle 2) ∷ [])
+
+-- These were sent, and no end.
+abbrev pub sent : List (List ℕ) → Sent
+sent buckets = record { buckets = buckets; ended = None }

@@ -1,0 +1,16 @@
+-- Small caches, over as many items as there are PIX numbers.
+use Rattle.std.specs.Prelude.{ℕ, List, [], ◌∷◌}
+use Rattle.air_model.specs.Reads.{Read}
+use Rattle.pix_cache.specs.Caches.{Cache, copy}
+
+-- A cache with room for so many copies.
+abbrev pub cache : ℕ → List ℕ → List Read → Cache
+cache room pix copies = record { room = room; pix = pix; copies = copies }
+
+-- A copy of an item in a cycle, with a value of ten times its item and an entry of 0 for each of two items.
+abbrev pub of_two : ℕ → ℕ → Read
+of_two item cycle = copy item cycle 70 (0 ∷ 0 ∷ [])
+
+-- The same with three items.
+abbrev pub of_three : ℕ → ℕ → Read
+of_three item cycle = copy item cycle 70 (0 ∷ 0 ∷ 0 ∷ [])

@@ -1,0 +1,75 @@
+//! Pins of `air_ether`: what a reader hears of one or two pushes.
+#![tactic(auto, unfolding(air_model::specs::Draws::words_by, air_model::specs::Ethers::times_heard, air_model::specs::Ethers::due_number, air_model::specs::Ethers::due_at, air_model::specs::Ethers::places_due, air_ether::specs::HeardSoFar::due_of))]
+
+ghost use Rattle.std.specs.Prelude.{◌≡◌, ◌≤◌, [], ◌∷◌, codes, true, false, None, IfOk, MatchOption};
+ghost use Rattle.air_ether.specs.HeardSoFar.{IsQuiet};
+ghost use Rattle.air_pins.specs.SmallEthers.{Gave, nine, odds};
+
+use air_ether::{Ether, NoMemory};
+use std::alloc::Global;
+
+/// What is due is the bucket of its own place, one late push after it was made (due one later).
+pub fn bucket_of_another_place(ether: &mut Ether) -> Option<&[u8]>
+    requires { Gave 12 (odds 0 0 100) (codes "a" ∷ codes "b" ∷ []) 0 false ether.old }
+    ensures { MatchOption result ⊥ (λ bytes. bytes.now ≡ codes "a") }
+{
+    ether.next()
+}
+
+/// The second of two copies comes right after the first.
+pub fn copies_apart(ether: &mut Ether) -> Option<&[u8]>
+    requires { Gave 12 (odds 0 100 0) (codes "a" ∷ []) 1 false ether.old }
+    ensures { MatchOption result ⊥ (λ bytes. bytes.now ≡ codes "a") }
+{
+    ether.next()
+}
+
+/// The first of nine pushes is heard eight pushes later, as the last one is made.
+pub fn eight_rooms_for_nine(ether: &mut Ether) -> Option<&[u8]>
+    requires { Gave 1910 (odds 0 0 100) nine 0 false ether.old }
+    ensures { MatchOption result ⊥ (λ bytes. bytes.now ≡ codes "a") }
+{
+    ether.next()
+}
+
+/// After the end what waits is heard too.
+pub fn end_drops_what_waits(ether: &mut Ether) -> Option<&[u8]>
+    requires { Gave 12 (odds 0 0 100) (codes "a" ∷ []) 0 true ether.old }
+    ensures { MatchOption result ⊥ (λ bytes. bytes.now ≡ codes "a") }
+{
+    ether.next()
+}
+
+/// The first copy of the second push is heard.
+pub fn first_copy_passed_over(ether: &mut Ether) -> Option<&[u8]>
+    requires { Gave 12 (odds 0 0 0) (codes "a" ∷ codes "b" ∷ []) 1 false ether.old }
+    ensures { MatchOption result ⊥ (λ bytes. bytes.now ≡ codes "b") }
+{
+    ether.next()
+}
+
+/// A push that is lost draws three words too, not two (two words for three).
+pub fn lost_ones_draw_less(ether: &mut Ether, bytes: &[u8])
+    requires ether { Gave 12 (odds 100 0 0) [] 0 false ether.old }
+    requires quiet { IsQuiet ether.old }
+    requires room { 1 ≤ ether.old.most }
+    requires bytes { bytes.now ≡ codes "a" }
+    ensures { ether.new.generator ≡ record { state = 10277763919449554153; increment = 1 } }
+{
+    ether.push(bytes);
+}
+
+/// A late push isn't due at its own place.
+pub fn place_before_due_number(ether: &mut Ether) -> Option<&[u8]>
+    requires { Gave 12 (odds 0 0 100) (codes "a" ∷ []) 0 false ether.old }
+    ensures { MatchOption result (Unit {0}) (λ _. ⊥) }
+{
+    ether.next()
+}
+
+/// The words of reader 3 are its own.
+pub fn readers_share_one_generator(alloc: Global) -> Result<Ether, NoMemory>
+    ensures { IfOk result (λ ether. ether.generator ≡ record { state = 10238123810831757406; increment = 7 }) }
+{
+    Ether::new(alloc, 12, 3, 0, 0, 0, 4)
+}

@@ -1,0 +1,93 @@
+//! Pins of `chunk_program`: programs of two disks, and the cut of three items.
+#![tactic(auto, unfolding(air_model::specs::Disks::order_with, air_model::specs::Disks::order, air_model::specs::Disks::cut, air_model::specs::Disks::all_items, air_model::specs::Programs::least_common_multiple, air_model::specs::Programs::num_minors, air_model::specs::Programs::num_chunks, air_model::specs::Programs::chunk_len, air_model::specs::Programs::chunk, air_model::specs::Programs::minor_cycle, air_model::specs::Programs::minor_len, air_model::specs::Programs::program, air_model::specs::Airings::next_wake, air_model::specs::Airings::disk_number, air_model::specs::Airings::chunks_of, air_model::specs::Airings::gap_of, air_model::specs::Airings::pix_number))]
+
+ghost use Rattle.std.specs.Prelude.{◌≡◌, ◌≤◌, [], ◌∷◌, length, Some, None, IfOk, IfErr};
+ghost use Rattle.air_base.specs.declared.limits.TheConstants.{MOST_SLOTS};
+ghost use Rattle.air_model.specs.Decks.{disks_in, rates_in};
+ghost use Rattle.air_model.specs.Programs.{program};
+ghost use Rattle.chunk_program.specs.declared.programs.PlanFault.TheVariants as fault;
+ghost use Rattle.air_pins.specs.SmallPrograms.{disk, spec, four_slots, two_and_four};
+
+use air_base::NoMemory;
+use chunk_program::{Cut, PlanFault, Program, cut};
+use item_catalog::Deck;
+use std::alloc::Global;
+
+/// A cycle airs an item as often as its disk's frequency says.
+pub fn as_often_as_it_has_chunks(program: &Program) -> u32
+    requires { program.now ≡ four_slots }
+    ensures { result ≡ 2 }
+{
+    program.times(0)
+}
+
+/// The second minor cycle airs the one chunk of a disk again.
+pub fn chunk_of_the_minor_number(program: &Program) -> Option<u16>
+    requires { program.now ≡ four_slots }
+    ensures { result ≡ Some 0 }
+{
+    program.slot_item(2)
+}
+
+/// The second minor cycle airs the second chunk of a disk that has two.
+pub fn first_minor_cycle_twice(program: &Program) -> Option<u16>
+    requires { program.now ≡ four_slots }
+    ensures { result ≡ Some 2 }
+{
+    program.slot_item(3)
+}
+
+/// Each item has the gap of its own disk.
+pub fn gap_right_for_one_disk_only(program: &Program) -> u32
+    requires { program.now ≡ four_slots }
+    ensures { result ≡ 4 }
+{
+    program.gap(1)
+}
+
+/// An item's PIX number is its rate times its chunks.
+pub fn pix_forgets_the_chunks(program: &Program) -> u64
+    requires { program.now ≡ four_slots }
+    ensures { result ≡ 10 }
+{
+    program.pix(1, 5)
+}
+
+/// There are as many minor cycles as the least common multiple says.
+pub fn product_for_the_common_multiple(program: &Program) -> u32
+    requires { program.now ≡ two_and_four }
+    ensures { result ≡ 4 }
+{
+    program.minors()
+}
+
+/// Items are ordered by their own rates, and of two with one rate that of smaller number comes first (ties by the greater
+/// number).
+pub fn rate_of_another_item(alloc: Global, deck: &Deck) -> Result<Cut, NoMemory>
+    requires rates { rates_in deck.now ≡ 5 ∷ 5 ∷ 9 ∷ [] }
+    requires disks { deck.now.disks ≡ spec 1 2 ∷ spec 2 1 ∷ [] }
+    ensures { IfOk result (λ cut. cut ≡ disk (2 ∷ []) 2 ∷ disk (0 ∷ 1 ∷ []) 1 ∷ []) }
+{
+    cut(alloc, deck)
+}
+
+/// A program of just as many slots as there may be isn't too long.
+pub fn too_long_from_the_limit_on(
+    alloc: Global,
+    deck: &Deck,
+    cut: &Cut,
+) -> Result<Program, PlanFault>
+    requires cut { cut.now ≡ disks_in deck.now }
+    requires slots { length (program (disks_in deck.now)) ≡ MOST_SLOTS }
+    ensures { IfErr result (λ e. e ≡ fault.NoMemory) }
+{
+    Program::plan(alloc, deck, cut)
+}
+
+/// A slot that carries the item is awaited no longer.
+pub fn wait_is_never_zero(program: &Program) -> u32
+    requires { program.now ≡ four_slots }
+    ensures { result ≡ 0 }
+{
+    program.next_wake(2, 0)
+}
