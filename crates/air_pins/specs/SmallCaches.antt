@@ -7,7 +7,7 @@ use Rattle.pix_cache.specs.Caches.{Cache, copy}
 abbrev pub cache : ℕ → List ℕ → List Read → Cache
 cache room pix copies = record { room = room; pix = pix; copies = copies }
 
--- A copy of an item in a cycle, with a value of ten times its item and an entry of 0 for each of two items.
+-- A copy of an item in a cycle, with the value 70 and an entry of 0 for each of two items.
 abbrev pub of_two : ℕ → ℕ → Read
 of_two item cycle = copy item cycle 70 (0 ∷ 0 ∷ [])
 

@@ -11,7 +11,8 @@ ghost use Rattle.core_pins.specs.SmallHistories.{chain, exchange, sixteen};
 
 use air_base::NoMemory;
 use air_history::{
-    Event, History, Update, UpdateFault, Write, column_scan, run_event, table_of, writer_at,
+    Event, History, Update, UpdateFault, Write, column_scan, descends, run_event, table_of,
+    writer_at,
 };
 use std::alloc::Global;
 
@@ -23,6 +24,14 @@ pub fn base_read_after_write(event: &Event, values: &mut [u64])
     ensures second { slice_index_or values.new 1 0 ≡ 7 }
 {
     run_event(event, values);
+}
+
+/// A commit descends from the writers of what its writers read, too.
+pub fn direct_writers_only(alloc: Global, history: &History) -> Result<Vec<bool>, NoMemory>
+    requires { history.now ≡ chain }
+    ensures { IfOk result (λ marks. marks.items ≡ false ∷ true ∷ true ∷ true ∷ false ∷ []) }
+{
+    descends(alloc, history, 3)
 }
 
 /// An item of the number of items doesn't fit.
