@@ -1,0 +1,15 @@
+-- The first update of seed 3, drawn among five items.
+use Rattle.std.proofs.Common.{◌≡◌, ◌∷◌, ◌∙◌, [], Err, IfOk, Ok, Result, ap, refl, sym}
+use Rattle.rand_pcg.specs.Lcg.{Lcg}
+use Rattle.air_base.specs.declared.memory.NoMemory.{NoMemory}
+use Rattle.air_history.specs.UpdateLists.{UpdateLists}
+use Rattle.air_model.specs.Draws.{draw, draw_each, generator}
+use Rattle.air_model.specs.Drills.{draw_update}
+use Rattle.text_pins.specs.SmallWrites.{add_to}
+
+pub update_drawn : (result : Result UpdateLists NoMemory) (words left : Lcg) → words ≡ generator 3 1
+    → IfOk result (λ update. draw_update 5 words ≡ (update, left))
+    → IfOk result (λ update. update ≡ record { reads = 4 ∷ 0 ∷ []; writes = add_to 0 4 97 ∷ add_to 1 0 49 ∷ [] })
+unfolding draw draw_each draw_update
+update_drawn (Ok update) words left seeded drawn = sym (ap (λ p. p.0) drawn) ∙ rw seeded refl
+update_drawn (Err error) words left seeded drawn = drawn

@@ -1,0 +1,3 @@
+pub mod BucketFacts
+pub mod DrillFacts
+pub mod ReportFacts

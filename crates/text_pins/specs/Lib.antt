@@ -1,0 +1,3 @@
+pub mod SmallBuckets
+pub mod SmallWrites
+pub mod SmallReports

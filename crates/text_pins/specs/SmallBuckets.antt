@@ -1,0 +1,27 @@
+-- Small buckets and tapes with their bytes.
+use Rattle.std.specs.Prelude.{ℕ, List, [], ◌∷◌, ◌++◌, Some, take, drop, ◌+◌}
+use Rattle.air_model.specs.Buckets.{Bucket, Idle, Vector}
+use Rattle.air_model.specs.Tapes.{TapeRead}
+
+-- An idle slot of a program of two items.
+abbrev pub idle : Bucket
+idle = record { edition = 0; cycle = 3; slot = 2; body = Idle 2 }
+
+abbrev pub idle_bytes : List ℕ
+idle_bytes = 0x41 ∷ 0x44 ∷ 1 ∷ 0 ∷ 0 ∷ 0 ∷ 0 ∷ 2 ∷ 0 ∷ 0 ∷ 0 ∷ 3 ∷ 0 ∷ 2 ∷ 0xff ∷ 0xff ∷ 0 ∷ 0 ∷ 0 ∷ 0 ∷ 0 ∷ 0 ∷ 0 ∷ 0 ∷ []
+
+-- A slot whose numbers all differ, with a vector of three entries.
+abbrev pub varied : Bucket
+varied = record { edition = 3; cycle = 4; slot = 5; body = Vector 2 6 (1 ∷ 0 ∷ 3 ∷ []) }
+
+-- The bytes of the first column of two items, of cycle 1.
+abbrev pub column_bytes : List ℕ
+column_bytes = 0x41 ∷ 0x44 ∷ 1 ∷ 1 ∷ 0 ∷ 0 ∷ 0 ∷ 2 ∷ 0 ∷ 0 ∷ 0 ∷ 1 ∷ 0 ∷ 0 ∷ 0 ∷ 0 ∷ 0 ∷ 0 ∷ 0 ∷ 0 ∷ 0 ∷ 0 ∷ 0 ∷ 0x0a ∷ 0 ∷ 0 ∷ 0 ∷ 0 ∷ 0 ∷ 0 ∷ 0 ∷ 0 ∷ []
+
+-- Of these bytes one is another.
+abbrev pub but : List ℕ → ℕ → ℕ → List ℕ
+but bytes place byte = take place bytes ++ byte ∷ drop (place + 1) bytes
+
+-- A tape that ends inside the record that begins at a byte.
+abbrev pub cut_at_byte : ℕ → TapeRead
+cut_at_byte at = record { records = []; cut = Some at }

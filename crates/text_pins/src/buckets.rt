@@ -1,0 +1,106 @@
+//! Worked answers of `bucket_codec`: buckets and tapes, byte by byte.
+
+ghost use Rattle.std.specs.Prelude.{◌≡◌, ◌++◌, [], ◌∷◌, Ok, Err, None, Some};
+ghost use Rattle.air_model.specs.Buckets.{Bucket};
+ghost use Rattle.bucket_codec.specs.BucketsToAir.{bucket_to_air};
+ghost use Rattle.text_pins.specs.SmallBuckets.{but, column_bytes, cut_at_byte, idle, idle_bytes, varied};
+
+use bucket_codec::{
+    Bucket, BucketFault, BucketView, TapeFault, TapeReader, decode, encode, size_of, tape_record,
+};
+
+/// A tape that is cut gives its fault, and not the bytes that are left of the record.
+pub fn cut_record_given<'a>(reader: &mut TapeReader<'a>) -> Result<Option<&'a [u8]>, TapeFault>
+    requires { reader.old ≡ cut_at_byte 7 }
+    ensures { result ≡ Err (TapeFault.Cut 7) }
+{
+    reader.next()
+}
+
+/// A reader that met the cut stays there, so it answers the same again.
+pub fn reader_goes_on_after_a_cut<'a>(
+    reader: &mut TapeReader<'a>,
+) -> Result<Option<&'a [u8]>, TapeFault>
+    requires { reader.old ≡ cut_at_byte 7 }
+    ensures { reader.new ≡ cut_at_byte 7 }
+{
+    reader.next()
+}
+
+/// The length of a record is told before its bytes.
+#[tactic(auto, unfolding(air_model::specs::Tapes::record_bytes))]
+pub fn length_always_four(bytes: &[u8], out: &mut [u8]) -> usize
+    requires bytes { bytes.now ≡ 7 ∷ [] }
+    requires out { out.old ≡ 9 ∷ 9 ∷ 9 ∷ 9 ∷ 9 ∷ 9 ∷ [] }
+    ensures len { result ≡ 5 }
+    ensures out { out.new ≡ 0 ∷ 0 ∷ 0 ∷ 1 ∷ 7 ∷ 9 ∷ [] }
+{
+    tape_record(bytes, out)
+}
+
+/// The byte behind a bucket stays as it was.
+#[tactic(auto, using(crate::proofs::BucketFacts::slot_has_room))]
+pub fn encode_touches_bytes_behind(bucket: &Bucket<'_>, out: &mut [u8]) -> usize
+    requires bucket { bucket_to_air bucket.now ≡ idle }
+    requires out { out.old ≡ idle_bytes ++ 9 ∷ [] }
+    ensures { out.new ≡ idle_bytes ++ 9 ∷ [] }
+{
+    encode(bucket, out)
+}
+
+/// Three entries take twelve bytes behind the head.
+#[tactic(auto, using(crate::proofs::BucketFacts::varied_size))]
+pub fn size_without_the_entries(bucket: &Bucket<'_>) -> usize
+    requires { bucket_to_air bucket.now ≡ varied }
+    ensures { result ≡ 36 }
+{
+    size_of(bucket)
+}
+
+/// Of a wrong version and a wrong kind the version is told.
+#[tactic(auto, unfolding(air_model::specs::Buckets::reading))]
+pub fn faults_in_another_order<'a>(bytes: &'a [u8]) -> Result<BucketView<'a>, BucketFault>
+    requires { bytes.now ≡ but (but idle_bytes 2 2) 3 3 }
+    ensures { result ≡ Err BucketFault.Version }
+{
+    decode(bytes)
+}
+
+/// A byte behind the entries is a fault of the length.
+#[tactic(auto, unfolding(air_model::specs::Buckets::reading, air_model::specs::Buckets::entry_count))]
+pub fn loose_decoder_bytes_after_the_entries<'a>(
+    bytes: &'a [u8],
+) -> Result<BucketView<'a>, BucketFault>
+    requires { bytes.now ≡ column_bytes ++ 0 ∷ [] }
+    ensures { result ≡ Err BucketFault.Length }
+{
+    decode(bytes)
+}
+
+/// An idle slot has no entries, however many items there are.
+#[tactic(auto, unfolding(air_model::specs::Buckets::reading, air_model::specs::Buckets::entry_count))]
+pub fn loose_decoder_idle_with_entries<'a>(bytes: &'a [u8]) -> Result<BucketView<'a>, BucketFault>
+    requires { bytes.now ≡ idle_bytes ++ 0 ∷ 0 ∷ 0 ∷ 0 ∷ 0 ∷ 0 ∷ 0 ∷ 0 ∷ [] }
+    ensures { result ≡ Err BucketFault.Length }
+{
+    decode(bytes)
+}
+
+/// An entry of the bucket's own cycle is out of range.
+
+pub fn loose_decoder_entry_equal_to_the_cycle<'a>(
+    bytes: &'a [u8],
+) -> Result<BucketView<'a>, BucketFault>
+    requires { bytes.now ≡ but column_bytes 31 1 }
+    ensures { result ≡ Err BucketFault.Shape }
+{
+    decode(bytes)
+}
+
+/// The slot is read from its own place.
+pub fn slot_read_from_the_item(view: &BucketView<'_>) -> u16
+    requires { view.now ≡ varied }
+    ensures { result ≡ 5 }
+{
+    view.slot()
+}

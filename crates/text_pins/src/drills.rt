@@ -1,0 +1,47 @@
+//! Worked answers of `drill_parts`: what is drawn by the words of a seed, and what is the same in each drill.
+
+ghost use Rattle.std.specs.Prelude.{◌≡◌, [], ◌∷◌, IfOk};
+ghost use Rattle.air_base.specs.declared.verdicts.Policy.TheVariants.{FMatrix};
+ghost use Rattle.air_model.specs.Draws.{generator};
+ghost use Rattle.text_pins.specs.SmallWrites.{add_to};
+
+use air_base::NoMemory;
+use air_history::Update;
+use air_model::deck::Settings;
+use drill_parts::{draw_item, draw_query, draw_update, drill_settings};
+use rand_pcg::Lcg64Xsh32;
+use std::alloc::Global;
+
+/// The first item of seed 1 has a rate of 65, where the word gives 64 of the numbers from 0.
+#[tactic(auto, unfolding(air_model::specs::Draws::draw))]
+pub fn rate_from_nought(words: &mut Lcg64Xsh32) -> (u64, u32)
+    requires { words.old ≡ generator 1 1 }
+    ensures value { result.0 ≡ 849 }
+    ensures rate { result.1 ≡ 65 }
+{
+    draw_item(words)
+}
+
+/// The first update of seed 3, among five items: it reads two items, and the bases of its writes are these in turn.
+pub fn base_among_the_written(alloc: Global, words: &mut Lcg64Xsh32) -> Result<Update, NoMemory>
+    requires { words.old ≡ generator 3 1 }
+    ensures { IfOk result (λ update. update ≡ record { reads = 4 ∷ 0 ∷ []; writes = add_to 0 4 97 ∷ add_to 1 0 49 ∷ [] }) }
+{
+    draw_update(alloc, words, 5)
+}
+
+/// The first query of seed 2, among eighteen items: each stands seven behind the one before.
+#[tactic(auto, unfolding(air_model::specs::Draws::draw, air_model::specs::Drills::draw_query))]
+pub fn queries_six_apart(alloc: Global, words: &mut Lcg64Xsh32) -> Result<Vec<u16>, NoMemory>
+    requires { words.old ≡ generator 2 1 }
+    ensures { IfOk result (λ items. items.items ≡ 6 ∷ 13 ∷ 2 ∷ []) }
+{
+    draw_query(alloc, words, 18)
+}
+
+/// Of a hundred buckets five are lost, three heard again and ten late.
+pub fn late_for_again() -> Settings
+    ensures { result ≡ record { policy = FMatrix; cycles = 10; seed = 7; loss = 5; again = 3; late = 10; monitors = 0; hears = 1000000 } }
+{
+    drill_settings(7)
+}

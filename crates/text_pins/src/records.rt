@@ -1,0 +1,38 @@
+//! Worked answers of `text_records`: the fields of records, and the records of a text.
+
+ghost use Rattle.std.specs.Prelude.{◌≡◌, [], ◌∷◌, codes, true, None, IfOk, IfSome, IsSome};
+ghost use Rattle.csv.specs.Records.{fields_of};
+
+use air_base::NoMemory;
+use csv::ByteRecord;
+use text_records::{Records, one, two};
+
+/// Of a record with a field more than two behind its tag two are not taken.
+pub fn longer_record_taken(row: &ByteRecord) -> Option<(&[u8], &[u8])>
+    requires { fields_of row.now ≡ codes "t" ∷ codes "a" ∷ codes "b" ∷ codes "c" ∷ [] }
+    ensures { result ≡ None }
+{
+    two(row)
+}
+
+/// The one field is the one behind the tag.
+pub fn tag_taken_for_the_field(row: &ByteRecord) -> Option<&[u8]>
+    requires { fields_of row.now ≡ codes "t" ∷ codes "a" ∷ [] }
+    ensures some { IsSome result }
+    ensures field { IfSome result (λ field. field.now ≡ codes "a") }
+{
+    one(row)
+}
+
+/// A record of one field is a record, and the end comes behind it.
+pub fn record_of_one_field_taken_for_the_end(
+    records: &mut Records<'_>,
+    row: &mut ByteRecord,
+) -> Result<bool, NoMemory>
+    requires { records.old ≡ (codes "start" ∷ []) ∷ [] }
+    ensures found { IfOk result (λ found. found ≡ true) }
+    ensures row { IfOk result (λ _. fields_of row.new ≡ codes "start" ∷ []) }
+    ensures left { IfOk result (λ _. records.new ≡ []) }
+{
+    records.next(row)
+}

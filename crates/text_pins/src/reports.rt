@@ -1,0 +1,103 @@
+//! Worked answers of `air_rows`, `report_texts` and `air_status`: rows of csv text, the texts of reports, and the lines of refusals.
+
+ghost use Rattle.std.specs.Prelude.{◌≡◌, ◌++◌, [], codes, true, IfOk, OnOk};
+ghost use Rattle.csv.specs.Writing.{default_writer, with_flexible, writer_setup};
+ghost use Rattle.text_pins.specs.SmallReports.{line, of_a_glance_and_a_look, of_a_start, of_an_abort, of_counts, of_two_events};
+
+use air_base::NoMemory;
+use air_rows::row_writer;
+use air_status::{Status, refusal_line};
+use csv::Writer;
+use report_texts::{Report, write_report};
+use std::alloc::Global;
+
+/// Rows may have lengths of their own.
+pub fn rows_of_one_length(text: Vec<u8>) -> Writer<Vec<u8>>
+    ensures { writer_setup result ≡ with_flexible default_writer true }
+{
+    row_writer(text)
+}
+
+/// A start has a row, and a commit tells its updater before its number.
+#[tactic(auto, using(crate::proofs::ReportFacts::text_of_two_events))]
+pub fn start_left_out(alloc: Global, report: &Report, out: &mut Vec<u8>) -> Result<(), NoMemory>
+    requires report { report.now ≡ of_two_events }
+    requires out { out.old.items ≡ [] }
+    ensures { OnOk result (out.new.items ≡ line (codes "start") ++ line (codes "commit,1,0")) }
+{
+    write_report(alloc, report, out)
+}
+
+/// A verdict tells its reader, query and attempt, and each read as item, cycle and value, with one space between two.
+/// So it isn't the query that is told twice, nor the cycle for the item.
+#[tactic(auto, using(crate::proofs::ReportFacts::text_of_an_abort))]
+pub fn attempt_told_as_query(
+    alloc: Global,
+    report: &Report,
+    out: &mut Vec<u8>,
+) -> Result<(), NoMemory>
+    requires report { report.now ≡ of_an_abort }
+    requires out { out.old.items ≡ [] }
+    ensures { OnOk result (out.new.items ≡ line (codes "abort,0,1,2,3@4=9 7@4=8,5@6,7")) }
+{
+    write_report(alloc, report, out)
+}
+
+/// Counts are told in this order: opened, dozed, late, refused, foreign and copied.
+#[tactic(auto, using(crate::proofs::ReportFacts::text_of_counts))]
+pub fn refused_told_as_late(
+    alloc: Global,
+    report: &Report,
+    out: &mut Vec<u8>,
+) -> Result<(), NoMemory>
+    requires report { report.now ≡ of_counts }
+    requires out { out.old.items ≡ [] }
+    ensures { OnOk result (out.new.items ≡ line (codes "counts,0,1,2,3,4,5,6")) }
+{
+    write_report(alloc, report, out)
+}
+
+/// What was seen in the run is told as a glance, and what was seen at its end as a look.
+#[tactic(auto, using(crate::proofs::ReportFacts::text_of_a_glance_and_a_look))]
+pub fn glances_written_as_looks(
+    alloc: Global,
+    report: &Report,
+    out: &mut Vec<u8>,
+) -> Result<(), NoMemory>
+    requires report { report.now ≡ of_a_glance_and_a_look }
+    requires out { out.old.items ≡ [] }
+    ensures { OnOk result (out.new.items ≡ line (codes "glance,0,1,30") ++ line (codes "look,0,2,31")) }
+{
+    write_report(alloc, report, out)
+}
+
+/// A report goes behind the text that is there.
+#[tactic(auto, using(crate::proofs::ReportFacts::text_of_a_start))]
+pub fn report_in_place_of_the_text(
+    alloc: Global,
+    report: &Report,
+    out: &mut Vec<u8>,
+) -> Result<(), NoMemory>
+    requires report { report.now ≡ of_a_start }
+    requires out { out.old.items ≡ line (codes "ok") }
+    ensures { OnOk result (out.new.items ≡ line (codes "ok") ++ line (codes "start")) }
+{
+    write_report(alloc, report, out)
+}
+
+/// The line of a cut tape has the number 6, and tells the byte.
+#[tactic(auto, unfolding(air_model::specs::Reports::fault_line, air_model::specs::Rows::rows_text, air_base::specs::Numbers::number_text, csv::specs::Writing::fields_text, csv::specs::Writing::is_blank))]
+pub fn cut_told_as_too_large(alloc: Global, status: &Status) -> Result<Vec<u8>, NoMemory>
+    requires { status.now ≡ Status.TapeCut 36 }
+    ensures { IfOk result (λ text. text.items ≡ line (codes "fault,6,36")) }
+{
+    refusal_line(alloc, status)
+}
+
+/// A fault of writing has the number 4.
+pub fn number_of_a_read_fault(status: &Status) -> u8
+    requires { status.now ≡ Status.WriteFault }
+    ensures { result ≡ 4 }
+{
+    status.code()
+}

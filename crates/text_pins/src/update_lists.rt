@@ -1,0 +1,48 @@
+//! Worked answers of `update_texts`: short lists of items and of writes.
+
+ghost use Rattle.std.specs.Prelude.{◌≡◌, [], ◌∷◌, codes, true, false};
+ghost use Rattle.text_pins.specs.SmallWrites.{one_on_zero, one_write};
+
+use update_texts::{ItemList, WriteList};
+
+/// The amount of the last write ends where the text ends.
+#[tactic(auto, unfolding(air_base::specs::Numbers::number_of, air_base::specs::NumberLists::all_some, update_texts::specs::Writes::write_of, update_texts::specs::Writes::value_of, update_texts::specs::KeptLists::writes_seen))]
+pub fn last_part_filled_with_zeros(writes: &mut WriteList, reads: &ItemList, text: &[u8]) -> bool
+    requires reads { reads.now.items ≡ 0 ∷ [] }
+    requires text { text.now ≡ codes "1=0+5" }
+    ensures spelled { result ≡ true }
+    ensures writes { writes.new ≡ one_write (one_on_zero false 5) false }
+{
+    writes.read(2, reads, text)
+}
+
+/// An amount that is too long to be read by its place is taken from the base as a short one is.
+#[tactic(auto, unfolding(air_base::specs::Numbers::number_of, air_base::specs::NumberLists::all_some, update_texts::specs::Writes::write_of, update_texts::specs::Writes::value_of, update_texts::specs::KeptLists::writes_seen))]
+pub fn plus_for_a_minus(writes: &mut WriteList, reads: &ItemList, text: &[u8]) -> bool
+    requires reads { reads.now.items ≡ 0 ∷ [] }
+    requires text { text.now ≡ codes "1=0-1234567890123" }
+    ensures spelled { result ≡ true }
+    ensures writes { writes.new ≡ one_write (one_on_zero true 1234567890123) false }
+{
+    writes.read(2, reads, text)
+}
+
+/// A base that isn't among the reads is remembered.
+#[tactic(auto, unfolding(air_base::specs::Numbers::number_of, air_base::specs::NumberLists::all_some, update_texts::specs::Writes::write_of, update_texts::specs::Writes::value_of, update_texts::specs::KeptLists::writes_seen))]
+pub fn unread_base_taken(writes: &mut WriteList, reads: &ItemList, text: &[u8]) -> bool
+    requires reads { reads.now.items ≡ 1 ∷ [] }
+    requires text { text.now ≡ codes "1=0+5" }
+    ensures spelled { result ≡ true }
+    ensures writes { writes.new ≡ one_write (one_on_zero false 5) true }
+{
+    writes.read(2, reads, text)
+}
+
+/// An empty part behind the last space is no item.
+#[tactic(auto, unfolding(air_base::specs::Numbers::number_of, air_base::specs::NumberLists::all_some))]
+pub fn trailing_space_taken(items: &mut ItemList, text: &[u8]) -> bool
+    requires { text.now ≡ codes "0 " }
+    ensures { result ≡ false }
+{
+    items.read(2, text)
+}
