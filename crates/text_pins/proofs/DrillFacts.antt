@@ -1,10 +1,10 @@
 -- The first update of seed 3, drawn among five items.
-use Rattle.std.proofs.Common.{◌≡◌, ◌∷◌, ◌∙◌, [], Err, IfOk, Ok, Result, ap, refl, sym}
+use Rattle.std.proofs.Common.{◌≡◌, ◌∷◌, ◌∙◌, [], Err, IfOk, Ok, Result, ap, get_or, refl, sym}
 use Rattle.rand_pcg.specs.Lcg.{Lcg}
 use Rattle.air_base.specs.declared.memory.NoMemory.{NoMemory}
 use Rattle.air_history.specs.UpdateLists.{UpdateLists}
 use Rattle.air_model.specs.Draws.{draw, draw_each, generator}
-use Rattle.air_model.specs.Drills.{draw_update}
+use Rattle.air_model.specs.Drills.{draw_query, draw_update, drill_deck}
 use Rattle.text_pins.specs.SmallWrites.{add_to}
 
 pub update_drawn : (result : Result UpdateLists NoMemory) (words left : Lcg) → words ≡ generator 3 1
@@ -13,3 +13,8 @@ pub update_drawn : (result : Result UpdateLists NoMemory) (words left : Lcg) →
 unfolding draw draw_each draw_update
 update_drawn (Ok update) words left seeded drawn = sym (ap (λ p. p.0) drawn) ∙ rw seeded refl
 update_drawn (Err error) words left seeded drawn = drawn
+
+-- The first query of the drill of seed 1 and size 1.
+pub query_of_drill : get_or (drill_deck 1 1).queries 0 [] ≡ (13 ∷ 2 ∷ 9 ∷ 16 ∷ []) ∷ []
+unfolding draw draw_each draw_update draw_query drill_deck
+query_of_drill = refl

@@ -1,3 +1,4 @@
 pub mod SmallBuckets
 pub mod SmallWrites
 pub mod SmallReports
+pub mod DeckAnswers

@@ -1,6 +1,7 @@
 -- Writes of short lists.
-use Rattle.std.specs.Prelude.{ℕ, [], ◌∷◌, Bool, false, Some}
+use Rattle.std.specs.Prelude.{ℕ, [], ◌∷◌, Bool, false, Some, None}
 use Rattle.air_history.specs.declared.updates.Write.{Write}
+use Rattle.air_history.specs.UpdateLists.{UpdateLists}
 use Rattle.update_texts.specs.KeptLists.{WritesSeen}
 
 -- Item 1 becomes item 0 and this amount, or item 0 less it.
@@ -14,3 +15,15 @@ one_write write unread = record { writes = write ∷ []; undeclared = false; rep
 -- Item `item` becomes its base and this amount.
 abbrev pub add_to : ℕ → ℕ → ℕ → Write
 add_to item base amount = record { item = item; base = Some base; minus = false; amount = amount }
+
+-- An update that reads nothing, and sets an item to an amount.
+abbrev set_to : ℕ → ℕ → UpdateLists
+set_to item amount = record { reads = []; writes = record { item = item; base = None; minus = false; amount = amount } ∷ [] }
+
+-- Item 0 becomes 5.
+abbrev pub setting_first : UpdateLists
+setting_first = set_to 0 5
+
+-- Item 1 becomes 6.
+abbrev pub setting_second : UpdateLists
+setting_second = set_to 1 6

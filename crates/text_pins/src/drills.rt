@@ -22,7 +22,8 @@ pub fn rate_from_nought(words: &mut Lcg64Xsh32) -> (u64, u32)
     draw_item(words)
 }
 
-/// The first update of seed 3, among five items: it reads two items, and the bases of its writes are these in turn.
+/// The first update of seed 3, among five items: the bases of its writes are the items that it reads, in turn. It refuses too that two reads
+/// are never drawn.
 pub fn base_among_the_written(alloc: Global, words: &mut Lcg64Xsh32) -> Result<Update, NoMemory>
     requires { words.old ≡ generator 3 1 }
     ensures { IfOk result (λ update. update ≡ record { reads = 4 ∷ 0 ∷ []; writes = add_to 0 4 97 ∷ add_to 1 0 49 ∷ [] }) }

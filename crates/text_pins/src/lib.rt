@@ -5,6 +5,7 @@
 #![tactic(auto)]
 
 pub mod buckets;
+pub mod decks;
 pub mod drills;
 pub mod records;
 pub mod reports;

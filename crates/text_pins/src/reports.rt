@@ -18,9 +18,9 @@ pub fn rows_of_one_length(text: Vec<u8>) -> Writer<Vec<u8>>
     row_writer(text)
 }
 
-/// A start has a row, and a commit tells its updater before its number.
+/// A commit tells its updater before its number. It refuses too that a start has no row.
 #[tactic(auto, using(crate::proofs::ReportFacts::text_of_two_events))]
-pub fn start_left_out(alloc: Global, report: &Report, out: &mut Vec<u8>) -> Result<(), NoMemory>
+pub fn by_and_seq_swapped(alloc: Global, report: &Report, out: &mut Vec<u8>) -> Result<(), NoMemory>
     requires report { report.now ≡ of_two_events }
     requires out { out.old.items ≡ [] }
     ensures { OnOk result (out.new.items ≡ line (codes "start") ++ line (codes "commit,1,0")) }
@@ -28,8 +28,8 @@ pub fn start_left_out(alloc: Global, report: &Report, out: &mut Vec<u8>) -> Resu
     write_report(alloc, report, out)
 }
 
-/// A verdict tells its reader, query and attempt, and each read as item, cycle and value, with one space between two.
-/// So it isn't the query that is told twice, nor the cycle for the item.
+/// A verdict tells its reader, query and attempt, and then its reads. It refuses too that a read tells its cycle for its item, and that
+/// two spaces stand between reads.
 #[tactic(auto, using(crate::proofs::ReportFacts::text_of_an_abort))]
 pub fn attempt_told_as_query(
     alloc: Global,
@@ -57,7 +57,7 @@ pub fn refused_told_as_late(
     write_report(alloc, report, out)
 }
 
-/// What was seen in the run is told as a glance, and what was seen at its end as a look.
+/// What was seen in the run is told as a glance, by who calls and by who writes the row, and what was seen at its end as a look.
 #[tactic(auto, using(crate::proofs::ReportFacts::text_of_a_glance_and_a_look))]
 pub fn glances_written_as_looks(
     alloc: Global,

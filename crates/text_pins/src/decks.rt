@@ -1,0 +1,90 @@
+//! Worked answers of `item_catalog`: the faults of short texts, the deck of a drill, and the parts of a deck.
+
+ghost use Rattle.std.specs.Prelude.{◌≡◌, ◌≤◌, [], ◌∷◌, codes, get_or, length, sum_by, IfOk};
+ghost use Rattle.air_history.specs.UpdateLists.{UpdateLists};
+ghost use Rattle.text_pins.specs.DeckAnswers.{IsFaultOrNoMemory, committed_twice, unknown_second};
+ghost use Rattle.text_pins.specs.SmallWrites.{setting_first, setting_second};
+
+use air_base::NoMemory;
+use air_history::Update;
+use item_catalog::faults::FaultKind;
+use item_catalog::{Deck, DeckError, drill_deck, read_deck};
+use std::alloc::Global;
+
+/// Copies of 10,001 cycles pass a limit.
+pub fn copies_one_cycle_too_old(alloc: Global, bytes: &[u8]) -> Result<Deck, DeckError>
+    requires { bytes.now ≡ codes "reader,0,10001,1" }
+    ensures { IsFaultOrNoMemory 1 7 result }
+{
+    read_deck(alloc, bytes)
+}
+
+/// The commits of all records of the script count.
+pub fn earlier_script_records_forgotten(alloc: Global, bytes: &[u8]) -> Result<Deck, DeckError>
+    requires { bytes.now ≡ committed_twice }
+    ensures { IsFaultOrNoMemory 4 11 result }
+{
+    read_deck(alloc, bytes)
+}
+
+/// The frequency 64 passes no limit; so it is the end that is refused, since the sizes don't add up.
+pub fn greatest_frequency_refused(alloc: Global, bytes: &[u8]) -> Result<Deck, DeckError>
+    requires { bytes.now ≡ codes "disk,1,64" }
+    ensures { IsFaultOrNoMemory 2 6 result }
+{
+    read_deck(alloc, bytes)
+}
+
+/// Of an item with a wrong number and too great a rate the number is told.
+pub fn greatest_kind_for_the_least(alloc: Global, bytes: &[u8]) -> Result<Deck, DeckError>
+    requires { bytes.now ≡ codes "item,1,0,1000001" }
+    ensures { IsFaultOrNoMemory 1 3 result }
+{
+    read_deck(alloc, bytes)
+}
+
+/// Records are counted from 1.
+pub fn record_before_the_faulty_one(alloc: Global, bytes: &[u8]) -> Result<Deck, DeckError>
+    requires { bytes.now ≡ unknown_second }
+    ensures { IsFaultOrNoMemory 2 9 result }
+{
+    read_deck(alloc, bytes)
+}
+
+/// A setting without a value has too few fields, before its name is looked at.
+pub fn setting_checked_before_its_fields(alloc: Global, bytes: &[u8]) -> Result<Deck, DeckError>
+    requires { bytes.now ≡ codes "set,delta" }
+    ensures { IsFaultOrNoMemory 1 1 result }
+{
+    read_deck(alloc, bytes)
+}
+
+/// The first query of the drill of seed 1 and size 1 is drawn after all updates.
+#[tactic(auto, using(crate::proofs::DrillFacts::query_of_drill))]
+pub fn queries_drawn_before_updates(alloc: Global) -> Result<Deck, NoMemory>
+    ensures { IfOk result (λ deck. get_or deck.queries 0 [] ≡ (13 ∷ 2 ∷ 9 ∷ 16 ∷ []) ∷ []) }
+{
+    drill_deck(alloc, 1, 1)
+}
+
+/// Sizes that don't add up have the number 6.
+pub fn sizes_told_as_a_limit() -> u8
+    ensures { result ≡ 6 }
+{
+    FaultKind::Sizes.code()
+}
+
+/// All queries of a deck together are 10,000 at most.
+pub fn total_without_the_record_itself(deck: &Deck)
+    ensures { sum_by length deck.now.queries ≤ 10000 }
+{
+    deck.well_made()
+}
+
+/// Each updater has its own updates.
+pub fn updates_of_another_updater(deck: &Deck) -> &[Update]
+    requires { deck.now.updates ≡ (setting_first ∷ []) ∷ (setting_second ∷ []) ∷ [] }
+    ensures { result.now ≡ setting_second ∷ [] }
+{
+    deck.updates(1)
+}
