@@ -1,0 +1,4 @@
+pub mod FaultFacts
+pub mod ReadFacts
+pub mod ReplayFacts
+pub mod AuditFacts

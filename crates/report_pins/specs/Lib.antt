@@ -1,0 +1,3 @@
+pub mod SmallDeck
+pub mod ReportAnswers
+pub mod SmallReports

@@ -1,0 +1,61 @@
+-- Reports of the small deck, as they are read: three commits of updater 0 in cycle 1, then the start of cycle 2, and lines after it.
+use Rattle.std.specs.Prelude.{ℕ, List, [], ◌∷◌, Option}
+use Rattle.air_base.specs.declared.verdicts.Policy.TheVariants.{RMatrix}
+use Rattle.air_base.specs.declared.verdicts.ReadOf.{ReadOf}
+use Rattle.air_base.specs.declared.verdicts.VerdictKind.{VerdictKind}
+use Rattle.air_base.specs.declared.verdicts.VerdictKind.TheVariants.{Accept, Abort}
+use Rattle.air_history.specs.declared.histories.Event.{Event}
+use Rattle.air_history.specs.declared.histories.Event.TheVariants.{Commit, Start}
+use Rattle.air_model.specs.Decks.{Deck}
+use Rattle.air_model.specs.declared.reports.LookLine.{LookLine}
+use Rattle.air_model.specs.declared.reports.VerdictLine.{VerdictLine}
+use Rattle.air_report.specs.declared.reading.ReadReport.{ReadReport}
+use Rattle.live_replay.specs.declared.findings.Cause.{Cause}
+use Rattle.live_replay.specs.declared.findings.Finding.{Finding}
+use Rattle.report_pins.specs.SmallDeck.{add_to, set_to, small_deck}
+
+-- In cycle 1 item 0 becomes 11, item 1 becomes 13 and item 2 becomes 32; item 3 stays 40.
+abbrev pub history : List Event
+history = Start ∷ Commit 0 0 (set_to 0 11) ∷ Commit 0 1 (add_to 1 0 2) ∷ Commit 0 2 (set_to 2 32) ∷ Start ∷ []
+
+abbrev read : ℕ → ℕ → ℕ → ReadOf
+read item cycle value = record { item = item; cycle = cycle; value = value }
+
+-- The line of the first attempt of a query.
+abbrev ended : VerdictKind → ℕ → List ReadOf → VerdictLine
+ended kind query reads = record { reader = 0; verdict = record { query = query; attempt = 1; kind = kind }; reads = reads }
+
+-- A report of that history with these verdicts and looks, in these rows.
+abbrev told : List VerdictLine → List LookLine → List ℕ → List ℕ → ReadReport
+told verdicts looks verdict_rows look_rows = record {
+  report = record { history = history; verdicts = verdicts; counts = []; glances = []; looks = looks };
+  verdict_rows = verdict_rows;
+  glance_rows = [];
+  look_rows = look_rows;
+}
+
+-- Under F-Matrix: an accept whose reads come of two commits, an abort that is right, one of a read that passes, and an accept whose last value
+-- is wrong, as is its verdict; then the look at cycle 2.
+abbrev pub read_report : ReadReport
+read_report = told
+    (ended Accept 3 (read 0 2 11 ∷ read 2 2 32 ∷ []) ∷ ended (Abort 1 2 0) 2 (read 0 1 10 ∷ []) ∷ ended (Abort 1 1 0) 2 (read 0 1 10 ∷ [])
+    ∷ ended Accept 2 (read 0 1 10 ∷ read 1 2 14 ∷ []) ∷ [])
+    (record { monitor = 0; cycle = 2; total = 96 } ∷ [])
+    (6 ∷ 7 ∷ 8 ∷ 9 ∷ [])
+    (10 ∷ [])
+
+-- The deck under R-Matrix.
+abbrev pub by_rows : Deck
+by_rows = record small_deck { settings = record small_deck.settings { policy = RMatrix } }
+
+-- Under R-Matrix: an accept whose second read comes late, of an item that nothing writes; and an abort whose read clashes with both reads before it.
+abbrev pub late_report : ReadReport
+late_report = told
+    (ended Accept 0 (read 0 2 11 ∷ read 3 1 40 ∷ []) ∷ ended (Abort 2 2 0) 1 (read 0 1 10 ∷ read 1 1 20 ∷ []) ∷ [])
+    []
+    (6 ∷ 7 ∷ [])
+    []
+
+-- What is found of the line in a row.
+abbrev pub found : ℕ → Option Cause → Finding
+found row differs = record { row = row; differs = differs }

@@ -1,0 +1,63 @@
+//! Worked answers of `audited_reports`: the text of findings, and the audits of short texts.
+
+ghost use Rattle.std.specs.Prelude.{◌≡◌, ◌⊎◌, ◌<◌, ◌≤◌, ◌++◌, [], ◌∷◌, ℕ, Err, Some, None, codes, length, true, IfErr, IfOk};
+ghost use Rattle.report_reading.specs.declared.limits.TheConstants.{MOST_REPORT_BYTES};
+ghost use Rattle.report_pins.specs.SmallDeck.{line, small_deck, two_looks};
+ghost use Rattle.report_pins.specs.SmallReports.{found};
+
+use air_base::NoMemory;
+use air_status::Status;
+use audited_reports::{Audited, audit_report, findings_text};
+use item_catalog::Deck;
+use live_replay::{Cause, Finding};
+use std::alloc::Global;
+
+/// A finding tells its own row and its own cause, and the last row counts the findings before those that differ. It refuses too that these two are
+/// exchanged, and that rows are counted from 0.
+#[tactic(auto, using(crate::proofs::AuditFacts::text_of_findings))]
+pub fn clash_told_as_verdict(alloc: Global, findings: &[Finding]) -> Result<Vec<u8>, NoMemory>
+    requires { findings.now ≡ found 5 None ∷ found 6 (Some Cause.Clash) ∷ [] }
+    ensures { IfOk result (λ text. text.items ≡ line (codes "agrees,5") ++ line (codes "differs,6,clash") ++ line (codes "audited,2,1")) }
+{
+    findings_text(alloc, findings)
+}
+
+/// Where one line of two differs the audit says so, with the text of both. It refuses too that the findings are left out.
+pub fn differs_only_where_all_do(
+    alloc: Global,
+    deck: &Deck,
+    bytes: &[u8],
+) -> Result<Audited, Status>
+    requires deck { deck.now ≡ small_deck }
+    requires bytes { bytes.now ≡ two_looks }
+    ensures differs { IfOk result (λ audited. audited.differs ≡ true) }
+    ensures text { IfOk result (λ audited. audited.text.items ≡ line (codes "agrees,2") ++ line (codes "differs,3,total") ++ line (codes "audited,2,1")) }
+{
+    audit_report(alloc, deck, bytes)
+}
+
+/// An unknown tag is of the kind 3.
+pub fn kind_of_a_fault_forgotten(
+    alloc: Global,
+    deck: &Deck,
+    bytes: &[u8],
+) -> Result<Audited, Status>
+    requires deck { deck.now ≡ small_deck }
+    requires bytes { bytes.now ≡ codes "a" }
+    ensures { (result ≡ Err Status.NoMemory) ⊎ (result ≡ Err (Status.Report 1 3)) }
+{
+    audit_report(alloc, deck, bytes)
+}
+
+/// What is told to be too much is above the limit.
+#[tactic(auto, unfolding(audited_reports::specs::AuditAnswers::UnauditedCause))]
+pub fn too_much_without_its_product(
+    alloc: Global,
+    deck: &Deck,
+    bytes: &[u8],
+) -> Result<Audited, Status>
+    requires { length bytes.now ≤ MOST_REPORT_BYTES }
+    ensures { IfErr result (λ status. (product : ℕ) → status ≡ Status.TooMuch product → 50000000 < product) }
+{
+    audit_report(alloc, deck, bytes)
+}

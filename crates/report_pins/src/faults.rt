@@ -1,0 +1,113 @@
+//! Worked answers of `report_reading`: the faults of short texts as reports of a small deck.
+
+ghost use Rattle.std.specs.Prelude.{◌≡◌, codes};
+ghost use Rattle.report_pins.specs.ReportAnswers.{IsFaultOrNoMemory};
+ghost use Rattle.report_pins.specs.SmallDeck.{commit_skipped, cut_accept, glanced_before, looked_before, small_deck, started_after, two_unknown};
+
+use item_catalog::Deck;
+use report_reading::{ReadLines, ReportError, read_lines};
+use std::alloc::Global;
+
+/// An accept has all items of its query.
+pub fn accept_of_a_proper_prefix(
+    alloc: Global,
+    deck: &Deck,
+    bytes: &[u8],
+) -> Result<ReadLines, ReportError>
+    requires deck { deck.now ≡ small_deck }
+    requires bytes { bytes.now ≡ cut_accept }
+    ensures { IsFaultOrNoMemory 2 6 result }
+{
+    read_lines(alloc, deck, bytes)
+}
+
+/// A byte behind a place makes the field no place.
+pub fn bytes_behind_a_place_forgotten(
+    alloc: Global,
+    deck: &Deck,
+    bytes: &[u8],
+) -> Result<ReadLines, ReportError>
+    requires deck { deck.now ≡ small_deck }
+    requires bytes { bytes.now ≡ codes "abort,0,2,1,0@1=10,1@1x,0" }
+    ensures { IsFaultOrNoMemory 1 2 result }
+{
+    read_lines(alloc, deck, bytes)
+}
+
+/// Nothing is read in cycle 0, the catalog.
+pub fn catalog_taken_for_a_cycle_of_a_read(
+    alloc: Global,
+    deck: &Deck,
+    bytes: &[u8],
+) -> Result<ReadLines, ReportError>
+    requires deck { deck.now ≡ small_deck }
+    requires bytes { bytes.now ≡ codes "accept,0,2,1,0@0=10 1@0=20" }
+    ensures { IsFaultOrNoMemory 1 7 result }
+{
+    read_lines(alloc, deck, bytes)
+}
+
+/// Each updater's commits are counted from 0.
+pub fn commits_of_another_updater(
+    alloc: Global,
+    deck: &Deck,
+    bytes: &[u8],
+) -> Result<ReadLines, ReportError>
+    requires deck { deck.now ≡ small_deck }
+    requires bytes { bytes.now ≡ commit_skipped }
+    ensures { IsFaultOrNoMemory 2 5 result }
+{
+    read_lines(alloc, deck, bytes)
+}
+
+/// A cycle has to start before it is read, and not after.
+pub fn cycle_among_all_starts_of_the_report(
+    alloc: Global,
+    deck: &Deck,
+    bytes: &[u8],
+) -> Result<ReadLines, ReportError>
+    requires deck { deck.now ≡ small_deck }
+    requires bytes { bytes.now ≡ started_after }
+    ensures { IsFaultOrNoMemory 1 7 result }
+{
+    read_lines(alloc, deck, bytes)
+}
+
+/// Of a line that comes late and has no cycle the least kind is told.
+pub fn greatest_kind_for_the_least(
+    alloc: Global,
+    deck: &Deck,
+    bytes: &[u8],
+) -> Result<ReadLines, ReportError>
+    requires deck { deck.now ≡ small_deck }
+    requires bytes { bytes.now ≡ looked_before }
+    ensures { IsFaultOrNoMemory 2 4 result }
+{
+    read_lines(alloc, deck, bytes)
+}
+
+/// Of two faulty records the first is told. It refuses too that the record behind it is.
+pub fn later_fault_for_the_first(
+    alloc: Global,
+    deck: &Deck,
+    bytes: &[u8],
+) -> Result<ReadLines, ReportError>
+    requires deck { deck.now ≡ small_deck }
+    requires bytes { bytes.now ≡ two_unknown }
+    ensures { IsFaultOrNoMemory 1 3 result }
+{
+    read_lines(alloc, deck, bytes)
+}
+
+/// No start comes behind a glance.
+pub fn order_that_forgets_glances(
+    alloc: Global,
+    deck: &Deck,
+    bytes: &[u8],
+) -> Result<ReadLines, ReportError>
+    requires deck { deck.now ≡ small_deck }
+    requires bytes { bytes.now ≡ glanced_before }
+    ensures { IsFaultOrNoMemory 2 4 result }
+{
+    read_lines(alloc, deck, bytes)
+}

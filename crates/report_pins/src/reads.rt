@@ -1,0 +1,33 @@
+//! Worked answers of `air_report`: the history and the rows that are read of short texts.
+
+ghost use Rattle.std.specs.Prelude.{◌≡◌, [], ◌∷◌, IfOk};
+ghost use Rattle.air_history.specs.declared.histories.Event.TheVariants.{Commit};
+ghost use Rattle.report_pins.specs.SmallDeck.{add_to, each_section, set_to, small_deck, two_commits};
+
+use air_report::{ReadReport, ReportError, read_report};
+use item_catalog::Deck;
+use std::alloc::Global;
+
+/// Rows are counted from 1, through all sections. It refuses too that looks have the rows of glances.
+pub fn rows_from_nought(alloc: Global, deck: &Deck, bytes: &[u8]) -> Result<ReadReport, ReportError>
+    requires deck { deck.now ≡ small_deck }
+    requires bytes { bytes.now ≡ each_section }
+    ensures verdicts { IfOk result (λ read. read.verdict_rows ≡ 2 ∷ []) }
+    ensures glances { IfOk result (λ read. read.glance_rows ≡ 3 ∷ []) }
+    ensures looks { IfOk result (λ read. read.look_rows ≡ 4 ∷ []) }
+{
+    read_report(alloc, deck, bytes)
+}
+
+/// Each commit has the deck's update of its own number.
+pub fn update_of_another_number(
+    alloc: Global,
+    deck: &Deck,
+    bytes: &[u8],
+) -> Result<ReadReport, ReportError>
+    requires deck { deck.now ≡ small_deck }
+    requires bytes { bytes.now ≡ two_commits }
+    ensures { IfOk result (λ read. read.report.history ≡ Commit 0 0 (set_to 0 11) ∷ Commit 0 1 (add_to 1 0 2) ∷ []) }
+{
+    read_report(alloc, deck, bytes)
+}
