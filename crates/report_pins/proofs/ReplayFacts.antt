@@ -21,15 +21,15 @@ use Rattle.live_replay.specs.Audits.{findings}
 use Rattle.live_replay.specs.Findings.{all_pass, is_refused, is_clash, verdict_cause, look_cause}
 use Rattle.live_replay.specs.declared.findings.Cause.TheVariants as cause
 use Rattle.report_pins.specs.SmallDeck.{small_deck}
-use Rattle.report_pins.specs.SmallReports.{by_rows, found, history, late_report, read_report}
+use Rattle.report_pins.specs.SmallReports.{r_matrix_deck, found, history, late_report, read_report}
 
 -- ---- in the grammar
 
 legal : IsLegal small_deck history
 legal = same_legal small_deck history (refl, (refl, (refl, (refl, (refl, tt))))) refl
 
-legal_by_rows : IsLegal by_rows history
-legal_by_rows = same_legal by_rows history (refl, (refl, (refl, (refl, (refl, tt))))) refl
+r_matrix_legal : IsLegal r_matrix_deck history
+r_matrix_legal = same_legal r_matrix_deck history (refl, (refl, (refl, (refl, (refl, tt))))) refl
 
 verdicts_right : All (λ line. IsRight small_deck 2 (Verdict line)) read_report.report.verdicts
 verdicts_right zero d below = record { known = refl; begun = refl }
@@ -42,7 +42,7 @@ looks_right : All (λ line. IsRight small_deck 2 (Look line)) read_report.report
 looks_right zero d below = record { known = refl; begun = refl }
 looks_right (suc k) d below = absurd (omega arith)
 
-late_verdicts_right : All (λ line. IsRight by_rows 2 (Verdict line)) late_report.report.verdicts
+late_verdicts_right : All (λ line. IsRight r_matrix_deck 2 (Verdict line)) late_report.report.verdicts
 late_verdicts_right zero d below = record { known = refl; begun = refl }
 late_verdicts_right (suc zero) d below = record { known = refl; begun = refl }
 late_verdicts_right (suc (suc k)) d below = absurd (omega arith)
@@ -56,7 +56,7 @@ lines = record {
   looks = looks_right;
 }
 
-late_lines : InGrammar by_rows (lines_in late_report.report)
+late_lines : InGrammar r_matrix_deck (lines_in late_report.report)
 late_lines = record {
   events = (refl, (refl, (refl, (refl, (refl, tt)))));
   verdicts = late_verdicts_right;
@@ -78,9 +78,9 @@ kept = record {
   few_looks = omega arith;
 }
 
-late_kept : KeepsGrammar by_rows late_report
+late_kept : KeepsGrammar r_matrix_deck late_report
 late_kept = record {
-  legal = legal_by_rows;
+  legal = r_matrix_legal;
   lines = late_lines;
   verdict_rows = refl;
   glance_rows = refl;
@@ -98,8 +98,8 @@ kept_given d deck r report is given keeps = subst (λ v. KeepsGrammar v r) (sym 
 pub read_kept : (d : Deck) (r : ReadReport) → d ≡ small_deck → r ≡ read_report → KeepsGrammar d r
 read_kept d r is given = kept_given d small_deck r read_report is given kept
 
-pub late_read_kept : (d : Deck) (r : ReadReport) → d ≡ by_rows → r ≡ late_report → KeepsGrammar d r
-late_read_kept d r is given = kept_given d by_rows r late_report is given late_kept
+pub late_read_kept : (d : Deck) (r : ReadReport) → d ≡ r_matrix_deck → r ≡ late_report → KeepsGrammar d r
+late_read_kept d r is given = kept_given d r_matrix_deck r late_report is given late_kept
 
 -- ---- the findings
 
@@ -107,7 +107,7 @@ read_found : findings small_deck read_report ≡ found 6 None ∷ found 7 None �
 unfolding findings verdict_cause look_cause total_at all_pass is_refused is_clash passes is_late clash_by_history least stale origin consistent last_alone runs_alone descends_from descends descends_in writer writer_before writes reads is_start front last_place table value_after write_of value_on_base
 read_found = refl
 
-late_found : findings by_rows late_report ≡ found 6 (Some cause.Verdict) ∷ found 7 None ∷ []
+late_found : findings r_matrix_deck late_report ≡ found 6 (Some cause.Verdict) ∷ found 7 None ∷ []
 unfolding findings verdict_cause all_pass is_refused is_clash passes is_late clash_by_history least stale origin writer writer_before writes is_start front last_place table value_after write_of value_on_base
 late_found = refl
 
@@ -115,5 +115,5 @@ pub read_findings : (d : Deck) (r : ReadReport) → d ≡ small_deck → r ≡ r
     → findings d r ≡ found 6 None ∷ found 7 None ∷ found 8 (Some cause.Verdict) ∷ found 9 (Some cause.Value) ∷ found 10 None ∷ []
 read_findings d r is given = rw is (rw given read_found)
 
-pub late_findings : (d : Deck) (r : ReadReport) → d ≡ by_rows → r ≡ late_report → findings d r ≡ found 6 (Some cause.Verdict) ∷ found 7 None ∷ []
+pub late_findings : (d : Deck) (r : ReadReport) → d ≡ r_matrix_deck → r ≡ late_report → findings d r ≡ found 6 (Some cause.Verdict) ∷ found 7 None ∷ []
 late_findings d r is given = rw is (rw given late_found)

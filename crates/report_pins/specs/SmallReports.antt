@@ -34,8 +34,8 @@ told verdicts looks verdict_rows look_rows = record {
   look_rows = look_rows;
 }
 
--- Under F-Matrix: an accept whose reads come of two commits, an abort that is right, one of a read that passes, and an accept whose last value
--- is wrong, as is its verdict; then the look at cycle 2.
+-- Under F-Matrix: an accept of reads from two commits, an abort that is right, an abort of a read that passes, an accept that is wrong by
+-- its last value and by its verdict, and a look at cycle 2.
 abbrev pub read_report : ReadReport
 read_report = told
     (ended Accept 3 (read 0 2 11 ∷ read 2 2 32 ∷ []) ∷ ended (Abort 1 2 0) 2 (read 0 1 10 ∷ []) ∷ ended (Abort 1 1 0) 2 (read 0 1 10 ∷ [])
@@ -45,10 +45,10 @@ read_report = told
     (10 ∷ [])
 
 -- The deck under R-Matrix.
-abbrev pub by_rows : Deck
-by_rows = record small_deck { settings = record small_deck.settings { policy = RMatrix } }
+abbrev pub r_matrix_deck : Deck
+r_matrix_deck = record small_deck { settings = record small_deck.settings { policy = RMatrix } }
 
--- Under R-Matrix: an accept whose second read comes late, of an item that nothing writes; and an abort whose read clashes with both reads before it.
+-- Under R-Matrix: an accept whose second read comes late, of an item that nothing writes, and an abort whose read clashes with both before it.
 abbrev pub late_report : ReadReport
 late_report = told
     (ended Accept 0 (read 0 2 11 ∷ read 3 1 40 ∷ []) ∷ ended (Abort 2 2 0) 1 (read 0 1 10 ∷ read 1 1 20 ∷ []) ∷ [])

@@ -4,17 +4,18 @@ ghost use Rattle.std.specs.Prelude.{◌≡◌, [], ◌∷◌, Some, None, IfErr,
 ghost use Rattle.air_report.specs.KeptReports.{KeepsGrammar};
 ghost use Rattle.live_replay.specs.Audits.{replayed_in};
 ghost use Rattle.report_pins.specs.SmallDeck.{small_deck};
-ghost use Rattle.report_pins.specs.SmallReports.{by_rows, found, late_report, read_report};
+ghost use Rattle.report_pins.specs.SmallReports.{r_matrix_deck, found, late_report, read_report};
 
 use air_report::ReadReport;
 use item_catalog::Deck;
 use live_replay::{AuditError, Cause, Finding, audit};
 use std::alloc::Global;
 
-/// Under F-Matrix reads of two commits agree, and an abort does whose held read has the value of the deck; an abort of a read that passes doesn't,
-/// by its verdict; nor does a wrong value, by the value before the verdict; the look at cycle 2 has the total of that cycle. It refuses too that
-/// values alone are replayed, that an item that isn't written is 0, that a write counts in its own cycle, that the verdict is told before the
-/// value, and that a look is judged a cycle early.
+/// Reads of two commits agree. It refuses too:
+/// row 7, that an item that isn't written is 0, and that a write counts in its own cycle;
+/// row 8, that values alone are replayed: its abort is of a read that passes;
+/// row 9, that the verdict is told before the value;
+/// row 10, that a look is judged a cycle early.
 #[tactic(auto, using(crate::proofs::ReplayFacts::read_findings))]
 pub fn descents_of_one_read_alone(
     alloc: Global,
@@ -28,15 +29,15 @@ pub fn descents_of_one_read_alone(
     audit(alloc, deck, report)
 }
 
-/// Under R-Matrix a read that comes late differs, though nothing wrote its item; and an abort names the least of the items with which its read
-/// clashes. It refuses too that the greatest is named.
+/// Under R-Matrix a read that comes late differs, though nothing writes its item. It refuses too, in row 7, that an abort names the greatest
+/// of the items with which its read clashes.
 #[tactic(auto, using(crate::proofs::ReplayFacts::late_findings))]
 pub fn late_read_passes(
     alloc: Global,
     deck: &Deck,
     report: &ReadReport,
 ) -> Result<Vec<Finding>, AuditError>
-    requires deck { deck.now ≡ by_rows }
+    requires deck { deck.now ≡ r_matrix_deck }
     requires report { report.now ≡ late_report }
     ensures { IfOk result (λ list. list.items ≡ found 6 (Some Cause.Verdict) ∷ found 7 None ∷ []) }
 {

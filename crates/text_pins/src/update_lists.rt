@@ -16,13 +16,13 @@ pub fn last_part_filled_with_zeros(writes: &mut WriteList, reads: &ItemList, tex
     writes.read(2, reads, text)
 }
 
-/// An amount that is too long to be read by its place is taken from the base as a short one is.
+/// A write with a `-` takes its amount from the base.
 #[tactic(auto, unfolding(air_base::specs::Numbers::number_of, air_base::specs::NumberLists::all_some, update_texts::specs::Writes::write_of, update_texts::specs::Writes::value_of, update_texts::specs::KeptLists::writes_seen))]
 pub fn plus_for_a_minus(writes: &mut WriteList, reads: &ItemList, text: &[u8]) -> bool
     requires reads { reads.now.items ≡ 0 ∷ [] }
-    requires text { text.now ≡ codes "1=0-1234567890123" }
+    requires text { text.now ≡ codes "1=0-5" }
     ensures spelled { result ≡ true }
-    ensures writes { writes.new ≡ one_write (one_on_zero true 1234567890123) false }
+    ensures writes { writes.new ≡ one_write (one_on_zero true 5) false }
 {
     writes.read(2, reads, text)
 }
