@@ -1,0 +1,74 @@
+//! Audits of reports: what is found of each line, a letter for each, or how many agree.
+
+ghost use Rattle.air_report.specs.KeptReports.{KeepsGrammar};
+
+use air_base::NoMemory;
+use air_report::ReadReport;
+use case_lines::add_line;
+use item_catalog::Deck;
+use live_replay::{AuditError, Cause, Finding, audit};
+use std::alloc::Global;
+
+/// Tells of each finding whether its line agrees, or the cause for which it differs, and the row.
+fn add_findings(found: &[Finding], came: &mut Vec<u8>) -> Result<(), NoMemory> {
+    for finding in found {
+        let row = [u64::from(finding.row)];
+        match finding.differs {
+            None => add_line(b"agrees", &row, came)?,
+            Some(Cause::Value) => add_line(b"value", &row, came)?,
+            Some(Cause::Verdict) => add_line(b"verdict", &row, came)?,
+            Some(Cause::Clash) => add_line(b"clash", &row, came)?,
+            Some(Cause::Total) => add_line(b"total", &row, came)?,
+        }
+    }
+    Ok(())
+}
+
+/// Tells a letter for each finding: a dash where the line agrees, `V` for a value, `v` for a verdict, `c` for a clash and `t` for a
+/// total.
+fn add_letters(found: &[Finding], came: &mut Vec<u8>) -> Result<(), NoMemory> {
+    for finding in found {
+        came.push(match finding.differs {
+            None => b'-',
+            Some(Cause::Value) => b'V',
+            Some(Cause::Verdict) => b'v',
+            Some(Cause::Clash) => b'c',
+            Some(Cause::Total) => b't',
+        })?;
+    }
+    Ok(())
+}
+
+/// Tells how many findings there are, and how many lines agree.
+fn add_sums(found: &[Finding], came: &mut Vec<u8>) -> Result<(), NoMemory> {
+    let mut agree = 0_u64;
+    for finding in found {
+        if finding.differs.is_none() {
+            agree = agree.saturating_add(1);
+        }
+    }
+    add_line(b"findings", &[found.len() as u64], came)?;
+    add_line(b"agree", &[agree], came)
+}
+
+/// Audits a report, and tells of it what the word asks for.
+pub fn add_audit(
+    alloc: Global,
+    deck: &Deck,
+    read: &ReadReport,
+    word: &[u8],
+    came: &mut Vec<u8>,
+) -> Result<(), NoMemory>
+    requires { KeepsGrammar deck.now read.now }
+{
+    match audit(alloc, deck, read) {
+        Ok(found) => match word {
+            b"audit" => add_findings(&found, came),
+            b"letters" => add_letters(&found, came),
+            b"sums" => add_sums(&found, came),
+            _ => add_line(b"not a case", &[], came),
+        },
+        Err(AuditError::TooMuch { product }) => add_line(b"too much", &[product], came),
+        Err(AuditError::NoMemory) => Err(NoMemory),
+    }
+}

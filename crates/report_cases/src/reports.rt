@@ -1,0 +1,86 @@
+//! Reports read from texts: their lines and rows, or the fault of the text.
+
+ghost use Rattle.std.specs.Prelude.{◌≤◌, length};
+ghost use Rattle.report_reading.specs.declared.limits.TheConstants.{MOST_REPORT_BYTES};
+
+use crate::audits::add_audit;
+use crate::lines::{add_counts, add_events, add_looks, add_verdicts};
+use crate::texts::tell;
+use air_base::NoMemory;
+use air_report::limits::MOST_REPORT_BYTES;
+use air_report::{ReadReport, ReportError, Rows, read_report, write_report};
+use case_lines::{add_line, add_number};
+use item_catalog::Deck;
+use report_reading::read_lines;
+use std::alloc::Global;
+
+/// Tells the fault of a text that is no report.
+fn add_fault(error: ReportError, came: &mut Vec<u8>) -> Result<(), NoMemory> {
+    match error {
+        ReportError::Fault { row, kind } => {
+            add_line(b"fault", &[u64::from(row), u64::from(kind)], came)
+        }
+        ReportError::NoMemory => Err(NoMemory),
+    }
+}
+
+/// Tells the lines of a text, section by section.
+fn add_lines(alloc: Global, deck: &Deck, text: &[u8], came: &mut Vec<u8>) -> Result<(), NoMemory>
+    requires { length text.now ≤ MOST_REPORT_BYTES }
+{
+    match read_lines(alloc, deck, text) {
+        Ok(lines) => {
+            add_events(&lines.events, came)?;
+            add_verdicts(&lines.verdicts, came)?;
+            add_counts(&lines.counts, came)?;
+            add_looks(b"glance", &lines.glances, came)?;
+            add_looks(b"look", &lines.looks, came)
+        }
+        Err(error) => add_fault(error, came),
+    }
+}
+
+/// Adds a line of row numbers.
+fn add_row_numbers(word: &[u8], rows: &Rows, came: &mut Vec<u8>) -> Result<(), NoMemory> {
+    came.extend_from_slice(word)?;
+    for row in rows.as_slice() {
+        came.push(b' ')?;
+        add_number(u64::from(*row), came)?;
+    }
+    came.push(b'\n')?;
+    Ok(())
+}
+
+/// Tells the rows of a report's lines, and the text that is written of it.
+fn add_rows(alloc: Global, read: &ReadReport, came: &mut Vec<u8>) -> Result<(), NoMemory> {
+    add_row_numbers(b"verdicts", &read.verdict_rows, came)?;
+    add_row_numbers(b"glances", &read.glance_rows, came)?;
+    add_row_numbers(b"looks", &read.look_rows, came)?;
+    let mut text = Vec::new(alloc);
+    write_report(alloc, &read.report, &mut text)?;
+    tell(&text, came)
+}
+
+/// Reads the text as a report of the deck, and tells of it what the word asks for.
+pub fn ask(
+    alloc: Global,
+    deck: &Deck,
+    word: &[u8],
+    text: &[u8],
+    came: &mut Vec<u8>,
+) -> Result<(), NoMemory> {
+    if text.len() > MOST_REPORT_BYTES {
+        return add_line(b"too long", &[], came);
+    }
+    if word == b"lines".as_slice() {
+        return add_lines(alloc, deck, text, came);
+    }
+    match read_report(alloc, deck, text) {
+        Ok(read) => match word {
+            b"report" => add_line(b"report", &[], came),
+            b"rows" => add_rows(alloc, &read, came),
+            word => add_audit(alloc, deck, &read, word, came),
+        },
+        Err(error) => add_fault(error, came),
+    }
+}
