@@ -1,0 +1,153 @@
+//! Buckets read from their bytes, and written again.
+
+ghost use Rattle.std.specs.Prelude.{◌≡◌, IfOk, IsTrue};
+ghost use Rattle.air_model.specs.Buckets.{IsInRange, entries_of, kind_of};
+ghost use Rattle.bucket_codec.specs.BucketsToAir.{body_to_air};
+
+use crate::texts::numbers;
+use air_base::NoMemory;
+use bucket_codec::{Body, Bucket, BucketView, ViewKind, decode, encode, size_of};
+use case_lines::{add_line, add_number};
+use std::alloc::Global;
+
+/// What a slice has at each place before anything is written.
+const UNWRITTEN: u8 = 0xee;
+
+/// What the bucket carries, with these entries.
+fn body_of<'a>(view: &BucketView<'_>, entries: &'a [u32]) -> Body<'a>
+    requires { entries.now ≡ entries_of view.now.body }
+    ensures { body_to_air result ≡ view.now.body }
+{
+    let item = view.item();
+    let value = view.value();
+    match view.kind() {
+        ViewKind::Idle => Body::Idle {
+            count: view.count(),
+        },
+        ViewKind::Column => Body::Column {
+            item,
+            value,
+            entries,
+        },
+        ViewKind::Vector => Body::Vector {
+            item,
+            value,
+            entries,
+        },
+    }
+}
+
+/// The entries, none of an idle slot.
+fn entries_in(alloc: Global, view: &BucketView<'_>) -> Result<Vec<u32>, NoMemory>
+    ensures { IfOk result (λ entries. entries.items ≡ entries_of view.now.body) }
+{
+    match view.kind() {
+        ViewKind::Idle => Ok(Vec::new(alloc)),
+        _ => {
+            let mut entries = vec![in alloc; 9; view.count() as usize]?;
+            view.fill(&mut entries);
+            Ok(entries)
+        }
+    }
+}
+
+/// Whether the bucket has these bytes when it is written again, to the front of a slice with this many more bytes, which
+/// stay as they are.
+fn is_written(
+    alloc: Global,
+    view: &BucketView<'_>,
+    entries: &[u32],
+    bytes: &[u8],
+    more: u8,
+) -> Result<bool, NoMemory>
+    requires range { IsInRange view.now }
+    requires entries { entries.now ≡ entries_of view.now.body }
+{
+    let bucket = Bucket {
+        edition: view.edition(),
+        cycle: view.cycle(),
+        slot: view.slot(),
+        body: body_of(view, entries),
+    };
+    let size = size_of(&bucket);
+    if size != bytes.len() {
+        return Ok(false);
+    }
+    let mut out = vec![in alloc; UNWRITTEN; bytes.len() + more as usize]?;
+    let len = encode(&bucket, &mut out);
+    let (front, behind) = out.split_at(bytes.len());
+    let mut same = len == size && front == bytes;
+    for byte in behind {
+        same &= *byte == UNWRITTEN;
+    }
+    Ok(same)
+}
+
+/// Adds the head of the bucket, and its entries one by one.
+fn add_view(view: &BucketView<'_>, came: &mut Vec<u8>) -> Result<(), NoMemory> {
+    let kind = match view.kind() {
+        ViewKind::Idle => "idle",
+        ViewKind::Column => "column",
+        ViewKind::Vector => "vector",
+    };
+    came.extend_from_slice(kind.as_bytes())?;
+    add_line(b" of edition", &[u64::from(view.edition())], came)?;
+    add_line(b"items", &[u64::from(view.count())], came)?;
+    add_line(b"cycle", &[u64::from(view.cycle())], came)?;
+    add_line(b"slot", &[u64::from(view.slot())], came)?;
+    add_line(b"item", &[u64::from(view.item())], came)?;
+    add_line(b"value", &[view.value()], came)?;
+    came.extend_from_slice(b"entries")?;
+    if view.kind() != ViewKind::Idle {
+        for item in 0..view.count() {
+            came.push(b' ')?;
+            add_number(u64::from(view.entry(item)), came)?;
+        }
+    }
+    came.push(b'\n')?;
+    Ok(())
+}
+
+/// Adds what the bytes say and whether they are written again so, or the first fault.
+pub fn read_bucket(alloc: Global, bytes: &[u8], came: &mut Vec<u8>) -> Result<(), NoMemory> {
+    match decode(bytes) {
+        Ok(view) => {
+            add_view(&view, came)?;
+            let entries = entries_in(alloc, &view)?;
+            let exact = is_written(alloc, &view, &entries, bytes, 0)?;
+            let longer = is_written(alloc, &view, &entries, bytes, 8)?;
+            if exact && longer && bytes.get(24..) == Some(view.entry_bytes()) {
+                add_line(b"written as read", &[], came)
+            } else {
+                add_line(b"written otherwise", &[], came)
+            }
+        }
+        Err(fault) => {
+            let text = format!(in alloc; "{fault}\n")?;
+            came.extend_from_slice(text.as_bytes())?;
+            Ok(())
+        }
+    }
+}
+
+/// Reads the bytes, cut or with zeros after them to a length, and with some bytes replaced: the length, and then the
+/// place and the byte of each that is replaced.
+pub fn edited(
+    alloc: Global,
+    bytes: &[u8],
+    about: &[u8],
+    came: &mut Vec<u8>,
+) -> Result<(), NoMemory> {
+    let numbers = numbers(alloc, about)?;
+    let mut edited = Vec::new(alloc);
+    let mut edits = numbers.iter();
+    for place in 0..edits.next().copied().unwrap_or(0) {
+        edited.push(bytes.get(place as usize).copied().unwrap_or(0))?;
+    }
+    while let (Some(place), Some(byte)) = (edits.next(), edits.next()) {
+        if let Some(old) = edited.get_mut(*place as usize) {
+            *old = u8::try_from(*byte).unwrap_or(0);
+        }
+    }
+    read_bucket(alloc, &edited, came)
+}
