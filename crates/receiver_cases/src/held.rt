@@ -6,12 +6,41 @@ ghost use Rattle.std.specs.Prelude.{◌≡◌, ◌<◌, ◌≤◌, [], ◌∷◌
 ghost use Rattle.air_history.specs.Clashes.{clash_by_entries};
 ghost use Rattle.air_history.specs.HeldReads.{IsNew};
 ghost use Rattle.held_entries.specs.HeardReads.{heard_read};
-ghost use Rattle.vector_policies_tests.specs.PolicyReads.{held_of, least_cycle, policy_of};
+ghost use Rattle.receiver_cases.specs.PolicyReads.{held_of, least_cycle, policy_of};
 
 use air_base::{Clash, NoMemory, Policy};
+use case_lines::add_number;
 use column_check::{Held, ROOM};
+use held_entries::NOT_HELD;
 use std::alloc::Global;
 use vector_policies::{DataHeld, RHeld};
+
+/// Adds a line: how many reads are held, the cycle of the last, if there is one, and the held cycle of each item, where `-` is
+/// no cycle.
+fn add_held(
+    len: usize,
+    last: Option<u32>,
+    cycles: &[u32],
+    came: &mut Vec<u8>,
+) -> Result<(), NoMemory> {
+    came.extend_from_slice(b"holds ")?;
+    add_number(len as u64, came)?;
+    if let Some(cycle) = last {
+        came.extend_from_slice(b", last ")?;
+        add_number(u64::from(cycle), came)?;
+    }
+    came.extend_from_slice(b"; cycles")?;
+    for cycle in cycles {
+        came.push(b' ')?;
+        if *cycle == NOT_HELD {
+            came.push(b'-')?;
+        } else {
+            add_number(u64::from(*cycle), came)?;
+        }
+    }
+    came.push(b'\n')?;
+    Ok(())
+}
 
 /// The held reads in order.
 #[derive(Drop)]
@@ -45,21 +74,12 @@ impl PolicyHeld {
         }
     }
 
-    /// The cycle of the last held read.
-    pub fn last(&self) -> Option<u32> {
+    /// Adds how many reads are held, the cycle of the last, and the held cycle of each item.
+    pub fn show(&self, came: &mut Vec<u8>) -> Result<(), NoMemory> {
         match self {
-            PolicyHeld::FMatrix(held) => held.last(),
-            PolicyHeld::Datacycle(held) => held.last(),
-            PolicyHeld::RMatrix(held) => held.last(),
-        }
-    }
-
-    /// The held cycle of each item.
-    pub fn cycles(&self) -> &[u32] {
-        match self {
-            PolicyHeld::FMatrix(held) => held.cycles(),
-            PolicyHeld::Datacycle(held) => held.cycles(),
-            PolicyHeld::RMatrix(held) => held.cycles(),
+            PolicyHeld::FMatrix(held) => add_held(held.len(), held.last(), held.cycles(), came),
+            PolicyHeld::Datacycle(held) => add_held(held.len(), held.last(), held.cycles(), came),
+            PolicyHeld::RMatrix(held) => add_held(held.len(), held.last(), held.cycles(), came),
         }
     }
 

@@ -5,8 +5,8 @@ use Rattle.air_base.specs.declared.verdicts.Policy.TheVariants.{FMatrix, Datacyc
 use Rattle.air_history.specs.Clashes.{read_at}
 use Rattle.air_history.specs.HeldReads.{HeldReads}
 use Rattle.air_history.specs.Reads.{last_cycle}
-use Rattle.vector_policies_tests.specs.declared.policy_held.PolicyHeld.{PolicyHeld}
-use Rattle.vector_policies_tests.specs.declared.policy_held.PolicyHeld.TheVariants as by_policy
+use Rattle.receiver_cases.specs.declared.held.PolicyHeld.{PolicyHeld}
+use Rattle.receiver_cases.specs.declared.held.PolicyHeld.TheVariants as by_policy
 
 -- The policy that checks them.
 abbrev pub policy_of : PolicyHeld → Policy

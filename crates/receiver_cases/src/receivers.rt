@@ -1,0 +1,142 @@
+//! Receivers of a deck's text, and their calls.
+
+use air_base::{NoMemory, Verdict, VerdictKind};
+use case_lines::{add_line, bytes_of_hex};
+use chunk_program::{PlanFault, Program, cut};
+use item_catalog::{DeckError, read_deck};
+use receiver_core::{Fed, Receiver, Step};
+use std::alloc::Global;
+
+/// The text's receiver of a number.
+pub fn new_receiver(
+    alloc: Global,
+    text: &[u8],
+    number: u64,
+    came: &mut Vec<u8>,
+) -> Result<Option<Receiver>, NoMemory> {
+    if text.len() > 67_108_864 {
+        return Ok(None);
+    }
+    let deck = match read_deck(alloc, text) {
+        Ok(deck) => deck,
+        Err(DeckError::NoMemory) => return Err(NoMemory),
+        Err(DeckError::Fault(_)) => {
+            add_line(b"no deck", &[], came)?;
+            return Ok(None);
+        }
+    };
+    let cut = cut(alloc, &deck)?;
+    let program = match Program::plan(alloc, &deck, &cut) {
+        Ok(program) => program,
+        Err(PlanFault::NoMemory) => return Err(NoMemory),
+        Err(PlanFault::TooLong { .. }) => {
+            add_line(b"no program", &[], came)?;
+            return Ok(None);
+        }
+    };
+    let number = u32::try_from(number).unwrap_or(u32::MAX);
+    if number >= deck.readers() {
+        add_line(b"no reader", &[], came)?;
+        return Ok(None);
+    }
+    Ok(Some(Receiver::new(alloc, &deck, number, &program)?))
+}
+
+/// Adds the verdict.
+fn add_verdict(verdict: &Verdict, came: &mut Vec<u8>) -> Result<(), NoMemory> {
+    let query = u64::from(verdict.query);
+    let attempt = u64::from(verdict.attempt);
+    match verdict.kind {
+        VerdictKind::Accept => add_line(b"accepts query, at attempt", &[query, attempt], came),
+        VerdictKind::Unfinished => add_line(b"ends query, attempt", &[query, attempt], came),
+        VerdictKind::Abort { item, cycle, clash } => {
+            add_line(b"aborts query, attempt", &[query, attempt], came)?;
+            let numbers = [u64::from(item), u64::from(cycle), u64::from(clash)];
+            add_line(b"by item, cycle, clash", &numbers, came)
+        }
+    }
+}
+
+/// Adds what a step came to.
+fn add_step(step: &Step, came: &mut Vec<u8>) -> Result<(), NoMemory> {
+    match step {
+        Step::Verdict(verdict) => add_verdict(verdict, came),
+        Step::Waiting => add_line(b"waits", &[], came),
+        Step::Done => add_line(b"done", &[], came),
+    }
+}
+
+/// Hears the bytes and makes a step, where the receiver is settled and has counted little.
+fn hear(
+    alloc: Global,
+    receiver: &mut Receiver,
+    bytes: &[u8],
+    came: &mut Vec<u8>,
+) -> Result<(), NoMemory> {
+    let counts = receiver.counts();
+    let few = counts.opened < 99
+        && counts.dozed < 99
+        && counts.late < 99
+        && counts.refused < 99
+        && counts.foreign < 99;
+    if !few || !receiver.settled() {
+        return add_line(b"not a call", &[], came);
+    }
+    match receiver.feed(bytes) {
+        Fed::Refused(fault) => {
+            let text = format!(in alloc; "refused: {fault}\n")?;
+            came.extend_from_slice(text.as_bytes())?;
+        }
+        Fed::Foreign => add_line(b"foreign", &[], came)?,
+        Fed::Dozed => add_line(b"dozed", &[], came)?,
+        Fed::Late => add_line(b"late", &[], came)?,
+        Fed::Opened => add_line(b"opened", &[], came)?,
+    }
+    add_step(&receiver.step(), came)
+}
+
+/// Adds the reads of the last verdict.
+fn add_reads(receiver: &Receiver, came: &mut Vec<u8>) -> Result<(), NoMemory> {
+    for read in receiver.last_reads() {
+        let numbers = [u64::from(read.item), u64::from(read.cycle), read.value];
+        add_line(b"item, cycle, value", &numbers, came)?;
+    }
+    Ok(())
+}
+
+/// A call of the receiver.
+pub fn call(
+    alloc: Global,
+    receiver: &mut Receiver,
+    word: &[u8],
+    about: &[u8],
+    came: &mut Vec<u8>,
+) -> Result<(), NoMemory> {
+    match word {
+        b"hear" => hear(alloc, receiver, &bytes_of_hex(alloc, about)?, came),
+        b"step" => add_step(&receiver.step(), came),
+        b"reads" => add_reads(receiver, came),
+        b"wanted" => match receiver.wanted() {
+            Some(item) => add_line(b"item", &[u64::from(item)], came),
+            None => add_line(b"none", &[], came),
+        },
+        b"end" if receiver.settled() => match receiver.end() {
+            Some(verdict) => add_verdict(&verdict, came),
+            None => add_line(b"none", &[], came),
+        },
+        b"counts" => {
+            let counts = receiver.counts();
+            add_line(
+                b"opened, dozed, late",
+                &[counts.opened, counts.dozed, counts.late],
+                came,
+            )?;
+            add_line(
+                b"refused, foreign, copied",
+                &[counts.refused, counts.foreign, counts.copied],
+                came,
+            )
+        }
+        _ => add_line(b"not a call", &[], came),
+    }
+}

@@ -1,0 +1,87 @@
+//! Attempts of drawn reads.
+//!
+//! An attempt tries twenty reads, and holds those that clash with none while there is room. The first `seed` modulo 17 reads are
+//! quiet: their entries are below 3, so that they go together. Those of the others are below their cycle.
+
+use crate::attempts::Attempt;
+use crate::texts::{numbers, policy_of};
+use air_base::{NoMemory, Policy};
+use case_lines::{add_line, first_word};
+use std::alloc::Global;
+
+/// A row of `n` entries below the limit.
+fn drawn(alloc: Global, n: u16, limit: u32, dice: u32) -> Result<Vec<u32>, NoMemory> {
+    let mut row = Vec::new(alloc);
+    let mut state = dice;
+    for _ in 0..n {
+        state = state.wrapping_mul(1664525).wrapping_add(1013904223);
+        row.push((state >> 8) % limit.max(1))?;
+    }
+    Ok(row)
+}
+
+/// The cycle of a read of a number: from 3 to 9, but under R-Matrix it rises with the number, so that the quiet reads are never
+/// late, and of the others most aren't.
+fn cycle_of(policy: Policy, number: u32, is_quiet: bool, dice: u32) -> u32 {
+    match policy {
+        Policy::RMatrix if is_quiet => (number / 2).wrapping_add(3),
+        Policy::RMatrix => (3 + (dice >> 16) % 3).wrapping_add(number / 2),
+        _ => 3 + (dice >> 16) % 7,
+    }
+}
+
+/// Plays the attempt of a seed, and adds what came of each read, what is held then, and what after all was cleared.
+fn play_seed(
+    alloc: Global,
+    attempt: &mut Attempt,
+    policy: Policy,
+    n: u16,
+    seed: u32,
+    came: &mut Vec<u8>,
+) -> Result<(), NoMemory> {
+    for number in 0..20u32 {
+        let dice = seed
+            .wrapping_mul(2654435761)
+            .wrapping_add(number.wrapping_mul(40503));
+        let item = seed.wrapping_add(number.wrapping_mul(5)) % u32::from(n).max(1);
+        let is_quiet = number < seed % 17;
+        let cycle = cycle_of(policy, number, is_quiet, dice);
+        let entries = drawn(alloc, n, if is_quiet { 3 } else { cycle }, dice)?;
+        let item = u16::try_from(item).unwrap_or(0);
+        attempt.read(item, cycle, &entries, true, came)?;
+    }
+    attempt.show(came)?;
+    attempt.clear();
+    attempt.show(came)
+}
+
+/// The FNV-1a sum of 64 bits of the bytes.
+fn sum(bytes: &[u8]) -> u64 {
+    let mut sum = 14695981039346656037u64;
+    for byte in bytes {
+        sum = (sum ^ u64::from(*byte)).wrapping_mul(1099511628211);
+    }
+    sum
+}
+
+/// Plays the attempts of a range of seeds: the case has the policy, the number of items, the first seed, and the one after the
+/// last. Adds their lines, where these are few, or how many bytes they have, and the sum of these.
+pub fn play_seeds(alloc: Global, about: &[u8], came: &mut Vec<u8>) -> Result<(), NoMemory> {
+    let (letter, about) = first_word(about);
+    let policy = policy_of(letter);
+    let numbers = numbers(alloc, about)?;
+    let [n, from, to] = numbers.as_slice() else {
+        return add_line(b"not a call", &[], came);
+    };
+    let n = u16::try_from(*n).unwrap_or(0);
+    let mut attempt = Attempt::new(alloc, policy, n)?;
+    let mut lines = Vec::new(alloc);
+    for seed in *from..*to {
+        play_seed(alloc, &mut attempt, policy, n, seed, &mut lines)?;
+    }
+    if lines.len() < 1000 {
+        came.extend_from_slice(&lines)?;
+        return Ok(());
+    }
+    add_line(b"bytes, sum", &[lines.len() as u64, sum(&lines)], came)
+}
