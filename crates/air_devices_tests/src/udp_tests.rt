@@ -1,17 +1,12 @@
-//! Datagrams that a mast sends and an ear hears, over real sockets of this machine, and what each keeps of its last failure.
+//! Datagrams that a mast sends and an ear hears, over real sockets of this machine.
 //!
-//! At the other end stands a socket of the test. A datagram to this machine waits at the socket of its port from the moment
+//! At the other end is a socket of the test. A datagram to this machine waits at the socket of its port from the moment
 //! that its send returns, so that what was sent is there to be heard.
 
 ghost use Rattle.std.specs.Prelude.{IsSome};
 
-use crate::broken::Broken;
-use crate::ear_tests::heard_other;
-use crate::mast_tests::send;
-use crate::shelves::{Answer, told_parts};
 use air_base::limits::MOST_DATAGRAM_BYTES;
-use air_devices::{Ear, Failed, Mast, NetCall, NetFailure, ReadFileError, UdpEar, UdpMast};
-use std::alloc::Global;
+use air_devices::{Ear, Failed, Heard, Mast, NetCall, NetFailure, UdpEar, UdpMast};
 use std::io::{self, ErrorKind};
 use std::net::{Net, SocketAddr, UdpSocket};
 use std::test::Fail;
@@ -28,6 +23,17 @@ fn plain_socket<R: Net>(net: &R) -> io::Result<(UdpSocket, u16)> {
     socket.set_read_timeout(Some(Duration::from_secs(10)))?;
     let port = socket.local_addr()?.port();
     Ok((socket, port))
+}
+
+/// Sends the bytes, or the end where there are none; it fails where they are past the longest.
+fn send<M: Mast>(mast: &mut M, bytes: &[u8]) -> Result<(), Failed> {
+    if bytes.is_empty() {
+        return mast.finish();
+    }
+    if bytes.len() > MOST_DATAGRAM_BYTES {
+        return Err(Failed);
+    }
+    mast.send(bytes)
 }
 
 /// The place of the first datagram that the mast doesn't send, or that doesn't come to the socket as it was sent.
@@ -71,23 +77,32 @@ fn free_port<R: Net>(net: &R) -> io::Result<u16> {
     Ok(port)
 }
 
-/// Sends the datagram of each row to the ear's port, and lets the ear hear it: the place of the first that isn't heard as told, and
-/// what is heard. A row is the datagram, `>` and the bytes that are heard.
+/// The bytes that are heard with room for three, none at the end or where it fails.
+fn heard_is<E: Ear>(ear: &mut E, told: &[u8]) -> bool
+    requires { IsSome (E.state ear.old).port }
+    ensures { IsSome (E.state ear.new).port }
+{
+    let mut buf = [0; 3];
+    match ear.hear(&mut buf) {
+        Ok(Heard::Bucket(len)) => len > 0 && &buf[..len] == told,
+        Ok(Heard::Over) => told.is_empty(),
+        Err(_) => false,
+    }
+}
+
+/// Sends each datagram to the ear's port, and lets the ear hear it: the place of the first that isn't heard as told.
 fn first_misheard<E: Ear>(
     far: &UdpSocket,
     port: u16,
     ear: &mut E,
-    script: &str,
-) -> io::Result<Option<(usize, Answer)>>
+    rows: &[(&[u8], &[u8])],
+) -> io::Result<Option<usize>>
     requires { IsSome (E.state ear.old).port }
 {
-    for (place, row) in script.split(';').enumerate() {
-        let Some((bytes, told)) = told_parts(row) else {
-            return Ok(Some((place, Err(ReadFileError::NoMemory))));
-        };
-        far.send_to(bytes.as_bytes(), loopback(port))?;
-        if let Some(answer) = heard_other(ear, &told) {
-            return Ok(Some((place, answer)));
+    for (place, (sent, told)) in rows.iter().enumerate() {
+        far.send_to(sent, loopback(port))?;
+        if !heard_is(ear, told) {
+            return Ok(Some(place));
         }
     }
     Ok(None)
@@ -101,7 +116,14 @@ fn an_ear_hears_datagrams_cut_to_its_buffer_and_an_empty_one_as_the_end(
     let port = free_port(&rt)?;
     let mut ear = UdpEar::new(rt.clone()?);
     let tuned = ear.tune_in(port);
-    let misheard = first_misheard(&far, port, &mut ear, "ab>ab;abcd>abc;e>e;>;abc>abc")?;
+    let rows: [(&[u8], &[u8]); 5] = [
+        (b"ab", b"ab"),
+        (b"abcd", b"abc"),
+        (b"e", b"e"),
+        (b"", b""),
+        (b"abc", b"abc"),
+    ];
+    let misheard = first_misheard(&far, port, &mut ear, &rows)?;
     let told = (tuned, misheard, ear.last_failure().is_none());
     assert_eq!(rt; told, (Ok(()), None, true));
     Ok(())
@@ -123,51 +145,4 @@ fn a_port_that_an_ear_has_is_refused_to_another(rt: HostRuntime) -> Result<(), F
 fn failure_parts(failure: Option<&NetFailure>) -> Option<(NetCall, Option<u16>, ErrorKind)> {
     let failure = failure?;
     Some((failure.call(), failure.port(), failure.error().kind()))
-}
-
-/// Adds a row: what a call that fails says, behind `done` where it doesn't fail.
-fn add_said(
-    alloc: Global,
-    text: &mut String,
-    answer: Result<(), Failed>,
-    failure: Option<&NetFailure>,
-) -> Result<(), Fail> {
-    if answer.is_ok() {
-        text.push_str("done ")?;
-    }
-    if let Some(failure) = failure {
-        text.push_str(format!(in alloc; "{failure}\n")?.as_str())?;
-    }
-    Ok(())
-}
-
-#[test]
-fn a_mast_says_what_failed(rt: HostRuntime) -> Result<(), Fail> {
-    let mut text = String::new(rt.alloc());
-    let mut mast = UdpMast::new(Broken);
-    let ended = mast.finish();
-    add_said(rt.alloc(), &mut text, ended, mast.last_failure())?;
-    let aimed = mast.aim(4000);
-    add_said(rt.alloc(), &mut text, aimed, mast.last_failure())?;
-    let sent = mast.send(b"a");
-    add_said(rt.alloc(), &mut text, sent, mast.last_failure())?;
-    let told = "sending the end to no port: there is nothing to send from\n\
-        aiming at port 4000: broken pipe\n\
-        sending to port 4000: there is nothing to send from\n";
-    assert_eq!(rt; text.as_str(), told);
-    Ok(())
-}
-
-#[test]
-fn an_ear_says_what_failed(rt: HostRuntime) -> Result<(), Fail> {
-    let mut text = String::new(rt.alloc());
-    let mut ear = UdpEar::new(Broken);
-    let tuned = ear.tune_in(4000);
-    add_said(rt.alloc(), &mut text, tuned, ear.last_failure())?;
-    let heard = ear.hear(&mut [0; 3]).map(|_| ());
-    add_said(rt.alloc(), &mut text, heard, ear.last_failure())?;
-    let told = "tuning in to port 4000: broken pipe\n\
-        hearing on port 4000: there is nothing to hear with\n";
-    assert_eq!(rt; text.as_str(), told);
-    Ok(())
 }

@@ -1,5 +1,5 @@
 use Rattle.std.proofs.Common.{◌≤◌, length, All}
-use Rattle.air_devices_tests.proofs.ear_tests.buckets.Given as goal
+use Rattle.device_cases.proofs.ears.buckets.Given as goal
 
 abbrev pub invariant-loop-bucket : goal.invariant-loop-bucket
 invariant-loop-bucket l = All (λ bytes. 1 ≤ length bytes.items) l.all.items
