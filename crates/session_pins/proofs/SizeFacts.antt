@@ -1,0 +1,47 @@
+-- How many bytes a cycle of a small deck has.
+use Rattle.std.proofs.Common.{◌≡◌, ◌≤◌, ◌<◌, ◌*◌, ◌∙◌, ℕ, zero, suc, List, length, map, None, [], ◌∷◌, ap, refl, arith}
+use Rattle.air_model.specs.Decks.{Deck, Item, disks_in}
+use Rattle.air_model.specs.Disks.{Disk, DiskSpec, cut, order, order_with}
+use Rattle.air_model.specs.Programs.{chunk, chunk_len, least_common_multiple, minor_cycle, num_chunks, num_minors, program}
+use Rattle.board_laws.specs.TapeSizes.{cycle_size}
+use Rattle.session_pins.specs.SmallDecks.{frequent, pair, scripted}
+
+-- The size of a cycle of these items on these disks.
+abbrev size_of : List Item → List DiskSpec → ℕ
+size_of items disks = cycle_size (length items) (program (cut (order (map (λ i. i.rate) items)) disks))
+
+-- The pair's two slots have 36 bytes each, and 64 slots of one item 32.
+record Sizes : Type 0 where
+  pair_size : size_of pair.items pair.disks ≡ 72
+  frequent_size : size_of frequent.items frequent.disks ≡ 2048
+
+sizes_computed : Sizes
+unfolding cut order order_with chunk chunk_len least_common_multiple minor_cycle num_chunks num_minors program
+sizes_computed = record { pair_size = refl; frequent_size = refl }
+
+-- Items, disks and program that are these have this size.
+size_at : (deck : Deck) (disks : List Disk) (items : List Item) (specs : List DiskSpec) (size : ℕ) → deck.items ≡ items → deck.disks ≡ specs → disks ≡ disks_in deck →
+    size_of items specs ≡ size → cycle_size (length deck.items) (program disks) ≡ size
+size_at deck disks items specs size same_items same_disks planned sized =
+    ap (λ ds. cycle_size (length deck.items) (program ds)) planned ∙ ap (λ is. size_of is deck.disks) same_items ∙ ap (size_of items) same_disks ∙ sized
+
+-- The size of a cycle of the pair with a script of its own.
+pub scripted_size : (deck : Deck) (disks : List Disk) → deck ≡ scripted (None ∷ None ∷ []) → disks ≡ disks_in deck →
+    1 * cycle_size (length deck.items) (program disks) ≡ 72
+scripted_size deck disks is_scripted planned =
+    omega (arith, size_at deck disks pair.items pair.disks 72 (ap (λ d. d.items) is_scripted) (ap (λ d. d.disks) is_scripted) planned sizes_computed.pair_size)
+
+-- Where a piece has 4,194,304 bytes at most, or one cycle, it has no more than 2,048 cycles of 2,048 bytes.
+few_cycles : (n size : ℕ) → size ≡ 2048 → (1 < n → n * size ≤ 4194304) → n ≤ 2048
+few_cycles zero size e few = omega arith
+few_cycles (suc zero) size e few = omega arith
+few_cycles (suc (suc n)) size e few =
+    let fits : suc (suc n) * size ≤ 4194304 = few (omega arith) in
+    let same : suc (suc n) * size ≡ suc (suc n) * 2048 = ap (λ s. suc (suc n) * s) e in
+    omega (arith, fits, same)
+
+-- So it is of the deck whose item is frequent.
+pub few_frequent : (deck : Deck) (disks : List Disk) (n : ℕ) → deck.items ≡ frequent.items → deck.disks ≡ frequent.disks → disks ≡ disks_in deck →
+    (1 < n → n * cycle_size (length deck.items) (program disks) ≤ 4194304) → n ≤ 2048
+few_frequent deck disks n same_items same_disks planned few =
+    few_cycles n (cycle_size (length deck.items) (program disks)) (size_at deck disks frequent.items frequent.disks 2048 same_items same_disks planned sizes_computed.frequent_size) few

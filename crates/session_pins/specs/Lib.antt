@@ -1,0 +1,5 @@
+pub mod SmallDecks
+pub mod SmallBuckets
+pub mod SmallReceivers
+pub mod SmallListeners
+pub mod Refusals

@@ -1,0 +1,25 @@
+-- Buckets of two items, as receivers see them and as bytes, and tapes of them.
+use Rattle.std.specs.Prelude.{ℕ, List, [], ◌∷◌, ◌++◌, None}
+use Rattle.air_model.specs.Buckets.{Body, Bucket}
+use Rattle.air_model.specs.Tapes.{TapeRead}
+
+-- A bucket of edition 0.
+abbrev pub bucket : ℕ → ℕ → Body → Bucket
+bucket cycle slot body = record { edition = 0; cycle = cycle; slot = slot; body = body }
+
+-- The bytes of an item's bucket in a cycle, in the slot of its number: its value, and the column 0 0.
+abbrev pub item_bytes : ℕ → ℕ → ℕ → List ℕ
+item_bytes cycle item value = 0x41 ∷ 0x44 ∷ 1 ∷ 1 ∷ 0 ∷ 0 ∷ 0 ∷ 2 ∷ 0 ∷ 0 ∷ 0 ∷ cycle ∷ 0 ∷ item ∷ 0 ∷ item ∷ 0 ∷ 0 ∷ 0 ∷ 0 ∷ 0 ∷ 0 ∷ 0 ∷ value
+    ∷ 0 ∷ 0 ∷ 0 ∷ 0 ∷ 0 ∷ 0 ∷ 0 ∷ 0 ∷ []
+
+-- What a tape of the buckets of cycle 1 holds.
+abbrev pub both_records : TapeRead
+both_records = record { records = item_bytes 1 0 10 ∷ item_bytes 1 1 20 ∷ []; cut = None }
+
+-- That tape: each bucket with its length before it.
+abbrev pub pair_tape : List ℕ
+pair_tape = 0 ∷ 0 ∷ 0 ∷ 32 ∷ item_bytes 1 0 10 ++ 0 ∷ 0 ∷ 0 ∷ 32 ∷ item_bytes 1 1 20
+
+-- The tape ends inside the length of its second record, which begins at byte 36.
+abbrev pub cut_tape : List ℕ
+cut_tape = 0 ∷ 0 ∷ 0 ∷ 32 ∷ item_bytes 1 0 10 ++ 0 ∷ 0 ∷ 0 ∷ []

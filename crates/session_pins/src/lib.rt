@@ -1,0 +1,13 @@
+//! Worked examples of the libraries of sessions: for a call and small values, the exact answer.
+//!
+//! Each function is one call. Its `requires` fixes what is handed in, and its `ensures` is the answer, proved from the called
+//! function's contract alone. So a contract that lets another answer through fails it, and so does a changed definition. A
+//! function is named for the blunder that it refuses. `specs/` has the values: small decks, their buckets and receivers.
+#![tactic(auto)]
+
+pub mod aired_pieces_pins;
+pub mod aired_sessions_pins;
+pub mod listeners_pins;
+pub mod receiver_core_pins;
+pub mod script_run_pins;
+pub mod tape_pieces_pins;

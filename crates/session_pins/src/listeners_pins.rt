@@ -1,0 +1,85 @@
+//! Pins of `listeners`: a listener that hears one bucket, or ends, and readers that hear a tape of two buckets.
+#![tactic(auto, unfolding(air_history::specs::Clashes::least, air_history::specs::Clashes::is_late, air_history::specs::Clashes::clash_by_entries, air_model::specs::Copies::keep, air_model::specs::Copies::without_item, air_model::specs::Copies::with_copy, air_model::specs::Aired::body_fits, air_model::specs::Aired::fits, air_model::specs::Judges::by_entries, air_model::specs::Sessions::query_of, air_model::specs::Sessions::wanted, air_model::specs::Sessions::line_of, air_model::specs::Sessions::with_line, air_model::specs::Sessions::count_opened, air_model::specs::Sessions::count_dozed, air_model::specs::Sessions::count_late, air_model::specs::Sessions::count_refused, air_model::specs::Sessions::count_foreign, air_model::specs::Sessions::next_query, air_model::specs::Sessions::next_attempt, air_model::specs::Sessions::accept_if_whole, air_model::specs::Sessions::hold, air_model::specs::Sessions::abort, air_model::specs::Sessions::drop_copy, air_model::specs::Sessions::copy_of, air_model::specs::Sessions::decide, air_model::specs::Sessions::offer, air_model::specs::Sessions::open_bucket, air_model::specs::Sessions::hear_read, air_model::specs::Sessions::hear, air_model::specs::Sessions::turn_with, air_model::specs::Sessions::turn, air_model::specs::Sessions::settle, air_model::specs::Sessions::end_query, air_model::specs::Sessions::end, listeners::specs::Listeners::hears_one, listeners::specs::Listeners::end_state))]
+
+ghost use Rattle.std.specs.Prelude.{◌≡◌, [], ◌∷◌, IfOk, Ok, OnOk};
+ghost use Rattle.air_base.specs.declared.verdicts.VerdictKind.TheVariants.{Unfinished};
+ghost use Rattle.air_model.specs.Buckets.{Column};
+ghost use Rattle.air_model.specs.Decks.{disks_in};
+ghost use Rattle.air_model.specs.Sessions.{start};
+ghost use Rattle.air_model.specs.Tapes.{tape_read};
+ghost use Rattle.session_pins.specs.SmallBuckets.{both_records, bucket};
+ghost use Rattle.session_pins.specs.SmallDecks.{noisy};
+ghost use Rattle.session_pins.specs.SmallListeners.{accepted, listener_in};
+ghost use Rattle.session_pins.specs.SmallReceivers.{counted, counts, heard as heard_read, holding, read, told};
+
+use air_base::NoMemory;
+use air_model::reports::{CountsLine, VerdictLine};
+use bucket_codec::{BucketFault, BucketView};
+use chunk_program::Program;
+use item_catalog::Deck;
+use listeners::{Listener, Sessions, Together, ether_sessions};
+use std::alloc::Global;
+use std::thread::Threads;
+
+/// A listener hears what was read of the bytes: item 0 is held, and kept as a copy.
+pub fn every_record_refused_to_all(
+    listener: &mut Listener,
+    alloc: Global,
+    heard: &Result<BucketView<'_>, BucketFault>,
+) -> Result<(), NoMemory>
+    requires listener { listener.old ≡ listener_in 0 start }
+    requires heard { heard.now ≡ Ok (bucket 1 0 (Column 0 10 (0 ∷ 0 ∷ []))) }
+    ensures { OnOk result (listener.new ≡ listener_in 0 (record (holding 1) { copies = heard_read 0 1 10 (0 ∷ 0 ∷ []) ∷ [] })) }
+{
+    listener.hear(alloc, heard)
+}
+
+/// The lines of a session are those of its own reader, and each has its reads (lines without their reads).
+pub fn lines_of_the_first_reader(
+    listener: Listener,
+    alloc: Global,
+    verdicts: &mut Vec<VerdictLine>,
+    lines: &mut Vec<CountsLine>,
+) -> Result<(), NoMemory>
+    requires listener { listener ≡ listener_in 1 (holding 1) }
+    requires verdicts { verdicts.old.items ≡ [] }
+    requires lines { lines.old.items ≡ [] }
+    ensures verdicts { OnOk result (verdicts.new.items ≡ told 1 Unfinished (read 0 1 10 ∷ []) ∷ []) }
+    ensures lines { OnOk result (lines.new.items ≡ counted 1 (counts 1 0 0 0 0 0) ∷ []) }
+{
+    listener.end(alloc, verdicts, lines)
+}
+
+/// Each reader hears through its own ether, by its own generator (readers share one generator), and in the order of the tape (pairs
+/// heard in the other order); where memory runs out no session is told (out of memory told as heard).
+pub fn lossy_ethers_heard_together<T: Threads + Sync>(
+    threads: &T,
+    alloc: Global,
+    deck: &Deck,
+    program: &Program,
+    tape: &[u8],
+) -> Result<Sessions, NoMemory>
+    requires deck { deck.now ≡ noisy }
+    requires planned { program.now ≡ disks_in noisy }
+    requires tape { tape_read tape.now ≡ both_records }
+    ensures verdicts { IfOk result (λ s. s.verdicts.items ≡ told 0 Unfinished [] ∷ told 1 Unfinished (read 0 1 10 ∷ []) ∷ []) }
+    ensures lines { IfOk result (λ s. s.counts.items ≡ counted 0 (counts 0 0 0 0 0 0) ∷ counted 1 (counts 1 1 0 0 0 0) ∷ []) }
+{
+    let sessions = ether_sessions(threads, alloc, deck, program, tape)?;
+    Ok(sessions)
+}
+
+/// Readers who hear a piece side by side hear all of it in its order, or memory ran out for one of them (out of memory in a
+/// piece told as done).
+pub fn piece_heard_in_two_orders<T: Threads + Sync>(
+    readers: &mut Together,
+    threads: &T,
+    alloc: Global,
+    tape: &[u8],
+) -> Result<(), NoMemory>
+    requires readers { readers.old ≡ listener_in 0 start ∷ listener_in 1 start ∷ [] }
+    requires tape { tape_read tape.now ≡ both_records }
+    ensures { OnOk result (readers.new ≡ accepted 0 ∷ accepted 1 ∷ []) }
+{
+    readers.hear(threads, alloc, tape)
+}

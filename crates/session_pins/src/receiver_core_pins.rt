@@ -1,0 +1,93 @@
+//! Pins of `receiver_core`: what one heard bucket does to a receiver of two items.
+#![tactic(auto, unfolding(air_history::specs::Clashes::least, air_history::specs::Clashes::is_late, air_history::specs::Clashes::clash_by_entries, air_model::specs::Copies::keep, air_model::specs::Copies::without_item, air_model::specs::Copies::with_copy, air_model::specs::Aired::body_fits, air_model::specs::Aired::fits, air_model::specs::Judges::by_entries, air_model::specs::Sessions::query_of, air_model::specs::Sessions::wanted, air_model::specs::Sessions::line_of, air_model::specs::Sessions::with_line, air_model::specs::Sessions::count_opened, air_model::specs::Sessions::count_dozed, air_model::specs::Sessions::count_late, air_model::specs::Sessions::count_refused, air_model::specs::Sessions::count_foreign, air_model::specs::Sessions::next_query, air_model::specs::Sessions::next_attempt, air_model::specs::Sessions::accept_if_whole, air_model::specs::Sessions::hold, air_model::specs::Sessions::abort, air_model::specs::Sessions::drop_copy, air_model::specs::Sessions::copy_of, air_model::specs::Sessions::decide, air_model::specs::Sessions::offer, air_model::specs::Sessions::open_bucket, air_model::specs::Sessions::hear_read, air_model::specs::Sessions::hear, receiver_core::specs::FeedAnswers::fed_read, receiver_core::specs::FeedAnswers::fed_of, receiver_core::specs::LastReads::last_reads))]
+
+ghost use Rattle.std.specs.Prelude.{◌≡◌, [], ◌∷◌, Err, IfOk, Ok, Some};
+ghost use Rattle.air_base.specs.declared.verdicts.Policy.TheVariants.{FMatrix, RMatrix};
+ghost use Rattle.air_base.specs.declared.verdicts.VerdictKind.TheVariants.{Abort};
+ghost use Rattle.air_model.specs.Buckets.{Column, Vector};
+ghost use Rattle.air_model.specs.Decks.{disks_in};
+ghost use Rattle.air_model.specs.Sessions.{start};
+ghost use Rattle.session_pins.specs.SmallBuckets.{bucket};
+ghost use Rattle.session_pins.specs.SmallDecks.{tiered};
+ghost use Rattle.session_pins.specs.SmallReceivers.{air_by, asker, counts, heard as heard_read, holding, line, read, receiver_in};
+
+use air_base::NoMemory;
+use bucket_codec::{BucketFault, BucketView};
+use chunk_program::Program;
+use item_catalog::Deck;
+use receiver_core::{Fed, Receiver};
+use std::alloc::Global;
+
+/// What is no bucket is refused with its own fault, and changes that count alone (refused bucket moves now).
+pub fn every_fault_told_as_shape(
+    receiver: &mut Receiver,
+    heard: &Result<BucketView<'_>, BucketFault>,
+) -> Fed
+    requires receiver { receiver.old ≡ receiver_in (air_by FMatrix) (holding 1) }
+    requires heard { heard.now ≡ Err BucketFault.Magic }
+    ensures fed { result ≡ Fed.Refused BucketFault.Magic }
+    ensures state { receiver.new.state ≡ record (holding 1) { counts = counts 1 0 0 1 0 0 } }
+{
+    receiver.hear(heard)
+}
+
+/// Where the first item of a query is held, the second is wanted.
+pub fn held_item_wanted_again(receiver: &Receiver) -> Option<u16>
+    requires { receiver.now ≡ receiver_in (air_by FMatrix) (holding 1) }
+    ensures { result ≡ Some 1 }
+{
+    receiver.wanted()
+}
+
+/// Under R-Matrix a read of an older cycle than the held one comes too late, by one cycle too (one cycle older not late).
+pub fn late_read_opened(receiver: &mut Receiver, heard: &Result<BucketView<'_>, BucketFault>) -> Fed
+    requires receiver { receiver.old ≡ receiver_in (air_by RMatrix) (holding 3) }
+    requires heard { heard.now ≡ Ok (bucket 2 1 (Vector 1 20 (0 ∷ 0 ∷ []))) }
+    ensures fed { result ≡ Fed.Late }
+    ensures state { receiver.new.state ≡ record (holding 3) { counts = counts 1 0 1 0 0 0 } }
+{
+    receiver.hear(heard)
+}
+
+/// A bucket of another edition is foreign.
+pub fn loose_decoder_other_edition_opened(
+    receiver: &mut Receiver,
+    heard: &Result<BucketView<'_>, BucketFault>,
+) -> Fed
+    requires receiver { receiver.old ≡ receiver_in (air_by FMatrix) start }
+    requires heard { heard.now ≡ Ok (record (bucket 1 0 (Column 0 10 (0 ∷ 0 ∷ []))) { edition = 1 }) }
+    ensures fed { result ≡ Fed.Foreign }
+    ensures state { receiver.new.state ≡ record start { counts = counts 0 0 0 0 1 0 } }
+{
+    receiver.hear(heard)
+}
+
+/// A read that clashes with a held one ends the attempt, which was the only try (one try too many), and is kept as a copy.
+pub fn offer_left_out_after_an_abort(
+    receiver: &mut Receiver,
+    heard: &Result<BucketView<'_>, BucketFault>,
+) -> Fed
+    requires receiver { receiver.old ≡ receiver_in (air_by FMatrix) (holding 1) }
+    requires heard { heard.now ≡ Ok (bucket 2 1 (Column 1 25 (1 ∷ 1 ∷ []))) }
+    ensures fed { result ≡ Fed.Opened }
+    ensures state { receiver.new.state ≡ record start {
+      query = 1;
+      copies = heard_read 1 2 25 (1 ∷ 1 ∷ []) ∷ [];
+      now = 2;
+      counts = counts 2 0 0 0 0 0;
+      lines = line 0 1 (Abort 1 2 0) (read 0 1 10 ∷ []) ∷ [];
+    } }
+    ensures last { receiver.new.last ≡ read 0 1 10 ∷ [] }
+{
+    receiver.hear(heard)
+}
+
+/// An item's PIX number is its rate times the number of its disk's chunks: for item 0 twice two, and for item 1 three times one.
+pub fn cache_by_rate(alloc: Global, deck: &Deck, program: &Program) -> Result<Receiver, NoMemory>
+    requires deck { deck.now ≡ tiered }
+    requires planned { program.now ≡ disks_in deck.now }
+    ensures { IfOk result (λ r. r.air.pix ≡ 4 ∷ 3 ∷ []) }
+{
+    let receiver = Receiver::new(alloc, deck, 0, program)?;
+    Ok(receiver)
+}
