@@ -1,0 +1,68 @@
+//! Pins of `air_devices`: files of four bytes, read up to a limit from a shelf in memory, and the last failure of a shelf over files.
+
+ghost use Rattle.std.specs.Prelude.{◌≡◌, ◌≢◌, ◌≤◌, [], ◌∷◌, Err, Some, IfOk, OnErr, option_map};
+ghost use Rattle.air_devices.specs.Memory.{told_by};
+
+use air_devices::{Failed, FileCall, FileShelf, MemShelf, ReadFileError, Shelf, read_file};
+use std::alloc::Global;
+use std::rt::Files;
+
+/// Of a file that is past the limit, one byte more than the limit is read, and the rest is left.
+pub fn read_past_the_limit_goes_on(
+    alloc: Global,
+    shelf: &mut MemShelf,
+    name: &str,
+) -> Result<Vec<u8>, ReadFileError>
+    requires { (told_by shelf.old).file name.now ≡ Some (1 ∷ 2 ∷ 3 ∷ 4 ∷ []) }
+    ensures { result ≡ Err ReadFileError.TooLarge → (told_by shelf.new).left name.now ≡ Some (4 ∷ []) }
+{
+    read_file(alloc, shelf, name, 2)
+}
+
+/// A file of just as many bytes as the limit says is read whole, and not refused as too large. It also refuses that a read of fewer
+/// bytes than asked for is taken for the end.
+pub fn file_at_the_limit_refused(
+    alloc: Global,
+    shelf: &mut MemShelf,
+    name: &str,
+) -> Result<Vec<u8>, ReadFileError>
+    requires { (told_by shelf.old).file name.now ≡ Some (1 ∷ 2 ∷ 3 ∷ 4 ∷ []) }
+    ensures whole { IfOk result (λ bytes. bytes.items ≡ 1 ∷ 2 ∷ 3 ∷ 4 ∷ []) }
+    ensures fits { result ≢ Err ReadFileError.TooLarge }
+{
+    read_file(alloc, shelf, name, 4)
+}
+
+/// An empty file is within a limit of no byte.
+pub fn empty_file_at_the_limit_refused(
+    alloc: Global,
+    shelf: &mut MemShelf,
+    name: &str,
+) -> Result<Vec<u8>, ReadFileError>
+    requires { (told_by shelf.old).file name.now ≡ Some [] }
+    ensures { result ≢ Err ReadFileError.TooLarge }
+{
+    read_file(alloc, shelf, name, 0)
+}
+
+/// A file is refused as unread only where the count of faults rose.
+pub fn read_fault_without_a_fault(
+    alloc: Global,
+    shelf: &mut MemShelf,
+    name: &str,
+) -> Result<Vec<u8>, ReadFileError>
+    requires { shelf.old.calls.faults ≡ 0 }
+    ensures { result ≡ Err ReadFileError.Failed → 1 ≤ shelf.new.calls.faults }
+{
+    read_file(alloc, shelf, name, 4)
+}
+
+/// After a print that failed the failure that is kept is of a print, whichever was kept before.
+pub fn first_failure_kept_for_the_last<R: Files + Print + Drop>(
+    shelf: &mut FileShelf<R>,
+    bytes: &[u8],
+) -> Result<(), Failed>
+    ensures { OnErr result (option_map (λ failure. failure.call) shelf.new.last ≡ Some FileCall.Print) }
+{
+    shelf.print(bytes)
+}

@@ -1,0 +1,8 @@
+//! Worked examples of the devices in memory and of the commands: for a call and small values, the exact answer.
+//!
+//! Each function is one call. Its `requires` fixes what is handed in, and its `ensures` is the answer, proved from the called
+//! function's contract alone. So a contract that lets another answer through fails it, and so does a changed definition. A
+//! function is named for the blunder that it refuses.
+#![tactic(auto)]
+
+pub mod device_pins;
