@@ -5,4 +5,9 @@
 //! function is named for the blunder that it refuses.
 #![tactic(auto)]
 
+pub mod cast_pins;
 pub mod device_pins;
+pub mod file_pins;
+pub mod main_pins;
+pub mod on_air_pins;
+pub mod output_pins;

@@ -5,6 +5,8 @@
 //! function is named for the blunder that it refuses.
 #![tactic(auto)]
 
+pub mod job_pins;
+pub mod run_pins;
 pub mod snapshot_pins;
 pub mod station_pins;
 pub mod turnstile_pins;

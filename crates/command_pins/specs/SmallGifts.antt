@@ -1,0 +1,7 @@
+-- What a small command gives.
+use Rattle.std.specs.Prelude.{[], ◌∷◌, true}
+use Rattle.delivery.specs.Given.{Given}
+
+-- A text of two bytes and a tape of one; something differs.
+abbrev pub small_gift : Given
+small_gift = record { text = 1 ∷ 2 ∷ []; tape = 7 ∷ []; differs = true }

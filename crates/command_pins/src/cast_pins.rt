@@ -1,0 +1,62 @@
+//! Pins of `air_casts`: a run cast to a mast in memory, and three datagrams of one byte that are waiting for readers who hear two.
+
+ghost use Rattle.std.specs.Prelude.{◌≡◌, ◌≤◌, ◌+◌, ℕ, [], ◌∷◌, length, Err, None, Some, IsSome, OnErr, OnOk};
+ghost use Rattle.air_model.specs.Decks.{disks_in};
+ghost use Rattle.air_devices.specs.Masts.{nothing_sent};
+ghost use Rattle.air_devices.specs.MemoryMasts.{told_by};
+
+use air_casts::{HearFault, Run, RunFault, cast_run, ear_sessions};
+use air_devices::{Gate, MemEar, MemMast};
+use chunk_program::Program;
+use item_catalog::Deck;
+use listeners::Sessions;
+use std::alloc::Global;
+use std::sync::Wait;
+use std::thread::Threads;
+
+/// A cast goes to its port, and has sent the end exactly where it was done. One that tells that the mast failed tells how many buckets
+/// were sent, and the mast's count rose. It also refuses a cast without the end, an end before the buckets, and an end that fails and is
+/// told as nothing sent.
+pub fn cast_to_another_port<R: Threads + Wait + Sync, G: Gate + Sync>(
+    rt: &R,
+    alloc: Global,
+    deck: &Deck,
+    program: &Program,
+    mast: &mut MemMast,
+    gate: &G,
+) -> Result<Run, RunFault>
+    requires planned { program.now ≡ disks_in deck.now }
+    requires unaimed { mast.old.port ≡ None }
+    requires unsent { told_by mast.old ≡ nothing_sent }
+    requires faults { mast.old.calls.faults ≡ 0 }
+    ensures port { mast.new.port ≡ Some 4001 }
+    ensures ended { OnOk result ((told_by mast.new).ended ≡ Some (length (told_by mast.new).buckets)) }
+    ensures unended { OnErr result ((told_by mast.new).ended ≡ None) }
+    ensures sent { (sent : ℕ) → result ≡ Err (RunFault.Mast sent) → length (told_by mast.new).buckets ≡ sent }
+    ensures cause { (sent : ℕ) → result ≡ Err (RunFault.Mast sent) → 1 ≤ mast.new.calls.faults }
+{
+    cast_run(rt, alloc, deck, program, mast, gate, 4001)
+}
+
+/// Readers that hear two datagrams on a port leave the third, and no call of the ear failed; or the ear failed, its count rose, and so
+/// many were heard as are told. It also refuses one datagram more, an ear fault without a fault, a failed datagram that is counted too,
+/// and a failed ear that is taken for the end.
+pub fn tuned_to_another_port(
+    alloc: Global,
+    deck: &Deck,
+    program: &Program,
+    ear: &mut MemEar,
+) -> Result<Sessions, HearFault>
+    requires planned { program.now ≡ disks_in deck.now }
+    requires hears { deck.now.settings.hears ≡ 2 }
+    requires untuned { ear.old.port ≡ None }
+    requires waiting { ear.old.waiting ≡ (1 ∷ []) ∷ (2 ∷ []) ∷ (3 ∷ []) ∷ [] }
+    requires faults { ear.old.calls.faults ≡ 0 }
+    ensures port { ear.new.port ≡ Some 4001 }
+    ensures heard { OnOk result (ear.new.waiting ≡ (3 ∷ []) ∷ []) }
+    ensures calm { OnOk result (ear.new.calls.faults ≡ 0) }
+    ensures left { (heard : ℕ) → result ≡ Err (HearFault.Ear heard) → heard + length ear.new.waiting ≡ 3 }
+    ensures cause { (heard : ℕ) → result ≡ Err (HearFault.Ear heard) → 1 ≤ ear.new.calls.faults }
+{
+    ear_sessions(alloc, deck, program, ear, 4001)
+}

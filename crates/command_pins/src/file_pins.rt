@@ -1,0 +1,86 @@
+//! Pins of `deck_files`: a file of two bytes, an empty deck, and programs that are too long, over a shelf in memory.
+#![tactic(auto, unfolding(deck_files::specs::NamedFiles::UnreadCause, deck_files::specs::NamedDecks::DeckCause, deck_files::specs::RunnableDecks::LengthCause, deck_files::specs::RunnableDecks::UnrunnableCause, item_catalog::specs::Grammar::HasFault))]
+
+ghost use Rattle.std.specs.Prelude.{◌≡◌, ◌≢◌, ◌≤◌, ◌<◌, ℕ, [], ◌∷◌, length, Err, Some, IfOk, OnOk};
+ghost use Rattle.air_model.specs.Decks.{disks_in};
+ghost use Rattle.air_model.specs.Programs.{program};
+ghost use Rattle.air_devices.specs.Memory.{told_by};
+
+use air_devices::MemShelf;
+use air_status::Status;
+use chunk_program::{Cut, Program};
+use deck_files::{plan_deck, read_bytes, read_deck_file, read_runnable_deck};
+use item_catalog::Deck;
+use std::alloc::Global;
+
+/// The bytes are those of the file of this name, and a read fault is told only where the count of faults rose (always a read fault).
+/// A file of just as many bytes as the limit says isn't too large.
+pub fn another_file_is_read(
+    alloc: Global,
+    shelf: &mut MemShelf,
+    name: &str,
+) -> Result<Vec<u8>, Status>
+    requires file { (told_by shelf.old).file name.now ≡ Some (1 ∷ 2 ∷ []) }
+    requires faults { shelf.old.calls.faults ≡ 0 }
+    ensures bytes { IfOk result (λ bytes. bytes.items ≡ 1 ∷ 2 ∷ []) }
+    ensures fault { result ≡ Err Status.ReadFault → 1 ≤ shelf.new.calls.faults }
+    ensures fits { (limit : ℕ) → result ≢ Err (Status.TooLarge limit) }
+{
+    read_bytes(alloc, shelf, name, 2)
+}
+
+/// A file that is too large is refused with the limit.
+pub fn another_limit_told(
+    alloc: Global,
+    shelf: &mut MemShelf,
+    name: &str,
+) -> Result<Vec<u8>, Status>
+    ensures { (limit : ℕ) → result ≡ Err (Status.TooLarge limit) → limit ≡ 10 }
+{
+    read_bytes(alloc, shelf, name, 10)
+}
+
+/// A deck is given only where no read failed, and so is each refusal but that of a read. It also refuses that a refusal is that of a
+/// second reading.
+pub fn reads_again_after_a_read_fault(
+    alloc: Global,
+    shelf: &mut MemShelf,
+    name: &str,
+) -> Result<Deck, Status>
+    requires { shelf.old.calls.faults ≡ 0 }
+    ensures deck { OnOk result (shelf.new.calls.faults ≡ 0) }
+    ensures refused { result ≡ Err Status.NoMemory → shelf.new.calls.faults ≡ 0 }
+{
+    read_deck_file(alloc, shelf, name)
+}
+
+/// The fault of an empty deck is told at row 1, behind its last record.
+pub fn row_of_another_record(
+    alloc: Global,
+    shelf: &mut MemShelf,
+    name: &str,
+) -> Result<Deck, Status>
+    requires { (told_by shelf.old).file name.now ≡ Some [] }
+    ensures { (row kind : ℕ) → result ≡ Err (Status.Deck row kind) → row ≡ 1 }
+{
+    read_deck_file(alloc, shelf, name)
+}
+
+/// A deck is refused for its program only where that has more slots than a program may have.
+pub fn short_program_told_as_too_long(
+    alloc: Global,
+    shelf: &mut MemShelf,
+    name: &str,
+) -> Result<(Deck, Program), Status>
+    ensures { (slots : ℕ) → result ≡ Err (Status.PlanTooLong slots) → 16_384 < slots }
+{
+    read_runnable_deck(alloc, shelf, name)
+}
+
+/// A program that is too long is refused with its own number of slots.
+pub fn too_long_by_another_number(alloc: Global, deck: &Deck) -> Result<(Cut, Program), Status>
+    requires { length (program (disks_in deck.now)) ≡ 20_000 }
+    ensures { (slots : ℕ) → result ≡ Err (Status.PlanTooLong slots) → slots ≡ 20_000 }
+{
+    plan_deck(alloc, deck)
+}

@@ -1,0 +1,165 @@
+//! Pins of `air_cli`: one call of `air_main` for each command, by its words, over devices in memory.
+#![tactic(auto, unfolding(air_base::specs::Numbers::number_of, air_cli::specs::Answers::QuietAnswers, air_cli::specs::Plan::PlanGives, air_cli::specs::Drill::DrillGives, air_cli::specs::Script::ScriptCause, air_cli::specs::Script::ScriptGives, air_cli::specs::Audit::AuditGives, air_cli::specs::Cast::CastCause))]
+
+ghost use Rattle.std.specs.Prelude.{◌≡◌, ◌≤◌, ◌<◌, ℕ, List, false, [], ◌∷◌, None, Some, codes, map, string_bytes};
+ghost use Rattle.air_model.specs.Decks.{Deck};
+ghost use Rattle.air_model.specs.Outputs.{plan_output, script_tape};
+ghost use Rattle.air_devices.specs.Masts.{nothing_sent};
+ghost use Rattle.air_devices.specs.Memory.{file_bytes, file_named, told_by};
+ghost use Rattle.air_devices.specs.MemoryEars.{eared_of};
+ghost use Rattle.air_devices.specs.MemoryMasts.{masted_of, told_by as sent_by};
+ghost use Rattle.aired_sessions.specs.DrillLines.{drill_output};
+ghost use Rattle.audited_reports.specs.FindingTexts.{findings_text, some_differ};
+ghost use Rattle.item_catalog.specs.Grammar.{Spells};
+ghost use Rattle.live_replay.specs.declared.findings.Finding.{Finding};
+
+use air_cli::{Status, air_main};
+use air_devices::{Gate, MemEar, MemMast, MemShelf};
+use std::alloc::Global;
+use std::sync::Wait;
+use std::thread::Threads;
+
+/// `plan d` that is done has read the deck to its end, and leaves mast and ear as they were, whatever its status. It also refuses a mast
+/// that another command than `cast` touches.
+pub fn deck_left_to_read<R: Threads + Wait + Sync, G: Gate + Sync>(
+    rt: &R,
+    alloc: Global,
+    words: &[String],
+    shelf: &mut MemShelf,
+    mast: &mut MemMast,
+    ear: &mut MemEar,
+    gate: &G,
+) -> Status
+    requires words { map (λ w. string_bytes w) words.now ≡ codes "plan" ∷ codes "d" ∷ [] }
+    requires unaimed { mast.old.port ≡ None }
+    requires unsent { sent_by mast.old ≡ nothing_sent }
+    requires untuned { ear.old.port ≡ None }
+    ensures read { result ≡ Status.Ok → (told_by shelf.new).left (codes "d") ≡ Some [] }
+    ensures mast { masted_of mast.new ≡ masted_of mast.old }
+    ensures ear { eared_of ear.new ≡ eared_of ear.old }
+{
+    air_main(rt, alloc, words, shelf, mast, ear, gate)
+}
+
+/// `plan d` that is done has printed the plan of the deck that the file spells, disk by disk.
+pub fn disks_reversed<R: Threads + Wait + Sync, G: Gate + Sync>(
+    rt: &R,
+    alloc: Global,
+    words: &[String],
+    shelf: &mut MemShelf,
+    mast: &mut MemMast,
+    ear: &mut MemEar,
+    gate: &G,
+) -> Status
+    requires words { map (λ w. string_bytes w) words.now ≡ codes "plan" ∷ codes "d" ∷ [] }
+    requires unaimed { mast.old.port ≡ None }
+    requires unsent { sent_by mast.old ≡ nothing_sent }
+    requires untuned { ear.old.port ≡ None }
+    requires printed { (told_by shelf.old).printed ≡ Some [] }
+    ensures { result ≡ Status.Ok → (d : Deck) × Spells (file_bytes (file_named (codes "d") shelf.old.files.items)) d × ((told_by shelf.new).printed ≡ Some (plan_output d)) }
+{
+    air_main(rt, alloc, words, shelf, mast, ear, gate)
+}
+
+/// `script d t` that is done has written the tape of the deck's script, its last piece too, and one that is refused for its tape would have
+/// had more bytes than a tape may have. It also refuses that the tape's word is passed over, and that the longest tape is refused.
+pub fn last_piece_left_out<R: Threads + Wait + Sync, G: Gate + Sync>(
+    rt: &R,
+    alloc: Global,
+    words: &[String],
+    shelf: &mut MemShelf,
+    mast: &mut MemMast,
+    ear: &mut MemEar,
+    gate: &G,
+) -> Status
+    requires words { map (λ w. string_bytes w) words.now ≡ codes "script" ∷ codes "d" ∷ codes "t" ∷ [] }
+    requires unaimed { mast.old.port ≡ None }
+    requires unsent { sent_by mast.old ≡ nothing_sent }
+    requires untuned { ear.old.port ≡ None }
+    ensures done { result ≡ Status.Ok → (d : Deck) × Spells (file_bytes (file_named (codes "d") shelf.old.files.items)) d × ((told_by shelf.new).output (codes "t") ≡ Some (script_tape d)) }
+    ensures long { (bytes : ℕ) → result ≡ Status.TooLong bytes → 1_073_741_824 < bytes }
+{
+    air_main(rt, alloc, words, shelf, mast, ear, gate)
+}
+
+/// `drill 3 2` that is done has printed the line of seed 3 and size 2.
+pub fn drill_always_of_size_1<R: Threads + Wait + Sync, G: Gate + Sync>(
+    rt: &R,
+    alloc: Global,
+    words: &[String],
+    shelf: &mut MemShelf,
+    mast: &mut MemMast,
+    ear: &mut MemEar,
+    gate: &G,
+) -> Status
+    requires words { map (λ w. string_bytes w) words.now ≡ codes "drill" ∷ codes "3" ∷ codes "2" ∷ [] }
+    requires unaimed { mast.old.port ≡ None }
+    requires unsent { sent_by mast.old ≡ nothing_sent }
+    requires untuned { ear.old.port ≡ None }
+    requires printed { (told_by shelf.old).printed ≡ Some [] }
+    ensures { result ≡ Status.Ok → (told_by shelf.new).printed ≡ Some (drill_output 3 2) }
+{
+    air_main(rt, alloc, words, shelf, mast, ear, gate)
+}
+
+/// `audit d r` that ends with status 0 has printed findings of which none differs.
+pub fn difference_told_as_none<R: Threads + Wait + Sync, G: Gate + Sync>(
+    rt: &R,
+    alloc: Global,
+    words: &[String],
+    shelf: &mut MemShelf,
+    mast: &mut MemMast,
+    ear: &mut MemEar,
+    gate: &G,
+) -> Status
+    requires words { map (λ w. string_bytes w) words.now ≡ codes "audit" ∷ codes "d" ∷ codes "r" ∷ [] }
+    requires unaimed { mast.old.port ≡ None }
+    requires unsent { sent_by mast.old ≡ nothing_sent }
+    requires untuned { ear.old.port ≡ None }
+    requires printed { (told_by shelf.old).printed ≡ Some [] }
+    ensures { result ≡ Status.Ok → (found : List Finding) × (some_differ found ≡ false) × ((told_by shelf.new).printed ≡ Some (findings_text found)) }
+{
+    air_main(rt, alloc, words, shelf, mast, ear, gate)
+}
+
+/// `run d t` that is refused for its deck leaves its output as it was, and whatever its status it reads nothing of the file t and writes
+/// nothing to the output d. It also refuses that deck and tape change places.
+pub fn output_begun_before_the_deck_is_read<R: Threads + Wait + Sync, G: Gate + Sync>(
+    rt: &R,
+    alloc: Global,
+    words: &[String],
+    shelf: &mut MemShelf,
+    mast: &mut MemMast,
+    ear: &mut MemEar,
+    gate: &G,
+) -> Status
+    requires words { map (λ w. string_bytes w) words.now ≡ codes "run" ∷ codes "d" ∷ codes "t" ∷ [] }
+    requires unaimed { mast.old.port ≡ None }
+    requires unsent { sent_by mast.old ≡ nothing_sent }
+    requires untuned { ear.old.port ≡ None }
+    ensures refused { (row kind : ℕ) → result ≡ Status.Deck row kind → (told_by shelf.new).output (codes "t") ≡ (told_by shelf.old).output (codes "t") }
+    ensures left { (told_by shelf.new).left (codes "t") ≡ (told_by shelf.old).left (codes "t") }
+    ensures output { (told_by shelf.new).output (codes "d") ≡ (told_by shelf.old).output (codes "d") }
+{
+    air_main(rt, alloc, words, shelf, mast, ear, gate)
+}
+
+/// `cast d 4000` tells that the mast failed only where its count of faults rose.
+pub fn always_an_air_fault<R: Threads + Wait + Sync, G: Gate + Sync>(
+    rt: &R,
+    alloc: Global,
+    words: &[String],
+    shelf: &mut MemShelf,
+    mast: &mut MemMast,
+    ear: &mut MemEar,
+    gate: &G,
+) -> Status
+    requires words { map (λ w. string_bytes w) words.now ≡ codes "cast" ∷ codes "d" ∷ codes "4000" ∷ [] }
+    requires unaimed { mast.old.port ≡ None }
+    requires unsent { sent_by mast.old ≡ nothing_sent }
+    requires untuned { ear.old.port ≡ None }
+    requires faults { mast.old.calls.faults ≡ 0 }
+    ensures { (at : ℕ) → result ≡ Status.AirFault at → 1 ≤ mast.new.calls.faults }
+{
+    air_main(rt, alloc, words, shelf, mast, ear, gate)
+}

@@ -1,0 +1,61 @@
+//! Pins of `aired_runs`: what a run gives, and how long its tape may be.
+#![tactic(auto, unfolding(aired_runs::specs::GivenRuns::IsRunRefusal))]
+
+ghost use Rattle.std.specs.Prelude.{◌≡◌, ◌≢◌, ◌*◌, [], ◌∷◌, length, map, Err, None, IfOk, IfSome};
+ghost use Rattle.air_model.specs.Decks.{IsWhole, disks_in};
+ghost use Rattle.air_model.specs.Outputs.{run_output, run_tape};
+ghost use Rattle.air_model.specs.Programs.{program as slots_of};
+ghost use Rattle.air_model.specs.declared.reports.LookLine.{LookLine};
+ghost use Rattle.board_laws.specs.TapeSizes.{cycle_size};
+ghost use Rattle.run_laws.specs.Runs.{Run};
+ghost use Rattle.aired_runs.specs.RunTapes.{run_tape_len};
+
+use air_devices::Gate;
+use air_status::Status;
+use aired_runs::{long_run, run_on_air};
+use chunk_program::Program;
+use delivery::Given;
+use item_catalog::Deck;
+use std::alloc::Global;
+use std::sync::Wait;
+use std::thread::Threads;
+
+/// Report and tape are those of one whole history, with a look of each of the two monitors; and a run is never refused for what was read
+/// or is to be written (always a write fault). It also refuses a report of another history, another tape or none, and a report without
+/// its looks or its verdicts.
+pub fn always_a_read_fault<R: Threads + Wait + Sync, G: Gate + Sync>(
+    rt: &R,
+    alloc: Global,
+    deck: &Deck,
+    program: &Program,
+    gate: &G,
+) -> Result<Given, Status>
+    requires planned { program.now ≡ disks_in deck.now }
+    requires monitors { deck.now.settings.monitors ≡ 2 }
+    ensures gives { IfOk result (λ given. (run : Run) × IsWhole deck.now run.history
+        × (map (λ (line : LookLine). line.monitor) run.looks ≡ 0 ∷ 1 ∷ [])
+        × (given.text ≡ run_output deck.now run.history run.glances run.looks)
+        × (given.tape ≡ run_tape deck.now run.history)) }
+    ensures read { result ≢ Err Status.ReadFault }
+    ensures written { result ≢ Err Status.WriteFault }
+{
+    run_on_air(rt, alloc, deck, program, gate)
+}
+
+/// A tape of just as many bytes as a tape may have isn't too long.
+pub fn longest_run_refused(deck: &Deck, program: &Program) -> Option<u64>
+    requires planned { program.now ≡ disks_in deck.now }
+    requires length { run_tape_len deck.now ≡ 1_073_741_824 }
+    ensures { result ≡ None }
+{
+    long_run(deck, program)
+}
+
+/// A tape that is too long has the bytes of each of the deck's three cycles.
+pub fn monitors_for_cycles(deck: &Deck, program: &Program) -> Option<u64>
+    requires planned { program.now ≡ disks_in deck.now }
+    requires cycles { deck.now.settings.cycles ≡ 3 }
+    ensures { IfSome result (λ bytes. bytes ≡ 3 * cycle_size (length deck.now.items) (slots_of (disks_in deck.now))) }
+{
+    long_run(deck, program)
+}
