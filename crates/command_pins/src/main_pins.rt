@@ -1,5 +1,5 @@
 //! Pins of `air_cli`: one call of `air_main` for each command, by its words, over devices in memory.
-#![tactic(auto, unfolding(air_base::specs::Numbers::number_of, air_cli::specs::Answers::QuietAnswers, air_cli::specs::Plan::PlanGives, air_cli::specs::Drill::DrillGives, air_cli::specs::Script::ScriptCause, air_cli::specs::Script::ScriptGives, air_cli::specs::Audit::AuditGives, air_cli::specs::Cast::CastCause))]
+#![tactic(auto, unfolding(air_base::specs::Numbers::number_of, deck_files::specs::NamedDecks::DeckCause, air_cli::specs::Answers::QuietAnswers, air_cli::specs::Plan::PlanCause, air_cli::specs::Plan::PlanGives, air_cli::specs::Drill::DrillGives, air_cli::specs::Script::ScriptCause, air_cli::specs::Script::ScriptGives, air_cli::specs::Audit::AuditGives, air_cli::specs::Cast::CastCause))]
 
 ghost use Rattle.std.specs.Prelude.{◌≡◌, ◌≤◌, ◌<◌, ℕ, List, false, [], ◌∷◌, None, Some, codes, map, string_bytes};
 ghost use Rattle.air_model.specs.Decks.{Deck};
@@ -19,8 +19,8 @@ use std::alloc::Global;
 use std::sync::Wait;
 use std::thread::Threads;
 
-/// `plan d` that is done has read the deck to its end, and leaves mast and ear as they were, whatever its status. It also refuses a mast
-/// that another command than `cast` touches.
+/// `plan d` that is done, or that is refused for its deck, has read the deck to its end; where it is done, no call failed. Whatever its
+/// status, it leaves mast and ear as they were. It also refuses a mast that another command than `cast` touches.
 pub fn deck_left_to_read<R: Threads + Wait + Sync, G: Gate + Sync>(
     rt: &R,
     alloc: Global,
@@ -35,6 +35,8 @@ pub fn deck_left_to_read<R: Threads + Wait + Sync, G: Gate + Sync>(
     requires unsent { sent_by mast.old ≡ nothing_sent }
     requires untuned { ear.old.port ≡ None }
     ensures read { result ≡ Status.Ok → (told_by shelf.new).left (codes "d") ≡ Some [] }
+    ensures refused { (row kind : ℕ) → result ≡ Status.Deck row kind → (told_by shelf.new).left (codes "d") ≡ Some [] }
+    ensures calm { result ≡ Status.Ok → shelf.new.calls.faults ≡ shelf.old.calls.faults }
     ensures mast { masted_of mast.new ≡ masted_of mast.old }
     ensures ear { eared_of ear.new ≡ eared_of ear.old }
 {
@@ -144,7 +146,7 @@ pub fn output_begun_before_the_deck_is_read<R: Threads + Wait + Sync, G: Gate + 
     air_main(rt, alloc, words, shelf, mast, ear, gate)
 }
 
-/// `cast d 4000` tells that the mast failed only where its count of faults rose.
+/// `cast d 4000` tells that the mast failed only where its count of faults rose. Where it is refused for its deck, the mast wasn't aimed.
 pub fn always_an_air_fault<R: Threads + Wait + Sync, G: Gate + Sync>(
     rt: &R,
     alloc: Global,
@@ -159,7 +161,8 @@ pub fn always_an_air_fault<R: Threads + Wait + Sync, G: Gate + Sync>(
     requires unsent { sent_by mast.old ≡ nothing_sent }
     requires untuned { ear.old.port ≡ None }
     requires faults { mast.old.calls.faults ≡ 0 }
-    ensures { (at : ℕ) → result ≡ Status.AirFault at → 1 ≤ mast.new.calls.faults }
+    ensures cause { (at : ℕ) → result ≡ Status.AirFault at → 1 ≤ mast.new.calls.faults }
+    ensures refused { (row kind : ℕ) → result ≡ Status.Deck row kind → masted_of mast.new ≡ masted_of mast.old }
 {
     air_main(rt, alloc, words, shelf, mast, ear, gate)
 }

@@ -1,7 +1,7 @@
 //! Pins of `air_jobs`: a job of one update, of two looks and of two cycles.
 #![tactic(auto, unfolding(air_model::specs::DeckLaws::made_by, air_model::specs::DeckLaws::commits_from))]
 
-ghost use Rattle.std.specs.Prelude.{◌≡◌, ◌≤◌, ◌<◌, ◌+◌, ◌*◌, ◌^◌, ℕ, [], ◌∷◌, length, All, Err, OnOk};
+ghost use Rattle.std.specs.Prelude.{◌≡◌, ◌≤◌, ◌<◌, ◌+◌, ◌*◌, ◌^◌, ℕ, [], ◌∷◌, length, All, Err, OnErr, OnOk};
 ghost use Rattle.air_history.specs.Histories.{starts};
 ghost use Rattle.air_history.specs.UpdateRules.{UpdateFits};
 ghost use Rattle.air_history.specs.declared.histories.Event.TheVariants.{Commit};
@@ -10,7 +10,7 @@ ghost use Rattle.air_model.specs.DeckLaws.{made_by};
 ghost use Rattle.air_model.specs.Disks.{all_items};
 ghost use Rattle.bucket_codec.specs.declared.offsets.TheConstants.{ENTRY_BYTES, HEAD_BYTES};
 ghost use Rattle.air_jobs.specs.Published.{AreInStep};
-ghost use Rattle.thread_pins.specs.SmallBatches.{adds_to};
+ghost use Rattle.thread_pins.specs.SmallBatches.{adds_to, first_batch};
 
 use air_base::Policy;
 use air_devices::{Gate, Mast};
@@ -51,6 +51,17 @@ pub fn one_look_too_few<G: Gate>(monitor: &mut Monitor, gate: &G) -> Result<Look
     monitor_job(monitor, 2, gate)
 }
 
+/// A job of one look sees no less than the monitor was told.
+pub fn look_behind_what_was_told<G: Gate>(
+    monitor: &mut Monitor,
+    gate: &G,
+) -> Result<LookLine, NoMemory>
+    requires { monitor.old.told ≡ first_batch ∷ [] }
+    ensures { OnOk result (1 ≤ length monitor.new.seen) }
+{
+    monitor_job(monitor, 1, gate)
+}
+
 /// A first job of two cycles starts two and publishes two batches, and tells that the mast failed only where its count rose. It also
 /// refuses a batch that is published a cycle late, a job of fewer cycles, and that the mast is blamed for being out of memory.
 pub fn cycle_left_out<R: Wait, M: Mast, G: Gate>(
@@ -73,6 +84,7 @@ pub fn cycle_left_out<R: Wait, M: Mast, G: Gate>(
     requires buffer { HEAD_BYTES + ENTRY_BYTES * length pass.old.values ≤ length buf.old }
     requires faults { (M.state mast.old).faults ≡ 0 }
     ensures started { OnOk result (starts pass.new.seen ≡ 2) }
+    ensures few { OnErr result (starts pass.new.seen ≤ 2) }
     ensures published { OnOk result (length publisher.new.batches ≡ 2) }
     ensures cause { (sent : ℕ) → result ≡ Err (ConductFault.Mast sent) → 1 ≤ (M.state mast.new).faults }
 {
