@@ -1,1 +1,1 @@
-pub mod SmallGifts
+pub mod SmallGiven

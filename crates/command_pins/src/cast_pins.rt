@@ -38,9 +38,9 @@ pub fn cast_to_another_port<R: Threads + Wait + Sync, G: Gate + Sync>(
     cast_run(rt, alloc, deck, program, mast, gate, 4001)
 }
 
-/// Readers that hear two datagrams on a port leave the third, and no call of the ear failed; or the ear failed, its count rose, and so
-/// many were heard as are told. It also refuses one datagram more, an ear fault without a fault, a failed datagram that is counted too,
-/// and a failed ear that is taken for the end.
+/// Readers that hear two datagrams on a port leave the third, and no call of the ear failed; or the ear failed, its count rose, and as
+/// many were heard as the fault tells. It also refuses one datagram more, an ear fault without a fault, a failed datagram that is counted
+/// too, and a failed ear that is taken for the end.
 pub fn tuned_to_another_port(
     alloc: Global,
     deck: &Deck,

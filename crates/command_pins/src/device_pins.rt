@@ -19,14 +19,14 @@ pub fn read_past_the_limit_goes_on(
     read_file(alloc, shelf, name, 2)
 }
 
-/// A file of just as many bytes as the limit says is read whole, and not refused as too large. It also refuses that a read of fewer
-/// bytes than asked for is taken for the end.
-pub fn file_at_the_limit_refused(
+/// A file of just as many bytes as the limit says is read whole, by any shelf that tells it, and not refused as too large. It also
+/// refuses that a read of fewer bytes than asked for is taken for the end.
+pub fn file_at_the_limit_refused<S: Shelf>(
     alloc: Global,
-    shelf: &mut MemShelf,
+    shelf: &mut S,
     name: &str,
 ) -> Result<Vec<u8>, ReadFileError>
-    requires { (told_by shelf.old).file name.now ≡ Some (1 ∷ 2 ∷ 3 ∷ 4 ∷ []) }
+    requires { (S.state shelf.old).told.file name.now ≡ Some (1 ∷ 2 ∷ 3 ∷ 4 ∷ []) }
     ensures whole { IfOk result (λ bytes. bytes.items ≡ 1 ∷ 2 ∷ 3 ∷ 4 ∷ []) }
     ensures fits { result ≢ Err ReadFileError.TooLarge }
 {

@@ -54,7 +54,7 @@ pub fn reads_again_after_a_read_fault(
     read_deck_file(alloc, shelf, name)
 }
 
-/// The fault of an empty deck is told at row 1, behind its last record.
+/// The fault of an empty deck is told at row 1, after its last record.
 pub fn row_of_another_record(
     alloc: Global,
     shelf: &mut MemShelf,
@@ -79,8 +79,8 @@ pub fn short_program_told_as_too_long(
 
 /// A program that is too long is refused with its own number of slots.
 pub fn too_long_by_another_number(alloc: Global, deck: &Deck) -> Result<(Cut, Program), Status>
-    requires { length (program (disks_in deck.now)) ≡ 20_000 }
-    ensures { (slots : ℕ) → result ≡ Err (Status.PlanTooLong slots) → slots ≡ 20_000 }
+    requires { length (program (disks_in deck.now)) ≡ 20_160 }
+    ensures { (slots : ℕ) → result ≡ Err (Status.PlanTooLong slots) → slots ≡ 20_160 }
 {
     plan_deck(alloc, deck)
 }

@@ -1,14 +1,13 @@
 //! Pins of `aired_runs`: what a run gives, and how long its tape may be.
 #![tactic(auto, unfolding(aired_runs::specs::GivenRuns::IsRunRefusal))]
 
-ghost use Rattle.std.specs.Prelude.{◌≡◌, ◌≢◌, ◌*◌, [], ◌∷◌, length, map, Err, None, IfOk, IfSome};
+ghost use Rattle.std.specs.Prelude.{◌≡◌, ◌≢◌, ◌<◌, ◌*◌, [], ◌∷◌, length, map, Err, IfOk, IfSome};
 ghost use Rattle.air_model.specs.Decks.{IsWhole, disks_in};
 ghost use Rattle.air_model.specs.Outputs.{run_output, run_tape};
 ghost use Rattle.air_model.specs.Programs.{program as slots_of};
 ghost use Rattle.air_model.specs.declared.reports.LookLine.{LookLine};
 ghost use Rattle.board_laws.specs.TapeSizes.{cycle_size};
 ghost use Rattle.run_laws.specs.Runs.{Run};
-ghost use Rattle.aired_runs.specs.RunTapes.{run_tape_len};
 
 use air_devices::Gate;
 use air_status::Status;
@@ -42,11 +41,10 @@ pub fn always_a_read_fault<R: Threads + Wait + Sync, G: Gate + Sync>(
     run_on_air(rt, alloc, deck, program, gate)
 }
 
-/// A tape of just as many bytes as a tape may have isn't too long.
+/// A tape is too long only where it has more bytes than a tape may have.
 pub fn longest_run_refused(deck: &Deck, program: &Program) -> Option<u64>
-    requires planned { program.now ≡ disks_in deck.now }
-    requires length { run_tape_len deck.now ≡ 1_073_741_824 }
-    ensures { result ≡ None }
+    requires { program.now ≡ disks_in deck.now }
+    ensures { IfSome result (λ bytes. 1_073_741_824 < bytes) }
 {
     long_run(deck, program)
 }

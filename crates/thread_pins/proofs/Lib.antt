@@ -1,2 +1,3 @@
 mod BatchFacts
+mod PassFacts
 mod ReceiptFacts

@@ -23,7 +23,7 @@ three_reply : reply_of first_values three_events 2 ≡ reply
 unfolding is_start reads writes_of cycle_at table value_after write_of value_on_base
 three_reply = refl
 
--- The place is that behind the first batch.
+-- The place is that after the first batch.
 place_is : (seen before : List Event) (e : Event) → seen ≡ before ++ e ∷ [] → seen ≡ three_events → length before ≡ 2
 place_is seen before e is three =
     let long : length seen ≡ length before + 1 = ap length is ∙ length-append before (e ∷ []) in

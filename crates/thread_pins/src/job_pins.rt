@@ -52,7 +52,7 @@ pub fn one_look_too_few<G: Gate>(monitor: &mut Monitor, gate: &G) -> Result<Look
 }
 
 /// A job of one look sees no less than the monitor was told.
-pub fn look_behind_what_was_told<G: Gate>(
+pub fn look_of_less_than_was_told<G: Gate>(
     monitor: &mut Monitor,
     gate: &G,
 ) -> Result<LookLine, NoMemory>

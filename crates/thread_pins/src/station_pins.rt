@@ -1,17 +1,85 @@
-//! Pins of `station`: what a conductor's pass tells, and the receipt of a commit after one cycle.
+//! Pins of `station`: what each call through a pass adds to the history, what it answers, and what closes it.
 #![tactic(auto, unfolding(air_history::specs::Histories::is_start, air_history::specs::Histories::starts))]
 
-ghost use Rattle.std.specs.Prelude.{◌≡◌, ◌<◌, ◌-◌, ◌^◌, ◌++◌, [], ◌∷◌, length, IfOk};
+ghost use Rattle.std.specs.Prelude.{◌≡◌, ◌<◌, ◌-◌, ◌^◌, ◌++◌, ℕ, [], ◌∷◌, length, slice_get, All, Contains, Some, IfOk, OnOk};
 ghost use Rattle.air_history.specs.UpdateRules.{UpdateFits};
-ghost use Rattle.air_history.specs.declared.histories.Event.TheVariants.{Commit};
+ghost use Rattle.air_history.specs.declared.histories.Event.{Event};
+ghost use Rattle.air_history.specs.declared.histories.Event.TheVariants.{Commit, Start};
+ghost use Rattle.air_history.specs.Histories.{starts};
+ghost use Rattle.station.specs.PassStates.{PassState, numbers_of};
 ghost use Rattle.air_model.specs.Decks.{count_made};
 ghost use Rattle.update_commit.specs.Receipts.{reply_in};
 ghost use Rattle.thread_pins.specs.SmallBatches.{first_values, first_batch, second_batch, adds_to};
 
-use air_history::Update;
+use air_history::{Event, History, Update};
+use item_catalog::Deck;
 use station::{ConductorPass, NoMemory, Receipt, Station, UpdaterPass};
 use std::alloc::Global;
 use std::sync::Wait;
+
+/// The first pass of a new station is that of updater 0.
+pub fn passes_in_reverse_order(
+    alloc: Global,
+    deck: &Deck,
+) -> Result<(Station, Vec<UpdaterPass>, ConductorPass), NoMemory>
+    ensures { IfOk result (λ made. (p : _) → slice_get made.1.items 0 ≡ Some p → p.number ≡ 0) }
+{
+    Station::new(alloc, deck)
+}
+
+/// The first commit of an updater is its one commit then, with the update that was given. It also refuses an update that isn't
+/// committed, or is twice.
+pub fn another_update_committed<R: Wait>(
+    station: &Station,
+    wait: &R,
+    alloc: Global,
+    pass: &mut UpdaterPass,
+    update: &Update,
+) -> Result<Receipt, NoMemory>
+    requires own { pass.old.station ≡ station.now }
+    requires number { pass.old.number ≡ 0 }
+    requires seen { pass.old.seen ≡ [] }
+    requires update { update.now ≡ adds_to 1 0 3 }
+    requires fits { UpdateFits (length pass.old.values) update.now }
+    requires few { count_made pass.old.number pass.old.seen < 2 ^ 32 - 1 }
+    ensures once { OnOk result (count_made 0 pass.new.seen ≡ 1) }
+    ensures event { OnOk result ((event : Event) → pass.new.seen ≡ event ∷ [] → event ≡ Commit 0 0 (adds_to 1 0 3)) }
+{
+    station.commit(wait, alloc, pass, update)
+}
+
+/// The first cycle is one start, has the number 1, and the events since the start before are the start alone where nothing else was
+/// added. It also refuses a start that is given twice, and a cycle that is told but not started.
+pub fn fresh_without_its_start<R: Wait>(
+    station: &Station,
+    wait: &R,
+    alloc: Global,
+    pass: &mut ConductorPass,
+    fresh: &mut Vec<Event>,
+) -> Result<u32, NoMemory>
+    requires own { pass.old.station ≡ station.now }
+    requires seen { pass.old.seen ≡ [] }
+    requires few { starts pass.old.seen < 2 ^ 32 - 1 }
+    requires empty { fresh.old.items ≡ [] }
+    ensures once { OnOk result (starts pass.new.seen ≡ 1) }
+    ensures fresh { IfOk result (λ cycle. pass.new.seen ≡ Start ∷ [] → (cycle ≡ 1) × (fresh.new.items ≡ Start ∷ [])) }
+{
+    station.start_cycle(wait, alloc, pass, fresh)
+}
+
+/// A history that is closed has the starts that its conductor has seen, and no more.
+pub fn start_added_at_the_close(
+    station: Station,
+    passes: Vec<UpdaterPass>,
+    conductor: ConductorPass,
+) -> History
+    requires own { (conductor.station ≡ station) × All (λ (p : PassState). p.station ≡ station) passes.items }
+    requires all { (by : ℕ) → by < conductor.updaters → Contains (numbers_of passes.items) by }
+    requires seen { conductor.seen ≡ first_batch }
+    ensures { starts result ≡ 1 }
+{
+    station.close(passes, conductor)
+}
 
 /// A conductor's pass that has seen two starts tells two.
 pub fn next_cycle_for_those_started(pass: &ConductorPass) -> u32

@@ -3,5 +3,5 @@ use Rattle.std.specs.Prelude.{[], ◌∷◌, true}
 use Rattle.delivery.specs.Given.{Given}
 
 -- A text of two bytes and a tape of one; something differs.
-abbrev pub small_gift : Given
-small_gift = record { text = 1 ∷ 2 ∷ []; tape = 7 ∷ []; differs = true }
+abbrev pub small_given : Given
+small_given = record { text = 1 ∷ 2 ∷ []; tape = 7 ∷ []; differs = true }
