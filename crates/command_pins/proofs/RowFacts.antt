@@ -1,5 +1,5 @@
 -- The fault of an empty text is told at the first row.
-use Rattle.std.proofs.Common.{◌≡◌, ℕ, ◌+◌, ◌≤◌, [], List, Result, Err, Some, length, refl, ap, subst, arith}
+use Rattle.std.proofs.Common.{◌≡◌, ℕ, ◌≤◌, [], List, Result, Err, Some, length, refl, subst, arith}
 use Rattle.std.specs.Prelude.{IfErr}
 use Rattle.csv.specs.Reading.{records_from, strip_bom}
 use Rattle.csv.specs.Machine.{next_record}

@@ -1,6 +1,5 @@
 -- Two small batches over two items.
-use Rattle.std.specs.Prelude.{ℕ, ◌^◌, ◌-◌, List, [], ◌∷◌, Some, false}
-use Rattle.air_history.specs.declared.updates.Write.{Write}
+use Rattle.std.specs.Prelude.{ℕ, List, [], ◌∷◌, Some, false}
 use Rattle.air_history.specs.declared.histories.Event.{Event}
 use Rattle.air_history.specs.declared.histories.Event.TheVariants.{Commit, Start}
 use Rattle.air_history.specs.UpdateLists.{UpdateLists}
