@@ -1,5 +1,0 @@
-use Rattle.std.proofs.Common.{◌≤◌, length, All}
-use Rattle.air_casts_tests.proofs.hearings.copies.Given as goal
-
-abbrev pub invariant-loop-bytes : goal.invariant-loop-bytes
-invariant-loop-bytes l = All (λ bytes. 1 ≤ length bytes.items) l.all.items
