@@ -1,0 +1,5 @@
+use Rattle.aired_pieces.specs.Pieces.{IsAiring}
+use Rattle.piece_cases.proofs.airing.air_pieces.Given as goal
+
+abbrev pub invariant-loop : goal.invariant-loop
+invariant-loop g l = IsAiring l.deck l.aired

@@ -1,0 +1,5 @@
+use Rattle.script_run.specs.PieceRuns.{IsPieceRun}
+use Rattle.piece_cases.proofs.airing.run_pieces.Given as goal
+
+abbrev pub invariant-loop-word : goal.invariant-loop-word
+invariant-loop-word l = IsPieceRun l.deck l.run

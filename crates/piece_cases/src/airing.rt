@@ -1,0 +1,131 @@
+//! Scripts that are aired by pieces, and how long their tapes and pieces are.
+
+ghost use Rattle.std.specs.Prelude.{◌≡◌, ◌≤◌, length};
+ghost use Rattle.air_base.specs.declared.limits.TheConstants.{MOST_TAPE_BYTES};
+ghost use Rattle.air_model.specs.Decks.{disks_in};
+ghost use Rattle.air_model.specs.Outputs.{script_tape};
+
+use crate::decks::deck_and_program;
+use crate::reports::{add_piece, add_report, add_tape};
+use air_base::NoMemory;
+use air_base::limits::MOST_TAPE_BYTES;
+use air_sender::TapeMast;
+use aired_pieces::{AiredPieces, piece_cycles};
+use case_lines::{add_line, first_word, number};
+use chunk_program::Program;
+use item_catalog::Deck;
+use listeners::Sessions;
+use script_run::{PieceRun, tape_len};
+use std::alloc::Global;
+use std::thread::Threads;
+
+/// The most pieces of a script: one for each of its events.
+const MOST_PIECES: u32 = 110_000;
+
+/// Tells how many bytes the script's tape has, and how many cycles a piece, where so many starts stand behind the deck.
+pub fn sizes(alloc: Global, deck: &[u8], starts: u64, came: &mut Vec<u8>) -> Result<(), NoMemory> {
+    let mut text = Vec::from_slice(alloc, deck)?;
+    for _ in 0..starts {
+        text.extend_from_slice(b"script,s\n")?;
+    }
+    let Some((deck, program)) = deck_and_program(alloc, &text) else {
+        return add_line(b"no deck", &[], came);
+    };
+    let cycles = u64::from(piece_cycles(&deck, &program));
+    add_line(
+        b"bytes and cycles",
+        &[tape_len(&deck, &program), cycles],
+        came,
+    )
+}
+
+/// Airs the deck's script to all its readers, by pieces of so many cycles.
+pub fn air<T: Threads + Sync>(
+    threads: &T,
+    alloc: Global,
+    text: &[u8],
+    cycles: u64,
+    came: &mut Vec<u8>,
+) -> Result<(), NoMemory> {
+    let Some((deck, program)) = deck_and_program(alloc, text) else {
+        return add_line(b"no deck", &[], came);
+    };
+    if tape_len(&deck, &program) > MOST_TAPE_BYTES as u64 {
+        return add_line(b"too long", &[], came);
+    }
+    let cycles = u32::try_from(cycles).unwrap_or(1).max(1);
+    air_pieces(threads, alloc, &deck, &program, cycles, came)
+}
+
+/// The same, of a deck with its program.
+fn air_pieces<T: Threads + Sync>(
+    threads: &T,
+    alloc: Global,
+    deck: &Deck,
+    program: &Program,
+    cycles: u32,
+    came: &mut Vec<u8>,
+) -> Result<(), NoMemory>
+    requires planned { program.now ≡ disks_in deck.now }
+    requires few { length (script_tape deck.now) ≤ MOST_TAPE_BYTES }
+    requires some { 1 ≤ cycles }
+{
+    let mut tape = Vec::new(alloc);
+    let mut aired = AiredPieces::new(alloc, deck, program, cycles)?;
+    for _ in 0..MOST_PIECES {
+        if aired.is_done(deck) {
+            break;
+        }
+        let first = aired.run.events.len();
+        aired.next_piece(threads, alloc, deck, program)?;
+        add_piece(&aired.run.events, first, aired.piece(), &mut tape, came)?;
+    }
+    if !aired.is_done(deck) {
+        return add_line(b"not done", &[], came);
+    }
+    let (events, sessions) = aired.end(threads, alloc, deck, program)?;
+    add_tape(&tape, came)?;
+    add_report(alloc, events, sessions, came)
+}
+
+/// Runs the deck's script to a mast with so much room, with as many cycles in each piece as the next number says.
+pub fn run(alloc: Global, text: &[u8], about: &[u8], came: &mut Vec<u8>) -> Result<(), NoMemory> {
+    let (room, cycles) = first_word(about);
+    let Some((deck, program)) = deck_and_program(alloc, text) else {
+        return add_line(b"no deck", &[], came);
+    };
+    run_pieces(alloc, &deck, &program, number(room), cycles, came)
+}
+
+/// The same, of a deck with its program. After each piece it is told whether all events were run.
+fn run_pieces(
+    alloc: Global,
+    deck: &Deck,
+    program: &Program,
+    room: u64,
+    cycles: &[u8],
+    came: &mut Vec<u8>,
+) -> Result<(), NoMemory>
+    requires { program.now ≡ disks_in deck.now }
+{
+    let mut tape = Vec::new(alloc);
+    let mut mast = TapeMast::new(alloc, room)?;
+    let mut run = PieceRun::new(alloc, deck)?;
+    for word in cycles.split(|byte| *byte == b' ') {
+        let cycles = u32::try_from(number(word)).unwrap_or(1).max(1);
+        let first = run.events.len();
+        let Ok(()) = run.next_piece(alloc, deck, program, cycles, &mut mast) else {
+            return add_line(b"no room", &[], came);
+        };
+        add_piece(&run.events, first, mast.tape(), &mut tape, came)?;
+        if run.is_done(deck) {
+            add_line(b"done", &[], came)?;
+        }
+    }
+    add_tape(&tape, came)?;
+    let nothing_heard = Sessions {
+        verdicts: Vec::new(alloc),
+        counts: Vec::new(alloc),
+    };
+    add_report(alloc, run.events, nothing_heard, came)
+}

@@ -1,0 +1,59 @@
+//! The lines of reports, pieces and tapes.
+
+use air_base::NoMemory;
+use air_base::limits::MOST_EVENTS;
+use air_history::{Event, History};
+use case_lines::add_line;
+use listeners::Sessions;
+use report_texts::{Report, write_report};
+use std::alloc::Global;
+
+/// Adds the lines of these events and sessions.
+#[tactic(auto, using(air_history::proofs::ScanLemmas::starts_within))]
+pub fn add_report(
+    alloc: Global,
+    events: Vec<Event>,
+    sessions: Sessions,
+    came: &mut Vec<u8>,
+) -> Result<(), NoMemory> {
+    if events.len() > MOST_EVENTS {
+        return add_line(b"too many events", &[], came);
+    }
+    let report = Report {
+        history: History::from_events(events),
+        verdicts: sessions.verdicts,
+        counts: sessions.counts,
+        glances: Vec::new(alloc),
+        looks: Vec::new(alloc),
+    };
+    write_report(alloc, &report, came)
+}
+
+/// Adds a piece to the tape so far, and its line: how many starts of these events are behind the first ones, of which there are so many;
+/// how many bytes the piece has; and how many events there are.
+pub fn add_piece(
+    events: &[Event],
+    first: usize,
+    piece: &[u8],
+    tape: &mut Vec<u8>,
+    came: &mut Vec<u8>,
+) -> Result<(), NoMemory> {
+    tape.extend_from_slice(piece)?;
+    let mut starts = 0u64;
+    for (place, event) in events.iter().enumerate() {
+        if first <= place && event.is_start() {
+            starts = starts.saturating_add(1);
+        }
+    }
+    let numbers = [starts, piece.len() as u64, events.len() as u64];
+    add_line(b"piece", &numbers, came)
+}
+
+/// Adds how many bytes the tape has, and the 64 bits of FNV-1a of them.
+pub fn add_tape(tape: &[u8], came: &mut Vec<u8>) -> Result<(), NoMemory> {
+    let mut sum = 0xcbf2_9ce4_8422_2325u64;
+    for byte in tape {
+        sum = (sum ^ u64::from(*byte)).wrapping_mul(0x0100_0000_01b3);
+    }
+    add_line(b"tape", &[tape.len() as u64, sum], came)
+}
