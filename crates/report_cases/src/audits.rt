@@ -9,17 +9,21 @@ use item_catalog::Deck;
 use live_replay::{AuditError, Cause, Finding, audit};
 use std::alloc::Global;
 
-/// Tells of each finding whether its line agrees, or the cause for which it differs, and the row.
+/// What is found of a line in a word: that it agrees, or the cause for which it differs.
+fn word_of(finding: &Finding) -> &'static [u8] {
+    match finding.differs {
+        None => b"agrees",
+        Some(Cause::Value) => b"value",
+        Some(Cause::Verdict) => b"verdict",
+        Some(Cause::Clash) => b"clash",
+        Some(Cause::Total) => b"total",
+    }
+}
+
+/// Tells of each finding its word and the row of its line.
 fn add_findings(found: &[Finding], came: &mut Vec<u8>) -> Result<(), NoMemory> {
     for finding in found {
-        let row = [u64::from(finding.row)];
-        match finding.differs {
-            None => add_line(b"agrees", &row, came)?,
-            Some(Cause::Value) => add_line(b"value", &row, came)?,
-            Some(Cause::Verdict) => add_line(b"verdict", &row, came)?,
-            Some(Cause::Clash) => add_line(b"clash", &row, came)?,
-            Some(Cause::Total) => add_line(b"total", &row, came)?,
-        }
+        add_line(word_of(finding), &[u64::from(finding.row)], came)?;
     }
     Ok(())
 }

@@ -31,14 +31,21 @@ fn item_of(number: u64) -> u16 {
 
 /// Seven numbers that a text spells, with a space between each two; those that it lacks are 0.
 fn seven_of(text: &[u8]) -> [u64; 7] {
-    let mut rest = text;
-    let mut numbers = [0; 7];
-    for place in 0..7_usize {
-        let (first, after) = first_word(rest);
-        numbers[place] = number(first);
-        rest = after;
-    }
-    numbers
+    let (first, rest) = first_word(text);
+    let (second, rest) = first_word(rest);
+    let (third, rest) = first_word(rest);
+    let (fourth, rest) = first_word(rest);
+    let (fifth, rest) = first_word(rest);
+    let (sixth, last) = first_word(rest);
+    [
+        number(first),
+        number(second),
+        number(third),
+        number(fourth),
+        number(fifth),
+        number(sixth),
+        number(last),
+    ]
 }
 
 /// A commit of an update that puts 1 into item 0: its updater, and the updater's number for it.
