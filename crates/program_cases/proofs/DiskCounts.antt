@@ -8,5 +8,5 @@ unfolding cut
 length-cut items [] = refl
 length-cut items (spec ∷ specs) = ap suc (length-cut (drop spec.size items) specs)
 
-pub length-disks_in : (deck : Deck) → length (disks_in deck) ≡ length deck.disks
-length-disks_in deck = length-cut (order (rates_in deck)) deck.disks
+pub length_disks_in : (deck : Deck) → length (disks_in deck) ≡ length deck.disks
+length_disks_in deck = length-cut (order (rates_in deck)) deck.disks

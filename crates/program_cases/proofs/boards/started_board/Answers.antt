@@ -1,0 +1,10 @@
+use Rattle.std.proofs.Common.{rules, sym, subst}
+use Rattle.std.specs.Prelude.{IsTrue}
+use Rattle.board_laws.specs.BoardBuckets.{EntriesBelow}
+use Rattle.program_cases.proofs.boards.started_board.Goals as goal
+
+pub returns-clause-below : goal.returns-clause-below
+returns-clause-below c =
+    let applied : IsTrue c.apply-2.result = search rules in
+    let i = c.loop-part.invariant in
+    subst EntriesBelow (sym (c.apply-2.ensures applied c.in_ok-values.values.items i.0 i.1)) (c.below_law.ensures c.in_ok-values.values.items i.0)

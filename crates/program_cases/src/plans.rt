@@ -1,0 +1,149 @@
+//! Cases of cuts and programs: where each item is, and what the slots of a cycle carry.
+
+ghost use Rattle.std.specs.Prelude.{◌≡◌, ◌≤◌, IfOk};
+ghost use Rattle.air_model.specs.Decks.{disks_in};
+
+use air_base::NoMemory;
+use case_lines::{add_line, add_number, first_word, number};
+use chunk_program::{Cut, PlanFault, Program, cut};
+use item_catalog::Deck;
+use std::alloc::Global;
+
+/// The cut of a deck and its program, or why there is none.
+pub fn planned(alloc: Global, deck: &Deck) -> Result<(Cut, Program), PlanFault>
+    ensures cut { IfOk result (λ p. p.0 ≡ disks_in deck.now) }
+    ensures program { IfOk result (λ p. p.1 ≡ disks_in deck.now) }
+{
+    let Ok(cut) = cut(alloc, deck) else {
+        return Err(PlanFault::NoMemory);
+    };
+    let program = Program::plan(alloc, deck, &cut)?;
+    Ok((cut, program))
+}
+
+/// Adds the text of the fault.
+pub fn tell_fault(alloc: Global, fault: &PlanFault, came: &mut Vec<u8>) -> Result<(), NoMemory> {
+    add_line(fault.to_string(alloc)?.as_bytes(), &[], came)
+}
+
+/// Adds for each disk its frequency, the number of its chunks and their length.
+#[tactic(auto, using(crate::proofs::DiskCounts::length_disks_in))]
+fn add_disks(deck: &Deck, program: &Program, out: &mut Vec<u8>) -> Result<(), NoMemory>
+    requires { program.now ≡ disks_in deck.now }
+{
+    for disk in 0..deck.disks() {
+        let numbers = [
+            u64::from(disk),
+            u64::from(deck.freq(disk)),
+            u64::from(program.chunks(disk)),
+            u64::from(program.chunk_len(disk)),
+        ];
+        add_line(b"disk", &numbers, out)?;
+    }
+    Ok(())
+}
+
+/// Adds the items of the slots, a line for each minor cycle.
+fn add_slots(program: &Program, out: &mut Vec<u8>) -> Result<(), NoMemory> {
+    let len = program.minor_len().max(1);
+    for slot in 0..program.slots() {
+        if slot % len == 0 {
+            out.extend_from_slice(b"\nminor ")?;
+            add_number(u64::from(slot / len), out)?;
+            out.push(b':')?;
+        }
+        out.push(b' ')?;
+        match program.slot_item(slot) {
+            Some(item) => add_number(u64::from(item), out)?,
+            None => out.push(b'-')?,
+        }
+    }
+    out.push(b'\n')?;
+    Ok(())
+}
+
+/// The rate of an item; 0 where there is no such item.
+fn rate_of(deck: &Deck, item: u16) -> u32
+    ensures { result ≤ 1000000 }
+{
+    if item < deck.items() {
+        deck.rate(item)
+    } else {
+        0
+    }
+}
+
+/// Adds for each item its disk, how often and how far apart it comes, its first slot, and its PIX number at its rate.
+fn add_items(deck: &Deck, cut: &Cut, program: &Program, out: &mut Vec<u8>) -> Result<(), NoMemory>
+    requires { cut.now ≡ program.now }
+{
+    program.well_made();
+    let _some = program.slots();
+    for item in 0..cut.order().len() as u16 {
+        let numbers = [
+            u64::from(item),
+            u64::from(cut.disk_of(item)),
+            u64::from(program.times(item)),
+            u64::from(program.gap(item)),
+            u64::from(program.next_wake(0, item)),
+            program.pix(item, rate_of(deck, item)),
+        ];
+        add_line(b"item", &numbers, out)?;
+    }
+    Ok(())
+}
+
+/// The plan: slots, minor cycles and their length, the disks, the slots of each minor cycle, and the items.
+pub fn tell_plan(
+    deck: &Deck,
+    cut: &Cut,
+    program: &Program,
+    came: &mut Vec<u8>,
+) -> Result<(), NoMemory>
+    requires cut { cut.now ≡ program.now }
+    requires program { program.now ≡ disks_in deck.now }
+{
+    let numbers = [
+        u64::from(program.slots()),
+        u64::from(program.minors()),
+        u64::from(program.minor_len()),
+    ];
+    add_line(b"program", &numbers, came)?;
+    add_disks(deck, program, came)?;
+    add_slots(program, came)?;
+    add_items(deck, cut, program, came)
+}
+
+/// The order of the items, and of each its disk and its place there.
+pub fn tell_cut(cut: &Cut, came: &mut Vec<u8>) -> Result<(), NoMemory> {
+    for item in cut.order() {
+        add_line(b"next", &[u64::from(*item)], came)?;
+    }
+    for item in 0..cut.order().len().min(256) as u16 {
+        let numbers = [
+            u64::from(item),
+            u64::from(cut.disk_of(item)),
+            u64::from(cut.place_of(item)),
+        ];
+        add_line(b"item", &numbers, came)?;
+    }
+    Ok(())
+}
+
+/// The number of slots from a slot to the next one of an item.
+pub fn tell_wait(
+    program: &Program,
+    cut: &Cut,
+    about: &[u8],
+    came: &mut Vec<u8>,
+) -> Result<(), NoMemory>
+    requires { cut.now ≡ program.now }
+{
+    let (slot, item) = first_word(about);
+    let (slot, item) = (number(slot), number(item));
+    if slot >= u64::from(program.slots()) || item >= cut.order().len().min(256) as u64 {
+        return add_line(b"not a call", &[], came);
+    }
+    let wait = program.next_wake(slot as u32, item as u16);
+    add_line(b"wait", &[u64::from(wait)], came)
+}
