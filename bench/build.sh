@@ -2,7 +2,8 @@
 #
 # `build NAME USED..` proves and builds the program of `bench/NAME.txt`, which uses these crates, in a scratch folder beside a
 # copy of them and of the crates that they stand on: so the repository keeps no crate that only measures. `scratch` is that
-# folder, which goes when the bench ends, and `program` the program. A proof of its function F is `bench/NAME_proof_F.txt`.
+# folder, which goes when the bench ends, and `program` the program. A proof of its function F is `bench/NAME_proof_F.txt`,
+# what holds between the rounds of its loops `bench/NAME_loops_F.txt`; a method is `TYPE.METHOD`.
 #
 # `beside SIZE OURS OTHER` makes a table, under these heads, of lines with a size and how many a second went each way: the
 # median of each over the lines of a size, and the time of ours by that of the other.
@@ -40,6 +41,13 @@ build() {
         crate=${proof#"bench/${name}_proof_"}
         mkdir -p "$made/proofs/${crate%.txt}"
         cp "$proof" "$made/proofs/${crate%.txt}/Answers.antt"
+    done
+    for proof in "bench/${name}"_loops_*.txt; do
+        [ -f "$proof" ] || continue
+        crate=${proof#"bench/${name}_loops_"}
+        crate=${crate%.txt}
+        mkdir -p "$made/proofs/${crate//.//}"
+        cp "$proof" "$made/proofs/${crate//.//}/Invariants.antt"
     done
     (cd "$made" && rt run) >"$scratch/log" 2>&1
     program=$made/out/${name}_bench

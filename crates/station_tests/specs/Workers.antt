@@ -1,9 +1,10 @@
--- What holds of a worker between its commits.
+-- What holds of an updater's pass and its update between commits.
 use Rattle.std.specs.Prelude.{◌≡◌, length}
 use Rattle.turnstile.specs.Passes.{GateId}
+use Rattle.air_history.specs.UpdateLists.{UpdateLists}
 use Rattle.air_history.specs.UpdateRules.{UpdateFits}
-use Rattle.station_tests.specs.declared.workers.Worker.{Worker}
+use Rattle.station.specs.PassStates.{PassState}
 
--- Its pass is of this station, and its update fits the station's items.
-abbrev pub IsReady : GateId → Worker → Type 0
-IsReady station w = (w.pass.station ≡ station) × UpdateFits (length w.pass.values) w.task.update
+-- The pass is of this station, and the update fits the station's items.
+abbrev pub IsReady : GateId → PassState → UpdateLists → Type 0
+IsReady station pass update = (pass.station ≡ station) × UpdateFits (length pass.values) update

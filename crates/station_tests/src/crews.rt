@@ -1,116 +1,121 @@
-//! All passes of a station at work, and the end, when they come back.
-ghost use Rattle.std.specs.Prelude.{◌≡◌, ℕ, ◌<◌, length, All, Contains, IfOk, IsTrue, Some};
+//! A conductor and two updaters on a station, side by side, and the end, when their passes come back.
+ghost use Rattle.std.specs.Prelude.{◌≡◌, ℕ, ◌<◌, length, Contains, IfOk, IfSome, IsTrue};
 ghost use Rattle.std.specs.Thread.{IsSync};
-ghost use Rattle.station.specs.PassStates.{PassState, numbers_of, with_seen};
+ghost use Rattle.station.specs.PassStates.{numbers_of, with_seen};
 ghost use Rattle.station_tests.specs.Workers.{IsReady};
 
-use crate::workers::{Conductor, Task, Worker};
-use item_catalog::Deck;
+use crate::replays::replay;
+use crate::workers::{Conductor, Worker};
+use item_catalog::{Deck, read_deck};
 use station::{NoMemory, Station, UpdaterPass};
 use std::alloc::Global;
 use std::sync::Wait;
-use std::thread;
+use std::test::Fail;
 use std::thread::{Threads, join_mut};
 
-/// Gives each pass to a worker, with the first update of its updater. A pass of which the deck has no update, or one that does
-/// not fit, gets none.
-pub fn hire(
+/// The worker of a pass, with the first update of its updater; none where the deck has none that fits.
+fn hire(
     alloc: Global,
     station: &Station,
     deck: &Deck,
-    passes: Vec<UpdaterPass>,
-) -> Result<Vec<Worker>, NoMemory>
-    requires own { All (λ (p : PassState). (p.station ≡ station.now) × (length p.values ≡ length deck.now.items)) passes.items }
-    ensures ready { IfOk result (λ workers. All (IsReady station.now) workers.items) }
+    pass: UpdaterPass,
+) -> Result<Option<Worker>, NoMemory>
+    requires own { (pass.station ≡ station.now) × (length pass.values ≡ length deck.now.items) }
+    ensures ready { IfOk result (λ w. IfSome w (λ w. IsReady station.now w.pass w.update)) }
 {
-    let mut workers = Vec::new(alloc);
-    let mut passes = passes;
-    while let Some(pass) = passes.pop() {
-        let by = pass.by();
-        if by >= deck.updaters() {
-            continue;
-        }
-        let Some(update) = deck.updates(by).first() else {
-            continue;
-        };
-        if update.fits(deck.items()) {
-            let task = Task {
-                by,
-                update: update.copy(alloc)?,
-                receipts: Vec::new(alloc),
-                done: false,
-            };
-            workers.push(Worker { pass, task })?;
-        }
+    let by = pass.by();
+    if by >= deck.updaters() {
+        return Ok(None);
     }
-    Ok(workers)
+    match deck.updates(by).first() {
+        Some(update) if update.fits(deck.items()) => Ok(Some(Worker {
+            pass,
+            update: update.copy(alloc)?,
+            receipts: Vec::new(alloc),
+        })),
+        _ => Ok(None),
+    }
 }
 
-/// Lets each worker make so many commits, by so many threads.
+/// A station of the deck with its conductor and its two updaters; none where the deck has not two.
+pub fn open(
+    alloc: Global,
+    text: &[u8],
+) -> Result<Option<(Station, Conductor, Worker, Worker)>, Fail>
+    ensures conductor { IfOk result (λ o. IfSome o (λ c. (c.1.pass.station ≡ c.0) × (c.1.pass.updaters ≡ 2))) }
+    ensures one { IfOk result (λ o. IfSome o (λ c. IsReady c.0 c.2.pass c.2.update)) }
+    ensures two { IfOk result (λ o. IfSome o (λ c. IsReady c.0 c.3.pass c.3.update)) }
+{
+    if text.len() > 1000 {
+        return Ok(None);
+    }
+    let deck = read_deck(alloc, text)?;
+    let (station, mut passes, pass) = Station::new(alloc, &deck)?;
+    if deck.updaters() != 2 {
+        return Ok(None);
+    }
+    let Some(second) = passes.pop() else {
+        return Ok(None);
+    };
+    let Some(first) = passes.pop() else {
+        return Ok(None);
+    };
+    let one = hire(alloc, &station, &deck, first)?;
+    let two = hire(alloc, &station, &deck, second)?;
+    let (Some(one), Some(two)) = (one, two) else {
+        return Ok(None);
+    };
+    let fresh = Vec::new(alloc);
+    Ok(Some((station, Conductor { pass, fresh }, one, two)))
+}
+
+/// Lets both updaters make so many commits, side by side.
+fn work_both<R: Threads + Wait + Sync>(
+    rt: &R,
+    alloc: Global,
+    station: &Station,
+    one: &mut Worker,
+    two: &mut Worker,
+    commits: u32,
+)
+    requires one { IsReady station.now one.old.pass one.old.update }
+    requires two { IsReady station.now two.old.pass two.old.update }
+    ensures one { IsReady station.now one.new.pass one.new.update }
+    ensures two { IsReady station.now two.new.pass two.new.update }
+{
+    join_mut(
+        rt,
+        &mut || one.commit_all(rt, alloc, station, commits),
+        &mut || two.commit_all(rt, alloc, station, commits),
+    );
+}
+
+/// Lets both updaters make so many commits, while the conductor starts so many cycles.
 pub fn work_all<R: Threads + Wait + Sync>(
     rt: &R,
     alloc: Global,
     station: &Station,
-    workers: &mut [Worker],
-    threads: usize,
-    commits: u32,
-)
-    requires some { 0 < threads }
-    requires ready { All (IsReady station.now) workers.old }
-    ensures ready { All (IsReady station.now) workers.new }
-{
-    thread::for_each_mut(
-        rt,
-        workers,
-        threads,
-        &|_, w| { w.work(rt, alloc, station, commits) },
-    );
-}
-
-/// Lets each worker make so many commits, by so many threads, while the conductor starts so many cycles.
-pub fn run_all<R: Threads + Wait + Sync>(
-    rt: &R,
-    alloc: Global,
-    station: &Station,
     conductor: &mut Conductor,
-    workers: &mut [Worker],
-    threads: usize,
+    one: &mut Worker,
+    two: &mut Worker,
     commits: u32,
     cycles: u32,
 )
-    requires some { 0 < threads }
     requires conductor { conductor.old.pass.station ≡ station.now }
-    requires ready { All (IsReady station.now) workers.old }
+    requires one { IsReady station.now one.old.pass one.old.update }
+    requires two { IsReady station.now two.old.pass two.old.update }
     ensures conductor { conductor.new.pass ≡ with_seen conductor.old.pass conductor.new.pass.seen }
-    ensures ready { All (IsReady station.now) workers.new }
+    ensures one { IsReady station.now one.new.pass one.new.update }
+    ensures two { IsReady station.now two.new.pass two.new.update }
 {
     join_mut(
         rt,
-        &mut || conductor.work(rt, alloc, station, cycles),
+        &mut || conductor.start_all(rt, alloc, station, cycles),
         &mut ||
-            requires { IsSync R.row × (0 < threads) × All (IsReady station.now) workers.now }
-            ensures { All (IsReady station.entry.now) workers.exit.now }
-        { work_all(rt, alloc, station, workers, threads, commits) },
+            requires { IsSync R.row × IsReady station.now one.now.pass one.now.update × IsReady station.now two.now.pass two.now.update }
+            ensures { IsReady station.entry.now one.exit.now.pass one.exit.now.update × IsReady station.entry.now two.exit.now.pass two.exit.now.update }
+        { work_both(rt, alloc, station, one, two, commits) },
     );
-}
-
-/// The passes of the workers, and their tasks.
-pub fn gather(
-    alloc: Global,
-    station: &Station,
-    workers: Vec<Worker>,
-) -> Result<(Vec<UpdaterPass>, Vec<Task>), NoMemory>
-    requires ready { All (IsReady station.now) workers.items }
-    ensures own { IfOk result (λ made. All (λ (p : PassState). p.station ≡ station.now) made.0.items) }
-{
-    let mut workers = workers;
-    let mut passes = Vec::new(alloc);
-    let mut tasks = Vec::new(alloc);
-    while let Some(Worker { pass, task }) = workers.pop() {
-        passes.push(pass)?;
-        tasks.push(task)?;
-    }
-    Ok((passes, tasks))
 }
 
 /// Whether a pass has the number.
@@ -126,7 +131,7 @@ fn has_number(passes: &[UpdaterPass], by: u32) -> bool
 }
 
 /// Whether each number below that of the updaters has a pass.
-pub fn is_complete(passes: &[UpdaterPass], updaters: u32) -> bool
+fn is_complete(passes: &[UpdaterPass], updaters: u32) -> bool
     ensures { IsTrue result → (by : ℕ) → by < updaters → Contains (numbers_of passes.now) by }
 {
     for by in 0..updaters {
@@ -135,4 +140,34 @@ pub fn is_complete(passes: &[UpdaterPass], updaters: u32) -> bool
         }
     }
     true
+}
+
+/// How many events and starts a history has, how many receipts each updater and how many lists the conductor got, and the first
+/// two values at its end, or the first place that was answered otherwise than by a core.
+pub type Found = (u64, u32, [usize; 3], Result<[u64; 2], usize>);
+
+/// Closes the station, and replays its history from these values; none where a pass is missing.
+pub fn close(
+    alloc: Global,
+    station: Station,
+    conductor: Conductor,
+    one: Worker,
+    two: Worker,
+    first: &[u64],
+) -> Result<Option<Found>, NoMemory>
+    requires conductor { (conductor.pass.station ≡ station) × (conductor.pass.updaters ≡ 2) }
+    requires workers { (one.pass.station ≡ station) × (two.pass.station ≡ station) }
+{
+    let mut passes = Vec::new(alloc);
+    passes.push(one.pass)?;
+    passes.push(two.pass)?;
+    if !is_complete(&passes, 2) {
+        return Ok(None);
+    }
+    let history = station.close(passes, conductor.pass);
+    let fresh = conductor.fresh;
+    let (ones, twos) = (one.receipts, two.receipts);
+    let values = replay(alloc, &history, first, [&ones, &twos], &fresh)?;
+    let counts = [ones.len(), twos.len(), fresh.len()];
+    Ok(Some((history.len(), history.starts(), counts, values)))
 }

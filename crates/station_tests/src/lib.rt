@@ -1,22 +1,14 @@
-//! Tests of the core and the station: tables of calls with answers by hand, and crews of threads on one history.
+//! Tests of the station: calls one after another with answers by hand, and a conductor and two updaters in threads on one history.
 //!
-//! `crews` has an updater and a conductor at work through their passes, all of them side by side, and the end, when their
-//! passes come back. What is proved here is that each call's conditions are met; what histories then have is shown by tests.
+//! `workers` has an updater and a conductor at work through their passes, `crews` all of them on a station, side by side, and the
+//! end, when their passes come back. `replays` plays the closed history once more, on a core, and compares what both answered.
 #![tactic(auto)]
 
+#[cfg(test)]
 mod crews;
+#[cfg(test)]
+mod replays;
+#[cfg(test)]
+mod tests;
+#[cfg(test)]
 mod workers;
-
-pub use crews::{gather, hire, is_complete, run_all, work_all};
-pub use workers::{Conductor, Task, Worker};
-
-#[cfg(test)]
-mod cores;
-#[cfg(test)]
-mod histories;
-#[cfg(test)]
-mod rows;
-#[cfg(test)]
-mod stations;
-#[cfg(test)]
-mod threads;

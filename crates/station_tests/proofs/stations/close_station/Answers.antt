@@ -1,9 +1,0 @@
-use Rattle.std.proofs.Common.{rules, ◌<◌, subst}
-use Rattle.std.specs.Prelude.{Contains, IsTrue}
-use Rattle.station.specs.PassStates.{numbers_of}
-use Rattle.station_tests.proofs.stations.close_station.Goals as goal
-
-pub close-requires-clause-all : goal.close-requires-clause-all
-close-requires-clause-all c = λ by low.
-    let found : IsTrue c.is_complete.result = search rules in
-    subst (λ ps. Contains (numbers_of ps) by) c.deref.ensures.value (c.is_complete.ensures found by (subst (λ n. by < n) c.requires.updaters low))

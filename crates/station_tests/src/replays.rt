@@ -1,0 +1,113 @@
+//! A closed station's history once more, event by event on a core: what the station answered has to be what the core answers.
+ghost use Rattle.std.specs.Prelude.{◌≡◌, ◌<◌, ◌≤◌, ◌+◌, length};
+
+use air_history::{Event, History};
+use station::NoMemory;
+use std::alloc::Global;
+use update_commit::{Core, Receipt};
+
+/// Whether the receipt at this place says just this.
+pub fn says(
+    receipts: &[Receipt],
+    place: usize,
+    number: u64,
+    cycle: u32,
+    read: &[u64],
+    written: &[u64],
+) -> bool {
+    match receipts.get(place) {
+        Some(receipt) => {
+            receipt.number == number
+                && receipt.cycle == cycle
+                && receipt.read.as_slice() == read
+                && receipt.written.as_slice() == written
+        }
+        None => false,
+    }
+}
+
+/// The updater and its number of a commit; none of a start.
+fn ids_of(event: &Event) -> Option<(u32, u32)> {
+    match event {
+        Event::Start => None,
+        Event::Commit { by, seq, .. } => Some((*by, *seq)),
+    }
+}
+
+/// Whether both lists have the same events.
+fn are_equal(events: &[Event], others: &[Event]) -> bool {
+    for (one, other) in events.iter().zip(others) {
+        if ids_of(one) != ids_of(other)
+            || one.reads() != other.reads()
+            || one.writes() != other.writes()
+        {
+            return false;
+        }
+    }
+    events.len() == others.len()
+}
+
+/// Adds the event to a core of two updaters; whether the station answered the same.
+#[tactic(auto, using(crate::proofs::Counts::few_made, crate::proofs::Counts::few_starts))]
+fn is_replayed(
+    alloc: Global,
+    core: &mut Core,
+    items: u16,
+    event: &Event,
+    receipts: &[&Vec<Receipt>; 2],
+    fresh: &[Vec<Event>],
+) -> Result<bool, NoMemory>
+    requires core { (core.old.updaters ≡ 2) × (length core.old.values ≡ items) × (length core.old.events < 1000000) }
+    ensures core { (core.new.updaters ≡ 2) × (length core.new.values ≡ items) × (length core.new.events ≤ length core.old.events + 1) }
+{
+    core.reserve(1)?;
+    let Event::Commit { by, seq, update } = event else {
+        let mut since = Vec::new(alloc);
+        core.since_start(alloc, &mut since)?;
+        since.push(Event::Start)?;
+        let before = core.cycle();
+        let _number = core.start();
+        return Ok(match fresh.get(before as usize) {
+            Some(given) => are_equal(given, &since),
+            None => false,
+        });
+    };
+    if *by >= 2 || !update.fits(items) {
+        return Ok(false);
+    }
+    let mut own = Receipt::room(alloc, update)?;
+    core.commit(*by, update.copy(alloc)?, &mut own);
+    let (read, written) = (own.read.as_slice(), own.written.as_slice());
+    let told = receipts[*by as usize];
+    Ok(says(told, *seq as usize, own.number, own.cycle, read, written))
+}
+
+/// Replays the history on a core of these values and two updaters. The first two values then, or the first place at which the
+/// station answered otherwise.
+pub fn replay(
+    alloc: Global,
+    history: &History,
+    first: &[u64],
+    receipts: [&Vec<Receipt>; 2],
+    fresh: &[Vec<Event>],
+) -> Result<Result<[u64; 2], usize>, NoMemory> {
+    if first.len() < 2 || first.len() > 1000 {
+        return Ok(Err(0));
+    }
+    let mut core = Core::new(alloc, first, 2)?;
+    for (place, event) in history.events().iter().enumerate() {
+        if place >= 100000
+            || !is_replayed(
+                alloc,
+                &mut core,
+                first.len() as u16,
+                event,
+                &receipts,
+                fresh,
+            )?
+        {
+            return Ok(Err(place));
+        }
+    }
+    Ok(Ok([core.value(0), core.value(1)]))
+}
