@@ -1,7 +1,6 @@
--- Batches that are made event by event, and vectors that are emptied from their end.
-use Rattle.std.proofs.Common.{◌≡◌, ℕ, false, cond, List, [], ◌∷◌, ◌++◌, refl, subst, length, All, ap, arith}
+-- Batches that are made event by event.
+use Rattle.std.proofs.Common.{◌≡◌, ℕ, false, cond, List, [], ◌∷◌, ◌++◌, refl, length, All, ap, arith}
 use Rattle.std.proofs.lemmas.Bool.{cond-false}
-use Rattle.std.proofs.lemmas.List.{get_or_push, get_or_append_left, length_push}
 use Rattle.std.proofs.lemmas.List.Sums.{sum_by-cons}
 use Rattle.std.proofs.lemmas.List.Elements.{All-push}
 use Rattle.air_history.specs.declared.histories.Event.{Event}
@@ -17,10 +16,6 @@ starts_one e commit = let none = cond-false {A = ℕ} (is_start e) 1 0 commit in
 -- A commit more is no start.
 pub no_start : (G : List Event) (e : Event) → starts G ≡ 0 → is_start e ≡ false → starts (G ++ e ∷ []) ≡ 0
 no_start G e none commit = let a = starts_append G (e ∷ []) in let one = starts_one e commit in omega arith
-
--- What holds of all holds of all but the last, and of the last.
-pub all_but_last : {A : Type 0} (P : A → Type 0) (xs : List A) (y : A) → All P (xs ++ y ∷ []) → All P xs × P y
-all_but_last P xs y h = let long = length_push xs y in (λ k d less. subst P (get_or_append_left xs (y ∷ []) d k less) (h k d (omega arith)), subst P (get_or_push xs y y (length xs) refl) (h (length xs) y (omega arith)))
 
 -- All of none.
 pub all_none : {A : Type 0} (P : A → Type 0) (xs : List A) → xs ≡ [] → All P xs

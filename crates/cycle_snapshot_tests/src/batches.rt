@@ -1,10 +1,12 @@
-//! Batches as rows of a table.
-ghost use Rattle.std.specs.Prelude.{IfOk};
+//! Batches as rows of a table, and a publisher that publishes so many of one form.
+ghost use Rattle.std.specs.Prelude.{◌≡◌, ◌+◌, ◌≤◌, length, IfOk};
 ghost use Rattle.cycle_snapshot.specs.Batches.{IsBatch};
+ghost use Rattle.cycle_snapshot_tests.specs.Workers.{StaysPublisher};
 
 use air_history::{Event, Update, Write};
-use cycle_snapshot::NoMemory;
+use cycle_snapshot::{NoMemory, Publisher};
 use std::alloc::Global;
+use std::sync::Wait;
 
 /// A write: the item, the read item whose value is taken, if any, and the amount that is put or added.
 pub type Put = (u16, Option<u16>, u64);
@@ -47,4 +49,30 @@ pub fn batch_of(alloc: Global, items: u16, rows: &[Row<'_>]) -> Result<Vec<Event
     }
     batch.push(Event::Start)?;
     Ok(batch)
+}
+
+/// Publishes so many batches. Each adds 1 to item 0, and then puts its value into item 1.
+pub fn publish_all<R: Wait>(
+    wait: &R,
+    alloc: Global,
+    publisher: &mut Publisher,
+    items: u16,
+    batches: u32,
+) -> Result<(), NoMemory>
+    requires items { length publisher.old.values ≡ items }
+    requires room { length publisher.old.batches + batches ≤ publisher.old.most }
+    ensures same { StaysPublisher publisher.old publisher.new }
+{
+    for k in 0..batches {
+        let batch = batch_of(
+            alloc,
+            items,
+            &[
+                (0, k, &[0], &[(0, Some(0), 1)]),
+                (1, k, &[0], &[(1, Some(0), 0)]),
+            ],
+        )?;
+        publisher.publish(wait, batch)?;
+    }
+    Ok(())
 }

@@ -1,19 +1,17 @@
-//! Tests of frames: tables of batches and looks with frames by hand, and a publisher with four monitors in threads.
+//! Tests of frames: a table of batches and looks with frames by hand, and a publisher with monitors in threads.
 //!
-//! `batches` makes batches of rows. `workers` has a publisher that publishes and monitors that look, all of them side by side;
-//! `lasts` has the last look, after all was told, which gives the whole list. What is proved here is that each call's conditions
-//! are met, and what a last look gives; what looks show in threads is shown by tests.
+//! `lasts` has the last look, after all was told, which gives the whole list: that is proved of each call. `batches` makes batches
+//! of rows, and publishes so many of one form; `looks` plays calls of a publisher and of its monitor on one thread, and `workers`
+//! has monitors that look beside a publisher.
 #![tactic(auto)]
 
 mod batches;
 mod lasts;
-mod workers;
 
-pub use batches::{Put, Row, batch_of};
+pub use batches::publish_all;
 pub use lasts::{last_look, last_looks};
-pub use workers::{Watcher, hire, publish_all, run_all, watch_all};
 
 #[cfg(test)]
 mod looks;
 #[cfg(test)]
-mod threads;
+mod workers;

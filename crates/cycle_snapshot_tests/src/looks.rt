@@ -20,10 +20,8 @@ enum Step<'a> {
     Learns,
     /// The monitor looks.
     Looks,
-    /// What the monitor keeps.
-    Keeps(Kept),
-    /// How often it looked.
-    Looked(u64),
+    /// What the monitor keeps, and how often it looked.
+    Keeps(Kept, u64),
 }
 
 /// The values from which each table starts: their sum is 19 modulo 2^64.
@@ -47,48 +45,27 @@ const ONE_KEPT: Kept = (1, [u64::MAX, 25], [[0, 0], [0, 0]], 24);
 /// The frame of both: item 1 was written in cycle 1, and item 0 after a read of it.
 const TWO_KEPT: Kept = (2, [3, 2], [[1, 1], [0, 1]], 5);
 
-/// In what a step is answered otherwise than told: what came in its place.
-#[derive(Clone, Copy, Debug, PartialEq, Eq)]
-enum Other {
-    /// The publisher has no room for one more batch.
-    NoRoom,
-    Cycle(u32),
-    Values([u64; 2]),
-    /// The item's column is another.
-    Column(u16),
-    Total(u64),
-    Looked(u64),
-}
-
-/// In what the monitor keeps something else than told.
-fn kept_other(monitor: &Monitor, told: &Kept) -> Option<Other>
+/// Whether the monitor keeps this, and looked so often.
+fn keeps(monitor: &Monitor, told: &Kept, looks: u64) -> bool
     requires { length monitor.now.values ≡ 2 }
 {
     let (cycle, values, columns, total) = *told;
-    if monitor.cycle() != cycle {
-        return Some(Other::Cycle(monitor.cycle()));
-    }
-    let kept = [monitor.value(0), monitor.value(1)];
-    if kept != values {
-        return Some(Other::Values(kept));
-    }
-    if monitor.column(0) != columns[0].as_slice() {
-        return Some(Other::Column(0));
-    }
-    if monitor.column(1) != columns[1].as_slice() {
-        return Some(Other::Column(1));
-    }
-    (monitor.total() != total).then_some(Other::Total(monitor.total()))
+    monitor.cycle() == cycle
+        && [monitor.value(0), monitor.value(1)] == values
+        && monitor.column(0) == columns[0].as_slice()
+        && monitor.column(1) == columns[1].as_slice()
+        && monitor.total() == total
+        && monitor.looks() == looks
 }
 
-/// Makes the call; in what it is answered otherwise than told.
-fn difference<R: Wait>(
+/// Makes the call; whether the monitor keeps what is told.
+fn make_step<R: Wait>(
     wait: &R,
     alloc: Global,
     source: &mut Publisher,
     monitor: &mut Monitor,
     step: &Step<'_>,
-) -> Result<Option<Other>, NoMemory>
+) -> Result<bool, NoMemory>
     requires own { monitor.old.publisher ≡ source.old.id }
     requires items { (length source.old.values ≡ 2) × (length monitor.old.values ≡ 2) }
     requires room { length source.old.batches < source.old.most }
@@ -100,44 +77,37 @@ fn difference<R: Wait>(
         Step::Publishes(rows) => source.publish(wait, batch_of(alloc, 2, rows)?)?,
         Step::Learns => monitor.learn(source.tell()),
         Step::Looks => monitor.look()?,
-        Step::Keeps(kept) => return Ok(kept_other(monitor, kept)),
-        Step::Looked(told) => {
-            let looks = monitor.looks();
-            return Ok((looks != *told).then_some(Other::Looked(looks)));
-        }
+        Step::Keeps(kept, looks) => return Ok(keeps(monitor, kept, *looks)),
     }
-    Ok(None)
+    Ok(true)
 }
 
-/// The place of the first of the steps that is answered otherwise than told, and in what.
+/// The place of the first of the steps at which the monitor keeps something else than told.
 fn walk<R: Wait>(
     wait: &R,
     alloc: Global,
     source: &mut Publisher,
     monitor: &mut Monitor,
     steps: &[Step<'_>],
-) -> Result<Option<(usize, Other)>, NoMemory>
+) -> Result<Option<usize>, NoMemory>
     requires own { monitor.old.publisher ≡ source.old.id }
     requires items { (length source.old.values ≡ 2) × (length monitor.old.values ≡ 2) }
     requires room { (length source.old.batches ≡ 0) × (source.old.most ≡ 100) }
 {
-    for (place, step) in steps.iter().enumerate() {
-        if place >= 100 {
-            return Ok(Some((place, Other::NoRoom)));
-        }
-        if let Some(other) = difference(wait, alloc, source, monitor, step)? {
-            return Ok(Some((place, other)));
+    for (place, told) in steps.iter().enumerate() {
+        if place >= 100 || !make_step(wait, alloc, source, monitor, told)? {
+            return Ok(Some(place));
         }
     }
     Ok(None)
 }
 
-/// The place of the first of the steps that a new publisher and its monitor answer otherwise than told, and in what.
+/// The place of the first of the steps at which the monitor of a new publisher keeps something else than told.
 fn first_other<R: Wait>(
     wait: &R,
     alloc: Global,
     steps: &[Step<'_>],
-) -> Result<Option<(usize, Other)>, NoMemory> {
+) -> Result<Option<usize>, NoMemory> {
     let (mut source, mut monitors) = publisher(wait, alloc, &FIRST, 1, 100)?;
     let other = match monitors.pop() {
         Some(mut monitor) => walk(wait, alloc, &mut source, &mut monitor, steps),
@@ -147,70 +117,42 @@ fn first_other<R: Wait>(
     other
 }
 
-/// How many monitors come with a publisher of so many.
-fn count<R: Wait>(wait: &R, alloc: Global, monitors: u32) -> Result<usize, NoMemory>
-    requires { monitors ≤ 16 }
-{
-    let (source, all) = publisher(wait, alloc, &[7], monitors, 0)?;
-    source.close(wait);
-    Ok(all.len())
-}
-
 #[test]
-fn looks_before_between_and_after_two_batches(rt: HostRuntime) -> Result<(), Fail> {
-    let steps = [
-        Step::Keeps(NONE_KEPT),
+fn looks_show_whole_batches_and_at_least_what_was_told(rt: HostRuntime) -> Result<(), Fail> {
+    let before_between_and_after_two_batches = [
+        Step::Keeps(NONE_KEPT, 0),
         Step::Looks,
-        Step::Keeps(NONE_KEPT),
+        Step::Keeps(NONE_KEPT, 1),
         Step::Publishes(ONE),
-        Step::Keeps(NONE_KEPT),
+        Step::Keeps(NONE_KEPT, 1),
         Step::Looks,
-        Step::Keeps(ONE_KEPT),
+        Step::Keeps(ONE_KEPT, 2),
         Step::Publishes(TWO),
-        Step::Keeps(ONE_KEPT),
+        Step::Keeps(ONE_KEPT, 2),
         Step::Looks,
         Step::Looks,
-        Step::Keeps(TWO_KEPT),
-        Step::Looked(4),
+        Step::Keeps(TWO_KEPT, 4),
     ];
-    assert_eq!(rt; first_other(&rt, rt.alloc(), &steps)?, None);
-    Ok(())
-}
-
-#[test]
-fn a_look_shows_at_least_what_was_told(rt: HostRuntime) -> Result<(), Fail> {
-    let steps = [
+    let at_least_what_was_told = [
         Step::Learns,
         Step::Publishes(ONE),
         Step::Learns,
-        Step::Keeps(NONE_KEPT),
+        Step::Keeps(NONE_KEPT, 0),
         Step::Publishes(TWO),
         Step::Learns,
-        Step::Looked(0),
+        Step::Keeps(NONE_KEPT, 0),
         Step::Looks,
-        Step::Keeps(TWO_KEPT),
+        Step::Keeps(TWO_KEPT, 1),
         Step::Publishes(&[]),
         Step::Learns,
         Step::Looks,
-        Step::Keeps((3, [3, 2], [[1, 1], [0, 1]], 5)),
+        Step::Keeps((3, [3, 2], [[1, 1], [0, 1]], 5), 2),
     ];
-    assert_eq!(rt; first_other(&rt, rt.alloc(), &steps)?, None);
-    Ok(())
-}
-
-#[test]
-fn a_publisher_comes_with_its_monitors(rt: HostRuntime) -> Result<(), Fail> {
-    assert_eq!(rt;
-        [count(&rt, rt.alloc(), 0)?, count(&rt, rt.alloc(), 16)?],
-        [0, 16]
-    );
-    Ok(())
-}
-
-#[test]
-fn another_answer_is_found(rt: HostRuntime) -> Result<(), Fail> {
-    let steps = [Step::Publishes(ONE), Step::Looks, Step::Keeps(TWO_KEPT)];
-    let found = first_other(&rt, rt.alloc(), &steps)?;
-    assert_eq!(rt; found, Some((2, Other::Cycle(1))));
+    let others = [
+        first_other(&rt, rt.alloc(), &before_between_and_after_two_batches)?,
+        first_other(&rt, rt.alloc(), &at_least_what_was_told)?,
+        first_other(&rt, rt.alloc(), &[Step::Looks, Step::Keeps(ONE_KEPT, 1)])?,
+    ];
+    assert_eq!(rt; others, [None, None, Some(1)]);
     Ok(())
 }

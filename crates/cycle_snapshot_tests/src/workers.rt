@@ -1,29 +1,22 @@
-//! A publisher at work, and monitors at work.
-ghost use Rattle.std.specs.Prelude.{◌≡◌, ◌+◌, ◌<◌, ◌≤◌, length, All, IfOk};
+//! A publisher and monitors in threads: each look shows one of the published beginnings, and none goes back.
+ghost use Rattle.std.specs.Prelude.{◌≡◌, ◌+◌, ◌<◌, ◌≤◌, ◌^◌, ◌-◌, length, All};
 ghost use Rattle.std.specs.Thread.{IsSync};
-ghost use Rattle.cycle_snapshot.specs.SnapshotStates.{MonitorState};
-ghost use Rattle.cycle_snapshot_tests.specs.Workers.{StaysPublisher, IsWatcher};
+ghost use Rattle.cycle_snapshot_tests.specs.Workers.{HasThree};
 
-use crate::batches::batch_of;
-use cycle_snapshot::{Monitor, NoMemory, Publisher};
+use crate::batches::publish_all;
+use cycle_snapshot::{Monitor, NoMemory, Publisher, publisher};
 use std::alloc::Global;
 use std::sync::Wait;
+use std::test::Fail;
 use std::thread;
 use std::thread::{Threads, join_mut};
 
-/// A monitor of three items, and what its looks showed: whether the frame went back, whether a frame was none of those that are
-/// published, and whether a look failed.
-#[derive(Drop)]
-pub struct Watcher {
-    pub monitor: Monitor,
-    pub back: bool,
-    pub torn: bool,
-    pub failed: bool,
-}
+/// How often a monitor looks at most until it sees the last batch.
+const MOST_LOOKS: u32 = 5_000_000;
 
 /// Whether the monitor keeps the frame of as many batches as its cycle says, of those that `publish_all` publishes.
 fn is_published(monitor: &Monitor) -> bool
-    requires { length monitor.now.values ≡ 3 }
+    requires { HasThree monitor.now }
 {
     let cycle = monitor.cycle();
     let before = cycle.saturating_sub(1);
@@ -35,112 +28,91 @@ fn is_published(monitor: &Monitor) -> bool
         && monitor.column(2) == [0, 0, 0].as_slice()
 }
 
-impl Watcher {
-    /// Looks once, and says what it showed.
-    fn look(&mut self)
-        requires items { IsWatcher self.old }
-        ensures items { IsWatcher self.new }
-    {
-        let before = self.monitor.cycle();
-        if self.monitor.look().is_err() {
-            self.failed = true;
+/// Looks until the monitor sees the cycle, and at most so many times. It stops early after a look that failed, that went back, or
+/// that showed a frame of none of the beginnings: then the monitor keeps an earlier cycle, or that frame.
+fn watch(monitor: &mut Monitor, cycle: u32, most: u32)
+    requires items { HasThree monitor.old }
+    ensures items { HasThree monitor.new }
+{
+    for _ in 0..most {
+        let before = monitor.cycle();
+        if monitor.look().is_err() || monitor.cycle() < before || !is_published(monitor) {
             return;
         }
-        if self.monitor.cycle() < before {
-            self.back = true;
+        if monitor.cycle() >= cycle {
+            return;
         }
-        if !is_published(&self.monitor) {
-            self.torn = true;
-        }
-    }
-
-    /// Looks until it sees the cycle, and at most so many times.
-    pub fn watch(&mut self, cycle: u32, most: u32)
-        requires items { IsWatcher self.old }
-        ensures items { IsWatcher self.new }
-    {
-        for _ in 0..most {
-            self.look();
-            if self.monitor.cycle() >= cycle {
-                return;
-            }
-            thread::yield_now();
-        }
+        thread::yield_now();
     }
 }
 
-/// Gives each monitor to a watcher.
-pub fn hire(alloc: Global, monitors: Vec<Monitor>) -> Result<Vec<Watcher>, NoMemory>
-    requires items { All (λ (m : MonitorState). length m.values ≡ 3) monitors.items }
-    ensures items { IfOk result (λ watchers. All IsWatcher watchers.items) }
+/// Lets all monitors look until they see the cycle, by four threads.
+fn watch_all<R: Threads + Sync>(rt: &R, monitors: &mut [Monitor], cycle: u32)
+    requires items { All HasThree monitors.old }
+    ensures items { All HasThree monitors.new }
 {
-    let mut monitors = monitors;
-    let mut watchers = Vec::new(alloc);
-    while let Some(monitor) = monitors.pop() {
-        watchers.push(Watcher {
-            monitor,
-            back: false,
-            torn: false,
-            failed: false,
-        })?;
-    }
-    Ok(watchers)
+    thread::for_each_mut(rt, monitors, 4, &|_, m| watch(m, cycle, MOST_LOOKS));
 }
 
-/// Publishes so many batches. Each adds 1 to item 0, and then puts its value into item 1.
-pub fn publish_all<R: Wait>(
-    wait: &R,
-    alloc: Global,
-    publisher: &mut Publisher,
-    items: u16,
-    batches: u32,
-) -> Result<(), NoMemory>
-    requires items { length publisher.old.values ≡ items }
-    requires room { length publisher.old.batches + batches ≤ publisher.old.most }
-    ensures same { StaysPublisher publisher.old publisher.new }
-{
-    for k in 0..batches {
-        let batch = batch_of(
-            alloc,
-            items,
-            &[
-                (0, k, &[0], &[(0, Some(0), 1)]),
-                (1, k, &[0], &[(1, Some(0), 0)]),
-            ],
-        )?;
-        publisher.publish(wait, batch)?;
-    }
-    Ok(())
-}
-
-/// Lets all watchers look until they see the cycle, each by a thread of its own.
-pub fn watch_all<R: Threads + Sync>(rt: &R, watchers: &mut [Watcher], cycle: u32, most: u32)
-    requires items { All IsWatcher watchers.old }
-    ensures items { All IsWatcher watchers.new }
-{
-    thread::for_each_mut(rt, watchers, 4, &|_, w| w.watch(cycle, most));
-}
-
-/// Publishes so many batches, while the watchers look.
-pub fn run_all<R: Threads + Wait + Sync>(
+/// Publishes so many batches, while the monitors look.
+fn run_all<R: Threads + Wait + Sync>(
     rt: &R,
     alloc: Global,
     publisher: &mut Publisher,
-    watchers: &mut [Watcher],
+    monitors: &mut [Monitor],
     batches: u32,
-    most: u32,
 ) -> Result<(), NoMemory>
     requires publisher { (length publisher.old.values ≡ 3) × (length publisher.old.batches + batches ≤ publisher.old.most) }
-    requires items { All IsWatcher watchers.old }
-    ensures items { All IsWatcher watchers.new }
+    requires items { All HasThree monitors.old }
+    ensures items { All HasThree monitors.new }
 {
     let (published, _) = join_mut(
         rt,
         &mut || publish_all(rt, alloc, publisher, 3, batches),
         &mut ||
-            requires { IsSync R.row × All IsWatcher watchers.now }
-            ensures { All IsWatcher watchers.exit.now }
-        { watch_all(rt, watchers, batches, most) },
+            requires { IsSync R.row × All HasThree monitors.now }
+            ensures { All HasThree monitors.exit.now }
+        { watch_all(rt, monitors, batches) },
     );
     published
+}
+
+/// The first of the monitors that doesn't keep the frame of all batches, and the cycle that it keeps.
+fn first_other(monitors: &[Monitor], batches: u32) -> Option<(usize, u32)>
+    requires { All HasThree monitors.now }
+{
+    for (place, monitor) in monitors.iter().enumerate() {
+        if monitor.cycle() != batches || !is_published(monitor) {
+            return Some((place, monitor.cycle()));
+        }
+    }
+    None
+}
+
+/// The first of so many monitors beside a publisher of so many batches that ends with another frame than that of all.
+fn other_beside<R: Threads + Wait + Sync>(
+    rt: &R,
+    alloc: Global,
+    monitors: u32,
+    batches: u32,
+) -> Result<Option<(usize, u32)>, NoMemory>
+    requires monitors { monitors ≤ 16 }
+    requires batches { batches < 2 ^ 32 - 1 }
+{
+    let (mut source, mut all) = publisher(rt, alloc, &[10, 10, u64::MAX], monitors, batches)?;
+    let done = run_all(rt, alloc, &mut source, all.as_mut_slice(), batches);
+    source.close(rt);
+    done?;
+    Ok(first_other(&all, batches))
+}
+
+#[test]
+fn monitors_beside_a_publisher_see_whole_batches(rt: HostRuntime) -> Result<(), Fail> {
+    let others = [
+        other_beside(&rt, rt.alloc(), 4, 1000)?,
+        other_beside(&rt, rt.alloc(), 16, 10)?,
+        other_beside(&rt, rt.alloc(), 0, 0)?,
+    ];
+    assert_eq!(rt; others, [None, None, None]);
+    Ok(())
 }
