@@ -75,12 +75,10 @@ pub fn deck_note(
 ) -> Result<String, NoMemory> {
     let row = fault.row;
     let found = find(alloc, bytes, row)?;
+    if let Some((subject, sentence)) = note_parts(&found, fault.kind) {
+        return found.note(alloc, name, row, subject, sentence);
+    }
     let name = Shown::whole(name);
     let place = found.place();
-    match note_parts(&found, fault.kind) {
-        Some((subject, sentence)) => Ok(format!(in alloc;
-            "{name}{place}record {row}: {subject}{sentence}"
-        )?),
-        None => Ok(format!(in alloc; "{name}{place}{fault}")?),
-    }
+    Ok(format!(in alloc; "{name}{place}{fault}")?)
 }

@@ -4,7 +4,7 @@ use crate::lists::parts_in;
 use crate::records::Record;
 use crate::sentences::{Sentence, range};
 use crate::tags::{Line, has_list};
-use crate::texts::{has_outer_space, why_no_number};
+use crate::texts::{cut_at, cut_at_sign, has_outer_space, why_no_number};
 use air_base::limits::{
     MOST_AGE, MOST_ASKED, MOST_FREQ, MOST_RATE, MOST_READS, MOST_ROOM, MOST_SIZE, MOST_TRIES,
     MOST_UPDATERS, MOST_WRITES,
@@ -12,7 +12,7 @@ use air_base::limits::{
 use air_base::read_u64;
 
 /// What a field is, or each part of its list.
-#[derive(Clone, Copy, PartialEq, Eq)]
+#[derive(Clone, Copy)]
 enum Form {
     Number,
     Frequency,
@@ -82,16 +82,16 @@ fn field_in(fields: &[Field], written: &str) -> Option<Field> {
 }
 
 /// Whether a text spells a number up to this one.
-fn is_number(text: &str, most: u64) -> bool {
-    match read_u64(text.as_bytes()) {
+fn is_number(text: &[u8], most: u64) -> bool {
+    match read_u64(text) {
         Some(number) => number <= most,
         None => false,
     }
 }
 
 /// Why a text is no item at a cycle, where that is told of one without `@`; none where it is one.
-fn why_no_place(text: &str, told: &'static str) -> Option<&'static str> {
-    let Some((item, cycle)) = text.split_once('@') else {
+fn why_no_place(text: &[u8], told: &'static str) -> Option<&'static str> {
+    let Some((item, cycle)) = cut_at(text, b'@') else {
         return Some(told);
     };
     if !is_number(item, u16::MAX as u64) {
@@ -104,9 +104,9 @@ fn why_no_place(text: &str, told: &'static str) -> Option<&'static str> {
 }
 
 /// Why a text is no read; none where it is one.
-fn why_no_read(text: &str) -> Option<&'static str> {
+fn why_no_read(text: &[u8]) -> Option<&'static str> {
     let told = "it isn't item@cycle=value";
-    let Some((place, value)) = text.split_once('=') else {
+    let Some((place, value)) = cut_at(text, b'=') else {
         return Some(told);
     };
     let why = why_no_place(place, told);
@@ -117,14 +117,14 @@ fn why_no_read(text: &str) -> Option<&'static str> {
 }
 
 /// Whether a text spells a write.
-fn is_write(text: &str) -> bool {
-    let Some((item, value)) = text.split_once('=') else {
+fn is_write(text: &[u8]) -> bool {
+    let Some((item, value)) = cut_at(text, b'=') else {
         return false;
     };
     if !is_number(item, u64::MAX) {
         return false;
     }
-    match value.split_once('+').or(value.split_once('-')) {
+    match cut_at_sign(value) {
         Some((base, amount)) => is_number(base, u64::MAX) && is_number(amount, u64::MAX),
         None => is_number(value, u64::MAX),
     }
@@ -141,12 +141,13 @@ impl Form {
 
     /// Why a field or a part of a list isn't of this form; none where it is.
     fn why_not(self, text: &str) -> Option<&'static str> {
+        let bytes = text.as_bytes();
         match self {
-            Form::Place => why_no_place(text, "it isn't item@cycle"),
-            Form::Reads => why_no_read(text),
-            Form::Writes if is_write(text) => None,
+            Form::Place => why_no_place(bytes, "it isn't item@cycle"),
+            Form::Reads => why_no_read(bytes),
+            Form::Writes if is_write(bytes) => None,
             Form::Writes => { Some("none of item=amount, item=base+amount and item=base-amount") }
-            _ if is_number(text, u64::MAX) => None,
+            _ if is_number(bytes, u64::MAX) => None,
             Form::Frequency if text == "-" => None,
             Form::Events if text == "s" => None,
             Form::Events => Some("neither s nor the number of an updater"),
@@ -180,7 +181,7 @@ fn field_note<'a>(field: Field, text: &'a str) -> Option<Sentence<'a>> {
         return list_note(name, form, text);
     }
     let why = form.why_not(text)?;
-    let form = if form == Form::Frequency {
+    let form = if matches!(form, Form::Frequency) {
         "has the #name# #text#: no single -, and #why#"
     } else {
         "has the #name# #text#: #why#"
@@ -209,11 +210,13 @@ fn first_note<'a>(
     fields: &[Field],
     by_limit: bool,
 ) -> Option<Sentence<'a>> {
-    for (place, written) in form.split(',').enumerate() {
+    let mut place = 0_usize;
+    for written in form.split(',') {
+        let text = record.field(place);
+        place = place.saturating_add(1);
         let Some(field) = field_in(fields, written) else {
             continue;
         };
-        let text = record.field(place);
         let sentence = if by_limit {
             limit_note(field, text)
         } else {
@@ -226,14 +229,26 @@ fn first_note<'a>(
     None
 }
 
+/// The first field of a record that isn't of its form or, where each is, the first that passes a limit; none where there is none.
+fn faulty_field_note<'a>(
+    record: &'a Record,
+    form: &str,
+    fields: &[Field],
+) -> Option<Sentence<'a>> {
+    match first_note(record, form, fields, false) {
+        Some(sentence) => Some(sentence),
+        None => first_note(record, form, fields, true),
+    }
+}
+
 /// A field of a deck's record isn't of its form, or passes a limit.
 pub fn deck_field_note<'a>(record: &'a Record, form: &str) -> Option<Sentence<'a>> {
-    first_note(record, form, &DECK, false).or(first_note(record, form, &DECK, true))
+    faulty_field_note(record, form, &DECK)
 }
 
 /// A field of a report's record isn't of its form, or is above its range.
 pub fn report_field_note<'a>(record: &'a Record, form: &str) -> Option<Sentence<'a>> {
-    first_note(record, form, &REPORT, false).or(first_note(record, form, &REPORT, true))
+    faulty_field_note(record, form, &REPORT)
 }
 
 /// The record has another number of fields than its form.

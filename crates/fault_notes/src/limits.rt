@@ -32,7 +32,7 @@ fn script_note(before: &RecordsBefore, record: &Record) -> Option<Sentence<'stat
     all.add_events(record.field(1));
     passing_updater(record.field(1))
         .or(total(all.events, "events", MOST_EVENTS as u64))
-        .or(total(all.starts, "starts", MOST_STARTS.into()))
+        .or(total(all.starts, "starts", MOST_STARTS as u64))
 }
 
 /// With a record a total passes a limit, or a script's updater does; none where none does.
@@ -40,9 +40,9 @@ pub fn total_note(before: &RecordsBefore, record: &Record, tag: Tag) -> Option<S
     let (before, name, most) = match tag {
         Tag::Item => (before.items, "items", MOST_ITEMS as u64),
         Tag::Disk => (before.disks, "disks", MOST_DISKS as u64),
-        Tag::Update => (before.updates, "updates", MOST_UPDATES.into()),
+        Tag::Update => (before.updates, "updates", MOST_UPDATES as u64),
         Tag::Reader => (before.readers, "readers", MOST_READERS as u64),
-        Tag::Query => (before.queries, "queries", MOST_QUERIES.into()),
+        Tag::Query => (before.queries, "queries", MOST_QUERIES as u64),
         _ => return script_note(before, record),
     };
     total(before.saturating_add(1), name, most)

@@ -1,31 +1,28 @@
 //! Lists of items, of writes and of reads.
 
+use crate::texts::{cut_at, cut_at_sign, front_of};
 use air_base::read_u64;
 
-/// The item that a part of a list names: all of it, or what stands before `@` or `=`.
+/// The item that a part of a list names: all of it, or what stands before `@` or, where there is none, before `=`.
 pub fn item_of(part: &str) -> Option<u64> {
-    let front = match part.split_once('@').or(part.split_once('=')) {
-        Some((front, _)) => front,
-        None => part,
-    };
-    read_u64(front.as_bytes())
+    let bytes = part.as_bytes();
+    match cut_at(bytes, b'@') {
+        Some((front, _)) => read_u64(front),
+        None => read_u64(front_of(bytes, b'=')),
+    }
 }
 
 /// The cycle of a part `<item>@<cycle>`, whatever stands behind a `=`.
 fn cycle_of(part: &str) -> Option<u64> {
-    let place = match part.split_once('=') {
-        Some((place, _)) => place,
-        None => part,
-    };
-    let (_, cycle) = place.split_once('@')?;
-    read_u64(cycle.as_bytes())
+    let (_, cycle) = cut_at(front_of(part.as_bytes(), b'='), b'@')?;
+    read_u64(cycle)
 }
 
 /// The base of a write that has one, whatever stands in the other places.
 fn base_of(part: &str) -> Option<u64> {
-    let (_, value) = part.split_once('=')?;
-    let (base, _) = value.split_once('+').or(value.split_once('-'))?;
-    read_u64(base.as_bytes())
+    let (_, value) = cut_at(part.as_bytes(), b'=')?;
+    let (base, _) = cut_at_sign(value)?;
+    read_u64(base)
 }
 
 /// How many parts a list has.
@@ -40,7 +37,9 @@ pub fn parts_in(text: &str) -> u64 {
 pub fn times_in(text: &str, item: u64) -> u64 {
     let mut times = 0_u64;
     for part in text.split(' ') {
-        if item_of(part) == Some(item) {
+        if let Some(named) = item_of(part)
+            && named == item
+        {
             times = times.saturating_add(1);
         }
     }

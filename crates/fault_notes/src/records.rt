@@ -2,6 +2,7 @@
 
 use crate::records_before::RecordsBefore;
 use crate::sentences::Sentence;
+use crate::texts::Shown;
 use air_base::{NoMemory, read_u64};
 use csv::{ByteRecord, ReaderBuilder};
 use std::alloc::Global;
@@ -59,6 +60,21 @@ impl Record {
 }
 
 impl Found {
+    /// A note on it: the file's name, where it stands, its row, of whom the note tells, and what is wrong.
+    pub fn note(
+        &self,
+        alloc: Global,
+        name: &str,
+        row: u32,
+        subject: Sentence<'_>,
+        sentence: Sentence<'_>,
+    ) -> Result<String, NoMemory> {
+        let name = Shown::whole(name);
+        let place = self.place();
+        let row = row as u64;
+        Ok(format!(in alloc; "{name}{place}record {row}: {subject}{sentence}")?)
+    }
+
     /// Where it stands, behind the name of the file.
     pub fn place(&self) -> Sentence<'static> {
         let form = match self.kind {
@@ -98,14 +114,17 @@ pub fn find(alloc: Global, bytes: &[u8], row: u32) -> Result<Found, NoMemory> {
         .flexible(true)
         .from_reader(alloc, bytes);
     let mut record = ByteRecord::new(alloc);
-    let mut before = RecordsBefore::default();
+    let mut before = RecordsBefore::new();
     let mut kind = Kind::Nothing;
     let mut line = 0;
     for at in 1..=row {
         match records.read_byte_record(&mut record) {
             Ok(true) if at < row => before.add(&record, at),
             Ok(true) => {
-                let place = record.position().map_or(0, |position| position.byte());
+                let place = match record.position() {
+                    Some(position) => position.byte(),
+                    None => 0,
+                };
                 line = line_at(bytes, place);
                 kind = Kind::Record;
             }

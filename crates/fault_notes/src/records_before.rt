@@ -7,7 +7,7 @@ use air_base::read_u64;
 use csv::ByteRecord;
 
 /// How many of each there are, and the sums that limits speak of; of a report also the rows at which its sections begin.
-#[derive(Clone, Copy, Default)]
+#[derive(Clone, Copy)]
 pub struct RecordsBefore {
     pub items: u64,
     pub disks: u64,
@@ -39,7 +39,10 @@ fn raise_of(counts: &mut [u64; MOST_UPDATERS], by: u64) {
 /// The text in a field.
 fn text_in(record: &ByteRecord, place: usize) -> &str {
     match record.get(place) {
-        Some(text) => std::str::from_utf8(text).unwrap_or(""),
+        Some(bytes) => match std::str::from_utf8(bytes) {
+            Ok(text) => text,
+            Err(_) => "",
+        },
         None => "",
     }
 }
@@ -50,6 +53,24 @@ fn number_in(record: &ByteRecord, place: usize) -> u64 {
 }
 
 impl RecordsBefore {
+    /// What no record says.
+    pub fn new() -> RecordsBefore {
+        RecordsBefore {
+            items: 0,
+            disks: 0,
+            sizes: 0,
+            updates: 0,
+            updates_by: [0; MOST_UPDATERS],
+            readers: 0,
+            queries: 0,
+            events: 0,
+            starts: 0,
+            commits_by: [0; MOST_UPDATERS],
+            set: [false; 9],
+            begun: [None; 5],
+        }
+    }
+
     /// Takes one more event of the script.
     fn add_event(&mut self, event: &str) {
         raise(&mut self.events);

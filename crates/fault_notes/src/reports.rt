@@ -7,7 +7,6 @@ use crate::records_before::RecordsBefore;
 use crate::sentences::Sentence;
 use crate::strangers::{commit_note, stranger_note};
 use crate::tags::{Line, Tag, report_line, section};
-use crate::texts::Shown;
 use air_base::NoMemory;
 use item_catalog::Deck;
 use std::alloc::Global;
@@ -29,11 +28,12 @@ const RULES: [&str; 8] = [
 
 /// The rule that a fault of this kind breaks.
 fn rule_of(kind: u8) -> Sentence<'static> {
-    let place = usize::from(kind);
-    let rule = if place < RULES.len() {
-        RULES[place]
+    let rules = RULES;
+    let place = kind as usize;
+    let rule = if place < rules.len() {
+        rules[place]
     } else {
-        RULES[0]
+        rules[0]
     };
     Sentence::numbers(rule, 0, 0, 0)
 }
@@ -44,7 +44,7 @@ fn order_note(before: &RecordsBefore, tag: Tag) -> Option<Sentence<'static>> {
         if let Some((row, name)) = before.begun[place] {
             let form =
                 "stands below the #name# line of record #first#: first come start and commit, then accept, abort and unfinished, then counts, then glance, then look";
-            return Some(Sentence::words(form, "", name, "").with(u64::from(row), 0, ""));
+            return Some(Sentence::words(form, "", name, "").with(row as u64, 0, ""));
         }
     }
     None
@@ -122,7 +122,5 @@ pub fn report_note(
 ) -> Result<String, NoMemory> {
     let found = find(alloc, bytes, row)?;
     let (subject, sentence) = note_parts(deck, &found, kind);
-    let name = Shown::whole(name);
-    let place = found.place();
-    Ok(format!(in alloc; "{name}{place}record {row}: {subject}{sentence}")?)
+    found.note(alloc, name, row, subject, sentence)
 }

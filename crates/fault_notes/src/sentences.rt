@@ -93,18 +93,18 @@ impl<'a> Sentence<'a> {
 impl Sentence<'_> {
     /// Writes the value of this name.
     fn write_value<W: fmt::Write>(&self, f: &mut fmt::Formatter<W>, name: &str) -> fmt::Result {
-        let number = match name.as_bytes().first().copied() {
-            Some(b't') => {
-                let shown = Shown::field(self.text);
-                return write!(f, "{shown}");
-            }
-            Some(b'n') => return f.write_str(self.name),
-            Some(b'w') => return f.write_str(self.why),
-            Some(b'f') => self.first,
-            Some(b's') => self.second,
+        let Some((letter, _)) = name.as_bytes().split_first() else {
+            return Ok(());
+        };
+        let number = match *letter {
+            b't' => return fmt::Display::fmt(&Shown::field(self.text), f),
+            b'n' => return f.write_str(self.name),
+            b'w' => return f.write_str(self.why),
+            b'f' => self.first,
+            b's' => self.second,
             _ => self.last,
         };
-        write!(f, "{number}")
+        fmt::Display::fmt(&number, f)
     }
 
     /// Writes a part of the sentence.

@@ -36,7 +36,7 @@ pub fn setting_place(name: &str) -> Option<usize>
 
 /// The value of the policy is none of its letters; none where it is one.
 fn policy_note(text: &str) -> Option<Sentence<'_>> {
-    if matches!(text, "F" | "D" | "R") {
+    if text == "F" || text == "D" || text == "R" {
         return None;
     }
     let form = "the setting policy has the value #text#: #why#F, D and R are the values";

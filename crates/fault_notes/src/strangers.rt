@@ -10,9 +10,10 @@ use item_catalog::Deck;
 
 /// How many updates of an updater the deck has.
 fn updates_of(deck: &Deck, by: u64) -> u64 {
-    match u32::try_from(by) {
-        Ok(by) if by < deck.updaters() => deck.updates(by).len() as u64,
-        _ => 0,
+    if by < deck.updaters() as u64 {
+        deck.updates(by as u32).len() as u64
+    } else {
+        0
     }
 }
 
@@ -60,13 +61,15 @@ fn stranger(
 
 /// The first read that isn't of the query's item in its place; none where each is.
 fn read_note(query: &[u16], reads: &str) -> Option<Sentence<'static>> {
-    for (place, part) in reads.split(' ').enumerate() {
+    let mut rest = query;
+    for part in reads.split(' ') {
         let first = item_of(part)?;
-        let Some(item) = query.get(place) else {
+        let Some((item, more)) = rest.split_first() else {
             let form = "has item #first# among its reads, behind the last item of its query";
             return Some(Sentence::numbers(form, first, 0, 0));
         };
-        let second = u64::from(*item);
+        rest = more;
+        let second = *item as u64;
         if first != second {
             let form =
                 "has item #first# among its reads in the place of item #second#: reads stand in the order of the query";
@@ -101,9 +104,10 @@ fn items_note(query: &[u16], record: &Record, tag: Tag) -> Option<Sentence<'stat
         Some(_) if tag == Tag::Accept => {
             "has #first# of the #second# items of its query, and an accept has each"
         }
-        Some(item) if tag == Tag::Abort => return abort_note(u64::from(*item), record),
-        None if tag != Tag::Accept => "has each item of its query, as an accept alone has",
-        _ => return None,
+        Some(item) if tag == Tag::Abort => return abort_note(*item as u64, record),
+        Some(_) => return None,
+        None if tag == Tag::Accept => return None,
+        None => "has each item of its query, as an accept alone has",
     };
     Some(Sentence::numbers(form, count, query.len() as u64, 0))
 }
@@ -111,39 +115,33 @@ fn items_note(query: &[u16], record: &Record, tag: Tag) -> Option<Sentence<'stat
 /// A verdict isn't on an attempt of the deck: by its reader, its attempt, its query or its items; none where it is.
 fn attempt_note(deck: &Deck, record: &Record, tag: Tag) -> Option<Sentence<'static>> {
     let last = record.number(1);
-    let reader = match u32::try_from(last) {
-        Ok(reader) if reader < deck.readers() => reader,
-        _ => return stranger(last, deck.readers().into(), "reader", "readers"),
-    };
+    let readers = deck.readers() as u64;
+    if readers <= last {
+        return stranger(last, readers, "reader", "readers");
+    }
+    let reader = last as u32;
     let first = record.number(3);
-    let second = u64::from(deck.reader(reader).tries);
+    let second = deck.reader(reader).tries as u64;
     if first < 1 || second < first {
         let form = "has the attempt #first#: for reader #last# it is 1 to #second#";
         return Some(Sentence::numbers(form, first, second, last));
     }
     let first = record.number(2);
-    let count = deck.queries(reader);
-    match u32::try_from(first) {
-        Ok(query) if query < count => items_note(deck.query(reader, query), record, tag),
-        _ => {
-            let sentence = Sentence::numbers(
-                "has the query #first#, and reader #last# has ",
-                first,
-                0,
-                last,
-            );
-            Some(sentence.only(count.into(), "query", "queries"))
-        }
+    let count = deck.queries(reader) as u64;
+    if first < count {
+        return items_note(deck.query(reader, first as u32), record, tag);
     }
+    let form = "has the query #first#, and reader #last# has ";
+    Some(Sentence::numbers(form, first, 0, last).only(count, "query", "queries"))
 }
 
 /// What a line names isn't the deck's; none where it is.
 pub fn stranger_note(deck: &Deck, record: &Record, tag: Tag) -> Option<Sentence<'static>> {
     let number = record.number(1);
     match tag {
-        Tag::Counts => stranger(number, deck.readers().into(), "reader", "readers"),
+        Tag::Counts => stranger(number, deck.readers() as u64, "reader", "readers"),
         Tag::Glance | Tag::Look => {
-            let count = u64::from(deck.settings().monitors);
+            let count = deck.settings().monitors as u64;
             stranger(number, count, "monitor", "monitors")
         }
         _ => attempt_note(deck, record, tag),

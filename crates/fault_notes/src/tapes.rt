@@ -71,7 +71,7 @@ impl CutTape {
         };
         let size = u32::from_be_bytes(self.length_bytes);
         let form = "of its #second# bytes #first# are there";
-        Sentence::numbers(form, there as u64, u64::from(size), 0)
+        Sentence::numbers(form, there as u64, size as u64, 0)
     }
 
     /// Which record of the tape is cut, once all of it was fed: the one that begins at this byte.

@@ -29,10 +29,12 @@ impl fmt::Display for Shown<'_> {
         if self.text.is_empty() {
             return f.write_str("(empty)");
         }
-        for (place, letter) in self.text.chars().enumerate() {
-            if place == self.most {
+        let mut left = self.most;
+        for letter in self.text.chars() {
+            if left == 0 {
                 return f.write_str("..");
             }
+            left -= 1;
             f.write_char(if letter.is_control() { '?' } else { letter })?;
         }
         Ok(())
@@ -53,28 +55,61 @@ pub fn space_of(text: &str) -> &'static str {
     }
 }
 
+/// What stands before the first byte of this value, and what stands behind it; none where there is no such byte.
+pub fn cut_at(bytes: &[u8], mark: u8) -> Option<(&[u8], &[u8])> {
+    for place in 0..bytes.len() {
+        if bytes[place] == mark {
+            return Some((&bytes[..place], &bytes[place + 1..]));
+        }
+    }
+    None
+}
+
+/// What stands before the first byte of this value; all where there is no such byte.
+pub fn front_of(bytes: &[u8], mark: u8) -> &[u8] {
+    match cut_at(bytes, mark) {
+        Some((front, _)) => front,
+        None => bytes,
+    }
+}
+
+/// What stands on both sides of the first `+`, or, where there is none, of the first `-`; none where there is no sign.
+pub fn cut_at_sign(bytes: &[u8]) -> Option<(&[u8], &[u8])> {
+    match cut_at(bytes, b'+') {
+        Some(sides) => Some(sides),
+        None => cut_at(bytes, b'-'),
+    }
+}
+
 /// Whether a text has digits alone, and one at least.
-fn is_digits(text: &str) -> bool {
-    !text.is_empty() && text.as_bytes().iter().all(|byte| byte.is_ascii_digit())
+fn is_digits(text: &[u8]) -> bool {
+    for byte in text {
+        if *byte < b'0' || b'9' < *byte {
+            return false;
+        }
+    }
+    !text.is_empty()
 }
 
 /// Why a text that spells no number spells none.
 pub fn why_no_number(text: &str) -> &'static str {
-    if is_digits(text) {
-        if text.starts_with('0') {
+    let bytes = text.as_bytes();
+    let Some((first, rest)) = bytes.split_first() else {
+        return "not a number";
+    };
+    if is_digits(bytes) {
+        if *first == b'0' {
             return "not a number: it has a leading zero";
         }
         return "not a number: it is above 18446744073709551615";
     }
-    if let Some(rest) = text.strip_prefix('+').or(text.strip_prefix('-'))
-        && is_digits(rest)
-    {
+    if (*first == b'+' || *first == b'-') && is_digits(rest) {
         return "not a number: it has a sign";
     }
     if has_outer_space(text) {
         return "not a number: it has a space";
     }
-    match text.split_once('.') {
+    match cut_at(bytes, b'.') {
         Some((whole, part)) if is_digits(whole) && is_digits(part) => {
             "not a number: it has a decimal point"
         }
