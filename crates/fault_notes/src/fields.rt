@@ -230,11 +230,7 @@ fn first_note<'a>(
 }
 
 /// The first field of a record that isn't of its form or, where each is, the first that passes a limit; none where there is none.
-fn faulty_field_note<'a>(
-    record: &'a Record,
-    form: &str,
-    fields: &[Field],
-) -> Option<Sentence<'a>> {
+fn faulty_field_note<'a>(record: &'a Record, form: &str, fields: &[Field]) -> Option<Sentence<'a>> {
     match first_note(record, form, fields, false) {
         Some(sentence) => Some(sentence),
         None => first_note(record, form, fields, true),
