@@ -1,9 +1,9 @@
--- Small caches, over as many items as there are PIX numbers.
+-- The pins of copies work with small caches, over as many items as there are PIX numbers.
 use Rattle.std.specs.Prelude.{ℕ, List, [], ◌∷◌}
 use Rattle.air_model.specs.Reads.{Read}
 use Rattle.pix_cache.specs.Caches.{Cache, copy}
 
--- A cache with room for so many copies.
+-- A cache with room for this number of copies.
 abbrev pub cache : ℕ → List ℕ → List Read → Cache
 cache room pix copies = record { room = room; pix = pix; copies = copies }
 

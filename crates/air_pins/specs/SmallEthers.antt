@@ -1,4 +1,4 @@
--- Small ethers, of reader 0.
+-- The pins of ethers work with small ones, of reader 0.
 --
 -- The first words of seed 12 are 1370425950, 978885209, 847163202, 130869789, 1125954119 and 649016008: with all late the first
 -- two pushes are due at 1 and 2.
@@ -6,11 +6,11 @@ use Rattle.std.specs.Prelude.{◌≡◌, ℕ, Bool, List, [], ◌∷◌, codes}
 use Rattle.air_model.specs.Ethers.{Odds}
 use Rattle.air_ether.specs.HeardSoFar.{Ether, Follows}
 
--- So many of a hundred are lost, heard again, and late.
+-- Of a hundred pushes these numbers are lost, heard again, and late.
 abbrev pub odds : ℕ → ℕ → ℕ → Odds
 odds loss again late = record { loss = loss; again = again; late = late }
 
--- The ether of this seed and these odds was given these buckets, of which it gave so many, and the end was told or not.
+-- The ether of this seed and these odds was given these buckets, it gave this number of them, and the end was told or not.
 pub record Gave (seed : ℕ) (odds : Odds) (pushed : List (List ℕ)) (given : ℕ) (ended : Bool) (e : Ether) : Type 0 where
   pub odds_are : e.odds ≡ odds
   pub follows : Follows seed 0 pushed given e

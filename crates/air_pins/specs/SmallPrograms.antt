@@ -1,12 +1,12 @@
--- Small programs of two disks.
+-- The pins of programs and of the sender work with programs of two disks.
 use Rattle.std.specs.Prelude.{ℕ, List, [], ◌∷◌}
 use Rattle.air_model.specs.Disks.{Disk, DiskSpec}
 
--- A disk of these items, each aired so often.
+-- A disk of these items, with this frequency.
 abbrev pub disk : List ℕ → ℕ → Disk
 disk items freq = record { items = items; freq = freq }
 
--- A disk that takes so many items, each aired so often.
+-- A disk that takes this number of items, with this frequency.
 abbrev pub spec : ℕ → ℕ → DiskSpec
 spec size freq = record { size = size; freq = freq }
 

@@ -1,4 +1,5 @@
-//! Pins of `pix_cache`: what a reader keeps of two or three items.
+//! These pins of `pix_cache` say what a reader keeps of two or three items: which copy is kept, which one goes, and what is
+//! lent. The copy of least PIX number goes first.
 #![tactic(auto, unfolding(air_model::specs::Copies::keep, air_model::specs::Copies::with_copy, air_model::specs::Copies::without_item, pix_cache::specs::Caches::copy_of))]
 
 ghost use Rattle.std.specs.Prelude.{◌≡◌, [], ◌∷◌, Some, MatchOption};
@@ -43,7 +44,7 @@ pub fn evicted_copy_stays(copies: &mut PixCache, column: &[u32]) -> KeepAnswer
     copies.keep(1, 3, 70, column)
 }
 
-/// The copy of least PIX number goes, and it is named (newcomer named for evicted).
+/// The copy of least PIX number goes, and it is named. It also refuses that the newcomer is named for it.
 pub fn greatest_goes(copies: &mut PixCache, column: &[u32]) -> KeepAnswer
     requires copies { copies.old ≡ cache 2 (1 ∷ 5 ∷ 3 ∷ []) (of_three 0 2 ∷ of_three 1 2 ∷ []) }
     requires column { column.now ≡ 0 ∷ 0 ∷ 0 ∷ [] }
@@ -53,7 +54,7 @@ pub fn greatest_goes(copies: &mut PixCache, column: &[u32]) -> KeepAnswer
     copies.keep(2, 3, 70, column)
 }
 
-/// After a change of the PIX numbers an offer goes by the new ones: two calls, since the first shows in the second alone.
+/// After a change of the PIX numbers an offer goes by the new ones. These are two calls, since the first shows in the second alone.
 pub fn reorder_keeps_old_numbers(copies: &mut PixCache, pix: &[u64], column: &[u32]) -> KeepAnswer
     requires copies { copies.old ≡ cache 1 (1 ∷ 3 ∷ []) (of_two 0 2 ∷ []) }
     requires pix { pix.now ≡ 5 ∷ 3 ∷ [] }

@@ -1,4 +1,6 @@
-//! Pins of `air_ether`: what a reader hears of one or two pushes.
+//! These pins of `air_ether` say what a reader hears of the buckets that were pushed, and which words a push draws.
+//!
+//! Each fixes a seed and the odds, so that what is due can be computed.
 #![tactic(auto, unfolding(air_model::specs::Draws::words_by, air_model::specs::Ethers::times_heard, air_model::specs::Ethers::due_number, air_model::specs::Ethers::due_at, air_model::specs::Ethers::places_due, air_ether::specs::HeardSoFar::due_of))]
 
 ghost use Rattle.std.specs.Prelude.{◌≡◌, ◌≤◌, [], ◌∷◌, codes, true, false, None, IfOk, MatchOption};
@@ -8,7 +10,8 @@ ghost use Rattle.air_pins.specs.SmallEthers.{Gave, nine, odds};
 use air_ether::{Ether, NoMemory};
 use std::alloc::Global;
 
-/// What is due is the bucket of its own place, one late push after it was made (due one later).
+/// When the second push is made, the first one, which is late, is due with its own bucket. It also refuses that it is due one push
+/// later.
 pub fn bucket_of_another_place(ether: &mut Ether) -> Option<&[u8]>
     requires { Gave 12 (odds 0 0 100) (codes "a" ∷ codes "b" ∷ []) 0 false ether.old }
     ensures { MatchOption result ⊥ (λ bytes. bytes.now ≡ codes "a") }
@@ -48,7 +51,7 @@ pub fn first_copy_passed_over(ether: &mut Ether) -> Option<&[u8]>
     ether.next()
 }
 
-/// A push that is lost draws three words too, not two (two words for three).
+/// A push that is lost draws three words too. It also refuses that each push draws two.
 pub fn lost_ones_draw_less(ether: &mut Ether, bytes: &[u8])
     requires ether { Gave 12 (odds 100 0 0) [] 0 false ether.old }
     requires quiet { IsQuiet ether.old }

@@ -1,9 +1,7 @@
-//! Worked examples of what stands between board and receiver: ether, kept copies, program and sender. For a call and small
-//! values, the exact answer.
-//!
-//! Each function is one call. Its `requires` fixes what is handed in, and its `ensures` is the answer, proved from the called
-//! function's contract alone. So a contract that lets another answer through fails it, and so does a changed definition. A
-//! function is named for the blunder that it refuses, and its comment names in parentheses what else it refuses.
+//! These are worked examples of the ether, the kept copies, the program and the sender, on small values.
+//! Each function is one call: its `requires` fixes what is handed in, and its `ensures` is the answer, or what every answer must
+//! keep, proved from the called function's contract alone. So it fails where a contract lets another answer through, or where a
+//! definition changes. A function is named for the blunder that it refuses, and its comment says what else it refuses.
 #![tactic(auto)]
 
 pub mod copy_pins;

@@ -1,4 +1,6 @@
-//! Pins of `chunk_program`: programs of two disks, and the cut of three items.
+//! These pins of `chunk_program` say what programs of two disks air, and how three items are cut into disks.
+//!
+//! The slots of `four_slots` carry the items 0, 1, 0 and 2.
 #![tactic(auto, unfolding(air_model::specs::Disks::order_with, air_model::specs::Disks::order, air_model::specs::Disks::cut, air_model::specs::Disks::all_items, air_model::specs::Programs::least_common_multiple, air_model::specs::Programs::num_minors, air_model::specs::Programs::num_chunks, air_model::specs::Programs::chunk_len, air_model::specs::Programs::chunk, air_model::specs::Programs::minor_cycle, air_model::specs::Programs::minor_len, air_model::specs::Programs::program, air_model::specs::Airings::next_wake, air_model::specs::Airings::disk_number, air_model::specs::Airings::chunks_of, air_model::specs::Airings::gap_of, air_model::specs::Airings::pix_number))]
 
 ghost use Rattle.std.specs.Prelude.{◌≡◌, ◌≤◌, [], ◌∷◌, length, Some, None, IfOk, IfErr};
@@ -61,8 +63,8 @@ pub fn product_for_the_common_multiple(program: &Program) -> u32
     program.minors()
 }
 
-/// Items are ordered by their own rates, and of two with one rate that of smaller number comes first (ties by the greater
-/// number).
+/// Items are ordered by their own rates, and of two with one rate that of smaller number comes first. It also refuses that the one
+/// of greater number does.
 pub fn rate_of_another_item(alloc: Global, deck: &Deck) -> Result<Cut, NoMemory>
     requires rates { rates_in deck.now ≡ 5 ∷ 5 ∷ 9 ∷ [] }
     requires disks { deck.now.disks ≡ spec 1 2 ∷ spec 2 1 ∷ [] }

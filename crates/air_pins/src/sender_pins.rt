@@ -1,4 +1,4 @@
-//! Pins of `air_sender`: a cycle of four slots aired to a mast that gathers a tape.
+//! These pins of `air_sender` say what a cycle of four slots sends, to any mast and to one that gathers a tape.
 //!
 //! The program's slots carry the items 0, 1, 0 and none; the board is in cycle 2.
 #![tactic(auto, unfolding(air_model::specs::Disks::all_items, air_model::specs::Programs::least_common_multiple, air_model::specs::Programs::num_minors, air_model::specs::Programs::num_chunks, air_model::specs::Programs::chunk_len, air_model::specs::Programs::chunk, air_model::specs::Programs::minor_cycle, air_model::specs::Programs::program, air_model::specs::Tapes::record_bytes, air_model::specs::Tapes::tape_of, board_laws::specs::BoardBuckets::body_on, board_laws::specs::BoardBuckets::bucket_on))]
@@ -16,9 +16,9 @@ use air_sender::{AirFault, TapeMast, air_cycle, tape_bytes};
 use chunk_program::Program;
 use control_matrix::Board;
 
-/// The mast gets the bucket of each slot, idle ones too (idle slots skipped), once (slot sent twice) and with its number (slots
-/// counted from one); each has the board's cycle (cycle before), and its item's own value (value of another item) and column.
-/// So it is wherever no send failed (failed send passed over).
+/// Where no send failed the mast got the bucket of each slot, idle ones too, once and with its number; each has the board's cycle, and
+/// its item's own value and column. It also refuses idle slots that are skipped, a slot that is sent twice, slots that are counted from one, the
+/// cycle before, the value of another item, and that a failed send is passed over.
 pub fn column_of_another_item(
     program: &Program,
     board: &Board,
@@ -34,20 +34,21 @@ pub fn column_of_another_item(
     air_cycle(program, board, Policy::FMatrix, mast, buf)
 }
 
-/// At a fault the slot that is named is the one at which the mast failed: just the buckets of the slots before it were sent.
-pub fn next_slot_blamed_after_a_second_try(
+/// At a fault there was a mast, just before the send of the slot that is named, by which the buckets of the slots before had been
+/// sent and no call had failed. Then its count rose, and what it tells stayed. Where a slot was sent again there is no such mast.
+pub fn next_slot_blamed_after_a_second_try<M: Mast>(
     program: &Program,
     board: &Board,
-    mast: &mut TapeMast,
+    mast: &mut M,
     buf: &mut [u8],
 ) -> Result<(), AirFault>
     requires program { program.now ≡ idle_slot }
     requires board { board.now ≡ pair }
-    requires mast { masted_of mast.old ≡ fresh_mast }
+    requires mast { M.state mast.old ≡ fresh_mast }
     requires room { 32 ≤ length buf.old }
     ensures within { IfErr result (λ fault. failed_slot fault < 4) }
-    ensures told { IfErr result (λ fault. (masted_of mast.new).told ≡ Some (sent (take (failed_slot fault) four_buckets))) }
-    ensures rose { IfErr result (λ _. 0 < (masted_of mast.new).faults) }
+    ensures fault { IfErr result (λ fault. (just_before : M) × (M.state just_before ≡ record { told = Some (sent (take (failed_slot fault) four_buckets)); faults = 0; port = None }) ×
+        (0 < (M.state mast.new).faults) × ((M.state mast.new).told ≡ (M.state just_before).told)) }
 {
     air_cycle(program, board, Policy::FMatrix, mast, buf)
 }

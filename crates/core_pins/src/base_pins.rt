@@ -1,4 +1,5 @@
-//! Pins of `air_base`: numbers and lists of them as texts, and a list of values.
+//! These pins of `air_base` say which numbers, and lists of them, are read from small texts and written as such, and what a list
+//! of values has after a change.
 #![tactic(auto, unfolding(air_base::specs::Numbers::number_of, air_base::specs::Numbers::number_text, air_base::specs::NumberLists::all_some, air_base::specs::NumberLists::bad_part_at))]
 
 ghost use Rattle.std.specs.Prelude.{◌≡◌, ◌⊎◌, [], ◌∷◌, codes, Some, None, MatchResult};
@@ -15,7 +16,7 @@ pub fn another_value_replaced(list: &mut Values)
     list.put(1, 5);
 }
 
-/// A double space makes an empty part, which is no number: it begins at byte 2, not one further (place one byte on).
+/// A double space makes an empty part, which is no number: it begins at byte 2. It also refuses that the byte after it is named.
 pub fn double_space_taken(alloc: Global, text: &[u8]) -> Result<Vec<u64>, ListFault>
     requires { text.now ≡ codes "1  2" }
     ensures { MatchResult result (λ _. ⊥) (λ fault. (fault ≡ BadNumber 2) ⊎ (fault ≡ NoRoom)) }
@@ -23,7 +24,7 @@ pub fn double_space_taken(alloc: Global, text: &[u8]) -> Result<Vec<u64>, ListFa
     read_list(alloc, text)
 }
 
-/// After out of memory nothing is written. Else all digits are, the last one too (last digit not written).
+/// After out of memory nothing is written, else all digits are. It also refuses that the last digit is left out.
 pub fn half_written_after_no_memory(out: &mut Vec<u8>) -> Result<(), NoMemory>
     requires { out.old.items ≡ codes "x" }
     ensures { MatchResult result (λ _. out.new.items ≡ codes "x120") (λ _. out.new.items ≡ codes "x") }

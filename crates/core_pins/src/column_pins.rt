@@ -1,4 +1,6 @@
-//! Pins of `column_check`: whether a read goes together with held ones under F-Matrix.
+//! These pins of `column_check` say whether a read goes together with two held ones under F-Matrix.
+//!
+//! A clash names a held read by its item and cycle.
 #![tactic(auto, unfolding(air_history::specs::Clashes::least, air_history::specs::Clashes::clash_by_entries))]
 
 ghost use Rattle.std.specs.Prelude.{◌≡◌, [], ◌∷◌, Some, None};
@@ -16,8 +18,8 @@ pub fn always_aborts(held: &Held, column: &[u32]) -> Option<Clash>
     held.clashes(2, 3, column)
 }
 
-/// The clash is with the held read whose cycle the new column reaches, whichever was held first. The new column alone is
-/// enough for it (held columns alone).
+/// The clash is with the held read whose cycle the new column reaches, whichever was held first. It also refuses that the held
+/// columns alone decide.
 pub fn first_held_for_the_clashing(held: &Held, column: &[u32]) -> Option<Clash>
     requires held { held.now ≡ two (heard 0 1 0 0 0) (heard 1 2 0 0 0) }
     requires column { column.now ≡ 0 ∷ 3 ∷ 0 ∷ [] }

@@ -1,4 +1,6 @@
-//! Pins of `update_commit`: a core of one updater and one item.
+//! These pins of `update_commit` say what a core of one updater and one item answers.
+//!
+//! Its values, its receipts and the copies of its events are those of the history.
 #![tactic(auto, unfolding(air_history::specs::Histories::is_start, air_history::specs::Histories::reads, air_history::specs::Histories::writes, air_history::specs::Histories::writes_of, air_history::specs::Histories::starts, air_history::specs::Histories::cycle_at, air_history::specs::Histories::since_start, air_history::specs::Histories::EventFits, air_history::specs::Tables::value_on_base, air_history::specs::Tables::write_of, air_history::specs::Tables::value_after, air_history::specs::Tables::table))]
 
 ghost use Rattle.std.specs.Prelude.{◌≡◌, ◌≤◌, [], ◌∷◌, OnOk, MatchResult};
@@ -10,7 +12,8 @@ use air_history::{Event, Update};
 use std::alloc::Global;
 use update_commit::{Core, NoMemory, Receipt};
 
-/// A copy of a commit has its number, and the first event after the start is copied too (events since start begin one too far).
+/// A copy of a commit has its number, and the first event after the start is copied too. It also refuses that the copies begin one
+/// event too far.
 pub fn copies_of_commits_lose_their_number(
     alloc: Global,
     core: &Core,
@@ -31,8 +34,8 @@ pub fn no_room_made(core: &mut Core) -> Result<(), NoMemory>
     core.reserve(3)
 }
 
-/// A receipt tells the values from before the commit as read, and those of one run as written (update run twice). Its number
-/// is that of the events before it (receipt counts its own commit).
+/// A receipt tells the values from before the commit as read, and those of one run as written; its number is that of the events before
+/// it. It also refuses that the update is run twice, and that the number counts its own commit.
 pub fn read_values_from_after_the_commit(core: &mut Core, update: Update, into: &mut Receipt)
     requires core { core.old ≡ core_of [] }
     requires update { update ≡ update_of (0 ∷ []) (add_to 0 0 1) }

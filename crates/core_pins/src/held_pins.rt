@@ -1,4 +1,6 @@
-//! Pins of `held_entries`: what is searched for among held reads.
+//! These pins of `held_entries` say what is found among two held reads over three items.
+//!
+//! A clash names a held read by its item and cycle.
 #![tactic(auto, unfolding(air_history::specs::Clashes::least))]
 
 ghost use Rattle.std.specs.Prelude.{◌≡◌, [], ◌∷◌, Some};

@@ -1,4 +1,4 @@
-//! Pins of `air_history`: small updates and histories, and what is found in them.
+//! These pins of `air_history` say what small updates and histories are, and what is found in them.
 //!
 //! In the chain item 0 is written, item 2 from it, and item 1 from item 2, all in cycle 1.
 #![tactic(auto, unfolding(air_history::specs::UpdateRules::has_repeat, air_history::specs::UpdateRules::update_fault, air_history::specs::Histories::is_start, air_history::specs::Histories::reads, air_history::specs::Histories::writes, air_history::specs::Histories::starts, air_history::specs::Histories::cycle_at, air_history::specs::Histories::front, air_history::specs::Histories::writer_before, air_history::specs::Histories::writer, air_history::specs::Histories::ItemsFit, air_history::specs::Places::last_place, air_history::specs::Places::greatest, air_history::specs::Descents::descends_in, air_history::specs::Descents::descends, air_history::specs::Columns::column_entry, air_history::specs::Tables::value_on_base, air_history::specs::Tables::write_of, air_history::specs::Tables::value_after, air_history::specs::Tables::table))]

@@ -1,4 +1,5 @@
-//! Pins of `air_lanes`: rows around one block of eight lanes, and around a group of thirty-two.
+//! These pins of `air_lanes` say what is found in rows, and made of them, whose length is about one block of eight lanes, or a
+//! group of thirty-two.
 #![tactic(auto)]
 
 ghost use Rattle.std.specs.Prelude.{◌≡◌, [], ◌∷◌, replicate, Some};
@@ -14,7 +15,8 @@ pub fn above_for_not_below(column: &[u32], held: &[u32]) -> Option<usize>
     first_not_below(column, held)
 }
 
-/// The greater entry of each place comes from that place of both rows, in a block and after the last block (rest left out).
+/// The greater entry of each place comes from that place of both rows, in a block and after the last block. It also refuses that the
+/// rest is left out.
 pub fn lanes_turned_round(dst: &mut [u32], src: &[u32])
     requires dst { dst.old ≡ 1 ∷ 2 ∷ 3 ∷ 4 ∷ 5 ∷ 6 ∷ 7 ∷ 8 ∷ 9 ∷ 10 ∷ [] }
     requires src { src.now ≡ 10 ∷ 9 ∷ 8 ∷ 7 ∷ 6 ∷ 5 ∷ 4 ∷ 3 ∷ 20 ∷ 1 ∷ [] }
@@ -32,8 +34,8 @@ pub fn mark_two_not_seen(dst: &mut [u32], marks: &[u32])
     stamp(dst, marks, 9);
 }
 
-/// The places after the last block are searched too, and a block that has none names no place (empty block names its last
-/// place).
+/// The places after the last block are searched too, and a block that has none names no place. It also refuses that such a block
+/// names its last place.
 pub fn rest_not_searched(column: &[u32], held: &[u32]) -> Option<usize>
     requires column { column.now ≡ 1 ∷ 1 ∷ 1 ∷ 1 ∷ 1 ∷ 1 ∷ 1 ∷ 1 ∷ 5 ∷ [] }
     requires held { held.now ≡ 4 ∷ 4 ∷ 4 ∷ 4 ∷ 4 ∷ 4 ∷ 4 ∷ 4 ∷ 4 ∷ [] }

@@ -1,4 +1,6 @@
-//! Pins of `vector_policies`: whether a read goes together with held ones under Datacycle and R-Matrix.
+//! These pins of `vector_policies` say whether a read goes together with two held ones under Datacycle and R-Matrix.
+//!
+//! A clash names a held read by its item and cycle.
 #![tactic(auto, unfolding(air_history::specs::Clashes::least, air_history::specs::Clashes::clash_by_entries))]
 
 ghost use Rattle.std.specs.Prelude.{◌≡◌, [], ◌∷◌, Some, None};
@@ -7,8 +9,8 @@ ghost use Rattle.core_pins.specs.SmallReads.{heard, two};
 use air_base::Clash;
 use vector_policies::{DataHeld, RHeld};
 
-/// Datacycle names a read of the newest held cycle where its vector has the new item at the new cycle. The oldest held cycle
-/// does not decide that (oldest cycle for newest).
+/// Datacycle names a read of the newest held cycle where its vector has the new item at the new cycle. It also refuses that the
+/// oldest held cycle decides.
 pub fn another_cycle_for_the_newest(held: &DataHeld, vector: &[u32]) -> Option<Clash>
     requires held { held.now ≡ two (heard 0 2 0 0 0) (heard 1 4 0 0 3) }
     requires vector { vector.now ≡ 0 ∷ 0 ∷ 0 ∷ [] }
@@ -17,8 +19,8 @@ pub fn another_cycle_for_the_newest(held: &DataHeld, vector: &[u32]) -> Option<C
     held.clashes(2, 3, vector)
 }
 
-/// R-Matrix names the held read that is stale, whichever was held first. It does so where the new item was written since the
-/// first held cycle, be it before the last one (last cycle for first).
+/// R-Matrix names the held read that is stale, whichever was held first, where the new item was written since the first held cycle.
+/// It also refuses that the last held cycle decides.
 pub fn first_named_for_the_stale(held: &RHeld, vector: &[u32]) -> Option<Clash>
     requires held { held.now ≡ two (heard 0 2 0 0 0) (heard 1 3 0 0 2) }
     requires vector { vector.now ≡ 0 ∷ 4 ∷ 2 ∷ [] }

@@ -1,8 +1,9 @@
 -- The small batches, computed: that the first is one, and the frames of one and of both.
-use Rattle.std.proofs.Common.{◌≡◌, ◌<◌, lit<, ◌∷◌, [], Result, Ok, Err, refl, ap, ◌∙◌}
+use Rattle.std.proofs.Common.{◌≡◌, ◌<◌, ◌+◌, ℕ, lit<, List, ◌∷◌, [], ◌++◌, Result, Ok, Err, length, All, refl, ap, ◌∙◌, subst, arith}
 use Rattle.std.specs.Prelude.{MatchResult, OnOk}
 use Rattle.std.proofs.lemmas.List.Elements.{All-nil, All-cons}
 use Rattle.air_history.specs.declared.updates.Write.{Write}
+use Rattle.air_history.specs.declared.histories.Event.{Event}
 use Rattle.air_history.specs.declared.histories.Event.TheVariants.{Commit, Start}
 use Rattle.air_history.specs.Histories.{ItemsFit, starts, is_start, reads, writes, writes_of, writer, writer_before, cycle_at}
 use Rattle.air_history.specs.Places.{greatest, last_place}
@@ -25,6 +26,12 @@ one_frame = refl
 two_frames : frame_of first_values (events_in (first_batch ∷ second_batch ∷ [])) ≡ record { cycle = 2; values = 3 ∷ 2 ∷ []; columns = (1 ∷ 1 ∷ []) ∷ (0 ∷ 1 ∷ []) ∷ []; total = 5 }
 unfolding table value_after write_of value_on_base starts column_entry greatest writer writer_before last_place writes writes_of descends descends_in reads cycle_at is_start
 two_frames = refl
+
+-- Each batch that was published ends with its one start, where none was published before.
+pub ends_each : (n : ℕ) (old rest new : List (List Event)) → length old + 0 ≡ 0 → old ++ rest ≡ new → All (IsBatch n) rest →
+    All (λ batch. (commits : List Event) × (batch ≡ commits ++ Start ∷ []) × (starts commits ≡ 0)) new
+ends_each n [] rest new none is each = subst (All (λ batch. (commits : List Event) × (batch ≡ commits ++ Start ∷ []) × (starts commits ≡ 0))) is (λ k d h. (each k d h).ends)
+ends_each n (b ∷ old) rest new none is each = absurd (omega arith)
 
 -- What a look says of its value is so where it answers one.
 pub on_ok : {T E : Type 0} (r : Result T E) (P Q R : Type 0) → MatchResult r (λ _. P) (λ _. Q) → (P → R) → OnOk r R

@@ -9,7 +9,7 @@ use Rattle.air_history.specs.Histories.{is_start, starts, since_start}
 use Rattle.air_history.specs.UpdateLists.{UpdateLists}
 use Rattle.air_model.specs.Decks.{is_by, count_made}
 use Rattle.air_model.specs.Closings.{GoesOnWithout}
-use Rattle.thread_pins.specs.SmallBatches.{first_batch, adds_to}
+use Rattle.thread_pins.specs.SmallBatches.{first_batch, reads_and_sets}
 
 -- Events of others count for nothing.
 same_count : (own : Event → Bool) (seen later : List Event) → GoesOnWithout own seen later → count_by own later ≡ count_by own seen
@@ -32,14 +32,14 @@ one_start seen later g e = same_count is_start seen later g ∙ ap (count_by is_
 
 -- The update of the pins, as a commit.
 abbrev commit : Event
-commit = Commit 0 0 (adds_to 1 0 3)
+commit = Commit 0 0 (reads_and_sets 0 1 5)
 
 counts : (before : List Event) → count_made 0 before ≡ 0 → count_made 0 (before ++ commit ∷ []) ≡ 1
 unfolding is_by
 counts before none = let more = one_more (is_by 0) before commit in let one : count_by (is_by 0) (commit ∷ []) ≡ 1 = refl in omega arith
 
 -- The history is that before and the commit.
-is_commit : (number : ℕ) (seen before new : List Event) (u : UpdateLists) → number ≡ 0 → seen ≡ [] → u ≡ adds_to 1 0 3 →
+is_commit : (number : ℕ) (seen before new : List Event) (u : UpdateLists) → number ≡ 0 → seen ≡ [] → u ≡ reads_and_sets 0 1 5 →
     new ≡ before ++ Commit number (count_made number seen) u ∷ [] → new ≡ before ++ commit ∷ []
 is_commit number seen before new u n s e is =
     is ∙ ap (λ k. before ++ Commit k (count_made k seen) u ∷ []) n ∙ ap (λ s. before ++ Commit 0 (count_made 0 s) u ∷ []) s ∙ ap (λ u. before ++ Commit 0 0 u ∷ []) e
@@ -48,7 +48,7 @@ none_made : (number : ℕ) (seen before : List Event) → number ≡ 0 → seen 
 none_made number seen before n s g = subst (λ k. count_made k before ≡ count_made k seen) n (same_count (is_by number) seen before g) ∙ ap (count_made 0) s
 
 pub commits_once : {T E : Type 0} (r : Result T E) (A : T → Type 0) (N : Type 0) (number : ℕ) (seen before new : List Event) (u : UpdateLists) →
-    number ≡ 0 → seen ≡ [] → u ≡ adds_to 1 0 3 → GoesOnWithout (is_by number) seen before →
+    number ≡ 0 → seen ≡ [] → u ≡ reads_and_sets 0 1 5 → GoesOnWithout (is_by number) seen before →
     MatchResult r (λ x. (new ≡ before ++ Commit number (count_made number seen) u ∷ []) × A x) (λ _. N) → OnOk r (count_made 0 new ≡ 1)
 commits_once (Ok x) A N number seen before new u n s e g h = ap (count_made 0) (is_commit number seen before new u n s e h.0) ∙ counts before (none_made number seen before n s g)
 commits_once (Err x) A N number seen before new u n s e g h = tt
@@ -58,7 +58,7 @@ same_event : (before : List Event) (e c : Event) → e ∷ [] ≡ before ++ c �
 same_event before e c h = ap (λ l. get_or l 0 c) (h ∙ ap (λ l. l ++ c ∷ []) (none_before before e c h))
 
 pub commits_update : {T E : Type 0} (r : Result T E) (A : T → Type 0) (N : Type 0) (number : ℕ) (seen before new : List Event) (u : UpdateLists) →
-    number ≡ 0 → seen ≡ [] → u ≡ adds_to 1 0 3 →
+    number ≡ 0 → seen ≡ [] → u ≡ reads_and_sets 0 1 5 →
     MatchResult r (λ x. (new ≡ before ++ Commit number (count_made number seen) u ∷ []) × A x) (λ _. N) →
     OnOk r ((event : Event) → new ≡ event ∷ [] → event ≡ commit)
 commits_update (Ok x) A N number seen before new u n s e h = λ event is. same_event before event commit (sym is ∙ is_commit number seen before new u n s e h.0)

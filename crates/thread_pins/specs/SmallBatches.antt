@@ -1,5 +1,5 @@
--- Two small batches over two items.
-use Rattle.std.specs.Prelude.{ℕ, List, [], ◌∷◌, Some, false}
+-- Small updates, and two batches of them over two items, with which the pins of threads work.
+use Rattle.std.specs.Prelude.{ℕ, List, [], ◌∷◌, Some, None, false}
 use Rattle.air_history.specs.declared.histories.Event.{Event}
 use Rattle.air_history.specs.declared.histories.Event.TheVariants.{Commit, Start}
 use Rattle.air_history.specs.UpdateLists.{UpdateLists}
@@ -8,9 +8,13 @@ use Rattle.air_history.specs.UpdateLists.{UpdateLists}
 abbrev pub first_values : List ℕ
 first_values = 18_446_744_073_709_551_615 ∷ 20 ∷ []
 
--- An update that reads one item, and makes an item of it by adding so much.
+-- An update that reads one item, and makes an item of it by adding this amount.
 abbrev pub adds_to : ℕ → ℕ → ℕ → UpdateLists
 adds_to item base amount = record { reads = base ∷ []; writes = record { item = item; base = Some base; minus = false; amount = amount } ∷ [] }
+
+-- An update that reads one item, and sets another: no write needs the read.
+abbrev pub reads_and_sets : ℕ → ℕ → ℕ → UpdateLists
+reads_and_sets read item amount = record { reads = read ∷ []; writes = record { item = item; base = None; minus = false; amount = amount } ∷ [] }
 
 -- Item 1 becomes 25, before cycle 1.
 abbrev pub first_batch : List Event

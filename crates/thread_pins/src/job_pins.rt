@@ -1,16 +1,20 @@
-//! Pins of `air_jobs`: a job of one update, of two looks and of two cycles.
+//! These pins of `air_jobs` say what a job of one update, of one or two looks and of two cycles leaves.
+//!
+//! Other jobs may commit at the same time, so they say what every order of events must keep.
 #![tactic(auto, unfolding(air_model::specs::DeckLaws::made_by, air_model::specs::DeckLaws::commits_from))]
 
-ghost use Rattle.std.specs.Prelude.{◌≡◌, ◌≤◌, ◌<◌, ◌+◌, ◌*◌, ◌^◌, ℕ, [], ◌∷◌, length, All, Err, OnErr, OnOk};
+ghost use Rattle.std.specs.Prelude.{◌≡◌, ◌≤◌, ◌<◌, ◌+◌, ◌*◌, ◌^◌, ◌++◌, ℕ, List, [], ◌∷◌, length, All, Err, OnErr, OnOk};
 ghost use Rattle.air_history.specs.Histories.{starts};
 ghost use Rattle.air_history.specs.UpdateRules.{UpdateFits};
-ghost use Rattle.air_history.specs.declared.histories.Event.TheVariants.{Commit};
+ghost use Rattle.air_history.specs.declared.histories.Event.{Event};
+ghost use Rattle.air_history.specs.declared.histories.Event.TheVariants.{Commit, Start};
 ghost use Rattle.air_model.specs.Decks.{count_made};
 ghost use Rattle.air_model.specs.DeckLaws.{made_by};
 ghost use Rattle.air_model.specs.Disks.{all_items};
 ghost use Rattle.bucket_codec.specs.declared.offsets.TheConstants.{ENTRY_BYTES, HEAD_BYTES};
+ghost use Rattle.cycle_snapshot.specs.Batches.{events_in};
 ghost use Rattle.air_jobs.specs.Published.{AreInStep};
-ghost use Rattle.thread_pins.specs.SmallBatches.{adds_to, first_batch};
+ghost use Rattle.thread_pins.specs.SmallBatches.{reads_and_sets, first_batch};
 
 use air_base::Policy;
 use air_devices::{Gate, Mast};
@@ -23,7 +27,7 @@ use station::{ConductorPass, Station, UpdaterPass};
 use std::alloc::Global;
 use std::sync::Wait;
 
-/// A first job of one update makes one commit, of this update, whatever others commit beside it.
+/// A first job of one update makes one commit, of this update with its read, whatever others commit at the same time.
 pub fn other_or_double_commit<R: Wait, G: Gate>(
     wait: &R,
     alloc: Global,
@@ -35,10 +39,10 @@ pub fn other_or_double_commit<R: Wait, G: Gate>(
     requires own { pass.old.station ≡ station.now }
     requires number { pass.old.number ≡ 1 }
     requires seen { pass.old.seen ≡ [] }
-    requires updates { updates.now ≡ adds_to 1 0 3 ∷ [] }
+    requires updates { updates.now ≡ reads_and_sets 0 1 5 ∷ [] }
     requires fits { All (UpdateFits (length pass.old.values)) updates.now }
     requires few { count_made pass.old.number pass.old.seen + length updates.now < 2 ^ 32 }
-    ensures { OnOk result (made_by 1 pass.new.seen ≡ Commit 1 0 (adds_to 1 0 3) ∷ []) }
+    ensures { OnOk result (made_by 1 pass.new.seen ≡ Commit 1 0 (reads_and_sets 0 1 5) ∷ []) }
 {
     updater_job(wait, alloc, station, pass, updates, gate)
 }
@@ -62,8 +66,10 @@ pub fn look_of_less_than_was_told<G: Gate>(
     monitor_job(monitor, 1, gate)
 }
 
-/// A first job of two cycles starts two and publishes two batches, and tells that the mast failed only where its count rose. It also
-/// refuses a batch that is published a cycle late, a job of fewer cycles, and that the mast is blamed for being out of memory.
+/// A first job of two cycles starts two, and publishes two batches: one a cycle, each ending with its start, and together all that was
+/// seen up to the last start. Where it tells that the mast failed, each cycle that it started is published, and the mast's count rose.
+/// It also refuses a job that starts a cycle more than it publishes, a job of fewer cycles, and that the mast is blamed for being out
+/// of memory.
 pub fn cycle_left_out<R: Wait, M: Mast, G: Gate>(
     wait: &R,
     alloc: Global,
@@ -86,6 +92,9 @@ pub fn cycle_left_out<R: Wait, M: Mast, G: Gate>(
     ensures started { OnOk result (starts pass.new.seen ≡ 2) }
     ensures few { OnErr result (starts pass.new.seen ≤ 2) }
     ensures published { OnOk result (length publisher.new.batches ≡ 2) }
+    ensures each { All (λ batch. (commits : List Event) × (batch ≡ commits ++ Start ∷ []) × (starts commits ≡ 0)) publisher.new.batches }
+    ensures whole { OnOk result ((later : List Event) × (pass.new.seen ≡ events_in publisher.new.batches ++ later) × (starts later ≡ 0)) }
+    ensures in_step { (sent : ℕ) → result ≡ Err (ConductFault.Mast sent) → length publisher.new.batches ≡ starts pass.new.seen }
     ensures cause { (sent : ℕ) → result ≡ Err (ConductFault.Mast sent) → 1 ≤ (M.state mast.new).faults }
 {
     conductor_job(

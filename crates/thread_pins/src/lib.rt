@@ -1,8 +1,7 @@
-//! Worked examples of the crates of threads: for a call and small values, the exact answer.
-//!
-//! Each function is one call. Its `requires` fixes what is handed in, and its `ensures` is the answer, proved from the called
-//! function's contract alone. So a contract that lets another answer through fails it, and so does a changed definition. A
-//! function is named for the blunder that it refuses.
+//! These are worked examples of the turnstile, the station, the snapshots, the jobs and the runs, on small values.
+//! Each function is one call: its `requires` fixes what is handed in, and its `ensures` is the answer, or what every answer must
+//! keep, proved from the called function's contract alone. So it fails where a contract lets another answer through, or where a
+//! definition changes. A function is named for the blunder that it refuses, and its comment says what else it refuses.
 #![tactic(auto)]
 
 pub mod job_pins;

@@ -1,4 +1,6 @@
-//! Pins of `air_runs`: a run of three cycles beside two monitors, and one that fails.
+//! These pins of `air_runs` say what a run of three cycles with two monitors answers, and what a run tells that fails.
+//!
+//! Its threads go on in any order, so they say what every run must keep.
 
 ghost use Rattle.std.specs.Prelude.{◌≡◌, ◌≤◌, ℕ, [], ◌∷◌, length, map, All, Err, Some, IfOk};
 ghost use Rattle.air_history.specs.Histories.{starts};
@@ -38,8 +40,7 @@ pub fn every_look_of_monitor_0<R: Threads + Wait + Sync, M: Mast + Send, G: Gate
     run_threads(rt, alloc, deck, program, mast, gate)
 }
 
-/// The history of a run has the one update of the second updater, though the first has none. It also refuses that the pass of an
-/// updater that isn't done is left out.
+/// The history of a run has the one update of the second updater, though the first has none.
 pub fn one_updater_done_for_all<R: Threads + Wait + Sync, M: Mast + Send, G: Gate + Sync>(
     rt: &R,
     alloc: Global,

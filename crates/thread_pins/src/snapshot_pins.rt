@@ -1,4 +1,6 @@
-//! Pins of `cycle_snapshot`: the frames of one and of two small batches, and what a publisher and a monitor then know.
+//! These pins of `cycle_snapshot` say which frames one and two small batches have, and what a publisher and a monitor then know.
+//!
+//! A monitor may see more than it was told, so some hold for one list that it may have seen.
 
 ghost use Rattle.std.specs.Prelude.{◌≡◌, ◌≤◌, ◌<◌, [], ◌∷◌, length, IfOk, OnOk};
 ghost use Rattle.air_history.specs.declared.histories.Event.TheVariants.{Start};

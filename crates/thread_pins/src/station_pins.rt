@@ -1,4 +1,6 @@
-//! Pins of `station`: what each call through a pass adds to the history, what it answers, and what closes it.
+//! These pins of `station` say what each call through a pass adds to the history, what it answers, and what closes it.
+//!
+//! Other passes may add events first, so some hold where they added none.
 #![tactic(auto, unfolding(air_history::specs::Histories::is_start, air_history::specs::Histories::starts))]
 
 ghost use Rattle.std.specs.Prelude.{◌≡◌, ◌<◌, ◌-◌, ◌^◌, ◌++◌, ℕ, [], ◌∷◌, length, slice_get, All, Contains, Some, IfOk, OnOk};
@@ -9,7 +11,7 @@ ghost use Rattle.air_history.specs.Histories.{starts};
 ghost use Rattle.station.specs.PassStates.{PassState, numbers_of};
 ghost use Rattle.air_model.specs.Decks.{count_made};
 ghost use Rattle.update_commit.specs.Receipts.{reply_in};
-ghost use Rattle.thread_pins.specs.SmallBatches.{first_values, first_batch, second_batch, adds_to};
+ghost use Rattle.thread_pins.specs.SmallBatches.{first_values, first_batch, second_batch, reads_and_sets};
 
 use air_history::{Event, History, Update};
 use item_catalog::Deck;
@@ -27,8 +29,8 @@ pub fn passes_in_reverse_order(
     Station::new(alloc, deck)
 }
 
-/// The first commit of an updater is its one commit then, with the update that was given. It also refuses an update that isn't
-/// committed, or is twice.
+/// The first commit of an updater is its one commit then, with the update that was given, its read too, which no write needs. It also
+/// refuses an update that isn't committed, or is committed twice.
 pub fn another_update_committed<R: Wait>(
     station: &Station,
     wait: &R,
@@ -39,11 +41,11 @@ pub fn another_update_committed<R: Wait>(
     requires own { pass.old.station ≡ station.now }
     requires number { pass.old.number ≡ 0 }
     requires seen { pass.old.seen ≡ [] }
-    requires update { update.now ≡ adds_to 1 0 3 }
+    requires update { update.now ≡ reads_and_sets 0 1 5 }
     requires fits { UpdateFits (length pass.old.values) update.now }
     requires few { count_made pass.old.number pass.old.seen < 2 ^ 32 - 1 }
     ensures once { OnOk result (count_made 0 pass.new.seen ≡ 1) }
-    ensures event { OnOk result ((event : Event) → pass.new.seen ≡ event ∷ [] → event ≡ Commit 0 0 (adds_to 1 0 3)) }
+    ensures event { OnOk result ((event : Event) → pass.new.seen ≡ event ∷ [] → event ≡ Commit 0 0 (reads_and_sets 0 1 5)) }
 {
     station.commit(wait, alloc, pass, update)
 }
@@ -89,8 +91,8 @@ pub fn next_cycle_for_those_started(pass: &ConductorPass) -> u32
     pass.started()
 }
 
-/// Where nothing was added since the first batch, the receipt of a commit tells its place 2, its cycle 1, the value that it
-/// read and the one that it wrote.
+/// Where a commit alone was added since the first batch, its receipt tells its place 2, its cycle 1, the value that it read and the
+/// one that it wrote. It also refuses a receipt of another update.
 pub fn receipt_without_its_cycle<R: Wait>(
     station: &Station,
     wait: &R,
@@ -102,11 +104,11 @@ pub fn receipt_without_its_cycle<R: Wait>(
     requires values { pass.old.values ≡ first_values }
     requires number { pass.old.number ≡ 1 }
     requires seen { pass.old.seen ≡ first_batch }
-    requires update { update.now ≡ adds_to 1 0 3 }
+    requires update { update.now ≡ reads_and_sets 0 1 5 }
     requires fits { UpdateFits (length pass.old.values) update.now }
     requires few { count_made pass.old.number pass.old.seen < 2 ^ 32 - 1 }
-    ensures { IfOk result (λ receipt. pass.new.seen ≡ first_batch ++ Commit 1 0 (adds_to 1 0 3) ∷ [] →
-        reply_in receipt ≡ record { number = 2; cycle = 1; read = 18_446_744_073_709_551_615 ∷ []; written = 2 ∷ [] }) }
+    ensures { IfOk result (λ receipt. length pass.new.seen ≡ 3 →
+        reply_in receipt ≡ record { number = 2; cycle = 1; read = 18_446_744_073_709_551_615 ∷ []; written = 5 ∷ [] }) }
 {
     station.commit(wait, alloc, pass, update)
 }

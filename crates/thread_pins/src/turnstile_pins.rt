@@ -1,4 +1,6 @@
-//! Pins of `turnstile`: the numbers of new passes, and what a pass knows after a join.
+//! These pins of `turnstile` say which numbers new passes have, and what a pass knows after a join.
+//!
+//! The turnstile's value may be any chronicle.
 
 ghost use Rattle.std.specs.Prelude.{◌≡◌, [], ◌∷◌, length, slice_get, IfOk, Some, None};
 ghost use Rattle.turnstile.specs.PassEntries.{Below};
