@@ -65,11 +65,11 @@ pub fn open(
     let (Some(one), Some(two)) = (one, two) else {
         return Ok(None);
     };
-    let fresh = Vec::new(alloc);
-    Ok(Some((station, Conductor { pass, fresh }, one, two)))
+    let starts = Vec::new(alloc);
+    Ok(Some((station, Conductor { pass, starts }, one, two)))
 }
 
-/// Lets both updaters make so many commits, side by side.
+/// Lets each updater make this number of commits, side by side.
 fn work_both<R: Threads + Wait + Sync>(
     rt: &R,
     alloc: Global,
@@ -90,7 +90,7 @@ fn work_both<R: Threads + Wait + Sync>(
     );
 }
 
-/// Lets both updaters make so many commits, while the conductor starts so many cycles.
+/// Lets each updater make this number of commits, while the conductor starts this number of cycles.
 pub fn work_all<R: Threads + Wait + Sync>(
     rt: &R,
     alloc: Global,
@@ -142,8 +142,8 @@ fn is_complete(passes: &[UpdaterPass], updaters: u32) -> bool
     true
 }
 
-/// How many events and starts a history has, how many receipts each updater and how many lists the conductor got, and the first
-/// two values at its end, or the first place that was answered otherwise than by a core.
+/// How many events and starts a history has, how many receipts each updater got, how many starts were answered to the conductor,
+/// and the first two values at the history's end, or the first place that was answered otherwise than by a core.
 pub type Found = (u64, u32, [usize; 3], Result<[u64; 2], usize>);
 
 /// Closes the station, and replays its history from these values; none where a pass is missing.
@@ -165,9 +165,9 @@ pub fn close(
         return Ok(None);
     }
     let history = station.close(passes, conductor.pass);
-    let fresh = conductor.fresh;
+    let starts = conductor.starts;
     let (ones, twos) = (one.receipts, two.receipts);
-    let values = replay(alloc, &history, first, [&ones, &twos], &fresh)?;
-    let counts = [ones.len(), twos.len(), fresh.len()];
+    let values = replay(alloc, &history, first, [&ones, &twos], &starts)?;
+    let counts = [ones.len(), twos.len(), starts.len()];
     Ok(Some((history.len(), history.starts(), counts, values)))
 }

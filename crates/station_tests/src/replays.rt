@@ -1,6 +1,7 @@
 //! A closed station's history once more, event by event on a core: what the station answered has to be what the core answers.
 ghost use Rattle.std.specs.Prelude.{◌≡◌, ◌<◌, ◌≤◌, ◌+◌, length};
 
+use crate::workers::Started;
 use air_history::{Event, History};
 use station::NoMemory;
 use std::alloc::Global;
@@ -26,18 +27,38 @@ pub fn says(
     }
 }
 
-/// The updater and its number of a commit; none of a start.
-fn ids_of(event: &Event) -> Option<(u32, u32)> {
+/// An event: the start of a cycle, or a commit, of which updater and with which number.
+#[derive(Clone, Copy, PartialEq, Eq)]
+pub enum Mark {
+    Start,
+    Commit(u32, u32),
+}
+
+/// The mark of an event.
+fn mark_of(event: &Event) -> Mark {
     match event {
-        Event::Start => None,
-        Event::Commit { by, seq, .. } => Some((*by, *seq)),
+        Event::Start => Mark::Start,
+        Event::Commit { by, seq, .. } => Mark::Commit(*by, *seq),
     }
+}
+
+/// Whether the start at this place gave just this number and these events.
+pub fn gives(starts: &[Started], place: usize, number: u32, marks: &[Mark]) -> bool {
+    let Some(started) = starts.get(place) else {
+        return false;
+    };
+    for (event, mark) in started.events.iter().zip(marks) {
+        if mark_of(event) != *mark {
+            return false;
+        }
+    }
+    started.number == number && started.events.len() == marks.len()
 }
 
 /// Whether both lists have the same events.
 fn are_equal(events: &[Event], others: &[Event]) -> bool {
     for (one, other) in events.iter().zip(others) {
-        if ids_of(one) != ids_of(other)
+        if mark_of(one) != mark_of(other)
             || one.reads() != other.reads()
             || one.writes() != other.writes()
         {
@@ -55,7 +76,7 @@ fn is_replayed(
     items: u16,
     event: &Event,
     receipts: &[&Vec<Receipt>; 2],
-    fresh: &[Vec<Event>],
+    starts: &[Started],
 ) -> Result<bool, NoMemory>
     requires core { (core.old.updaters ≡ 2) × (length core.old.values ≡ items) × (length core.old.events < 1000000) }
     ensures core { (core.new.updaters ≡ 2) × (length core.new.values ≡ items) × (length core.new.events ≤ length core.old.events + 1) }
@@ -66,9 +87,9 @@ fn is_replayed(
         core.since_start(alloc, &mut since)?;
         since.push(Event::Start)?;
         let before = core.cycle();
-        let _number = core.start();
-        return Ok(match fresh.get(before as usize) {
-            Some(given) => are_equal(given, &since),
+        let number = core.start();
+        return Ok(match starts.get(before as usize) {
+            Some(given) => given.number == number && are_equal(&given.events, &since),
             None => false,
         });
     };
@@ -89,7 +110,7 @@ pub fn replay(
     history: &History,
     first: &[u64],
     receipts: [&Vec<Receipt>; 2],
-    fresh: &[Vec<Event>],
+    starts: &[Started],
 ) -> Result<Result<[u64; 2], usize>, NoMemory> {
     if first.len() < 2 || first.len() > 1000 {
         return Ok(Err(0));
@@ -103,7 +124,7 @@ pub fn replay(
                 first.len() as u16,
                 event,
                 &receipts,
-                fresh,
+                starts,
             )?
         {
             return Ok(Err(place));

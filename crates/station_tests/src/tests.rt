@@ -1,10 +1,12 @@
 //! Calls one after another with answers by hand, and all side by side.
 //!
 //! At the end the closing history has each call once, in its caller's order; each receipt has its place there and says what a core
-//! answers there, and each start gave the events since the one before, and itself.
+//! answers there, and each start gave its number and the events since the start before, with itself.
 
 use crate::crews::{Found, close, open, work_all};
-use crate::replays::says;
+use crate::replays::Mark::{Commit, Start};
+use crate::replays::{gives, says};
+use crate::workers::{Conductor, Worker};
 use std::alloc::Global;
 use std::sync::Wait;
 use std::test::Fail;
@@ -15,22 +17,35 @@ use std::thread::Threads;
 const CALLED: &[u8] =
     b"item,0,10,1\nitem,1,20,1\ndisk,2,1\nupdate,0,0,0=0+1\nupdate,1,0 1,1=0+5 0=1-2\n";
 
+/// How many commits each updater made, and how many cycles the conductor started.
+fn made(one: &Worker, two: &Worker, conductor: &Conductor) -> [u32; 3] {
+    [one.pass.made(), two.pass.made(), conductor.pass.started()]
+}
+
 /// Makes calls one after another on one thread; what is found then, and whether each was answered as by hand.
-fn call_each<R: Wait>(wait: &R, alloc: Global) -> Result<Option<(Found, [bool; 4])>, Fail> {
+fn call_each<R: Wait>(wait: &R, alloc: Global) -> Result<Option<(Found, [bool; 10])>, Fail> {
     let Some((station, mut conductor, mut one, mut two)) = open(alloc, CALLED)? else {
         return Ok(None);
     };
+    let before = made(&one, &two, &conductor);
     conductor.start_all(wait, alloc, &station, 1);
     one.commit_all(wait, alloc, &station, 1);
     two.commit_all(wait, alloc, &station, 1);
+    let between = made(&one, &two, &conductor);
     conductor.start_all(wait, alloc, &station, 2);
     one.commit_all(wait, alloc, &station, 1);
-    let made = (one.pass.made(), two.pass.made(), conductor.pass.started());
+    let starts = &conductor.starts;
     let told = [
         says(&one.receipts, 0, 1, 1, &[10], &[11]),
         says(&two.receipts, 0, 2, 1, &[11, 20], &[16, 18]),
         says(&one.receipts, 1, 5, 3, &[18], &[19]),
-        made == (2, 1, 3),
+        gives(starts, 0, 1, &[Start]),
+        gives(starts, 1, 2, &[Commit(0, 0), Commit(1, 0), Start]),
+        gives(starts, 2, 3, &[Start]),
+        !gives(starts, 1, 2, &[Start]),
+        before == [0, 0, 0],
+        between == [1, 1, 1],
+        made(&one, &two, &conductor) == [2, 1, 3],
     ];
     match close(alloc, station, conductor, one, two, &[10, 20])? {
         Some(found) => Ok(Some((found, told))),
@@ -41,7 +56,7 @@ fn call_each<R: Wait>(wait: &R, alloc: Global) -> Result<Option<(Found, [bool; 4
 #[test]
 fn calls_answer_one_after_another(rt: HostRuntime) -> Result<(), Fail> {
     let found = (6, 3, [2, 1, 3], Ok([19, 16]));
-    assert_eq!(rt; call_each(&rt, rt.alloc())?, Some((found, [true; 4])));
+    assert_eq!(rt; call_each(&rt, rt.alloc())?, Some((found, [true; 10])));
     Ok(())
 }
 
@@ -50,7 +65,7 @@ fn calls_answer_one_after_another(rt: HostRuntime) -> Result<(), Fail> {
 const SHARED: &[u8] =
     b"item,0,10,1\nitem,1,20,1\nitem,2,30,1\ndisk,3,1\nupdate,0,0,0=0+1 2=0+1\nupdate,1,0 1,0=0+2 1=1+3\n";
 
-/// Lets each updater make so many commits while so many cycles are started, and closes the station.
+/// Lets each updater make this number of commits while this number of cycles is started, and closes the station.
 fn let_work<R: Threads + Wait + Sync>(
     rt: &R,
     alloc: Global,

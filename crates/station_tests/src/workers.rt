@@ -16,15 +16,22 @@ pub struct Worker {
     pub receipts: Vec<Receipt>,
 }
 
-/// The conductor's pass, and the events that each of its starts gave, in order.
+/// What the start of a cycle gave: the cycle's number, and the events since the start before it, with the start itself.
+#[derive(Drop)]
+pub struct Started {
+    pub number: u32,
+    pub events: Vec<Event>,
+}
+
+/// The conductor's pass, and what each of its starts gave, in order.
 #[derive(Drop)]
 pub struct Conductor {
     pub pass: ConductorPass,
-    pub fresh: Vec<Vec<Event>>,
+    pub starts: Vec<Started>,
 }
 
 impl Worker {
-    /// Makes so many commits, and keeps their receipts: fewer where memory ends.
+    /// Makes this number of commits, and keeps their receipts: fewer where memory ends.
     pub fn commit_all<R: Wait>(&mut self, wait: &R, alloc: Global, station: &Station, commits: u32)
         requires ready { IsReady station.now self.old.pass self.old.update }
         ensures ready { IsReady station.now self.new.pass self.new.update }
@@ -44,7 +51,7 @@ impl Worker {
 }
 
 impl Conductor {
-    /// Starts so many cycles, and keeps the events that the starts give: fewer where memory ends.
+    /// Starts this number of cycles, and keeps what the starts give: fewer where memory ends.
     pub fn start_all<R: Wait>(&mut self, wait: &R, alloc: Global, station: &Station, cycles: u32)
         requires ready { self.old.pass.station ≡ station.now }
         ensures pass { self.new.pass ≡ with_seen self.old.pass self.new.pass.seen }
@@ -53,14 +60,11 @@ impl Conductor {
             if self.pass.started() == u32::MAX {
                 return;
             }
-            let mut fresh = Vec::new(alloc);
-            if station
-                .start_cycle(wait, alloc, &mut self.pass, &mut fresh)
-                .is_err()
-            {
+            let mut events = Vec::new(alloc);
+            let Ok(number) = station.start_cycle(wait, alloc, &mut self.pass, &mut events) else {
                 return;
-            }
-            if self.fresh.push(fresh).is_err() {
+            };
+            if self.starts.push(Started { number, events }).is_err() {
                 return;
             }
         }
