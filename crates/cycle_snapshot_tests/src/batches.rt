@@ -1,4 +1,4 @@
-//! Batches as rows of a table, and a publisher that publishes so many of one form.
+//! Batches as rows of a table, and a publisher that publishes a given number of one form.
 ghost use Rattle.std.specs.Prelude.{◌≡◌, ◌+◌, ◌≤◌, length, IfOk};
 ghost use Rattle.cycle_snapshot.specs.Batches.{IsBatch};
 ghost use Rattle.cycle_snapshot_tests.specs.Workers.{StaysPublisher};
@@ -31,7 +31,7 @@ fn update_of(alloc: Global, reads: &[u16], puts: &[Put]) -> Result<Update, NoMem
     }
 }
 
-/// The commits of the rows, and a start. A row that does not fit so many items counts as out of memory.
+/// The commits of the rows, and a start. A row that does not fit this number of items counts as out of memory.
 pub fn batch_of(alloc: Global, items: u16, rows: &[Row<'_>]) -> Result<Vec<Event>, NoMemory>
     ensures { IfOk result (λ batch. IsBatch items batch.items) }
 {
@@ -51,7 +51,7 @@ pub fn batch_of(alloc: Global, items: u16, rows: &[Row<'_>]) -> Result<Vec<Event
     Ok(batch)
 }
 
-/// Publishes so many batches. Each adds 1 to item 0, and then puts its value into item 1.
+/// Publishes this number of batches. Each adds 1 to item 0, and then puts its value into item 1.
 pub fn publish_all<R: Wait>(
     wait: &R,
     alloc: Global,

@@ -45,7 +45,7 @@ const ONE_KEPT: Kept = (1, [u64::MAX, 25], [[0, 0], [0, 0]], 24);
 /// The frame of both: item 1 was written in cycle 1, and item 0 after a read of it.
 const TWO_KEPT: Kept = (2, [3, 2], [[1, 1], [0, 1]], 5);
 
-/// Whether the monitor keeps this, and looked so often.
+/// Whether the monitor keeps this, and looked this number of times.
 fn keeps(monitor: &Monitor, told: &Kept, looks: u64) -> bool
     requires { length monitor.now.values ≡ 2 }
 {

@@ -28,7 +28,7 @@ fn is_published(monitor: &Monitor) -> bool
         && monitor.column(2) == [0, 0, 0].as_slice()
 }
 
-/// Looks until the monitor sees the cycle, and at most so many times. It stops early after a look that failed, that went back, or
+/// Looks until the monitor sees the cycle, and at most `most` times. It stops early after a look that failed, that went back, or
 /// that showed a frame of none of the beginnings: then the monitor keeps an earlier cycle, or that frame.
 fn watch(monitor: &mut Monitor, cycle: u32, most: u32)
     requires items { HasThree monitor.old }
@@ -54,7 +54,7 @@ fn watch_all<R: Threads + Sync>(rt: &R, monitors: &mut [Monitor], cycle: u32)
     thread::for_each_mut(rt, monitors, 4, &|_, m| watch(m, cycle, MOST_LOOKS));
 }
 
-/// Publishes so many batches, while the monitors look.
+/// Publishes this number of batches, while the monitors look.
 fn run_all<R: Threads + Wait + Sync>(
     rt: &R,
     alloc: Global,
@@ -89,13 +89,14 @@ fn first_other(monitors: &[Monitor], batches: u32) -> Option<(usize, u32)>
     None
 }
 
-/// The first of so many monitors beside a publisher of so many batches that ends with another frame than that of all.
-fn other_beside<R: Threads + Wait + Sync>(
+/// How many monitors there are beside a publisher of these batches, where this number is asked for; and the first of them that
+/// ends with another frame than that of all batches, if any.
+fn monitors_beside<R: Threads + Wait + Sync>(
     rt: &R,
     alloc: Global,
     monitors: u32,
     batches: u32,
-) -> Result<Option<(usize, u32)>, NoMemory>
+) -> Result<(usize, Option<(usize, u32)>), NoMemory>
     requires monitors { monitors ≤ 16 }
     requires batches { batches < 2 ^ 32 - 1 }
 {
@@ -103,16 +104,16 @@ fn other_beside<R: Threads + Wait + Sync>(
     let done = run_all(rt, alloc, &mut source, all.as_mut_slice(), batches);
     source.close(rt);
     done?;
-    Ok(first_other(&all, batches))
+    Ok((all.len(), first_other(&all, batches)))
 }
 
 #[test]
 fn monitors_beside_a_publisher_see_whole_batches(rt: HostRuntime) -> Result<(), Fail> {
-    let others = [
-        other_beside(&rt, rt.alloc(), 4, 1000)?,
-        other_beside(&rt, rt.alloc(), 16, 10)?,
-        other_beside(&rt, rt.alloc(), 0, 0)?,
+    let found = [
+        monitors_beside(&rt, rt.alloc(), 4, 1000)?,
+        monitors_beside(&rt, rt.alloc(), 16, 10)?,
+        monitors_beside(&rt, rt.alloc(), 0, 0)?,
     ];
-    assert_eq!(rt; others, [None, None, None]);
+    assert_eq!(rt; found, [(4, None), (16, None), (0, None)]);
     Ok(())
 }
