@@ -30,7 +30,7 @@ pub struct Settings {
     cut: Option<usize>,
     flip: Option<usize>,
     pub heard: Vec<u8>,
-    /// Whether what no schedule changes is told alone.
+    /// Whether only what no schedule changes is told.
     pub brief: bool,
 }
 
@@ -45,7 +45,7 @@ fn add_row(text: &[u8], row: u64, bytes: &mut Vec<u8>) -> Result<(), NoMemory> {
     Ok(())
 }
 
-/// So many rows of the text.
+/// This number of rows of the text.
 fn rows(alloc: Global, count: u64, spelled: &[u8]) -> Result<Vec<u8>, NoMemory> {
     let text = text_of(alloc, spelled)?;
     let mut bytes = Vec::new(alloc);

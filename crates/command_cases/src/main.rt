@@ -1,8 +1,8 @@
 //! Plays cases of commands over a shelf, a mast and an ear in memory: words in; a status, a text, an output and what was sent out.
 //!
 //! `deck`, `report` and `tape` begin a file, and `more`, `repeat` and `bytes` go on with the one that was begun last: the files stay. What
-//! other words set is of the next command alone. `quiet` plays a command through `air_quiet`, `main` through `air_main`; `meet` plays one
-//! whose threads meet at a gate, and `threads` one of which no schedule changes what is told.
+//! other words set is of the next command alone. `quiet` plays one through `air_quiet`, `main` through `air_main`, `meet` one whose threads
+//! meet at a gate. After `brief` only what no schedule changes is told; `lines` counts the lines of the last text that begin with a front.
 #![tactic(auto)]
 
 mod files;

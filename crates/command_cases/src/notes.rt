@@ -8,7 +8,7 @@ use fault_notes::{CutTape, air_note, deck_note, report_note};
 use item_catalog::{Deck, DeckFault, read_deck};
 use std::alloc::Global;
 
-/// The file with the record behind it, if one is spelled.
+/// The file, and after it the record, if one is spelled.
 fn with_record(alloc: Global, file: &[u8], spelled: &[u8]) -> Result<Vec<u8>, NoMemory> {
     let mut text = Vec::from_slice(alloc, file)?;
     if !spelled.is_empty() {
@@ -35,7 +35,7 @@ fn cut_note(alloc: Global, name: &str, at: u64, pieces: &[u8]) -> Result<String,
     tape.note(alloc, name, at)
 }
 
-/// The note on a row of a file, or of the file with a record behind it; the fault is of this kind.
+/// The note on a row of a file, or of the file with a record after it; the fault is of this kind.
 fn row_note(
     alloc: Global,
     files: &Files,

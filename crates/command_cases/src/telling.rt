@@ -46,7 +46,7 @@ fn add_hex(alloc: Global, word: &[u8], bytes: &[u8], came: &mut Vec<u8>) -> Resu
     Ok(())
 }
 
-/// Adds the bytes behind a word, if there are some: of many the length and the checksum.
+/// Adds a word and then the bytes, if there are some: of many the length and the checksum.
 pub fn add_bytes(
     alloc: Global,
     word: &[u8],
@@ -91,7 +91,7 @@ pub fn add_end(
     add_bytes(alloc, b"writes", written, came)
 }
 
-/// How many lines of the text begin so.
+/// How many lines of the text begin with this front.
 pub fn count_lines(text: &[u8], front: &[u8]) -> u64 {
     let mut count = 0u64;
     for line in text.split(|byte| *byte == b'\n') {

@@ -34,8 +34,8 @@ pub fn send<M: Mast>(mast: &mut M, bytes: &[u8], came: &mut Vec<u8>) -> Result<(
 }
 
 /// Adds the bytes as hexadecimal digits.
-fn add_hex(alloc_text: &[u8], came: &mut Vec<u8>) -> Result<(), NoMemory> {
-    for byte in alloc_text {
+fn add_hex(bytes: &[u8], came: &mut Vec<u8>) -> Result<(), NoMemory> {
+    for byte in bytes {
         for digit in [*byte >> 4, *byte & 15] {
             came.push(if digit < 10 {
                 b'0' + digit

@@ -22,7 +22,7 @@ use std::thread::Threads;
 /// The most pieces of a script: one for each of its events.
 const MOST_PIECES: u32 = 110_000;
 
-/// Tells how many bytes the script's tape has, and how many cycles a piece, where so many starts stand behind the deck.
+/// Tells how many bytes the script's tape has, and how many cycles a piece, where this number of starts comes after the deck.
 pub fn sizes(alloc: Global, deck: &[u8], starts: u64, came: &mut Vec<u8>) -> Result<(), NoMemory> {
     let mut text = Vec::from_slice(alloc, deck)?;
     for _ in 0..starts {
@@ -39,7 +39,7 @@ pub fn sizes(alloc: Global, deck: &[u8], starts: u64, came: &mut Vec<u8>) -> Res
     )
 }
 
-/// Airs the deck's script to all its readers, by pieces of so many cycles.
+/// Airs the deck's script to all its readers, by pieces of this number of cycles.
 pub fn air<T: Threads + Sync>(
     threads: &T,
     alloc: Global,
@@ -88,7 +88,7 @@ fn air_pieces<T: Threads + Sync>(
     add_report(alloc, events, sessions, came)
 }
 
-/// Runs the deck's script to a mast with so much room, with as many cycles in each piece as the next number says.
+/// Runs the deck's script to a mast of limited room. The numbers are this room, and then how many cycles each piece has.
 pub fn run(alloc: Global, text: &[u8], about: &[u8], came: &mut Vec<u8>) -> Result<(), NoMemory> {
     let (room, cycles) = first_word(about);
     let Some((deck, program)) = deck_and_program(alloc, text) else {

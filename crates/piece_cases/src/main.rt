@@ -36,7 +36,7 @@ fn add_row(text: &[u8], row: u64, bytes: &mut Vec<u8>) -> Result<(), NoMemory> {
     Ok(())
 }
 
-/// Adds so many rows of the text.
+/// Adds rows of the text: their number comes before the text.
 fn add_rows(alloc: Global, about: &[u8], bytes: &mut Vec<u8>) -> Result<(), NoMemory> {
     let (count, spelled) = first_word(about);
     let text = text_of(alloc, spelled)?;

@@ -29,8 +29,8 @@ pub fn add_report(
     write_report(alloc, &report, came)
 }
 
-/// Adds a piece to the tape so far, and its line: how many starts of these events are behind the first ones, of which there are so many;
-/// how many bytes the piece has; and how many events there are.
+/// Adds a piece to the tape so far, and its line: how many starts are among the events from number `first` on, how many bytes the piece
+/// has, and how many events there are.
 pub fn add_piece(
     events: &[Event],
     first: usize,
