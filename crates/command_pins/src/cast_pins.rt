@@ -1,4 +1,5 @@
-//! Pins of `air_casts`: a run cast to a mast in memory, and three datagrams of one byte that are waiting for readers who hear two.
+//! These pins say what `air_casts` sends to a mast in memory, and what it leaves of three datagrams that wait at an ear in memory.
+//! They tell the port, the end of what was sent, and the cause of each failure of a device.
 
 ghost use Rattle.std.specs.Prelude.{◌≡◌, ◌≤◌, ◌+◌, ℕ, [], ◌∷◌, length, Err, None, Some, IsSome, OnErr, OnOk};
 ghost use Rattle.air_model.specs.Decks.{disks_in};

@@ -1,4 +1,5 @@
-//! Pins of `air_devices`: files of four bytes, read up to a limit from a shelf in memory, and the last failure of a shelf over files.
+//! These pins say what `air_devices` reads of short files up to a limit, when it tells that one is too large or that a read failed, and
+//! how much it leaves. They also say which failure a shelf over files keeps.
 
 ghost use Rattle.std.specs.Prelude.{◌≡◌, ◌≢◌, ◌≤◌, [], ◌∷◌, Err, Some, IfOk, OnErr, option_map};
 ghost use Rattle.air_devices.specs.Memory.{told_by};

@@ -1,4 +1,5 @@
-//! Pins of `deck_files`: a file of two bytes, an empty deck, and programs that are too long, over a shelf in memory.
+//! These pins say what `deck_files` gives of a named file over a shelf in memory, and why it refuses one.
+//! They tell its bytes, the limit, the row of a fault, the number of slots, and when a count of faults rose.
 #![tactic(auto, unfolding(deck_files::specs::NamedFiles::UnreadCause, deck_files::specs::NamedDecks::DeckCause, deck_files::specs::RunnableDecks::LengthCause, deck_files::specs::RunnableDecks::UnrunnableCause, item_catalog::specs::Grammar::HasFault))]
 
 ghost use Rattle.std.specs.Prelude.{◌≡◌, ◌≢◌, ◌≤◌, ◌<◌, ℕ, [], ◌∷◌, length, Err, Some, IfOk, OnOk};
@@ -40,8 +41,8 @@ pub fn another_limit_told(
     read_bytes(alloc, shelf, name, 10)
 }
 
-/// A deck is given only where no read failed, and so is each refusal but that of a read. It also refuses that a refusal is that of a
-/// second reading.
+/// A deck is given only where no read failed, and so is each refusal but that of a read: out of memory, a file that is too large, and a
+/// fault of the deck. So none of them comes of a second reading after one that failed.
 pub fn reads_again_after_a_read_fault(
     alloc: Global,
     shelf: &mut MemShelf,
@@ -49,7 +50,9 @@ pub fn reads_again_after_a_read_fault(
 ) -> Result<Deck, Status>
     requires { shelf.old.calls.faults ≡ 0 }
     ensures deck { OnOk result (shelf.new.calls.faults ≡ 0) }
-    ensures refused { result ≡ Err Status.NoMemory → shelf.new.calls.faults ≡ 0 }
+    ensures memory { result ≡ Err Status.NoMemory → shelf.new.calls.faults ≡ 0 }
+    ensures large { (limit : ℕ) → result ≡ Err (Status.TooLarge limit) → shelf.new.calls.faults ≡ 0 }
+    ensures fault { (row kind : ℕ) → result ≡ Err (Status.Deck row kind) → shelf.new.calls.faults ≡ 0 }
 {
     read_deck_file(alloc, shelf, name)
 }

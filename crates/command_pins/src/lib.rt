@@ -1,8 +1,8 @@
-//! Worked examples of the devices in memory and of the commands: for a call and small values, the exact answer.
+//! Pins of the devices in memory and of the commands: each is one call on small values, and says the answer, or what every answer must
+//! keep. It is named for the blunder that it refuses.
 //!
-//! Each function is one call. Its `requires` fixes what is handed in, and its `ensures` is the answer, proved from the called
-//! function's contract alone. So a contract that lets another answer through fails it, and so does a changed definition. A
-//! function is named for the blunder that it refuses.
+//! A pin is proved from the contract of its call alone, so a contract that lets another answer through fails it. So does a changed
+//! definition, but not where that definition is itself the answer, as `plan_output`.
 #![tactic(auto)]
 
 pub mod cast_pins;

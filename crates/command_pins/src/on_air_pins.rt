@@ -1,4 +1,5 @@
-//! Pins of `aired_runs`: what a run gives, and how long its tape may be.
+//! These pins say what `aired_runs` gives of a run: report and tape are the definitions' for one whole history.
+//! They also say when a run is refused for the length of its tape, and with which number.
 #![tactic(auto, unfolding(aired_runs::specs::GivenRuns::IsRunRefusal))]
 
 ghost use Rattle.std.specs.Prelude.{◌≡◌, ◌≢◌, ◌<◌, ◌*◌, [], ◌∷◌, length, map, Err, IfOk, IfSome};

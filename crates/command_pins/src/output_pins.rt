@@ -1,4 +1,5 @@
-//! Pins of `delivery`: a tape of one byte and a text of two, over a shelf in memory.
+//! These pins say what `delivery` prints and writes of a tape of one byte and a text of two, over a shelf in memory.
+//! They also say when it tells a fault of writing, and that a refusal leaves the outputs as they were.
 #![tactic(auto, unfolding(delivery::specs::Deliveries::Delivers))]
 
 ghost use Rattle.std.specs.Prelude.{◌≡◌, ◌≢◌, ◌≤◌, [], ◌∷◌, None, Some, codes, option_map};

@@ -1,5 +1,6 @@
--- The text of two findings, and the audits of short texts as reports of the small deck, computed.
-use Rattle.std.proofs.Common.{◌≡◌, ◌⊎◌, ◌++◌, ◌∷◌, ◌∙◌, ℕ, List, [], Result, Ok, Err, IfOk, IfErr, Some, None, true, ap, arith, inl, inr, refl, subst, sym}
+-- The text of two findings, and the audits of short texts as reports of the small deck, computed. A report that is too much to replay
+-- is refused with its number.
+use Rattle.std.proofs.Common.{◌≡◌, ◌≤◌, ◌⊎◌, ◌++◌, ◌∷◌, ◌∙◌, ℕ, List, [], Result, Ok, Err, IfOk, IfErr, Some, None, true, ap, arith, inl, inr, refl, subst, sym}
 use Rattle.std.specs.Prelude.{codes}
 use Rattle.csv.proofs.OnLiterals.{csv_on_literals}
 use Rattle.csv.specs.Writing.{fields_text, is_blank}
@@ -20,12 +21,14 @@ use Rattle.report_reading.specs.ReportLines.{ReportLines, lines_in}
 use Rattle.report_reading.specs.declared.lines.EventLine.TheVariants.{Start}
 use Rattle.air_report.specs.ReadReports.{IsReportOf}
 use Rattle.air_report.specs.declared.reading.ReadReport.{ReadReport}
-use Rattle.live_replay.specs.Audits.{findings}
+use Rattle.live_replay.specs.Audits.{findings, replayed_in}
+use Rattle.live_replay.specs.declared.limits.TheConstants.{MOST_REPLAYED}
 use Rattle.live_replay.specs.Findings.{look_cause}
 use Rattle.live_replay.specs.declared.findings.Cause.TheVariants.{Clash, Total}
 use Rattle.audited_reports.specs.AuditAnswers.{HasAudit, UnauditedCause}
 use Rattle.audited_reports.specs.FindingTexts.{findings_text, some_differ}
 use Rattle.audited_reports.specs.declared.reports.Audited.{Audited}
+use Rattle.audited_reports.proofs.AuditFacts.{one_report}
 use Rattle.text_pins.proofs.PlaceFacts.{first_fault, none_before_0}
 use Rattle.report_pins.proofs.FaultFacts.{no_lines, same_fault}
 use Rattle.report_pins.proofs.ReadFacts.{history_read, lines_read}
@@ -121,3 +124,23 @@ refused_by_its_fault d bytes result is given =
     let P : Deck → List ℕ → Type 0 = λ v t. IfOk result (HasAudit v t) → IfErr result (UnauditedCause v t)
     → (result ≡ Err status.NoMemory) ⊎ (result ≡ Err (status.Report 1 3)) in
     subst (λ v. P v bytes) (sym is) (subst (λ t. P small_deck t) (sym given) (refused result))
+
+-- ---- one replay more than may be
+
+same_product : (d : Deck) (bytes : List ℕ) (a b : ReadReport) → IsReportOf d bytes a → IsReportOf d bytes b → replayed_in a.report ≡ replayed_in b.report
+same_product d bytes a b first second = ap (λ (r : ReadReport). replayed_in r.report) (one_report d bytes a b first second)
+
+pub refused_by_its_product : (d : Deck) (bytes : List ℕ) (result : Result Audited Status) (read : ReadReport) → IsReportOf d bytes read
+    → replayed_in read.report ≡ 50000001 → IfOk result (HasAudit d bytes) → IfErr result (UnauditedCause d bytes)
+    → (result ≡ Err status.NoMemory) ⊎ (result ≡ Err (status.TooMuch 50000001))
+unfolding UnauditedCause
+refused_by_its_product d bytes (Ok audited) read is counted has cause =
+    let same = same_product d bytes has.3.read read has.3.is is in
+    let within : replayed_in has.3.read.report ≤ MOST_REPLAYED = has.3.within in
+    absurd (omega arith)
+refused_by_its_product d bytes (Err (status.Report row kind)) read is counted has cause =
+    absurd (no_lines d bytes (lines_in read.report) row kind is.spelled cause)
+refused_by_its_product d bytes (Err (status.TooMuch product)) read is counted has cause =
+    inr (ap (λ p. Err (status.TooMuch p)) (cause.counted ∙ same_product d bytes cause.read read cause.is is ∙ counted))
+refused_by_its_product d bytes (Err status.NoMemory) read is counted has cause = inl refl
+refused_by_its_product d bytes (Err other) read is counted has cause = absurd cause

@@ -1,6 +1,10 @@
-//! Worked answers of `audited_reports`: the text of findings, and the audits of short texts.
+//! These pins fix what `audited_reports` makes of findings and of reports' texts: the text of two findings, and the audit of two looks.
+//! They also fix how it refuses a text with a fault, and a report that is too much to replay.
 
-ghost use Rattle.std.specs.Prelude.{◌≡◌, ◌⊎◌, ◌<◌, ◌≤◌, ◌++◌, [], ◌∷◌, ℕ, Err, Some, None, codes, length, true, IfErr, IfOk};
+ghost use Rattle.std.specs.Prelude.{◌≡◌, ◌⊎◌, ◌≤◌, ◌++◌, [], ◌∷◌, Err, Some, None, codes, length, true, IfOk};
+ghost use Rattle.air_report.specs.ReadReports.{IsReportOf};
+ghost use Rattle.air_report.specs.declared.reading.ReadReport.{ReadReport};
+ghost use Rattle.live_replay.specs.Audits.{replayed_in};
 ghost use Rattle.report_reading.specs.declared.limits.TheConstants.{MOST_REPORT_BYTES};
 ghost use Rattle.report_pins.specs.SmallDeck.{line, small_deck, two_looks};
 ghost use Rattle.report_pins.specs.SmallReports.{found};
@@ -12,8 +16,8 @@ use item_catalog::Deck;
 use live_replay::{Cause, Finding};
 use std::alloc::Global;
 
-/// A finding tells its own row and its own cause, and the last row counts the findings before those that differ. It refuses too that these two are
-/// exchanged, and that rows are counted from 0.
+/// A finding tells its own row and its own cause, and the last row counts the findings before those that differ. It also refuses that these two
+/// are exchanged, and that rows are counted from 0.
 #[tactic(auto, using(crate::proofs::AuditFacts::text_of_findings))]
 pub fn clash_told_as_verdict(alloc: Global, findings: &[Finding]) -> Result<Vec<u8>, NoMemory>
     requires { findings.now ≡ found 5 None ∷ found 6 (Some Cause.Clash) ∷ [] }
@@ -22,7 +26,7 @@ pub fn clash_told_as_verdict(alloc: Global, findings: &[Finding]) -> Result<Vec<
     findings_text(alloc, findings)
 }
 
-/// Where one line of two differs the audit says so, with the text of both. It refuses too that the findings are left out.
+/// Where one line of two differs the audit says so, with the text of both. It also refuses that the findings are left out.
 pub fn differs_only_where_all_do(
     alloc: Global,
     deck: &Deck,
@@ -49,15 +53,15 @@ pub fn kind_of_a_fault_forgotten(
     audit_report(alloc, deck, bytes)
 }
 
-/// What is told to be too much is above the limit.
-#[tactic(auto, unfolding(audited_reports::specs::AuditAnswers::UnauditedCause))]
+/// A report of which one replay more than the limit is needed is refused, and with that number.
 pub fn too_much_without_its_product(
     alloc: Global,
     deck: &Deck,
     bytes: &[u8],
 ) -> Result<Audited, Status>
-    requires { length bytes.now ≤ MOST_REPORT_BYTES }
-    ensures { IfErr result (λ status. (product : ℕ) → status ≡ Status.TooMuch product → 50000000 < product) }
+    requires few { length bytes.now ≤ MOST_REPORT_BYTES }
+    requires spelled { (read : ReadReport) × IsReportOf deck.now bytes.now read × (replayed_in read.report ≡ 50000001) }
+    ensures { (result ≡ Err Status.NoMemory) ⊎ (result ≡ Err (Status.TooMuch 50000001)) }
 {
     audit_report(alloc, deck, bytes)
 }

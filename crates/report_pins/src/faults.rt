@@ -1,4 +1,5 @@
-//! Worked answers of `report_reading`: the faults of short texts as reports of a small deck.
+//! These pins fix what `report_reading` answers for short texts that spell no report of the small deck.
+//! Each is refused with the first record that has a fault, and with the least kind there, or because memory ran out.
 
 ghost use Rattle.std.specs.Prelude.{◌≡◌, codes};
 ghost use Rattle.report_pins.specs.ReportAnswers.{IsFaultOrNoMemory};
@@ -21,7 +22,7 @@ pub fn accept_of_a_proper_prefix(
     read_lines(alloc, deck, bytes)
 }
 
-/// A byte behind a place makes the field no place.
+/// A byte after a place makes the field no place.
 pub fn bytes_behind_a_place_forgotten(
     alloc: Global,
     deck: &Deck,
@@ -74,7 +75,7 @@ pub fn cycle_among_all_starts_of_the_report(
 }
 
 /// Of a line that comes late and has no cycle the least kind is told.
-pub fn greatest_kind_for_the_least(
+pub fn greatest_kind_of_a_report(
     alloc: Global,
     deck: &Deck,
     bytes: &[u8],
@@ -86,7 +87,7 @@ pub fn greatest_kind_for_the_least(
     read_lines(alloc, deck, bytes)
 }
 
-/// Of two faulty records the first is told. It refuses too that the record behind it is.
+/// Of two faulty records the first is told. It also refuses that the record after it is told.
 pub fn later_fault_for_the_first(
     alloc: Global,
     deck: &Deck,
@@ -99,7 +100,7 @@ pub fn later_fault_for_the_first(
     read_lines(alloc, deck, bytes)
 }
 
-/// No start comes behind a glance.
+/// No start comes after a glance.
 pub fn order_that_forgets_glances(
     alloc: Global,
     deck: &Deck,

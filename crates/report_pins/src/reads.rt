@@ -1,4 +1,5 @@
-//! Worked answers of `air_report`: the history and the rows that are read of short texts.
+//! These pins fix what `air_report` reads of short texts of the small deck, where it reads a report.
+//! They fix the rows of its lines, and the updates of its commits.
 
 ghost use Rattle.std.specs.Prelude.{◌≡◌, [], ◌∷◌, IfOk};
 ghost use Rattle.air_history.specs.declared.histories.Event.TheVariants.{Commit};
@@ -8,7 +9,7 @@ use air_report::{ReadReport, ReportError, read_report};
 use item_catalog::Deck;
 use std::alloc::Global;
 
-/// Rows are counted from 1, through all sections. It refuses too that looks have the rows of glances.
+/// Rows are counted from 1, through all sections. It also refuses that looks have the rows of glances.
 pub fn rows_from_nought(alloc: Global, deck: &Deck, bytes: &[u8]) -> Result<ReadReport, ReportError>
     requires deck { deck.now ≡ small_deck }
     requires bytes { bytes.now ≡ each_section }

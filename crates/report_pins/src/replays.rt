@@ -1,6 +1,7 @@
-//! Worked answers of `live_replay`: what is found of the lines of small reports, and how much is too much.
+//! These pins fix what `live_replay` finds of the lines of small reports, each by its row.
+//! They also fix how much it replays, and that it refuses one replay more with the number.
 
-ghost use Rattle.std.specs.Prelude.{◌≡◌, [], ◌∷◌, Some, None, IfErr, IfOk};
+ghost use Rattle.std.specs.Prelude.{◌≡◌, ◌⊎◌, [], ◌∷◌, Err, Some, None, IfErr, IfOk};
 ghost use Rattle.air_report.specs.KeptReports.{KeepsGrammar};
 ghost use Rattle.live_replay.specs.Audits.{replayed_in};
 ghost use Rattle.report_pins.specs.SmallDeck.{small_deck};
@@ -11,11 +12,11 @@ use item_catalog::Deck;
 use live_replay::{AuditError, Cause, Finding, audit};
 use std::alloc::Global;
 
-/// Reads of two commits agree. It refuses too:
-/// row 7, that an item that isn't written is 0, and that a write counts in its own cycle;
-/// row 8, that values alone are replayed: its abort is of a read that passes;
-/// row 9, that the verdict is told before the value;
-/// row 10, that a look is judged a cycle early.
+/// Reads of two commits agree. It also refuses:
+/// in row 7, that an item that isn't written is 0, and that a write counts in its own cycle;
+/// in row 8, that values alone are replayed, since its abort is of a read that passes;
+/// in row 9, that the verdict is told before the value;
+/// in row 10, that a look is judged a cycle early.
 #[tactic(auto, using(crate::proofs::ReplayFacts::read_findings))]
 pub fn descents_of_one_read_alone(
     alloc: Global,
@@ -29,7 +30,7 @@ pub fn descents_of_one_read_alone(
     audit(alloc, deck, report)
 }
 
-/// Under R-Matrix a read that comes late differs, though nothing writes its item. It refuses too, in row 7, that an abort names the greatest
+/// Under R-Matrix a read that comes late differs, though nothing writes its item. It also refuses, in row 7, that an abort names the greatest
 /// of the items with which its read clashes.
 #[tactic(auto, using(crate::proofs::ReplayFacts::late_findings))]
 pub fn late_read_passes(
@@ -53,6 +54,19 @@ pub fn too_much_at_the_limit(
     requires kept { KeepsGrammar deck.now report.now }
     requires product { replayed_in report.now.report ≡ 50000000 }
     ensures { IfErr result (λ error. error ≡ AuditError.NoMemory) }
+{
+    audit(alloc, deck, report)
+}
+
+/// One replay more than fifty million is too much, and the refusal tells just that number.
+pub fn too_much_by_another_product(
+    alloc: Global,
+    deck: &Deck,
+    report: &ReadReport,
+) -> Result<Vec<Finding>, AuditError>
+    requires kept { KeepsGrammar deck.now report.now }
+    requires product { replayed_in report.now.report ≡ 50000001 }
+    ensures { (result ≡ Err AuditError.NoMemory) ⊎ (result ≡ Err (AuditError.TooMuch 50000001)) }
 {
     audit(alloc, deck, report)
 }

@@ -1,4 +1,5 @@
-//! Worked answers of `bucket_codec`: buckets and tapes, byte by byte.
+//! These pins fix what `bucket_codec` answers for small buckets and short tapes, byte by byte.
+//! They encode, measure and decode buckets, and they read and write the records of tapes.
 
 ghost use Rattle.std.specs.Prelude.{◌≡◌, ◌++◌, [], ◌∷◌, Ok, Err, None, Some};
 ghost use Rattle.air_model.specs.Buckets.{Bucket};
@@ -38,7 +39,7 @@ pub fn length_always_four(bytes: &[u8], out: &mut [u8]) -> usize
     tape_record(bytes, out)
 }
 
-/// The byte behind a bucket stays as it was.
+/// The byte after a bucket stays as it was.
 #[tactic(auto, using(crate::proofs::BucketFacts::slot_has_room))]
 pub fn encode_touches_bytes_behind(bucket: &Bucket<'_>, out: &mut [u8]) -> usize
     requires bucket { bucket_to_air bucket.now ≡ idle }
@@ -48,7 +49,7 @@ pub fn encode_touches_bytes_behind(bucket: &Bucket<'_>, out: &mut [u8]) -> usize
     encode(bucket, out)
 }
 
-/// Three entries take twelve bytes behind the head.
+/// Three entries take twelve bytes after the head.
 #[tactic(auto, using(crate::proofs::BucketFacts::varied_size))]
 pub fn size_without_the_entries(bucket: &Bucket<'_>) -> usize
     requires { bucket_to_air bucket.now ≡ varied }
@@ -66,7 +67,7 @@ pub fn faults_in_another_order<'a>(bytes: &'a [u8]) -> Result<BucketView<'a>, Bu
     decode(bytes)
 }
 
-/// A byte behind the entries is a fault of the length.
+/// A byte after the entries is a fault of the length.
 #[tactic(auto, unfolding(air_model::specs::Buckets::reading, air_model::specs::Buckets::entry_count))]
 pub fn loose_decoder_bytes_after_the_entries<'a>(
     bytes: &'a [u8],
@@ -87,7 +88,6 @@ pub fn loose_decoder_idle_with_entries<'a>(bytes: &'a [u8]) -> Result<BucketView
 }
 
 /// An entry of the bucket's own cycle is out of range.
-
 pub fn loose_decoder_entry_equal_to_the_cycle<'a>(
     bytes: &'a [u8],
 ) -> Result<BucketView<'a>, BucketFault>

@@ -1,4 +1,5 @@
-//! Worked answers of `item_catalog`: the faults of short texts, the deck of a drill, and the parts of a deck.
+//! These pins fix what `item_catalog` answers for short texts of decks: the fault that each has, by its record and its kind.
+//! They also fix the queries of a drill's deck, the updates of an updater, and what every deck keeps.
 
 ghost use Rattle.std.specs.Prelude.{◌≡◌, ◌≤◌, [], ◌∷◌, codes, get_or, length, sum_by, IfOk};
 ghost use Rattle.air_history.specs.UpdateLists.{UpdateLists};

@@ -1,4 +1,5 @@
-//! Worked answers of `drill_parts`: what is drawn by the words of a seed, and what is the same in each drill.
+//! These pins fix what `drill_parts` draws by the first words of a seed: an item, an update and a query.
+//! They also fix the settings, which are the same in each drill but for the seed.
 
 ghost use Rattle.std.specs.Prelude.{◌≡◌, [], ◌∷◌, IfOk};
 ghost use Rattle.air_base.specs.declared.verdicts.Policy.TheVariants.{FMatrix};
@@ -22,7 +23,7 @@ pub fn rate_from_nought(words: &mut Lcg64Xsh32) -> (u64, u32)
     draw_item(words)
 }
 
-/// The first update of seed 3, among five items: the bases of its writes are the items that it reads, in turn. It refuses too that two reads
+/// The first update of seed 3, among five items: the bases of its writes are the items that it reads, in turn. It also refuses that two reads
 /// are never drawn.
 pub fn base_among_the_written(alloc: Global, words: &mut Lcg64Xsh32) -> Result<Update, NoMemory>
     requires { words.old ≡ generator 3 1 }
@@ -31,7 +32,7 @@ pub fn base_among_the_written(alloc: Global, words: &mut Lcg64Xsh32) -> Result<U
     draw_update(alloc, words, 5)
 }
 
-/// The first query of seed 2, among eighteen items: each stands seven behind the one before.
+/// The first query of seed 2, among eighteen items: each is the seventh after the one before, and the first item comes after the last.
 #[tactic(auto, unfolding(air_model::specs::Draws::draw, air_model::specs::Drills::draw_query))]
 pub fn queries_six_apart(alloc: Global, words: &mut Lcg64Xsh32) -> Result<Vec<u16>, NoMemory>
     requires { words.old ≡ generator 2 1 }

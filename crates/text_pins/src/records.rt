@@ -1,4 +1,5 @@
-//! Worked answers of `text_records`: the fields of records, and the records of a text.
+//! These pins fix what `text_records` takes of a record: one field or two after its tag, and no field of another record.
+//! They also fix what a reader of records finds, and what is left of its text.
 
 ghost use Rattle.std.specs.Prelude.{◌≡◌, [], ◌∷◌, codes, true, None, IfOk, IfSome, IsSome};
 ghost use Rattle.csv.specs.Records.{fields_of};
@@ -7,7 +8,7 @@ use air_base::NoMemory;
 use csv::ByteRecord;
 use text_records::{Records, one, two};
 
-/// Of a record with a field more than two behind its tag two are not taken.
+/// Where a record has three fields after its tag, no two are taken of it.
 pub fn longer_record_taken(row: &ByteRecord) -> Option<(&[u8], &[u8])>
     requires { fields_of row.now ≡ codes "t" ∷ codes "a" ∷ codes "b" ∷ codes "c" ∷ [] }
     ensures { result ≡ None }
@@ -15,7 +16,7 @@ pub fn longer_record_taken(row: &ByteRecord) -> Option<(&[u8], &[u8])>
     two(row)
 }
 
-/// The one field is the one behind the tag.
+/// The one field is the one after the tag.
 pub fn tag_taken_for_the_field(row: &ByteRecord) -> Option<&[u8]>
     requires { fields_of row.now ≡ codes "t" ∷ codes "a" ∷ [] }
     ensures some { IsSome result }
@@ -24,7 +25,7 @@ pub fn tag_taken_for_the_field(row: &ByteRecord) -> Option<&[u8]>
     one(row)
 }
 
-/// A record of one field is a record, and the end comes behind it.
+/// A record of one field is a record, and the end comes after it.
 pub fn record_of_one_field_taken_for_the_end(
     records: &mut Records<'_>,
     row: &mut ByteRecord,

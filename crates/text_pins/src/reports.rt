@@ -1,4 +1,5 @@
-//! Worked answers of `air_rows`, `report_texts` and `air_status`: rows of csv text, the texts of reports, and the lines of refusals.
+//! These pins fix what `report_texts` writes of small reports, whose numbers differ where a text could exchange them.
+//! They also fix how `air_rows` sets up a writer, and how `air_status` tells a refusal by its number and its line.
 
 ghost use Rattle.std.specs.Prelude.{◌≡◌, ◌++◌, [], codes, true, IfOk, OnOk};
 ghost use Rattle.csv.specs.Writing.{default_writer, with_flexible, writer_setup};
@@ -18,7 +19,7 @@ pub fn rows_of_one_length(text: Vec<u8>) -> Writer<Vec<u8>>
     row_writer(text)
 }
 
-/// A commit tells its updater before its number. It refuses too that a start has no row.
+/// A commit tells its updater before its number. It also refuses that a start has no row.
 #[tactic(auto, using(crate::proofs::ReportFacts::text_of_two_events))]
 pub fn by_and_seq_swapped(alloc: Global, report: &Report, out: &mut Vec<u8>) -> Result<(), NoMemory>
     requires report { report.now ≡ of_two_events }
@@ -28,8 +29,8 @@ pub fn by_and_seq_swapped(alloc: Global, report: &Report, out: &mut Vec<u8>) -> 
     write_report(alloc, report, out)
 }
 
-/// A verdict tells its reader, query and attempt, and then its reads. It refuses too that a read tells its cycle for its item, and that
-/// two spaces stand between reads.
+/// A verdict tells its reader, query and attempt, and then its reads. It also refuses that a read tells its cycle for its item, and
+/// that two spaces come between reads.
 #[tactic(auto, using(crate::proofs::ReportFacts::text_of_an_abort))]
 pub fn attempt_told_as_query(
     alloc: Global,
@@ -71,7 +72,7 @@ pub fn glances_written_as_looks(
     write_report(alloc, report, out)
 }
 
-/// A report goes behind the text that is there.
+/// A report goes after the text that is there.
 #[tactic(auto, using(crate::proofs::ReportFacts::text_of_a_start))]
 pub fn report_in_place_of_the_text(
     alloc: Global,

@@ -1,4 +1,5 @@
-//! Worked answers of `byte_rooms`: bytes and records in rooms that are too small for all of them.
+//! These pins fix what `byte_rooms` keeps of bytes and of records, by the room that is left.
+//! Of bytes it keeps those that fit; a record it keeps whole, with its length, or not at all.
 
 ghost use Rattle.std.specs.Prelude.{◌≡◌, [], ◌∷◌, true, false};
 
@@ -25,7 +26,7 @@ pub fn room_without_the_lengths(tape: &mut TapeRoom, bytes: &[u8]) -> bool
     tape.add(bytes)
 }
 
-/// Behind the record [1] the record [2, 3] is kept with its length, so that the tape is read as both.
+/// After the record [1] the record [2, 3] is kept with its length, so that the tape is read as both.
 #[tactic(auto, unfolding(air_model::specs::Tapes::tape_of, air_model::specs::Tapes::record_bytes))]
 pub fn tape_record_without_its_length(tape: &mut TapeRoom, bytes: &[u8]) -> bool
     requires tape { tape.old ≡ record { records = (1 ∷ []) ∷ []; room = 11 } }

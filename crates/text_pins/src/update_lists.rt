@@ -1,4 +1,5 @@
-//! Worked answers of `update_texts`: short lists of items and of writes.
+//! These pins fix what `update_texts` reads of short lists of items and of writes.
+//! A list is read to the end of its text or isn't taken, and what is wrong with a write's base is remembered.
 
 ghost use Rattle.std.specs.Prelude.{◌≡◌, [], ◌∷◌, codes, true, false};
 ghost use Rattle.text_pins.specs.SmallWrites.{one_on_zero, one_write};
@@ -38,7 +39,7 @@ pub fn unread_base_taken(writes: &mut WriteList, reads: &ItemList, text: &[u8]) 
     writes.read(2, reads, text)
 }
 
-/// An empty part behind the last space is no item.
+/// An empty part after the last space is no item.
 #[tactic(auto, unfolding(air_base::specs::Numbers::number_of, air_base::specs::NumberLists::all_some))]
 pub fn trailing_space_taken(items: &mut ItemList, text: &[u8]) -> bool
     requires { text.now ≡ codes "0 " }
