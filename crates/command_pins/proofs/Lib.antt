@@ -1,1 +1,2 @@
+mod DrillFacts
 mod RowFacts

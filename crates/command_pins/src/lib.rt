@@ -7,6 +7,7 @@
 
 pub mod cast_pins;
 pub mod device_pins;
+pub mod drill_pins;
 pub mod file_pins;
 pub mod main_pins;
 pub mod on_air_pins;

@@ -1,0 +1,21 @@
+//! This pin fixes the whole line that `run_drill` of `aired_sessions` answers for one seed and one size, byte by byte.
+//! So it guards the definitions too: the deck of a drill, its script's history and tape, the ethers, and the readers' sessions.
+
+ghost use Rattle.std.specs.Prelude.{◌≡◌, codes, IfOk};
+
+use air_base::NoMemory;
+use aired_sessions::run_drill;
+use std::alloc::Global;
+use std::thread::Threads;
+
+/// The drill of seed 0 and size 1 has this line: 18 items, ten commits, four cycles of 28 slots and a tape of 11,200 bytes; eight queries
+/// are accepted, and 21 buckets are opened and 863 slept through.
+#[tactic(auto, using(crate::proofs::DrillFacts::line_of_drill))]
+pub fn line_of_another_drill<T: Threads + Sync>(
+    threads: &T,
+    alloc: Global,
+) -> Result<Vec<u8>, NoMemory>
+    ensures { IfOk result (λ text. text.items ≡ codes "drill,18,10,4,28,11200,8,0,0,21,863,0\n") }
+{
+    run_drill(threads, alloc, 0, 1)
+}
