@@ -5,7 +5,7 @@
 ghost use Rattle.std.specs.Prelude.{◌≡◌, ◌⊎◌, [], ◌∷◌, codes, Some, None, MatchResult};
 ghost use Rattle.air_base.specs.declared.number_lists.ListFault.TheVariants.{BadNumber, NoMemory as NoRoom};
 
-use air_base::{ListFault, NoMemory, Values, read_list, read_u64, write_u64};
+use air_base::{ListFault, NoMemory, ReadOf, Reads, Values, read_list, read_u64, write_u64};
 use std::alloc::Global;
 
 /// A value goes to its own place.
@@ -62,4 +62,20 @@ pub fn too_great_number_is_the_greatest(text: &[u8]) -> Option<u64>
     ensures { result ≡ None }
 {
     read_u64(text)
+}
+
+/// A list lends all its items, in their order.
+pub fn item_left_out_of_a_list(list: &Values) -> &[u64]
+    requires { list.now ≡ 10 ∷ 20 ∷ [] }
+    ensures { result.now ≡ 10 ∷ 20 ∷ [] }
+{
+    list.as_slice()
+}
+
+/// A list of reads lends all of them, in their order.
+pub fn read_left_out_of_a_list(list: &Reads) -> &[ReadOf]
+    requires { list.now ≡ record { item = 0; cycle = 1; value = 10 } ∷ record { item = 1; cycle = 2; value = 20 } ∷ [] }
+    ensures { result.now ≡ record { item = 0; cycle = 1; value = 10 } ∷ record { item = 1; cycle = 2; value = 20 } ∷ [] }
+{
+    list.as_slice()
 }

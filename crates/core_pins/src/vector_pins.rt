@@ -3,7 +3,12 @@
 //! A clash names a held read by its item and cycle.
 #![tactic(auto, unfolding(air_history::specs::Clashes::least, air_history::specs::Clashes::clash_by_entries))]
 
-ghost use Rattle.std.specs.Prelude.{◌≡◌, [], ◌∷◌, Some, None};
+ghost use Rattle.std.specs.Prelude.{◌≡◌, ◌↔◌, [], ◌∷◌, List, All, Some, None};
+ghost use Rattle.air_base.specs.declared.verdicts.Policy.TheVariants.{Datacycle};
+ghost use Rattle.air_history.specs.declared.histories.Event.{Event};
+ghost use Rattle.air_history.specs.Clashes.{IsCurrent, read_at};
+ghost use Rattle.air_history.specs.ClashLaws.{IsHeard};
+ghost use Rattle.air_history.specs.Columns.{scheme_of};
 ghost use Rattle.core_pins.specs.SmallReads.{heard, two};
 
 use air_base::Clash;
@@ -43,6 +48,17 @@ pub fn second_condition_forgotten(held: &RHeld, vector: &[u32]) -> Option<Clash>
     requires held { held.now ≡ two (heard 0 2 0 0 0) (heard 1 3 0 0 0) }
     requires vector { vector.now ≡ 3 ∷ 0 ∷ 0 ∷ [] }
     ensures { result ≡ None }
+{
+    held.clashes(2, 5, vector)
+}
+
+/// By every history that aired these vectors, a read is taken exactly where all reads stay current.
+pub fn taken_though_a_read_is_stale(held: &DataHeld, vector: &[u32]) -> Option<Clash>
+    requires held { held.now ≡ record { n = 3; reads = heard 0 2 0 0 0 ∷ [] } }
+    requires vector { vector.now ≡ 3 ∷ 0 ∷ 0 ∷ [] }
+    ensures { (H : List Event) → All (IsHeard (scheme_of Datacycle) 3 H) (heard 0 2 0 0 0 ∷ []) → IsHeard (scheme_of Datacycle) 3 H (heard 2 5 3 0 0) →
+        IsCurrent H (read_at (heard 0 2 0 0 0) ∷ []) →
+        (result ≡ None) ↔ IsCurrent H (read_at (heard 0 2 0 0 0) ∷ read_at (heard 2 5 3 0 0) ∷ []) }
 {
     held.clashes(2, 5, vector)
 }

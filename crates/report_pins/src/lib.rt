@@ -7,5 +7,6 @@
 
 pub mod audits;
 pub mod faults;
+pub mod laws;
 pub mod reads;
 pub mod replays;

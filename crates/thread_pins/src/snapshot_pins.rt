@@ -72,3 +72,11 @@ pub fn one_monitor_too_few<R: Wait>(
 {
     publisher(wait, alloc, values, 3, 5)
 }
+
+/// A monitor that looked three times tells three looks.
+pub fn looks_counted_from_one(monitor: &Monitor) -> u64
+    requires { monitor.now.looks ≡ 3 }
+    ensures { result ≡ 3 }
+{
+    monitor.looks()
+}

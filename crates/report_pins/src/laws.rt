@@ -1,0 +1,34 @@
+//! Worked answers of the laws of reports: what they say of the text of two commits, and of what is written for the small deck.
+
+ghost use Rattle.std.specs.Prelude.{◌≡◌, ℕ};
+ghost use Rattle.air_model.specs.Reports.{Report, report_text};
+ghost use Rattle.report_laws.specs.ReportRules.{HasWidths, InGrammar};
+ghost use Rattle.report_reading.specs.ReportGrammar.{HasReportFault, SpellsReport};
+ghost use Rattle.report_reading.specs.ReportLines.{ReportLines, lines_in};
+ghost use Rattle.report_pins.specs.SmallDeck.{small_deck, two_commits};
+
+use air_report::read_back_law;
+use report_reading::{not_both_reports_law, one_report_law};
+
+/// A text that spells lines has no fault.
+pub fn fault_beside_the_lines()
+    ensures { (lines : ReportLines) (row kind : ℕ) →
+        SpellsReport small_deck two_commits lines → HasReportFault small_deck two_commits row kind → ⊥ }
+{
+    not_both_reports_law();
+}
+
+/// No text spells the lines of two reports.
+pub fn two_reports_of_a_text()
+    ensures { (a b : ReportLines) → SpellsReport small_deck two_commits a → SpellsReport small_deck two_commits b → a ≡ b }
+{
+    one_report_law();
+}
+
+/// What is written of a report in the grammar has no fault.
+pub fn written_report_with_a_fault()
+    ensures { (report : Report) (row kind : ℕ) → HasWidths (lines_in report) → InGrammar small_deck (lines_in report) →
+        HasReportFault small_deck (report_text report) row kind → ⊥ }
+{
+    read_back_law();
+}
