@@ -65,7 +65,7 @@ fn add_state(core: &Core, items: u16, out: &mut Vec<u8>) -> Result<(), NoMemory>
     Ok(())
 }
 
-/// What a core of so many updaters answers to the history's events, and what it has after them.
+/// What a core of this many updaters answers to the history's events, and what it has after them.
 pub fn tell_core(
     alloc: Global,
     history: &History,

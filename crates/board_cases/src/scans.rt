@@ -53,7 +53,7 @@ pub fn tell_descents(alloc: Global, history: &History, came: &mut Vec<u8>) -> Re
     Ok(())
 }
 
-/// The values after so many events.
+/// The values after the first events, this many.
 pub fn tell_table(
     alloc: Global,
     history: &History,

@@ -46,7 +46,7 @@ pub fn tell_fault(alloc: Global, fault: &UpdateFault, came: &mut Vec<u8>) -> Res
     add_line(fault.to_string(alloc)?.as_bytes(), &[], came)
 }
 
-/// What the lists make: the update, its copy, the update of its lists, and whether the copy fits so many items.
+/// What the lists make: the update, its copy, the update of its lists, and whether the copy fits this many items.
 pub fn tell_update(alloc: Global, about: &[u8], came: &mut Vec<u8>) -> Result<(), NoMemory> {
     let (items, update) = match update_of(alloc, about) {
         Ok(made) => made,

@@ -23,7 +23,7 @@ struct DeckPlayer {
 }
 
 impl DeckPlayer {
-    /// Goes on with the front: so many times the text, where each `#` is the number of the time.
+    /// Adds the text to the front this many times; each `#` becomes the number of the repetition.
     fn repeat(&mut self, alloc: Global, times: u64, spelled: &[u8]) -> Result<(), NoMemory> {
         let text = text_of(alloc, spelled)?;
         for time in 0..times {

@@ -64,7 +64,7 @@ pub fn tell_air(
     air(alloc, program, board, about, mast, came)
 }
 
-/// Airs the board's cycle on a new mast in memory. Behind the policy and the bytes are its room and the call that fails.
+/// Airs the board's cycle on a new mast in memory. After the policy and the bytes come its room and the call that fails.
 pub fn tell_memory(
     alloc: Global,
     program: &Program,

@@ -17,7 +17,7 @@ pub fn add_hex(bytes: &[u8], out: &mut Vec<u8>) -> Result<(), NoMemory> {
     Ok(())
 }
 
-/// Adds a line for each record: its length in four bytes, and so many bytes. What is left where none begins is a line too.
+/// Adds a line for each record: its length in four bytes, and that many bytes. What is left where none begins is a line too.
 pub fn add_records(tape: &[u8], out: &mut Vec<u8>) -> Result<(), NoMemory> {
     let mut rest = tape;
     for _ in 0..tape.len() {
