@@ -4,15 +4,15 @@ use Rattle.std.specs.Io.KnownBytes.{Appends, IsAtEnd}
 use Rattle.air_devices.specs.Counts.{KeepsCounts, Rose}
 use Rattle.air_devices.specs.Told.{AppendsPart, Becomes}
 use Rattle.air_devices.specs.Shelves.{Shelved}
-use Rattle.air_status.specs.declared.status.Status.{Status}
-use Rattle.air_status.specs.declared.status.Status.TheVariants as status
+use Rattle.air_report.specs.declared.status.Status.{Status}
+use Rattle.air_report.specs.declared.status.Status.TheVariants as status
 use Rattle.air_cli.specs.Meanings.{Meaning}
 use Rattle.air_cli.specs.Steps.BeforeDelivery.{IsMade, Reads}
-use Rattle.delivery.specs.Given.{Given, given_status}
-use Rattle.delivery.specs.Outputs.{OutputHolds, OutputHoldsPart}
-use Rattle.delivery.specs.Deliveries.{KeepsButDelivered, Delivers, IsGiven}
+use Rattle.air_cli.specs.Given.{Given, given_status}
+use Rattle.air_cli.specs.Outputs.{OutputHolds, OutputHoldsPart}
+use Rattle.air_cli.specs.Deliveries.{KeepsButDelivered, Delivers, IsGiven}
 use Rattle.air_cli.specs.Answers.{IsDone, QuietAnswers}
-use Rattle.delivery.proofs.CountFacts.{kept_twice}
+use Rattle.air_cli.proofs.CountFacts.{kept_twice}
 
 -- What a command with this text alone gives.
 abbrev pub only_text : List ℕ → Given

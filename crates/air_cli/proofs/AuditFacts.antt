@@ -7,23 +7,23 @@ use Rattle.air_devices.specs.Unchanged.{KeepsButLeft, KeepsButPrinted}
 use Rattle.air_devices.specs.Shelves.{Shelved}
 use Rattle.air_devices.specs.Told.{ToldIs, WhereTold}
 use Rattle.air_model.specs.Decks.{Deck, IsDeck}
-use Rattle.air_status.specs.declared.status.Status.{Status}
-use Rattle.air_status.specs.declared.status.Status.TheVariants as status
+use Rattle.air_report.specs.declared.status.Status.{Status}
+use Rattle.air_report.specs.declared.status.Status.TheVariants as status
 use Rattle.air_report.specs.declared.reading.ReadReport.{ReadReport}
-use Rattle.audited_reports.specs.AuditAnswers.{CanBeAudited, IsAudit, IsTooMuch, UnauditedCause}
-use Rattle.audited_reports.specs.FindingTexts.{findings_text, some_differ}
-use Rattle.audited_reports.proofs.AuditFacts.{no_report_fault, one_report}
-use Rattle.deck_files.specs.NamedDecks.{DeckCause, OfDeck, SpellsDeck}
-use Rattle.deck_files.specs.NamedFiles.{UnreadCause}
-use Rattle.deck_files.proofs.CauseFacts.{of_deck, where_read}
-use Rattle.delivery.specs.Given.{Given}
-use Rattle.delivery.proofs.CountFacts.{kept_twice}
+use Rattle.live_replay.specs.AuditAnswers.{CanBeAudited, IsAudit, IsTooMuch, UnauditedCause}
+use Rattle.live_replay.specs.FindingTexts.{findings_text, some_differ}
+use Rattle.live_replay.proofs.AuditFacts.{no_report_fault, one_report}
+use Rattle.air_cli.specs.NamedDecks.{DeckCause, OfDeck, SpellsDeck}
+use Rattle.air_cli.specs.NamedFiles.{UnreadCause}
+use Rattle.air_cli.proofs.CauseFacts.{of_deck, where_read}
+use Rattle.air_cli.specs.Given.{Given}
+use Rattle.air_cli.proofs.CountFacts.{kept_twice}
 use Rattle.item_catalog.specs.Grammar.{Spells}
 use Rattle.item_catalog.proofs.GrammarFacts.{one_deck}
 use Rattle.live_replay.specs.Audits.{findings, replayed_in}
 use Rattle.live_replay.specs.declared.findings.Finding.{Finding}
 use Rattle.live_replay.specs.declared.limits.TheConstants.{MOST_REPLAYED}
-use Rattle.report_reading.specs.ReportGrammar.{HasReportFault}
+use Rattle.air_report.specs.ReportGrammar.{HasReportFault}
 use Rattle.air_cli.specs.Answers.{InputFailed, NoCountRose}
 use Rattle.air_cli.specs.Audit.{AuditCause, AuditGives, OfReport, audit_given, audit_meaning, report_limit}
 use Rattle.air_cli.specs.Steps.BeforeDelivery.{IsMade, IsUnmade, Reads}

@@ -1,26 +1,26 @@
 -- What the proofs of `cast` need of its definitions.
 use Rattle.std.proofs.Common.{◌≡◌, ℕ, ◌≤◌, List, Some, refl, sym, ap, subst, inl, inr, arith}
 use Rattle.std.specs.Prelude.{◌⊎◌}
-use Rattle.air_casts.specs.Casts.{IsCastAnswer, all_sent}
+use Rattle.deck_runs.specs.Casts.{IsCastAnswer, all_sent}
 use Rattle.air_devices.specs.Counts.{NoCountFalls, Rose}
 use Rattle.air_devices.specs.Masts.{Changes, Masted}
 use Rattle.air_devices.specs.Shelves.{Shelved}
 use Rattle.air_devices.specs.Unchanged.{KeepsButPrinted}
 use Rattle.air_model.specs.Decks.{Deck, IsDeck}
 use Rattle.air_model.specs.Outputs.{cast_output}
-use Rattle.air_runs.specs.DeckBytes.{deck_bytes}
-use Rattle.air_runs.specs.declared.runs.RunFault.{RunFault}
-use Rattle.air_runs.specs.declared.runs.RunFault.TheVariants as fault
-use Rattle.air_status.specs.declared.status.Status.{Status}
-use Rattle.air_status.specs.declared.status.Status.TheVariants as status
-use Rattle.aired_runs.specs.RunTapes.{IsLongRun, run_tape_len}
-use Rattle.aired_runs.specs.RunTruths.{IsTrueRun, TellsHistory}
-use Rattle.deck_files.specs.FileLimits.{tape_limit}
-use Rattle.deck_files.specs.NamedDecks.{DeckCause, OfDeck, SpellsDeck}
-use Rattle.deck_files.specs.NamedFiles.{UnreadCause}
-use Rattle.deck_files.specs.RunnableDecks.{IsShort, UnrunnableCause}
-use Rattle.deck_files.proofs.CauseFacts.{of_deck}
-use Rattle.run_laws.specs.Runs.{IsRun, Run}
+use Rattle.deck_runs.specs.DeckBytes.{deck_bytes}
+use Rattle.deck_runs.specs.declared.threads.RunFault.{RunFault}
+use Rattle.deck_runs.specs.declared.threads.RunFault.TheVariants as fault
+use Rattle.air_report.specs.declared.status.Status.{Status}
+use Rattle.air_report.specs.declared.status.Status.TheVariants as status
+use Rattle.deck_runs.specs.RunTapes.{IsLongRun, run_tape_len}
+use Rattle.deck_runs.specs.RunTruths.{IsTrueRun, TellsHistory}
+use Rattle.air_cli.specs.FileLimits.{tape_limit}
+use Rattle.air_cli.specs.NamedDecks.{DeckCause, OfDeck, SpellsDeck}
+use Rattle.air_cli.specs.NamedFiles.{UnreadCause}
+use Rattle.air_cli.specs.RunnableDecks.{IsShort, UnrunnableCause}
+use Rattle.air_cli.proofs.CauseFacts.{of_deck}
+use Rattle.air_model.specs.Runs.{IsRun, Run}
 use Rattle.air_cli.specs.Answers.{NoCountRose}
 use Rattle.air_cli.specs.Cast.{CastCause, HasSent, IsCast, cast_meaning}
 use Rattle.air_cli.specs.MainWords.{Casts}

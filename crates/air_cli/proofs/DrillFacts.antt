@@ -1,9 +1,9 @@
 -- What the proofs of `drill` need of its definitions.
 use Rattle.std.proofs.Common.{◌≡◌, ℕ, refl, sym, ◌∙◌}
 use Rattle.air_devices.specs.Shelves.{Shelved}
-use Rattle.air_status.specs.declared.status.Status.{Status}
-use Rattle.air_status.specs.declared.status.Status.TheVariants as status
-use Rattle.delivery.specs.Given.{Given}
+use Rattle.air_report.specs.declared.status.Status.{Status}
+use Rattle.air_report.specs.declared.status.Status.TheVariants as status
+use Rattle.air_cli.specs.Given.{Given}
 use Rattle.air_cli.specs.Drill.{DrillCause, DrillGives, drill_meaning}
 use Rattle.air_cli.specs.Steps.BeforeDelivery.{IsMade, IsUnmade}
 use Rattle.air_cli.proofs.InputFacts.{CommandFacts}

@@ -5,13 +5,13 @@ use Rattle.air_base.specs.Numbers.{number_of}
 use Rattle.air_devices.specs.Ears.{Eared}
 use Rattle.air_devices.specs.Masts.{Masted}
 use Rattle.air_devices.specs.Shelves.{Shelved}
-use Rattle.air_status.specs.Statuses.{code_of}
-use Rattle.air_status.specs.declared.status.Status.{Status}
-use Rattle.air_status.specs.declared.status.Status.TheVariants as status
+use Rattle.air_report.specs.Statuses.{code_of}
+use Rattle.air_report.specs.declared.status.Status.{Status}
+use Rattle.air_report.specs.declared.status.Status.TheVariants as status
 use Rattle.item_catalog.specs.declared.deck.drill.TheConstants.{MOST_DRILL_SIZE}
 use Rattle.air_cli.specs.Answers.{QuietAnswers}
 use Rattle.air_cli.specs.Commands.{words_meaning}
-use Rattle.delivery.specs.Given.{Given, given_status}
+use Rattle.air_cli.specs.Given.{Given, given_status}
 use Rattle.air_cli.specs.Drill.{DrillCause, DrillGives}
 use Rattle.air_cli.specs.Meanings.{Meaning, WordsCause}
 use Rattle.air_cli.specs.MainWords.{OnShelf, called_of}

@@ -2,8 +2,8 @@
 use Rattle.std.proofs.Common.{ℕ, List, Option, Result, Ok, Err, sym, ◌∙◌, subst, inl, inr}
 use Rattle.std.specs.Prelude.{IfErr, IfOk, MatchResult}
 use Rattle.air_devices.specs.Shelves.{Shelved}
-use Rattle.air_status.specs.declared.status.Status.{Status}
-use Rattle.delivery.specs.Given.{Given}
+use Rattle.air_report.specs.declared.status.Status.{Status}
+use Rattle.air_cli.specs.Given.{Given}
 use Rattle.air_cli.specs.Answers.{Leaves, QuietAnswers}
 use Rattle.air_cli.specs.Meanings.{Meaning}
 use Rattle.air_cli.specs.Steps.Endings.{EndsGiven, EndsUnmade}

@@ -7,13 +7,13 @@ use Rattle.item_catalog.specs.Grammar.{HasFault, Spells}
 use Rattle.item_catalog.proofs.GrammarFacts.{no_fault, one_deck}
 use Rattle.air_model.specs.Decks.{Deck, disks_in}
 use Rattle.chunk_program.specs.Plans.{IsTooLong}
-use Rattle.air_status.specs.declared.status.Status.{Status}
-use Rattle.air_status.specs.declared.status.Status.TheVariants as status
-use Rattle.deck_files.specs.FileLimits.{deck_limit}
-use Rattle.deck_files.specs.NamedFiles.{UnreadCause}
-use Rattle.deck_files.specs.NamedDecks.{DeckCause, OfDeck}
-use Rattle.deck_files.specs.RunnableDecks.{IsShort, UnrunnableCause}
-use Rattle.delivery.specs.Given.{Given}
+use Rattle.air_report.specs.declared.status.Status.{Status}
+use Rattle.air_report.specs.declared.status.Status.TheVariants as status
+use Rattle.air_cli.specs.FileLimits.{deck_limit}
+use Rattle.air_cli.specs.NamedFiles.{UnreadCause}
+use Rattle.air_cli.specs.NamedDecks.{DeckCause, OfDeck}
+use Rattle.air_cli.specs.RunnableDecks.{IsShort, UnrunnableCause}
+use Rattle.air_cli.specs.Given.{Given}
 use Rattle.air_cli.specs.Meanings.{Meaning}
 use Rattle.air_cli.specs.ToldInputs.{TellSameInputs, TellsInputs}
 use Rattle.air_cli.specs.Answers.{NoCountRose}

@@ -20,3 +20,13 @@ pub mod ListenFacts
 pub mod DrillStatuses
 pub mod CommandFacts
 pub mod TopFacts
+pub mod CauseFacts
+pub mod TapeFronts
+pub mod ReadSoFar
+pub mod PieceFacts
+pub mod ReadingFacts
+pub mod HeardSoFar
+pub mod CountFacts
+pub mod OutputFacts
+pub mod DeliveryFacts
+pub mod EarLemmas

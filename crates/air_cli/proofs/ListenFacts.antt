@@ -1,9 +1,9 @@
 -- What the proofs of `listen` need of its definitions.
 use Rattle.std.proofs.Common.{◌≡◌, ◌∙◌, ℕ, List, [], Option, Some, None, refl, ap, ap₂, inl, inr, arith}
 use Rattle.std.specs.Prelude.{◌⊎◌}
-use Rattle.air_casts.specs.Hearings.{IsHearAnswer, IsHeard, IsHearing, TakesJust, TakesUpTo}
-use Rattle.air_casts.specs.declared.hearings.HearFault.{HearFault}
-use Rattle.air_casts.specs.declared.hearings.HearFault.TheVariants as fault
+use Rattle.air_cli.specs.Hearings.{IsHearAnswer, IsHeard, IsHearing, TakesJust, TakesUpTo}
+use Rattle.air_cli.specs.declared.commands.hearings.HearFault.{HearFault}
+use Rattle.air_cli.specs.declared.commands.hearings.HearFault.TheVariants as fault
 use Rattle.air_devices.specs.Counts.{NoCountFalls, Rose}
 use Rattle.air_devices.specs.Ears.{Eared}
 use Rattle.air_devices.specs.Shelves.{Shelved}
@@ -12,11 +12,11 @@ use Rattle.air_model.specs.Decks.{Deck, IsDeck}
 use Rattle.air_model.specs.Reports.{report_text}
 use Rattle.air_model.specs.declared.reports.CountsLine.{CountsLine}
 use Rattle.air_model.specs.declared.reports.VerdictLine.{VerdictLine}
-use Rattle.air_status.specs.declared.status.Status.{Status}
-use Rattle.air_status.specs.declared.status.Status.TheVariants as status
-use Rattle.deck_files.specs.NamedDecks.{DeckCause, OfDeck, SpellsDeck}
-use Rattle.deck_files.specs.NamedFiles.{UnreadCause}
-use Rattle.deck_files.specs.RunnableDecks.{IsShort, UnrunnableCause}
+use Rattle.air_report.specs.declared.status.Status.{Status}
+use Rattle.air_report.specs.declared.status.Status.TheVariants as status
+use Rattle.air_cli.specs.NamedDecks.{DeckCause, OfDeck, SpellsDeck}
+use Rattle.air_cli.specs.NamedFiles.{UnreadCause}
+use Rattle.air_cli.specs.RunnableDecks.{IsShort, UnrunnableCause}
 use Rattle.air_cli.specs.Answers.{NoCountRose}
 use Rattle.air_cli.specs.Listen.{HasHeard, IsListening, ListenCause, listen_meaning}
 use Rattle.air_cli.specs.MainWords.{Listens}

@@ -3,20 +3,20 @@ use Rattle.std.proofs.Common.{◌≡◌, ℕ, List, refl, sym, ap, ◌∙◌}
 use Rattle.air_devices.specs.Counts.{NoCountFalls}
 use Rattle.air_devices.specs.Unchanged.{KeepsButPrinted}
 use Rattle.air_devices.specs.Shelves.{Shelved}
-use Rattle.air_status.specs.declared.status.Status.{Status}
-use Rattle.air_status.specs.declared.status.Status.TheVariants as status
+use Rattle.air_report.specs.declared.status.Status.{Status}
+use Rattle.air_report.specs.declared.status.Status.TheVariants as status
 use Rattle.chunk_program.specs.Plans.{IsTooLong}
 use Rattle.air_model.specs.Decks.{Deck, disks_in}
-use Rattle.deck_files.specs.NamedDecks.{DeckCause, SpellsDeck}
-use Rattle.deck_files.specs.NamedFiles.{UnreadCause}
+use Rattle.air_cli.specs.NamedDecks.{DeckCause, SpellsDeck}
+use Rattle.air_cli.specs.NamedFiles.{UnreadCause}
 use Rattle.item_catalog.proofs.GrammarFacts.{one_deck}
 use Rattle.air_cli.specs.Plan.{PlanCause, plan_meaning}
-use Rattle.deck_files.specs.RunnableDecks.{LengthCause}
-use Rattle.deck_files.proofs.CauseFacts.{of_deck}
+use Rattle.air_cli.specs.RunnableDecks.{LengthCause}
+use Rattle.air_cli.proofs.CauseFacts.{of_deck}
 use Rattle.air_cli.proofs.RefusalFacts.{IsSound, deck_still}
-use Rattle.delivery.specs.Given.{Given}
-use Rattle.deck_files.specs.NamedDecks.{OfDeck}
-use Rattle.deck_files.specs.RunnableDecks.{IsShort}
+use Rattle.air_cli.specs.Given.{Given}
+use Rattle.air_cli.specs.NamedDecks.{OfDeck}
+use Rattle.air_cli.specs.RunnableDecks.{IsShort}
 use Rattle.air_cli.specs.Plan.{PlanGives, plan_given}
 use Rattle.air_cli.specs.ToldInputs.{TellSameInputs, TellsInputs}
 use Rattle.air_cli.specs.Answers.{NoCountRose}

@@ -16,8 +16,8 @@ use Rattle.air_model.specs.PlanTexts.{disk_row, item_row, minor_row, plan_rows, 
 use Rattle.air_model.specs.Outputs.{plan_output}
 use Rattle.air_model.specs.Rows.{row_writer, rows_text}
 use Rattle.air_model.proofs.SlotPlaces.{get_or_even, length_minor}
-use Rattle.script_run.proofs.AiredLemmas.{items_aired}
-use Rattle.air_rows.proofs.RowLemmas.{rows_more}
+use Rattle.air_sender.proofs.AiredLemmas.{items_aired}
+use Rattle.air_report.proofs.RowLemmas.{rows_more}
 
 -- ---- disks
 

@@ -6,10 +6,10 @@ use Rattle.std.specs.Io.KnownBytes.{IsAtEnd}
 use Rattle.air_devices.specs.Counts.{Faults, KeepsCounts, NoCountFalls, Rose}
 use Rattle.air_devices.specs.Unchanged.{KeepsButLeft}
 use Rattle.air_devices.specs.Told.{WhereTold}
-use Rattle.air_status.specs.declared.status.Status.{Status}
-use Rattle.air_status.specs.declared.status.Status.TheVariants as status
+use Rattle.air_report.specs.declared.status.Status.{Status}
+use Rattle.air_report.specs.declared.status.Status.TheVariants as status
 use Rattle.air_devices.specs.Shelves.{Shelved}
-use Rattle.deck_files.specs.NamedFiles.{UnreadCause}
+use Rattle.air_cli.specs.NamedFiles.{UnreadCause}
 
 -- Two names are one or differ.
 pub same_name : (a b : List ℕ) → (a ≡ b) ⊎ (a ≢ b)

@@ -7,19 +7,19 @@ use Rattle.air_devices.specs.Counts.{KeepsCounts, NoCountFalls, Rose}
 use Rattle.air_devices.specs.Unchanged.{KeepsButPrinted}
 use Rattle.air_devices.specs.Told.{AppendsPart, WhereTold}
 use Rattle.air_devices.specs.Shelves.{Shelved}
-use Rattle.air_status.specs.declared.status.Status.{Status}
-use Rattle.air_status.specs.declared.status.Status.TheVariants as status
-use Rattle.delivery.specs.Refusals.{PrintsUnlessFailed, IsSteady, Refuses}
+use Rattle.air_report.specs.declared.status.Status.{Status}
+use Rattle.air_report.specs.declared.status.Status.TheVariants as status
+use Rattle.air_cli.specs.Refusals.{PrintsUnlessFailed, IsSteady, Refuses}
 use Rattle.air_cli.specs.Untouched.{IsRefusal}
-use Rattle.deck_files.specs.NamedDecks.{DeckCause, IsFaulty}
-use Rattle.deck_files.specs.RunnableDecks.{UnrunnableCause}
-use Rattle.deck_files.specs.NamedFiles.{UnreadCause}
-use Rattle.deck_files.specs.FileLimits.{deck_limit}
+use Rattle.air_cli.specs.NamedDecks.{DeckCause, IsFaulty}
+use Rattle.air_cli.specs.RunnableDecks.{UnrunnableCause}
+use Rattle.air_cli.specs.NamedFiles.{UnreadCause}
+use Rattle.air_cli.specs.FileLimits.{deck_limit}
 use Rattle.air_cli.specs.Meanings.{Meaning, WordsCause, no_form}
 use Rattle.air_cli.specs.Steps.BeforeDelivery.{Reads}
 use Rattle.air_cli.specs.Answers.{InputFailed, Leaves, QuietAnswers}
 use Rattle.air_cli.proofs.ReadFacts.{falls_twice}
-use Rattle.delivery.proofs.CountFacts.{kept_twice, rose_since}
+use Rattle.air_cli.proofs.CountFacts.{kept_twice, rose_since}
 
 -- ---- a cause that was found stays one while a line is printed
 

@@ -3,18 +3,18 @@ use Rattle.std.proofs.Common.{◌≡◌, ℕ, ◌≤◌, List, false, refl, arit
 use Rattle.air_devices.specs.Counts.{NoCountFalls}
 use Rattle.air_devices.specs.Unchanged.{KeepsButPrinted}
 use Rattle.air_devices.specs.Shelves.{Shelved}
-use Rattle.air_status.specs.declared.status.Status.{Status}
-use Rattle.air_status.specs.declared.status.Status.TheVariants as status
+use Rattle.air_report.specs.declared.status.Status.{Status}
+use Rattle.air_report.specs.declared.status.Status.TheVariants as status
 use Rattle.air_model.specs.Decks.{Deck}
-use Rattle.deck_files.specs.FileLimits.{tape_limit}
-use Rattle.deck_files.specs.NamedDecks.{DeckCause, OfDeck, SpellsDeck}
-use Rattle.deck_files.specs.NamedFiles.{UnreadCause}
-use Rattle.deck_files.specs.RunnableDecks.{IsShort, UnrunnableCause}
-use Rattle.deck_files.proofs.CauseFacts.{of_deck, where_so}
-use Rattle.delivery.specs.Given.{Given}
-use Rattle.run_laws.specs.Runs.{Run}
-use Rattle.aired_runs.specs.GivenRuns.{IsGivenRun, IsRunRefusal}
-use Rattle.aired_runs.specs.RunTapes.{IsLongRun, run_tape_len}
+use Rattle.air_cli.specs.FileLimits.{tape_limit}
+use Rattle.air_cli.specs.NamedDecks.{DeckCause, OfDeck, SpellsDeck}
+use Rattle.air_cli.specs.NamedFiles.{UnreadCause}
+use Rattle.air_cli.specs.RunnableDecks.{IsShort, UnrunnableCause}
+use Rattle.air_cli.proofs.CauseFacts.{of_deck, where_so}
+use Rattle.air_cli.specs.Given.{Given}
+use Rattle.air_model.specs.Runs.{Run}
+use Rattle.air_cli.specs.GivenRuns.{IsGivenRun, IsRunRefusal}
+use Rattle.deck_runs.specs.RunTapes.{IsLongRun, run_tape_len}
 use Rattle.air_cli.specs.Answers.{NoCountRose}
 use Rattle.air_cli.specs.Run.{CanRun, RunCause, RunGives, run_meaning}
 use Rattle.air_cli.specs.ToldInputs.{TellsInputs}

@@ -8,7 +8,7 @@ use Rattle.air_model.specs.Reports.{counts_lines, report_text, script_text, verd
 use Rattle.air_model.specs.Sessions.{State}
 use Rattle.air_model.specs.declared.reports.CountsLine.{CountsLine}
 use Rattle.air_model.specs.declared.reports.VerdictLine.{VerdictLine}
-use Rattle.script_run.proofs.RunLoops.{script_length}
+use Rattle.air_sender.proofs.RunLoops.{script_length}
 
 -- A script starts few cycles.
 pub script_starts_few : (deck : Deck) → length deck.script ≤ 200000 → starts (script_history deck) < 2 ^ 32

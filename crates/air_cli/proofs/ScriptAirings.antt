@@ -11,16 +11,16 @@ use Rattle.air_devices.specs.Unchanged.{KeepsButPrinted}
 use Rattle.air_model.specs.Aired.{air_of, history_tape}
 use Rattle.air_model.specs.Decks.{Deck, script_history, values_in}
 use Rattle.air_model.specs.Outputs.{script_output, script_tape}
-use Rattle.air_status.specs.declared.status.Status.{Status}
-use Rattle.air_status.specs.declared.status.Status.TheVariants as status
-use Rattle.delivery.specs.Deliveries.{Delivers, KeepsButDelivered}
-use Rattle.delivery.specs.OutputPieces.{IsCutOff, IsPartWritten, IsWritten}
-use Rattle.delivery.specs.Outputs.{OutputHoldsPart}
-use Rattle.delivery.proofs.CountFacts.{kept_twice}
-use Rattle.delivery.proofs.DeliveryFacts.{delivers_all, delivers_none, delivers_part}
-use Rattle.delivery.proofs.PieceFacts.{no_fall}
-use Rattle.aired_pieces.specs.Pieces.{tape_so_far}
-use Rattle.aired_pieces.specs.declared.pieces.AiredPieces.{AiredPieces}
+use Rattle.air_report.specs.declared.status.Status.{Status}
+use Rattle.air_report.specs.declared.status.Status.TheVariants as status
+use Rattle.air_cli.specs.Deliveries.{Delivers, KeepsButDelivered}
+use Rattle.air_cli.specs.OutputPieces.{IsCutOff, IsPartWritten, IsWritten}
+use Rattle.air_cli.specs.Outputs.{OutputHoldsPart}
+use Rattle.air_cli.proofs.CountFacts.{kept_twice}
+use Rattle.air_cli.proofs.DeliveryFacts.{delivers_all, delivers_none, delivers_part}
+use Rattle.air_cli.proofs.OutputFacts.{no_fall}
+use Rattle.scripts.specs.Pieces.{tape_so_far}
+use Rattle.scripts.specs.declared.aired_pieces.AiredPieces.{AiredPieces}
 use Rattle.air_cli.specs.Answers.{HasBegun, IsWanting, Leaves, QuietAnswers}
 use Rattle.air_cli.specs.Script.{script_given, script_meaning}
 use Rattle.air_cli.specs.Steps.BeforeDelivery.{IsMade, Reads}

@@ -3,20 +3,20 @@ use Rattle.std.proofs.Common.{◌≡◌, ℕ, ◌≤◌, List, length, Option, N
 use Rattle.air_devices.specs.Counts.{NoCountFalls}
 use Rattle.air_devices.specs.Unchanged.{KeepsButPrinted}
 use Rattle.air_devices.specs.Shelves.{Shelved}
-use Rattle.air_status.specs.declared.status.Status.{Status}
-use Rattle.air_status.specs.declared.status.Status.TheVariants as status
+use Rattle.air_report.specs.declared.status.Status.{Status}
+use Rattle.air_report.specs.declared.status.Status.TheVariants as status
 use Rattle.item_catalog.proofs.GrammarFacts.{one_deck}
 use Rattle.air_cli.specs.Steps.BeforeDelivery.{IsMade, IsUnmade, Reads}
-use Rattle.delivery.specs.Given.{Given}
-use Rattle.deck_files.specs.NamedDecks.{DeckCause}
-use Rattle.deck_files.specs.RunnableDecks.{UnrunnableCause}
-use Rattle.deck_files.specs.NamedFiles.{UnreadCause}
+use Rattle.air_cli.specs.Given.{Given}
+use Rattle.air_cli.specs.NamedDecks.{DeckCause}
+use Rattle.air_cli.specs.RunnableDecks.{UnrunnableCause}
+use Rattle.air_cli.specs.NamedFiles.{UnreadCause}
 use Rattle.air_cli.specs.Script.{ScriptCause, script_meaning}
 use Rattle.air_cli.proofs.RefusalFacts.{IsSound, unrunnable_still}
-use Rattle.deck_files.specs.NamedDecks.{OfDeck}
-use Rattle.deck_files.specs.RunnableDecks.{IsShort}
-use Rattle.deck_files.specs.FileLimits.{tape_limit}
-use Rattle.deck_files.proofs.CauseFacts.{where_so}
+use Rattle.air_cli.specs.NamedDecks.{OfDeck}
+use Rattle.air_cli.specs.RunnableDecks.{IsShort}
+use Rattle.air_cli.specs.FileLimits.{tape_limit}
+use Rattle.air_cli.proofs.CauseFacts.{where_so}
 use Rattle.air_model.specs.Decks.{Deck}
 use Rattle.air_model.specs.Outputs.{script_tape}
 use Rattle.air_cli.specs.Script.{HasLongTape, ScriptGives, script_given}

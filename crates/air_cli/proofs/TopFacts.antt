@@ -3,10 +3,10 @@ use Rattle.std.proofs.Common.{◌≡◌, true, Option, Some, None, refl, ap, sym
 use Rattle.air_devices.specs.Ears.{Eared}
 use Rattle.air_devices.specs.Masts.{Masted}
 use Rattle.air_devices.specs.Shelves.{Shelved}
-use Rattle.air_status.specs.declared.status.Status.{Status}
-use Rattle.air_status.specs.declared.status.Status.TheVariants as status
-use Rattle.delivery.specs.Given.{Given, given_status}
-use Rattle.delivery.specs.Deliveries.{IsGiven}
+use Rattle.air_report.specs.declared.status.Status.{Status}
+use Rattle.air_report.specs.declared.status.Status.TheVariants as status
+use Rattle.air_cli.specs.Given.{Given, given_status}
+use Rattle.air_cli.specs.Deliveries.{IsGiven}
 use Rattle.air_cli.specs.Words.{Asked}
 use Rattle.air_cli.specs.Cast.{cast_meaning}
 use Rattle.air_cli.specs.Listen.{listen_meaning}

@@ -13,8 +13,8 @@ use Rattle.air_model.specs.ReceiverLaws.{session_of}
 use Rattle.air_model.specs.Reports.{tune_text}
 use Rattle.air_model.specs.Outputs.{ether_of, odds_in}
 use Rattle.air_cli.proofs.ModelLaws.{BytesLaw, EventsLaw, HeardWasPushedLaw, ReceiverLaw, ScriptLaw}
-use Rattle.deck_files.specs.RunnableDecks.{IsShort}
-use Rattle.script_run.proofs.TapeSizes.{starts_script}
+use Rattle.air_cli.specs.RunnableDecks.{IsShort}
+use Rattle.air_sender.proofs.TapeSizes.{starts_script}
 use Rattle.air_cli.specs.Truths.{IsTrueScript, IsTrueTape}
 
 -- ---- the script

@@ -3,8 +3,8 @@ use Rattle.std.proofs.Common.{◌≡◌, ℕ, ◌≤◌, List, [], length, Some,
 use Rattle.air_devices.specs.Counts.{KeepsCounts, NoCountFalls}
 use Rattle.air_devices.specs.Unchanged.{KeepsButPrinted}
 use Rattle.air_devices.specs.Shelves.{Shelved}
-use Rattle.air_status.specs.declared.status.Status.{Status}
-use Rattle.air_status.specs.declared.status.Status.TheVariants as status
+use Rattle.air_report.specs.declared.status.Status.{Status}
+use Rattle.air_report.specs.declared.status.Status.TheVariants as status
 use Rattle.air_devices.specs.Told.{ToldIs, WhereTold}
 use Rattle.air_model.specs.declared.reports.CountsLine.{CountsLine}
 use Rattle.air_model.specs.declared.reports.VerdictLine.{VerdictLine}
@@ -14,20 +14,20 @@ use Rattle.air_model.specs.Judges.{by_entries}
 use Rattle.air_model.specs.Outputs.{sessions_over, tune_output}
 use Rattle.air_model.specs.Reports.{Report, report_text, verdict_lines}
 use Rattle.air_model.specs.Tapes.{tape_read}
-use Rattle.deck_files.specs.NamedDecks.{DeckCause, OfDeck}
-use Rattle.deck_files.specs.RunnableDecks.{IsShort, UnrunnableCause}
-use Rattle.deck_files.specs.NamedFiles.{UnreadCause}
-use Rattle.deck_files.specs.FileLimits.{tape_limit}
+use Rattle.air_cli.specs.NamedDecks.{DeckCause, OfDeck}
+use Rattle.air_cli.specs.RunnableDecks.{IsShort, UnrunnableCause}
+use Rattle.air_cli.specs.NamedFiles.{UnreadCause}
+use Rattle.air_cli.specs.FileLimits.{tape_limit}
 use Rattle.item_catalog.proofs.GrammarFacts.{one_deck}
 use Rattle.air_cli.specs.Tune.{IsCutAt, OfTape, TuneCause, tune_meaning}
 use Rattle.air_cli.specs.Answers.{InputFailed}
-use Rattle.deck_files.proofs.CauseFacts.{where_read}
+use Rattle.air_cli.proofs.CauseFacts.{where_read}
 use Rattle.air_cli.proofs.ReadFacts.{unread_since}
 use Rattle.air_cli.proofs.RefusalFacts.{IsSound, unrunnable_still, unread_still}
 use Rattle.listeners.specs.declared.readers.Sessions.{Sessions}
-use Rattle.tape_pieces.specs.HeardTapes.{AreHeard, UnheardCause}
+use Rattle.air_cli.specs.HeardTapes.{AreHeard, UnheardCause}
 use Rattle.std.specs.Prelude.{⊤}
-use Rattle.delivery.specs.Given.{Given}
+use Rattle.air_cli.specs.Given.{Given}
 use Rattle.air_cli.specs.Tune.{TuneGives, tune_given}
 use Rattle.air_cli.specs.Truths.{IsTrueTape}
 use Rattle.air_cli.specs.ToldInputs.{TellSameInputs, TellsInputs}

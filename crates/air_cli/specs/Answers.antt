@@ -7,15 +7,15 @@ use Rattle.std.specs.Prelude.{◌≡◌, ◌≢◌, ◌⊎◌, ℕ, true, List, 
 use Rattle.std.specs.Io.KnownBytes.{IsAtEnd}
 use Rattle.air_devices.specs.Counts.{Faults, KeepsCounts, NoCountFalls, Rose}
 use Rattle.air_devices.specs.Shelves.{Shelved}
-use Rattle.air_status.specs.declared.status.Status.{Status}
-use Rattle.air_status.specs.declared.status.Status.TheVariants as status
+use Rattle.air_report.specs.declared.status.Status.{Status}
+use Rattle.air_report.specs.declared.status.Status.TheVariants as status
 use Rattle.air_cli.specs.Meanings.{Meaning}
 use Rattle.air_cli.specs.ToldInputs.{TellsInputs}
-use Rattle.delivery.specs.Given.{Given, given_status}
-use Rattle.delivery.specs.Deliveries.{IsGiven, IsGivenInPart}
+use Rattle.air_cli.specs.Given.{Given, given_status}
+use Rattle.air_cli.specs.Deliveries.{IsGiven, IsGivenInPart}
 use Rattle.air_cli.specs.Untouched.{IsRefusal, IsUntouched}
-use Rattle.delivery.specs.Refusals.{IsSteady}
-use Rattle.delivery.specs.Outputs.{OutputHoldsPart}
+use Rattle.air_cli.specs.Refusals.{IsSteady}
+use Rattle.air_cli.specs.Outputs.{OutputHoldsPart}
 
 -- The command succeeded: what it gives was written and printed, and this is its status; its inputs were read to their ends,
 -- and no call failed.

@@ -4,16 +4,16 @@ use Rattle.std.specs.Io.KnownBytes.{IsAtEnd}
 use Rattle.air_devices.specs.Told.{ToldIs, WhereTold}
 use Rattle.air_devices.specs.Shelves.{Shelved}
 use Rattle.air_model.specs.Decks.{Deck, IsDeck}
-use Rattle.air_status.specs.declared.status.Status.{Status}
-use Rattle.air_status.specs.declared.status.Status.TheVariants as status
-use Rattle.audited_reports.specs.AuditAnswers.{CanBeAudited, IsAudit, IsTooMuch}
-use Rattle.audited_reports.specs.FindingTexts.{findings_text, some_differ}
-use Rattle.deck_files.specs.NamedDecks.{DeckCause, OfDeck, SpellsDeck}
-use Rattle.deck_files.specs.NamedFiles.{UnreadCause}
-use Rattle.delivery.specs.Given.{Given}
+use Rattle.air_report.specs.declared.status.Status.{Status}
+use Rattle.air_report.specs.declared.status.Status.TheVariants as status
+use Rattle.live_replay.specs.AuditAnswers.{CanBeAudited, IsAudit, IsTooMuch}
+use Rattle.live_replay.specs.FindingTexts.{findings_text, some_differ}
+use Rattle.air_cli.specs.NamedDecks.{DeckCause, OfDeck, SpellsDeck}
+use Rattle.air_cli.specs.NamedFiles.{UnreadCause}
+use Rattle.air_cli.specs.Given.{Given}
 use Rattle.live_replay.specs.declared.findings.Finding.{Finding}
-use Rattle.report_reading.specs.ReportGrammar.{HasReportFault}
-use Rattle.report_reading.specs.declared.limits.TheConstants.{MOST_REPORT_BYTES}
+use Rattle.air_report.specs.ReportGrammar.{HasReportFault}
+use Rattle.air_report.specs.declared.reading.limits.TheConstants.{MOST_REPORT_BYTES}
 use Rattle.air_cli.specs.Meanings.{Meaning}
 
 -- A report has at most so many bytes.

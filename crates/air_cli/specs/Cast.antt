@@ -1,19 +1,19 @@
 -- The command `cast DECK PORT`. What it means is told of the mast, too, as the call found it and as it left it.
 use Rattle.std.specs.Prelude.{◌≡◌, ◌⊎◌, ◌≤◌, ℕ, false, List, [], Some, None, ⊤}
-use Rattle.air_casts.specs.Casts.{IsCastPart, all_sent}
+use Rattle.deck_runs.specs.Casts.{IsCastPart, all_sent}
 use Rattle.air_devices.specs.Counts.{Rose}
 use Rattle.air_devices.specs.Masts.{Changes, Masted}
 use Rattle.air_devices.specs.Shelves.{Shelved}
 use Rattle.air_history.specs.declared.histories.Event.{Event}
 use Rattle.air_model.specs.Decks.{Deck, IsDeck, IsWhole}
 use Rattle.air_model.specs.Outputs.{cast_output}
-use Rattle.air_runs.specs.DeckBytes.{deck_bytes}
-use Rattle.air_status.specs.declared.status.Status.{Status}
-use Rattle.air_status.specs.declared.status.Status.TheVariants as status
-use Rattle.aired_runs.specs.RunTruths.{IsTrueRun, TellsHistory}
-use Rattle.deck_files.specs.NamedDecks.{OfDeck, SpellsDeck}
-use Rattle.delivery.specs.Given.{Given}
-use Rattle.run_laws.specs.Runs.{IsRun, Run}
+use Rattle.deck_runs.specs.DeckBytes.{deck_bytes}
+use Rattle.air_report.specs.declared.status.Status.{Status}
+use Rattle.air_report.specs.declared.status.Status.TheVariants as status
+use Rattle.deck_runs.specs.RunTruths.{IsTrueRun, TellsHistory}
+use Rattle.air_cli.specs.NamedDecks.{OfDeck, SpellsDeck}
+use Rattle.air_cli.specs.Given.{Given}
+use Rattle.air_model.specs.Runs.{IsRun, Run}
 use Rattle.air_cli.specs.Meanings.{Meaning}
 use Rattle.air_cli.specs.Run.{CanRun, RunCause}
 

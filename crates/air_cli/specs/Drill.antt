@@ -1,12 +1,12 @@
 -- The command `drill SEED SIZE`.
 use Rattle.std.specs.Prelude.{◌≡◌, ℕ, true, false, [], None, ⊤}
 use Rattle.air_model.specs.Drills.{drill_deck}
-use Rattle.air_status.specs.declared.status.Status.{Status}
-use Rattle.air_status.specs.declared.status.Status.TheVariants as status
-use Rattle.aired_sessions.specs.DrillLines.{drill_output}
+use Rattle.air_report.specs.declared.status.Status.{Status}
+use Rattle.air_report.specs.declared.status.Status.TheVariants as status
+use Rattle.scripts.specs.DrillLines.{drill_output}
 use Rattle.air_cli.specs.Meanings.{Meaning}
 use Rattle.air_cli.specs.Truths.{IsTrueScript}
-use Rattle.delivery.specs.Given.{Given}
+use Rattle.air_cli.specs.Given.{Given}
 
 -- It is refused out of memory alone.
 unfoldable pub DrillCause : Status → Type 0

@@ -16,3 +16,16 @@ pub mod OnAir
 pub mod Untouched
 pub mod Truths
 pub mod Steps
+pub mod FileLimits
+pub mod NamedFiles
+pub mod NamedDecks
+pub mod RunnableDecks
+pub mod HeardTapes
+pub mod Given
+pub mod SentTapes
+pub mod Refusals
+pub mod Outputs
+pub mod Deliveries
+pub mod OutputPieces
+pub mod Hearings
+pub mod GivenRuns

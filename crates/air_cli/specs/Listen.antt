@@ -1,15 +1,15 @@
 -- The command `listen DECK PORT`. What it means is told of the ear, too, as the call found it and as it left it.
 use Rattle.std.specs.Prelude.{◌≡◌, ◌<◌, ◌≤◌, ℕ, false, List, Some, None, ⊤}
-use Rattle.air_casts.specs.Hearings.{IsHeard, TakesJust, TakesUpTo}
+use Rattle.air_cli.specs.Hearings.{IsHeard, TakesJust, TakesUpTo}
 use Rattle.air_devices.specs.Counts.{Rose}
 use Rattle.air_devices.specs.Ears.{Eared}
 use Rattle.air_devices.specs.Shelves.{Shelved}
 use Rattle.air_model.specs.Decks.{Deck, IsDeck}
-use Rattle.air_status.specs.declared.status.Status.{Status}
-use Rattle.air_status.specs.declared.status.Status.TheVariants as status
-use Rattle.deck_files.specs.NamedDecks.{OfDeck, SpellsDeck}
-use Rattle.deck_files.specs.RunnableDecks.{IsShort, UnrunnableCause}
-use Rattle.delivery.specs.Given.{Given}
+use Rattle.air_report.specs.declared.status.Status.{Status}
+use Rattle.air_report.specs.declared.status.Status.TheVariants as status
+use Rattle.air_cli.specs.NamedDecks.{OfDeck, SpellsDeck}
+use Rattle.air_cli.specs.RunnableDecks.{IsShort, UnrunnableCause}
+use Rattle.air_cli.specs.Given.{Given}
 use Rattle.air_cli.specs.Meanings.{Meaning}
 use Rattle.air_cli.specs.Truths.{IsTrueTape}
 use Rattle.air_cli.specs.Tune.{tune_given}

@@ -2,9 +2,9 @@
 -- file of its own; `Answers` says by it what each status tells.
 use Rattle.std.specs.Prelude.{ℕ, Bool, true, false, List, Option, None, ⊤}
 use Rattle.air_devices.specs.Shelves.{Shelved}
-use Rattle.air_status.specs.declared.status.Status.{Status}
-use Rattle.air_status.specs.declared.status.Status.TheVariants as status
-use Rattle.delivery.specs.Given.{Given}
+use Rattle.air_report.specs.declared.status.Status.{Status}
+use Rattle.air_report.specs.declared.status.Status.TheVariants as status
+use Rattle.air_cli.specs.Given.{Given}
 
 -- The input files that a command names, the output that it names if any, what its inputs must be, where they are told, for
 -- nothing to refuse it, why it is refused with a status (told of the shelf as it was and as it is), what it prints and

@@ -4,7 +4,7 @@ use Rattle.air_devices.specs.Ears.{Eared}
 use Rattle.air_devices.specs.Masts.{Masted}
 use Rattle.air_devices.specs.Shelves.{Shelved}
 use Rattle.air_model.specs.Decks.{Deck, IsDeck}
-use Rattle.deck_files.specs.NamedDecks.{SpellsDeck}
+use Rattle.air_cli.specs.NamedDecks.{SpellsDeck}
 use Rattle.air_cli.specs.Cast.{HasSent, cast_meaning}
 use Rattle.air_cli.specs.Commands.{words_meaning}
 use Rattle.air_cli.specs.Listen.{HasHeard, listen_meaning}

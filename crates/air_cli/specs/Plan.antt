@@ -4,12 +4,12 @@ use Rattle.chunk_program.specs.Plans.{IsTooLong}
 use Rattle.air_devices.specs.Shelves.{Shelved}
 use Rattle.air_model.specs.Decks.{Deck, IsDeck, disks_in}
 use Rattle.air_model.specs.Outputs.{plan_output}
-use Rattle.air_status.specs.declared.status.Status.{Status}
-use Rattle.air_status.specs.declared.status.Status.TheVariants as status
-use Rattle.deck_files.specs.NamedDecks.{DeckCause, OfDeck, SpellsDeck}
-use Rattle.deck_files.specs.RunnableDecks.{IsShort}
+use Rattle.air_report.specs.declared.status.Status.{Status}
+use Rattle.air_report.specs.declared.status.Status.TheVariants as status
+use Rattle.air_cli.specs.NamedDecks.{DeckCause, OfDeck, SpellsDeck}
+use Rattle.air_cli.specs.RunnableDecks.{IsShort}
 use Rattle.air_cli.specs.Meanings.{Meaning}
-use Rattle.delivery.specs.Given.{Given}
+use Rattle.air_cli.specs.Given.{Given}
 
 -- Why it is refused: its deck, or the length of the deck's program.
 unfoldable pub PlanCause : List ℕ → Shelved → Shelved → Status → Type 0

@@ -2,15 +2,15 @@
 use Rattle.std.specs.Prelude.{◌≡◌, ◌≤◌, ℕ, false, List, Some}
 use Rattle.air_devices.specs.Shelves.{Shelved}
 use Rattle.air_model.specs.Decks.{Deck, IsDeck}
-use Rattle.air_status.specs.declared.status.Status.{Status}
-use Rattle.air_status.specs.declared.status.Status.TheVariants as status
-use Rattle.deck_files.specs.RunnableDecks.{IsShort, UnrunnableCause}
-use Rattle.deck_files.specs.NamedDecks.{OfDeck, SpellsDeck}
-use Rattle.deck_files.specs.FileLimits.{tape_limit}
-use Rattle.delivery.specs.Given.{Given}
-use Rattle.run_laws.specs.Runs.{Run}
-use Rattle.aired_runs.specs.GivenRuns.{IsGivenRun}
-use Rattle.aired_runs.specs.RunTapes.{IsLongRun, run_tape_len}
+use Rattle.air_report.specs.declared.status.Status.{Status}
+use Rattle.air_report.specs.declared.status.Status.TheVariants as status
+use Rattle.air_cli.specs.RunnableDecks.{IsShort, UnrunnableCause}
+use Rattle.air_cli.specs.NamedDecks.{OfDeck, SpellsDeck}
+use Rattle.air_cli.specs.FileLimits.{tape_limit}
+use Rattle.air_cli.specs.Given.{Given}
+use Rattle.air_model.specs.Runs.{Run}
+use Rattle.air_cli.specs.GivenRuns.{IsGivenRun}
+use Rattle.deck_runs.specs.RunTapes.{IsLongRun, run_tape_len}
 use Rattle.air_cli.specs.Meanings.{Meaning}
 
 -- A deck can be run: its program is short enough, and so is the tape of each of its runs.

@@ -3,13 +3,13 @@ use Rattle.std.specs.Prelude.{◌≡◌, ◌≤◌, ◌<◌, ℕ, true, false, L
 use Rattle.air_devices.specs.Shelves.{Shelved}
 use Rattle.air_model.specs.Decks.{Deck}
 use Rattle.air_model.specs.Outputs.{script_output, script_tape}
-use Rattle.air_status.specs.declared.status.Status.{Status}
-use Rattle.air_status.specs.declared.status.Status.TheVariants as status
-use Rattle.deck_files.specs.RunnableDecks.{IsShort, UnrunnableCause}
-use Rattle.deck_files.specs.NamedDecks.{OfDeck}
-use Rattle.deck_files.specs.FileLimits.{tape_limit}
+use Rattle.air_report.specs.declared.status.Status.{Status}
+use Rattle.air_report.specs.declared.status.Status.TheVariants as status
+use Rattle.air_cli.specs.RunnableDecks.{IsShort, UnrunnableCause}
+use Rattle.air_cli.specs.NamedDecks.{OfDeck}
+use Rattle.air_cli.specs.FileLimits.{tape_limit}
 use Rattle.air_cli.specs.Meanings.{Meaning}
-use Rattle.delivery.specs.Given.{Given}
+use Rattle.air_cli.specs.Given.{Given}
 use Rattle.air_cli.specs.Truths.{IsTrueScript}
 
 -- The deck can be run, but its tape would have so many bytes, more than a tape may have.

@@ -4,3 +4,5 @@ pub mod Endings
 pub mod Airing
 pub mod CalledWords
 pub mod Scripting
+pub mod Pieces
+pub mod EarSteps

@@ -5,14 +5,14 @@ use Rattle.air_devices.specs.Shelves.{Shelved}
 use Rattle.air_model.specs.Decks.{Deck}
 use Rattle.air_model.specs.Outputs.{tune_output}
 use Rattle.air_model.specs.Tapes.{tape_read}
-use Rattle.air_status.specs.declared.status.Status.{Status}
-use Rattle.air_status.specs.declared.status.Status.TheVariants as status
-use Rattle.deck_files.specs.RunnableDecks.{IsShort, UnrunnableCause}
-use Rattle.deck_files.specs.NamedDecks.{OfDeck}
-use Rattle.deck_files.specs.NamedFiles.{UnreadCause}
-use Rattle.deck_files.specs.FileLimits.{tape_limit}
+use Rattle.air_report.specs.declared.status.Status.{Status}
+use Rattle.air_report.specs.declared.status.Status.TheVariants as status
+use Rattle.air_cli.specs.RunnableDecks.{IsShort, UnrunnableCause}
+use Rattle.air_cli.specs.NamedDecks.{OfDeck}
+use Rattle.air_cli.specs.NamedFiles.{UnreadCause}
+use Rattle.air_cli.specs.FileLimits.{tape_limit}
 use Rattle.air_cli.specs.Meanings.{Meaning}
-use Rattle.delivery.specs.Given.{Given}
+use Rattle.air_cli.specs.Given.{Given}
 use Rattle.air_cli.specs.Truths.{IsTrueTape}
 
 -- The tape is cut at this byte.

@@ -2,9 +2,9 @@
 -- Facts about bytes are said where the shelf tells them; over real files nothing is told.
 use Rattle.std.specs.Prelude.{◌≡◌, ℕ, List}
 use Rattle.air_devices.specs.Shelves.{Shelved}
-use Rattle.air_status.specs.declared.status.Status.{Status}
-use Rattle.air_status.specs.Statuses.{line_of}
-use Rattle.delivery.specs.Refusals.{PrintsUnlessFailed}
+use Rattle.air_report.specs.declared.status.Status.{Status}
+use Rattle.air_report.specs.Statuses.{line_of}
+use Rattle.air_cli.specs.Refusals.{PrintsUnlessFailed}
 
 -- Every output is as it was.
 abbrev pub KeepsOutputs : Shelved → Shelved → Type 0

@@ -3,9 +3,11 @@
 ghost use Rattle.std.specs.Prelude.{option_map, MatchResult};
 ghost use Rattle.air_cli.specs.Steps.Endings.{EndsGiven, EndsUnmade};
 
+use crate::outputs::deliver;
+use crate::outputs::given::Given;
+use crate::outputs::refusals::refuse;
 use air_devices::Shelf;
-use air_status::Status;
-use delivery::{Given, deliver, refuse};
+use air_report::Status;
 use std::alloc::Global;
 
 /// Delivers what a command made, its tape to the output of this name, if one is named; or refuses. Out of memory nothing more is done.

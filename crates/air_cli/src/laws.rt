@@ -4,10 +4,10 @@ ghost use Rattle.std.specs.Prelude.{◌≡◌, ℕ, true, List, [], ◌∷◌, O
 ghost use Rattle.air_devices.specs.Ears.{Eared};
 ghost use Rattle.air_devices.specs.Masts.{Masted};
 ghost use Rattle.air_devices.specs.Shelves.{Shelved};
-ghost use Rattle.air_status.specs.Statuses.{code_of};
-ghost use Rattle.air_status.specs.declared.status.Status.{Status};
-ghost use Rattle.delivery.specs.Deliveries.{IsGiven};
-ghost use Rattle.delivery.specs.Given.{Given};
+ghost use Rattle.air_report.specs.Statuses.{code_of};
+ghost use Rattle.air_report.specs.declared.status.Status.{Status};
+ghost use Rattle.air_cli.specs.Deliveries.{IsGiven};
+ghost use Rattle.air_cli.specs.Given.{Given};
 ghost use Rattle.air_cli.specs.Commands.{words_meaning};
 ghost use Rattle.air_cli.specs.MainWords.{OnShelf, called_of};
 ghost use Rattle.air_cli.specs.OnAir.{called_meaning};

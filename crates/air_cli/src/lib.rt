@@ -1,25 +1,31 @@
 //! The commands of airdisk: from words to a status, over any shelf.
 //!
-//! `air_main` is the top call; `air_quiet` is that of the commands that need no waiting.
+//! `air_main` is the top call; `air_quiet` is that of the commands that need no waiting. `commands` has a file for each of them,
+//! `files` what they read, `tapes` the readers' hearing of a tape that is read piece by piece, `outputs` what they leave outside.
 #![tactic(auto)]
 
-mod audit;
 mod calls;
-mod cast;
-mod drill;
+mod commands;
 mod endings;
+mod files;
 pub mod laws;
-mod listen;
 mod main_call;
-mod plan;
+mod outputs;
 mod quiet;
-mod reports;
-mod run;
-mod script;
+mod tapes;
 mod truths;
-mod tune;
 pub mod words;
 
-pub use air_status::Status;
+pub use air_report::Status;
+pub use commands::hearings::{HearFault, ear_sessions};
+pub use commands::run_on_air::run_on_air;
+pub use files::decks::read_deck_file;
+pub use files::plans::plan_deck;
+pub use files::read_bytes;
+pub use files::runnable::read_runnable_deck;
 pub use main_call::air_main;
+pub use outputs::deliver;
+pub use outputs::given::Given;
+pub use outputs::refusals::refuse;
 pub use quiet::air_quiet;
+pub use tapes::{PieceSizes, file_sessions, piece_sessions};

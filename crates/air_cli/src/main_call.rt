@@ -15,13 +15,13 @@ ghost use Rattle.air_cli.specs.OnAir.{LeavesEar, LeavesMast, called_meaning};
 ghost use Rattle.air_cli.specs.Run.{run_meaning};
 
 use crate::calls::{Call, call_of};
-use crate::cast::cast;
+use crate::commands::cast::cast;
+use crate::commands::listen::listen;
+use crate::commands::run::run;
 use crate::endings::give_or_refuse;
-use crate::listen::listen;
 use crate::quiet::air_quiet;
-use crate::run::run;
 use air_devices::{Ear, Gate, Mast, Shelf};
-use air_status::Status;
+use air_report::Status;
 use std::alloc::Global;
 use std::sync::Wait;
 use std::thread::Threads;

@@ -9,16 +9,17 @@ ghost use Rattle.air_cli.specs.Commands.{asked_by, meaning_of, words_meaning};
 ghost use Rattle.air_cli.specs.Steps.BeforeDelivery.{IsMade, IsUnmade, Reads};
 ghost use Rattle.air_cli.specs.Answers.{Completes, Leaves, QuietAnswers};
 
-use crate::audit::audit;
-use crate::drill::drill;
+use crate::commands::audit::audit;
+use crate::commands::drill::drill;
+use crate::commands::plan::plan;
+use crate::commands::script::script;
+use crate::commands::tune::tune;
 use crate::endings::give_or_refuse;
-use crate::plan::plan;
-use crate::script::script;
-use crate::tune::tune;
+use crate::outputs::given::Given;
+use crate::outputs::refusals::refuse;
 use crate::words::{Command, command_of};
 use air_devices::Shelf;
-use air_status::Status;
-use delivery::{Given, refuse};
+use air_report::Status;
 use std::alloc::Global;
 use std::thread::Threads;
 

@@ -2,10 +2,10 @@
 
 ghost use Rattle.std.specs.Prelude.{ℕ, ◌≤◌, List};
 ghost use Rattle.air_model.specs.Drills.{drill_deck};
-ghost use Rattle.deck_files.specs.RunnableDecks.{IsShort};
+ghost use Rattle.air_cli.specs.RunnableDecks.{IsShort};
 ghost use Rattle.air_model.specs.Outputs.{cast_output};
-ghost use Rattle.aired_runs.specs.RunTruths.{IsTrueRun, TellsHistory};
-ghost use Rattle.run_laws.specs.Runs.{IsRun, Run};
+ghost use Rattle.deck_runs.specs.RunTruths.{IsTrueRun, TellsHistory};
+ghost use Rattle.air_model.specs.Runs.{IsRun, Run};
 ghost use Rattle.air_cli.specs.Truths.{IsTrueScript, IsTrueTape};
 ghost use Rattle.item_catalog.specs.declared.deck.drill.TheConstants.{MOST_DRILL_SIZE};
 
@@ -13,10 +13,10 @@ use air_model::aired::bytes_law;
 use air_model::deck::{events_law, script_law};
 use air_model::ether::heard_was_pushed_law;
 use air_model::sessions::receiver_law;
-use aired_runs::laws::true_run_law;
-use aired_sessions::laws::drill_slots_law;
+use air_report::one_history_law;
+use deck_runs::laws::true_run_law;
 use item_catalog::{Deck, drill_law};
-use report_laws::one_history_law;
+use scripts::laws::drill_slots_law;
 
 /// The sessions over a script's history are true of it.
 pub(crate) fn script_is_true(deck: &Deck)

@@ -5,10 +5,10 @@ use Rattle.std.specs.Prelude.{IfSome}
 use Rattle.air_devices.specs.Calls.{IsNextCall, is_next_listed, next_call}
 use Rattle.air_devices.specs.Unchanged.{KeepsButLeft, KeepsButOutput}
 use Rattle.air_devices.specs.Memory.{added_bytes, contents_with, file_bytes, file_named, left_bytes, output_bytes, output_named, told_by}
-use Rattle.air_devices.specs.declared.calls.Calls.{Calls}
-use Rattle.air_devices.specs.declared.memory_shelf.MemFile.{MemFile}
-use Rattle.air_devices.specs.declared.memory_shelf.MemOutput.{MemOutput}
-use Rattle.air_devices.specs.declared.memory_shelf.MemShelf.{MemShelf}
+use Rattle.air_devices.specs.declared.memory.calls.Calls.{Calls}
+use Rattle.air_devices.specs.declared.memory.shelf.MemFile.{MemFile}
+use Rattle.air_devices.specs.declared.memory.shelf.MemOutput.{MemOutput}
+use Rattle.air_devices.specs.declared.memory.shelf.MemShelf.{MemShelf}
 
 -- The call was numbered.
 pub is_next_call : (before now : Calls) → ◌≡◌ {A = Calls} now (record before { made = next_call before }) → IsNextCall before now

@@ -3,3 +3,5 @@ pub mod MemoryFacts
 pub mod CallFacts
 pub mod ReadFileFacts
 pub mod EarFacts
+pub mod WrittenFacts
+pub mod RecordFacts

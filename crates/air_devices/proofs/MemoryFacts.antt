@@ -9,9 +9,9 @@ use Rattle.std.proofs.lemmas.List.Quantifiers.{position-Some}
 use Rattle.std.specs.Cmp.Lexicographic.{same_text}
 use Rattle.std.specs.Global.{Global}
 use Rattle.air_devices.specs.Memory.{empty_output, file_bytes, file_named, given_bytes, given_named, left_bytes, output_bytes, output_named, overflows, spells, unpicked_file}
-use Rattle.byte_rooms.specs.Written.{Written}
-use Rattle.air_devices.specs.declared.memory_shelf.MemFile.{MemFile}
-use Rattle.air_devices.specs.declared.memory_shelf.MemOutput.{MemOutput}
+use Rattle.air_devices.specs.Written.{Written}
+use Rattle.air_devices.specs.declared.memory.shelf.MemFile.{MemFile}
+use Rattle.air_devices.specs.declared.memory.shelf.MemOutput.{MemOutput}
 use Rattle.air_devices.proofs.NamedLemmas.{asked_kept, found, found_image, found_nowhere, found_written, value_kept}
 
 -- A text spells one name.

@@ -3,7 +3,7 @@ use Rattle.std.proofs.Common.{◌≡◌, ◌++◌, ◌∙◌, List, [], ◌∷�
 use Rattle.std.specs.Prelude.{◌==◌, ◌&&◌}
 use Rattle.std.proofs.lemmas.List.Folds.{list_any-append}
 use Rattle.air_devices.specs.ReadFiles.{is_among}
-use Rattle.air_devices.specs.declared.read_files.FileId.{FileId}
+use Rattle.air_devices.specs.declared.reading.read_files.FileId.{FileId}
 
 -- The file that was added is one of them.
 pub is_added : (id : FileId) (before now : List FileId) → now ≡ before ++ id ∷ [] → is_among id now ≡ true

@@ -2,7 +2,7 @@
 -- in memory share these words.
 use Rattle.std.specs.Prelude.{◌≡◌, ◌==◌, ◌+◌, ◌-◌, ◌^◌, ℕ, List, Bool, min}
 use Rattle.std.specs.List.{list_any}
-use Rattle.air_devices.specs.declared.calls.Calls.{Calls}
+use Rattle.air_devices.specs.declared.memory.calls.Calls.{Calls}
 
 -- No call was made yet, and these are the numbers of the calls that fail.
 pub record AreNew (listed : List ℕ) (c : Calls) : Type 0 where

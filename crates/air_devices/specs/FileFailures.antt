@@ -1,9 +1,9 @@
 -- What a shelf over files keeps of its last call that failed.
 use Rattle.std.specs.Prelude.{◌≡◌, ◌≤◌, ℕ, List, length, take, Option, Some, IfSome, Result, OnErr, OnOk}
 use Rattle.std.specs.Option.{option_map}
-use Rattle.air_devices.specs.declared.file_failures.FileCall.{FileCall}
-use Rattle.air_devices.specs.declared.file_failures.FileFailure.{FileFailure}
-use Rattle.air_devices.specs.declared.file_failures.TheConstants.{NAME_ROOM}
+use Rattle.air_devices.specs.declared.system.file_failures.FileCall.{FileCall}
+use Rattle.air_devices.specs.declared.system.file_failures.FileFailure.{FileFailure}
+use Rattle.air_devices.specs.declared.system.file_failures.TheConstants.{NAME_ROOM}
 
 -- The failure that is kept is one of this call, which was given this name: it is kept whole where there is room, and else
 -- its front is.

@@ -14,3 +14,5 @@ pub mod FileFailures
 pub mod ReadFiles
 pub mod NetFailures
 pub mod Untold
+pub mod Written
+pub mod Recordings

@@ -4,15 +4,15 @@ use Rattle.std.specs.Prelude.{◌≡◌, length, map, true, nat_lt, ◌+◌, ◌
 use Rattle.std.specs.Cmp.Lexicographic.{pointwise}
 use Rattle.std.specs.Global.{Global}
 use Rattle.std.specs.List.{find}
-use Rattle.byte_rooms.specs.Written.{Written}
+use Rattle.air_devices.specs.Written.{Written}
 use Rattle.air_devices.specs.Calls.{AreNew, IsNextCall, is_next_listed}
 use Rattle.air_devices.specs.Contents.{Contents}
 use Rattle.air_devices.specs.Counts.{Faults, one_count}
 use Rattle.air_devices.specs.Shelves.{Shelved}
-use Rattle.air_devices.specs.declared.calls.Calls.{Calls}
-use Rattle.air_devices.specs.declared.memory_shelf.MemFile.{MemFile}
-use Rattle.air_devices.specs.declared.memory_shelf.MemOutput.{MemOutput}
-use Rattle.air_devices.specs.declared.memory_shelf.MemShelf.{MemShelf}
+use Rattle.air_devices.specs.declared.memory.calls.Calls.{Calls}
+use Rattle.air_devices.specs.declared.memory.shelf.MemFile.{MemFile}
+use Rattle.air_devices.specs.declared.memory.shelf.MemOutput.{MemOutput}
+use Rattle.air_devices.specs.declared.memory.shelf.MemShelf.{MemShelf}
 
 -- Whether a text has these bytes.
 abbrev pub spells : List ℕ → String Global → Bool

@@ -2,8 +2,8 @@
 use Rattle.std.specs.Prelude.{◌≡◌, ◌≤◌, ℕ, List, length, map, drop, All, Option, Some, None}
 use Rattle.air_devices.specs.Calls.{AreNew}
 use Rattle.air_devices.specs.Ears.{Eared}
-use Rattle.air_devices.specs.declared.calls.Calls.{Calls}
-use Rattle.air_devices.specs.declared.memory_ear.MemEar.TheInside.{Inside}
+use Rattle.air_devices.specs.declared.memory.calls.Calls.{Calls}
+use Rattle.air_devices.specs.declared.memory.ear.MemEar.TheInside.{Inside}
 
 -- An ear in memory: the datagrams that are still to be heard, the port, and the calls.
 pub record Listening : Type 0 where

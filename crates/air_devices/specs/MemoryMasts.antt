@@ -2,8 +2,8 @@
 use Rattle.std.specs.Prelude.{◌≡◌, ◌||◌, ℕ, List, Bool, Some, None}
 use Rattle.air_devices.specs.Calls.{AreNew, IsNextCall, is_next_listed}
 use Rattle.air_devices.specs.Masts.{Masted, Sent, nothing_sent}
-use Rattle.byte_rooms.specs.Recordings.{overflows_record}
-use Rattle.air_devices.specs.declared.memory_mast.MemMast.{MemMast}
+use Rattle.air_devices.specs.Recordings.{overflows_record}
+use Rattle.air_devices.specs.declared.memory.mast.MemMast.{MemMast}
 
 -- What a mast in memory tells.
 abbrev pub told_by : MemMast → Sent

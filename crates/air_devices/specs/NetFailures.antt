@@ -1,8 +1,8 @@
 -- What a mast or an ear over the network keeps of its last call that failed.
 use Rattle.std.specs.Prelude.{◌≡◌, ℕ, Option, Some, Result, OnErr, OnOk}
 use Rattle.std.specs.Option.{option_map}
-use Rattle.air_devices.specs.declared.net_failures.NetCall.{NetCall}
-use Rattle.air_devices.specs.declared.net_failures.NetFailure.{NetFailure}
+use Rattle.air_devices.specs.declared.system.net_failures.NetCall.{NetCall}
+use Rattle.air_devices.specs.declared.system.net_failures.NetFailure.{NetFailure}
 
 -- The failure that is kept is one of this call, on this port.
 pub record IsLastOf (call : NetCall) (port : Option ℕ) (last : Option NetFailure) : Type 0 where

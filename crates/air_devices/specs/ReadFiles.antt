@@ -1,7 +1,7 @@
 -- Which files were read: each is known by its device and its number there.
 use Rattle.std.specs.Prelude.{◌==◌, ◌&&◌, List, Bool}
 use Rattle.std.specs.List.{list_any}
-use Rattle.air_devices.specs.declared.read_files.FileId.{FileId}
+use Rattle.air_devices.specs.declared.reading.read_files.FileId.{FileId}
 
 -- Whether this file is one of those.
 abbrev pub is_among : FileId → List FileId → Bool

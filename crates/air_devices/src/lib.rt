@@ -2,38 +2,33 @@
 //!
 //! `shelves` has the trait of a device with files and outputs, and the one refusal; `masts` that of a device that sends
 //! buckets, `ears` of one that hears them. A call that fails says which count rose, so that a caller can name the cause of its own
-//! answer. `memory_shelf`, `memory_mast` and `memory_ear` are forms in memory, which tell all that they hold and fail where they
-//! are told to (`calls`); `file_shelf` is a shelf over real files and standard output, `udp_mast` and `udp_ear` are a mast and an ear
-//! over UDP on this machine alone, and each keeps what the system said of its last failure (`file_failures`, `net_failures`).
-//! `reading` reads a whole file through any shelf. `gates` has what is called round what jobs do.
+//! answer. `memory` has forms in memory, which tell all that they hold and fail where they are told to; `system` has those of the
+//! operating system: a shelf over real files and standard output, a mast and an ear over UDP on this machine alone, and each keeps
+//! what the system said of its last failure. `reading` reads a whole file through any shelf, `rooms` keeps bytes within a limit,
+//! and `gates` has what is called round what jobs do.
 #![tactic(auto)]
 
-mod calls;
 pub mod ears;
-pub mod file_failures;
-pub mod file_shelf;
 pub mod gates;
 pub mod masts;
-pub mod memory_ear;
-pub mod memory_mast;
-pub mod memory_shelf;
-pub mod net_failures;
-mod read_files;
+pub mod memory;
 pub mod reading;
+pub mod rooms;
 pub mod shelves;
-pub mod udp_ear;
-pub mod udp_mast;
+pub mod system;
 
 pub use ears::{Ear, Heard};
-pub use file_failures::{FileCall, FileFailure};
-pub use file_shelf::FileShelf;
 pub use gates::{Gate, OpenGate};
 pub use masts::Mast;
-pub use memory_ear::MemEar;
-pub use memory_mast::MemMast;
-pub use memory_shelf::MemShelf;
-pub use net_failures::{NetCall, NetFailure};
+pub use memory::ear::MemEar;
+pub use memory::mast::MemMast;
+pub use memory::shelf::MemShelf;
 pub use reading::{ReadFileError, read_file};
+pub use rooms::fixed_bytes::FixedBytes;
+pub use rooms::tape_room::TapeRoom;
 pub use shelves::{Failed, Shelf};
-pub use udp_ear::UdpEar;
-pub use udp_mast::UdpMast;
+pub use system::file_failures::{FileCall, FileFailure};
+pub use system::file_shelf::FileShelf;
+pub use system::net_failures::{NetCall, NetFailure};
+pub use system::udp_ear::UdpEar;
+pub use system::udp_mast::UdpMast;

@@ -10,6 +10,8 @@ ghost use Rattle.air_devices.specs.Unchanged.{KeepsButLeft};
 ghost use Rattle.air_devices.specs.Told.{ToldIs};
 ghost use Rattle.air_devices.specs.Reading.{IsTooLarge};
 
+pub(crate) mod read_files;
+
 use crate::shelves::Shelf;
 use std::alloc::{AllocError, Global};
 use std::error::Error;

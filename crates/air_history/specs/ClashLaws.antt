@@ -1,5 +1,5 @@
 -- The words of the laws of clashes: entries that a history aired, and reads that a policy accepted one after another.
--- The laws are `clash_law`, `stays_consistent_law`, `stays_current_law`, `takes_law` and `accepted_law` of `history_laws`.
+-- The laws are `clash_law`, `stays_consistent_law`, `stays_current_law`, `takes_law` and `accepted_law`.
 use Rattle.std.specs.Prelude.{◌≡◌, ℕ, ◌<◌, ◌≤◌, Bool, not, ◌&&◌, is_none, List, length, map, take, get_or, slice_index, AllPairs, IsTrue}
 use Rattle.std.specs.List.{list_all}
 use Rattle.std.specs.Option.{option_map_or}

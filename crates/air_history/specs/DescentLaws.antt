@@ -1,4 +1,4 @@
--- The words of the law that a descent is the least closed set, `descent_law` of `history_laws`.
+-- The words of the law that a descent is the least closed set, `descent_law`.
 use Rattle.std.specs.Prelude.{◌≡◌, ℕ, ◌<◌, Bool, List, length, get_or, Some, IsTrue}
 use Rattle.air_history.specs.declared.histories.Event.{Event}
 use Rattle.air_history.specs.Histories.{reads, event_at, writer_before}

@@ -1,7 +1,7 @@
 //! The first place at which a column isn't below what is held.
 //!
 //! Groups of four blocks are passed over whole, by one test each; from the first that isn't, blocks of eight, then the places
-//! after the last whole block. `held_entries` names a clash by it.
+//! after the last whole block. `held_reads` names a clash by it.
 
 ghost use Rattle.std.specs.Prelude.{◌≡◌, ◌≤◌, ◌<◌, ◌+◌, ℕ, length, slice_index};
 ghost use Rattle.air_lanes.specs.Kernels.{IsAnswer};

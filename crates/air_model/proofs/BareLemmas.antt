@@ -15,7 +15,7 @@ use Rattle.air_history.specs.declared.histories.Event.{Event}
 use Rattle.air_history.specs.Tables.{values_of}
 use Rattle.air_history.specs.Reads.{read_value}
 use Rattle.air_history.specs.Clashes.{clash_by_history, is_late}
-use Rattle.history_laws.proofs.ClashLemmas.{cond_same}
+use Rattle.air_history.proofs.ClashLemmas.{cond_same}
 use Rattle.air_model.specs.Buckets.{Body, Bucket, Column, Idle, Vector}
 use Rattle.air_model.specs.Reads.{Read}
 use Rattle.air_model.specs.Copies.{goes_before, keep, with_copy, without_item}

@@ -21,7 +21,7 @@ use Rattle.air_history.specs.Tables.{values_of}
 use Rattle.air_history.specs.Reads.{ReadAt, read_value, last_cycle}
 use Rattle.air_history.specs.Clashes.{read_at, is_late, clash_by_history, clash_by_entries}
 use Rattle.air_history.specs.ClashLaws.{IsHeard, IsAllowed}
-use Rattle.history_laws.proofs.ClashLemmas.{clash, cond_same}
+use Rattle.air_history.proofs.ClashLemmas.{clash, cond_same}
 use Rattle.air_model.specs.Buckets.{Bucket}
 use Rattle.air_model.specs.Reads.{Read}
 use Rattle.air_model.specs.Aired.{Air, fits, body_of, aired_as, bucket_of, IsAiredBucket, SlotsFit, IsAired}

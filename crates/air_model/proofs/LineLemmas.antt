@@ -6,7 +6,7 @@ use Rattle.std.specs.Fn.{iterate}
 use Rattle.air_base.specs.declared.verdicts.Clash.{Clash}
 use Rattle.air_base.specs.declared.verdicts.VerdictKind.{VerdictKind}
 use Rattle.air_base.specs.declared.verdicts.VerdictKind.TheVariants.{Accept, Abort, Unfinished}
-use Rattle.history_laws.proofs.ClashLemmas.{cond_same}
+use Rattle.air_history.proofs.ClashLemmas.{cond_same}
 use Rattle.air_model.specs.Buckets.{Bucket}
 use Rattle.air_model.specs.Reads.{Read}
 use Rattle.air_model.specs.Aired.{Air, fits}

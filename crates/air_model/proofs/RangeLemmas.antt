@@ -16,7 +16,7 @@ use Rattle.air_history.specs.declared.histories.Event.{Event}
 use Rattle.air_history.specs.declared.histories.Event.TheVariants.{Commit, Start}
 use Rattle.air_history.specs.Histories.{cycle_at, front, starts, writer, writes_of}
 use Rattle.air_history.specs.Columns.{policy_entries, column_entry, vector_entry}
-use Rattle.history_laws.proofs.StaleLemmas.{cycle_of}
+use Rattle.air_history.proofs.StaleLemmas.{cycle_of}
 use Rattle.air_history.specs.Tables.{table, value_after, value_after_write, value_on_base, values_of, write_of}
 use Rattle.air_history.specs.Reads.{read_value}
 use Rattle.air_history.proofs.PlaceLemmas.{greatest_below}

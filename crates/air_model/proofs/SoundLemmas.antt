@@ -21,9 +21,9 @@ use Rattle.air_history.specs.Consistency.{alone, IsConsistent}
 use Rattle.air_history.specs.Clashes.{is_late, clash_by_history}
 use Rattle.air_history.specs.ClashLaws.{Accepts, IsSound}
 use Rattle.air_history.specs.Columns.{Scheme}
-use Rattle.history_laws.proofs.AloneLemmas.{values}
-use Rattle.history_laws.proofs.PolicyLemmas.{stays_consistent}
-use Rattle.history_laws.proofs.AcceptedLemmas.{accepted, accepts_none, accepts_push}
+use Rattle.air_history.proofs.AloneLemmas.{values}
+use Rattle.air_history.proofs.PolicyLemmas.{stays_consistent}
+use Rattle.air_history.proofs.AcceptedLemmas.{accepted, accepts_none, accepts_push}
 use Rattle.air_model.specs.Buckets.{Bucket, Body, Idle, Column, Vector}
 use Rattle.air_model.specs.Reads.{Read}
 use Rattle.air_model.specs.Aired.{Air, fits}

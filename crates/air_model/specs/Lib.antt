@@ -22,3 +22,8 @@ pub mod SessionLaws
 pub mod ReceiverLaws
 pub mod Reports
 pub mod Outputs
+pub mod AiredItems
+pub mod Batches
+pub mod RunClosings
+pub mod Fronts
+pub mod Runs

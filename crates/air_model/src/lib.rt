@@ -12,5 +12,6 @@ pub mod deck;
 pub mod ether;
 pub mod program;
 pub mod reports;
+pub mod run_laws;
 pub mod sessions;
 pub mod tape;

@@ -7,7 +7,8 @@ ghost use Rattle.std.specs.Prelude.{◌≡◌, ◌≤◌, [], ◌∷◌, codes, 
 ghost use Rattle.air_ether.specs.HeardSoFar.{IsQuiet};
 ghost use Rattle.air_pins.specs.SmallEthers.{Gave, nine, odds};
 
-use air_ether::{Ether, NoMemory};
+use air_base::NoMemory;
+use air_ether::Ether;
 use std::alloc::Global;
 
 /// When the second push is made, the first one, which is late, is due with its own bucket. It also refuses that it is due one push

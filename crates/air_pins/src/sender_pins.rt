@@ -1,7 +1,7 @@
 //! These pins of `air_sender` say what a cycle of four slots sends, to any mast and to one that gathers a tape.
 //!
 //! The program's slots carry the items 0, 1, 0 and none; the board is in cycle 2.
-#![tactic(auto, unfolding(air_model::specs::Disks::all_items, air_model::specs::Programs::least_common_multiple, air_model::specs::Programs::num_minors, air_model::specs::Programs::num_chunks, air_model::specs::Programs::chunk_len, air_model::specs::Programs::chunk, air_model::specs::Programs::minor_cycle, air_model::specs::Programs::program, air_model::specs::Tapes::record_bytes, air_model::specs::Tapes::tape_of, board_laws::specs::BoardBuckets::body_on, board_laws::specs::BoardBuckets::bucket_on))]
+#![tactic(auto, unfolding(air_model::specs::Disks::all_items, air_model::specs::Programs::least_common_multiple, air_model::specs::Programs::num_minors, air_model::specs::Programs::num_chunks, air_model::specs::Programs::chunk_len, air_model::specs::Programs::chunk, air_model::specs::Programs::minor_cycle, air_model::specs::Programs::program, air_model::specs::Tapes::record_bytes, air_model::specs::Tapes::tape_of, air_sender::specs::BoardBuckets::body_on, air_sender::specs::BoardBuckets::bucket_on))]
 
 ghost use Rattle.std.specs.Prelude.{◌≡◌, ◌<◌, ◌≤◌, [], ◌∷◌, codes, length, take, Some, None, IsErr, IfErr, OnOk};
 ghost use Rattle.air_devices.specs.Masts.{fresh_mast};

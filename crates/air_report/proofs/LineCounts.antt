@@ -2,15 +2,15 @@
 use Rattle.std.proofs.Common.{◌≡◌, ℕ, ◌+◌, ◌≤◌, Option, Some, None, List, [], ◌∷◌, length, refl, ◌∙◌, ap, arith}
 use Rattle.std.specs.List.{filter_map, cons_option}
 use Rattle.std.specs.Result.{result_ok}
-use Rattle.text_records.specs.Records.{records_of}
-use Rattle.text_records.proofs.RowFacts.{few_records}
+use Rattle.item_catalog.specs.Records.{records_of}
+use Rattle.item_catalog.proofs.RowFacts.{few_records}
 use Rattle.air_model.specs.Decks.{Deck}
-use Rattle.report_reading.specs.ReportFaults.{lines_of}
-use Rattle.report_reading.specs.LineTexts.{line_of}
-use Rattle.report_reading.specs.ReportGrammar.{SpellsReport}
-use Rattle.report_reading.specs.ReportLines.{ReportLines, sections_of}
-use Rattle.report_reading.specs.declared.lines.Line.{Line}
-use Rattle.report_reading.specs.declared.lines.Line.TheVariants as l
+use Rattle.air_report.specs.ReportFaults.{lines_of}
+use Rattle.air_report.specs.LineTexts.{line_of}
+use Rattle.air_report.specs.ReportGrammar.{SpellsReport}
+use Rattle.air_report.specs.ReportLines.{ReportLines, sections_of}
+use Rattle.air_report.specs.declared.reading.lines.Line.{Line}
+use Rattle.air_report.specs.declared.reading.lines.Line.TheVariants as l
 
 -- The number of a report's lines.
 abbrev pub line_count : ReportLines → ℕ

@@ -2,21 +2,21 @@
 use Rattle.std.proofs.Common.{◌≡◌, Bool, true, false, None, Result, Ok, Err, List, [], ◌∷◌, ◌++◌, ℕ, map, refl, sym, ◌∙◌, ap, append_assoc, arith}
 use Rattle.std.specs.Prelude.{◌||◌, not}
 use Rattle.std.proofs.lemmas.List.{append-nil, map-append}
-use Rattle.text_records.specs.Kinds.{first_of}
-use Rattle.text_records.proofs.KindFacts.{none_first}
-use Rattle.text_records.proofs.PlaceFacts.{along}
+use Rattle.item_catalog.specs.RecordKinds.{first_of}
+use Rattle.item_catalog.proofs.KindFacts.{none_first}
+use Rattle.item_catalog.proofs.RecordPlaces.{along}
 use Rattle.air_model.specs.Decks.{Deck}
-use Rattle.report_reading.specs.Kinds.{code_of}
-use Rattle.report_reading.specs.LineTexts.{line_of}
-use Rattle.report_reading.specs.ReportFaults.{comes_late, comes_next, is_begun, is_filled, is_known, kinds_after, kinds_at, lines_of, tests_of}
-use Rattle.report_reading.specs.ReportGrammar.{RowsSpellLines}
-use Rattle.report_reading.specs.ReportLines.{ReportLines, sections_of, starts_in}
-use Rattle.report_reading.specs.Steps.RecordAnswers.{with_line}
-use Rattle.report_reading.specs.declared.kinds.FaultKind.{FaultKind}
-use Rattle.report_reading.specs.declared.kinds.FaultKind.TheVariants as fault
-use Rattle.report_reading.specs.declared.lines.Line.{Line}
-use Rattle.report_reading.specs.declared.lines.Line.TheVariants as l
-use Rattle.report_reading.proofs.PlaceFacts.{judge, lines_more, sections_more}
+use Rattle.air_report.specs.Kinds.{code_of}
+use Rattle.air_report.specs.LineTexts.{line_of}
+use Rattle.air_report.specs.ReportFaults.{comes_late, comes_next, is_begun, is_filled, is_known, kinds_after, kinds_at, lines_of, tests_of}
+use Rattle.air_report.specs.ReportGrammar.{RowsSpellLines}
+use Rattle.air_report.specs.ReportLines.{ReportLines, sections_of, starts_in}
+use Rattle.air_report.specs.Steps.RecordAnswers.{with_line}
+use Rattle.air_report.specs.declared.reading.kinds.FaultKind.{FaultKind}
+use Rattle.air_report.specs.declared.reading.kinds.FaultKind.TheVariants as fault
+use Rattle.air_report.specs.declared.reading.lines.Line.{Line}
+use Rattle.air_report.specs.declared.reading.lines.Line.TheVariants as l
+use Rattle.air_report.proofs.PlaceFacts.{judge, lines_more, sections_more}
 
 -- All lines of a report, section by section.
 abbrev pub together : ReportLines → List Line

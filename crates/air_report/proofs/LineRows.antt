@@ -2,14 +2,14 @@
 use Rattle.std.proofs.Common.{◌≡◌, ℕ, ◌+◌, Option, Some, None, Result, Ok, List, [], ◌∷◌, ◌++◌, length, length-append, map, refl, ◌∙◌, ap, arith}
 use Rattle.std.specs.List.{cons_option, enumerate_from, filter_map, range_with_len}
 use Rattle.std.proofs.lemmas.List.{append-nil, length-map}
-use Rattle.text_records.specs.Records.{records_of}
+use Rattle.item_catalog.specs.Records.{records_of}
 use Rattle.air_model.specs.Decks.{Deck}
-use Rattle.report_reading.specs.LineTexts.{line_of}
-use Rattle.report_reading.specs.ReportGrammar.{SpellsReport}
-use Rattle.report_reading.specs.ReportLines.{ReportLines, its_glance, its_look, its_verdict}
-use Rattle.report_reading.specs.declared.kinds.FaultKind.{FaultKind}
-use Rattle.report_reading.specs.declared.lines.Line.{Line}
-use Rattle.report_reading.specs.declared.lines.Line.TheVariants as l
+use Rattle.air_report.specs.LineTexts.{line_of}
+use Rattle.air_report.specs.ReportGrammar.{SpellsReport}
+use Rattle.air_report.specs.ReportLines.{ReportLines, its_glance, its_look, its_verdict}
+use Rattle.air_report.specs.declared.reading.kinds.FaultKind.{FaultKind}
+use Rattle.air_report.specs.declared.reading.lines.Line.{Line}
+use Rattle.air_report.specs.declared.reading.lines.Line.TheVariants as l
 use Rattle.air_report.specs.ReadReports.{row_in, rows_of}
 use Rattle.air_report.proofs.LineOrder.{in_order, together}
 

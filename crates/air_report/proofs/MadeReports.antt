@@ -5,17 +5,17 @@ use Rattle.std.proofs.lemmas.Bool.{and_parts, cases_lt, ltb-true}
 use Rattle.std.proofs.lemmas.List.{get_or_past, length-map}
 use Rattle.std.proofs.lemmas.List.Elements.{All-cons, All-nil}
 use Rattle.std.proofs.lemmas.List.FromFn.{length-range_with_len}
-use Rattle.text_records.specs.Records.{records_of}
+use Rattle.item_catalog.specs.Records.{records_of}
 use Rattle.air_model.specs.Decks.{Deck, IsLegal, updates_by}
 use Rattle.air_model.specs.Reports.{Report}
-use Rattle.report_reading.specs.ReportGrammar.{SpellsReport}
-use Rattle.report_reading.specs.ReportLines.{ReportLines, event_in, its_line, lines_in, report_in}
-use Rattle.report_reading.specs.declared.limits.TheConstants.{MOST_REPORT_BYTES}
-use Rattle.report_reading.specs.declared.lines.EventLine.{EventLine}
-use Rattle.report_reading.specs.declared.lines.EventLine.TheVariants.{Commit, Start}
-use Rattle.report_laws.specs.ReportRules.{EachNext, InGrammar}
-use Rattle.report_laws.proofs.KeptLines.{spelled_kept}
-use Rattle.report_laws.proofs.LegalLines.{legal}
+use Rattle.air_report.specs.ReportGrammar.{SpellsReport}
+use Rattle.air_report.specs.ReportLines.{ReportLines, event_in, its_line, lines_in, report_in}
+use Rattle.air_report.specs.declared.reading.limits.TheConstants.{MOST_REPORT_BYTES}
+use Rattle.air_report.specs.declared.reading.lines.EventLine.{EventLine}
+use Rattle.air_report.specs.declared.reading.lines.EventLine.TheVariants.{Commit, Start}
+use Rattle.air_report.specs.ReportRules.{EachNext, InGrammar}
+use Rattle.air_report.proofs.KeptLines.{spelled_kept}
+use Rattle.air_report.proofs.LegalLines.{legal}
 use Rattle.air_report.specs.declared.reading.ReadReport.{ReadReport}
 use Rattle.air_report.specs.ReadReports.{IsReportOf}
 use Rattle.air_report.specs.KeptReports.{KeepsGrammar}

@@ -3,8 +3,8 @@ use Rattle.std.proofs.Common.{◌≡◌, ℕ, List, [], ◌∷◌, refl}
 use Rattle.std.specs.Prelude.{codes}
 use Rattle.air_base.specs.Numbers.{number_of}
 use Rattle.air_base.specs.NumberLists.{all_some}
-use Rattle.report_reading.specs.LineTexts.{item_of, place_of, read_of, short_of}
-use Rattle.report_reading.specs.ReportLines.{its_glance, its_look, its_verdict}
+use Rattle.air_report.specs.LineTexts.{item_of, place_of, read_of, short_of}
+use Rattle.air_report.specs.ReportLines.{its_glance, its_look, its_verdict}
 use Rattle.air_report.specs.ReadReports.{rows_of}
 
 -- The fields of a record.

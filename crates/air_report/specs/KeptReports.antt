@@ -1,9 +1,9 @@
 -- What a report that was read keeps to: the condition of its audit.
 use Rattle.std.specs.Prelude.{◌≡◌, ◌≤◌, ◌+◌, List, length}
 use Rattle.air_model.specs.Decks.{Deck, IsLegal}
-use Rattle.report_laws.specs.ReportRules.{InGrammar}
-use Rattle.report_reading.specs.ReportLines.{lines_in}
-use Rattle.report_reading.specs.declared.limits.TheConstants.{MOST_REPORT_BYTES}
+use Rattle.air_report.specs.ReportRules.{InGrammar}
+use Rattle.air_report.specs.ReportLines.{lines_in}
+use Rattle.air_report.specs.declared.reading.limits.TheConstants.{MOST_REPORT_BYTES}
 use Rattle.air_report.specs.declared.reading.ReadReport.{ReadReport}
 
 -- A list has no more members than any text that is read has records: of each byte one, and one at its end.

@@ -1,3 +1,12 @@
 pub mod ReadReports
 pub mod KeptReports
 pub mod Steps
+pub mod RowWriters
+pub mod BegunRows
+pub mod Statuses
+pub mod Kinds
+pub mod LineTexts
+pub mod ReportLines
+pub mod ReportFaults
+pub mod ReportGrammar
+pub mod ReportRules

@@ -2,12 +2,12 @@
 use Rattle.std.specs.Prelude.{◌≡◌, ℕ, List, Option, None, option_map, Result, Ok, Err}
 use Rattle.std.specs.List.{enumerate_from, filter_map}
 use Rattle.air_model.specs.Decks.{Deck, IsLegal}
-use Rattle.report_reading.specs.LineTexts.{line_of}
-use Rattle.report_reading.specs.ReportGrammar.{SpellsReport}
-use Rattle.report_reading.specs.ReportLines.{its_glance, its_look, its_verdict, lines_in}
-use Rattle.report_reading.specs.declared.kinds.FaultKind.{FaultKind}
-use Rattle.report_reading.specs.declared.lines.Line.{Line}
-use Rattle.text_records.specs.Records.{records_of}
+use Rattle.air_report.specs.LineTexts.{line_of}
+use Rattle.air_report.specs.ReportGrammar.{SpellsReport}
+use Rattle.air_report.specs.ReportLines.{its_glance, its_look, its_verdict, lines_in}
+use Rattle.air_report.specs.declared.reading.kinds.FaultKind.{FaultKind}
+use Rattle.air_report.specs.declared.reading.lines.Line.{Line}
+use Rattle.item_catalog.specs.Records.{records_of}
 use Rattle.air_report.specs.declared.reading.ReadReport.{ReadReport}
 
 -- The row of a record, where what it spells is a line of a section.

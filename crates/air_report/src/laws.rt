@@ -3,11 +3,14 @@
 ghost use Rattle.std.specs.Prelude.{◌≡◌, ℕ};
 ghost use Rattle.air_model.specs.Decks.{Deck, IsLegal};
 ghost use Rattle.air_model.specs.Reports.{Report, report_text};
-ghost use Rattle.report_laws.specs.ReportRules.{HasWidths, InGrammar};
-ghost use Rattle.report_reading.specs.ReportGrammar.{HasReportFault};
-ghost use Rattle.report_reading.specs.ReportLines.{lines_in};
+ghost use Rattle.air_report.specs.ReportRules.{HasWidths, InGrammar};
+ghost use Rattle.air_report.specs.ReportGrammar.{HasReportFault};
+ghost use Rattle.air_report.specs.ReportLines.{lines_in};
 ghost use Rattle.air_report.specs.declared.reading.ReadReport.{ReadReport};
 ghost use Rattle.air_report.specs.ReadReports.{IsReportOf};
+
+pub(crate) mod reading;
+pub mod texts;
 
 /// The text of a report whose numbers fit their types, whose lines are in the grammar and whose history is legal has no fault, and what
 /// is read of it is this very report, its updates too.

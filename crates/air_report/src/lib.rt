@@ -1,15 +1,29 @@
-//! Reports as texts, both ways: `write_report` appends the text of a report, and `read_report` reads one back against a deck.
+//! Reports as texts, both ways, and the line of a refusal.
 //!
-//! A report is read as lines first (`report_reading`). `reading` makes the report of them, whose commits have the deck's updates,
-//! and tells the row of each verdict, glance and look; `laws` has that what is written is read back.
+//! `write_report` appends the text of a report (`writing`). `read_report` reads one back against a deck: `reading` reads its lines
+//! record by record, or tells the first faulty one with its least kind, and makes the report of them, whose commits have the deck's
+//! updates. `laws` says that a text spells one report or has one fault, and that what is written is read back. `status` has what a
+//! command ends with, and the line that it prints of a refusal.
 #![tactic(auto)]
 
-mod events;
-mod laws;
-mod reading;
+pub mod laws;
+pub mod reading;
+mod status;
+mod writing;
 
 pub use air_base::Rows;
+pub use air_model::{CountsLine, LookLine, VerdictLine};
 pub use laws::read_back_law;
+pub use laws::reading::{
+    not_both_reports_law, one_report_fault_law, one_report_law, report_or_fault_law,
+};
+pub use laws::texts::one_history_law;
+pub use reading::faults::ReportError;
+pub use reading::lines::EventLine;
+pub use reading::sections::ReadLines;
+pub use reading::texts::read_lines;
 pub use reading::{ReadReport, read_report};
-pub use report_reading::{ReportError, limits};
-pub use report_texts::{CountsLine, LookLine, Report, VerdictLine, write_report};
+pub use status::Status;
+pub use status::refusal::refusal_line;
+pub use writing::fields::{finish, put_numbers, put_row, row_writer};
+pub use writing::report::{Report, write_report};

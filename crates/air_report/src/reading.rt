@@ -2,18 +2,33 @@
 
 ghost use Rattle.std.specs.Prelude.{◌≡◌, ◌+◌, ◌≤◌, ◌^◌, length, IfErr, IfOk};
 ghost use Rattle.std.specs.List.{range_with_len};
-ghost use Rattle.report_reading.specs.declared.limits.TheConstants.{MOST_REPORT_BYTES};
-ghost use Rattle.report_reading.specs.ReportGrammar.{IsReportAnswer, SpellsReport};
+ghost use Rattle.air_report.specs.declared.reading.limits.TheConstants.{MOST_REPORT_BYTES};
+ghost use Rattle.air_report.specs.ReportGrammar.{IsReportAnswer, SpellsReport};
 ghost use Rattle.air_report.specs.ReadReports.{IsReportOf};
 ghost use Rattle.air_report.specs.KeptReports.{KeepsGrammar};
 ghost use Rattle.air_report.specs.Steps.ReportsOfLines.{IsMadeOf};
 
-use crate::events::events_in;
+pub(crate) mod draft;
+pub(crate) mod events;
+pub mod faults;
+pub(crate) mod kinds;
+pub mod limits;
+pub mod lines;
+pub(crate) mod parsing;
+pub(crate) mod reads;
+pub(crate) mod rules;
+pub mod sections;
+pub(crate) mod tags;
+pub(crate) mod texts;
+
+use crate::reading::events::events_in;
+use crate::reading::faults::ReportError;
+use crate::reading::sections::ReadLines;
+use crate::reading::texts::read_lines;
+use crate::writing::report::Report;
 use air_base::{NoMemory, Rows};
 use air_history::History;
 use item_catalog::Deck;
-use report_reading::{ReadLines, ReportError, read_lines};
-use report_texts::Report;
 use std::alloc::Global;
 
 /// A report that was read, and the row of each of its verdict, glance and look lines, counted from 1.

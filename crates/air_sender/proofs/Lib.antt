@@ -1,2 +1,9 @@
 pub mod RangeFacts
 pub mod SendFacts
+pub mod StartedBoards
+pub mod TapeLengths
+pub mod GrowFacts
+pub mod AiredLemmas
+pub mod RunLoops
+pub mod TapeLemmas
+pub mod TapeSizes

@@ -10,7 +10,7 @@ use Rattle.air_history.specs.Boards.{Board}
 use Rattle.air_model.specs.Aired.{aired_as}
 use Rattle.air_model.specs.Buckets.{Bucket, Column, Idle, IsInRange, Vector, count_of, entries_of, item_of, kind_of, spelling, value_of}
 use Rattle.bucket_codec.proofs.EncodingFacts.{length_spelling}
-use Rattle.board_laws.specs.BoardBuckets.{EntriesBelow, entries_on}
+use Rattle.air_sender.specs.BoardBuckets.{EntriesBelow, entries_on}
 
 -- Entries of a board that can air its cycle are below it.
 pub column_below : (board : Board) (item : ℕ) (es : List ℕ) → EntriesBelow board → es ≡ get_or board.columns item [] → All (λ e. e < board.cycle) es

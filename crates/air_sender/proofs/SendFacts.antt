@@ -19,8 +19,8 @@ use Rattle.air_devices.specs.Masts.{Changes, Masted, Sent, with_buckets}
 use Rattle.air_sender.specs.AirFaults.{IsAirAnswer, failed_slot}
 use Rattle.air_sender.specs.declared.airing.AirFault.{AirFault}
 use Rattle.air_sender.specs.declared.airing.AirFault.TheVariants as fault
-use Rattle.board_laws.specs.BoardBuckets.{IsLastBoard, body_on, bucket_on, cycle_buckets, cycle_bytes, last_bytes}
-use Rattle.board_laws.proofs.StartedBoards.{own_cycle}
+use Rattle.air_sender.specs.BoardBuckets.{IsLastBoard, body_on, bucket_on, cycle_buckets, cycle_bytes, last_bytes}
+use Rattle.air_sender.proofs.StartedBoards.{own_cycle}
 
 -- ---- the buckets of a cycle
 

@@ -1,2 +1,5 @@
 pub mod TapeMasts
 pub mod AirFaults
+pub mod BoardBuckets
+pub mod TapeSizes
+pub mod AiredBytes

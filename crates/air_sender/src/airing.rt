@@ -12,9 +12,9 @@ ghost use Rattle.air_model.specs.Buckets.{spelling};
 ghost use Rattle.air_model.specs.Aired.{Air};
 ghost use Rattle.air_devices.specs.Counts.{HasCause};
 ghost use Rattle.air_devices.specs.Masts.{Changes, with_buckets};
-ghost use Rattle.board_laws.specs.BoardBuckets.{EntriesBelow, IsLastBoard, bucket_on, cycle_bytes, last_bytes};
+ghost use Rattle.air_sender.specs.BoardBuckets.{EntriesBelow, IsLastBoard, bucket_on, cycle_bytes, last_bytes};
 ghost use Rattle.air_sender.specs.AirFaults.{IsAirAnswer, SendsUpToFault};
-ghost use Rattle.board_laws.specs.TapeSizes.{cycle_size};
+ghost use Rattle.air_sender.specs.TapeSizes.{cycle_size};
 
 use crate::buckets::slot_bucket;
 use air_base::Policy;

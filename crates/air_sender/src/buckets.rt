@@ -6,14 +6,14 @@ ghost use Rattle.air_model.specs.Aired.{aired_as};
 ghost use Rattle.bucket_codec.specs.declared.offsets.TheConstants.{ENTRY_BYTES, HEAD_BYTES};
 ghost use Rattle.air_model.specs.Buckets.{IsInRange, spelling};
 ghost use Rattle.bucket_codec.specs.BucketsToAir.{body_to_air, bucket_to_air};
-ghost use Rattle.board_laws.specs.BoardBuckets.{EntriesBelow, body_on, entries_on};
+ghost use Rattle.air_sender.specs.BoardBuckets.{EntriesBelow, body_on, entries_on};
 
 use air_base::Policy;
 use bucket_codec::{Body, Bucket};
 use control_matrix::Board;
 
 /// The bucket of a slot that has this item, or is idle.
-#[tactic(auto, using(crate::proofs::RangeFacts::spelling_long), unfolding(board_laws::specs::BoardBuckets::body_on, bucket_codec::specs::BucketsToAir::body_to_air))]
+#[tactic(auto, using(crate::proofs::RangeFacts::spelling_long), unfolding(crate::specs::BoardBuckets::body_on, bucket_codec::specs::BucketsToAir::body_to_air))]
 pub fn slot_bucket<'a>(board: &'a Board, policy: Policy, slot: u32, item: Option<u16>) -> Bucket<'a>
     requires within { IfSome item (λ i. i < length board.now.values) }
     requires slot { slot < 2 ^ 16 }

@@ -6,12 +6,11 @@ ghost use Rattle.std.specs.Prelude.{◌≡◌, ◌<◌, ◌^◌, ◌↔◌, [], 
 ghost use Rattle.air_model.specs.Tapes.{tape_of};
 ghost use Rattle.air_devices.specs.Counts.{HasCause};
 ghost use Rattle.air_devices.specs.Masts.{Changes, fresh_mast, with_buckets, with_end};
-ghost use Rattle.byte_rooms.specs.Recordings.{no_records, overflows_record};
+ghost use Rattle.air_devices.specs.Recordings.{no_records, overflows_record};
 ghost use Rattle.air_sender.specs.TapeMasts.{masted_of, told_by};
 
 use air_base::NoMemory;
-use air_devices::{Failed, Mast};
-use byte_rooms::TapeRoom;
+use air_devices::{Failed, Mast, TapeRoom};
 use std::alloc::Global;
 
 /// A tape of the sent buckets, and the room for it.

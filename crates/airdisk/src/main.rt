@@ -10,9 +10,10 @@ mod plain_files;
 
 use crate::notes::{explain, explain_no_memory};
 use air_base::NoMemory;
+use air_cli::air_main;
 use air_cli::words::HELP;
-use air_cli::{Status, air_main};
 use air_devices::{FileShelf, OpenGate, UdpEar, UdpMast};
+use air_report::Status;
 use std::alloc::Global;
 use std::env::{self, Env};
 use std::io::{self, Write};

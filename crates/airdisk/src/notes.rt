@@ -6,13 +6,13 @@
 use crate::plain_files::{deck_again, plain_size, read_again, tape_again};
 use air_base::NoMemory;
 use air_base::limits::{MOST_DECK_BYTES, MOST_SLOTS, MOST_TAPE_BYTES};
-use air_cli::Status;
 use air_devices::{FileShelf, NetFailure};
-use audited_reports::audit_report;
+use air_report::Status;
+use air_report::reading::limits::MOST_REPORT_BYTES;
 use fault_notes::{Shown, air_note, deck_note, report_note};
 use item_catalog::DeckFault;
+use live_replay::audit_report;
 use live_replay::limits::MOST_REPLAYED;
-use report_reading::limits::MOST_REPORT_BYTES;
 use std::alloc::Global;
 use std::rt::Files;
 

@@ -1,8 +1,8 @@
 //! Plain files that are looked into again, after a command has ended: what comes through a pipe is gone.
 
 use air_base::limits::MOST_TAPE_BYTES;
+use air_cli::read_deck_file;
 use air_devices::{FileShelf, Shelf, read_file};
-use deck_files::read_deck_file;
 use fault_notes::CutTape;
 use item_catalog::Deck;
 use std::alloc::Global;

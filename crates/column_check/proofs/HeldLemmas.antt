@@ -8,8 +8,8 @@ use Rattle.air_history.specs.Consistency.{IsConsistent}
 use Rattle.air_history.specs.Clashes.{Heard, read_at, heard_clash, clash_by_history, clash_by_entries}
 use Rattle.air_history.specs.ClashLaws.{IsHeard}
 use Rattle.air_history.specs.Columns.{scheme_of}
-use Rattle.history_laws.proofs.ClashLemmas.{clash}
-use Rattle.history_laws.proofs.PolicyLemmas.{stays_consistent}
+use Rattle.air_history.proofs.ClashLemmas.{clash}
+use Rattle.air_history.proofs.PolicyLemmas.{stays_consistent}
 use Rattle.column_check.specs.Searches.{disagree}
 
 -- The clash by the entries is the least among the reads that disagree with the new one.

@@ -4,7 +4,7 @@ use Rattle.std.specs.Prelude.{MatchOption}
 use Rattle.air_base.specs.declared.verdicts.Clash.{Clash}
 use Rattle.air_base.specs.declared.verdicts.Policy.TheVariants.{FMatrix}
 use Rattle.air_history.specs.Clashes.{Heard, heard_clash, clash_by_entries}
-use Rattle.held_entries.proofs.ReachedLemmas.{NamesLeastOf, search_names}
+use Rattle.held_reads.proofs.ReachedLemmas.{NamesLeastOf, search_names}
 use Rattle.column_check.specs.Searches.{disagree, IsLeastClash}
 use Rattle.column_check.proofs.HeldLemmas.{least_is}
 

@@ -2,7 +2,7 @@
 use Rattle.std.specs.Prelude.{◌≡◌, ◌≤◌, Bool, ◌||◌, nat_le, List, All, Any, IsTrue}
 use Rattle.air_base.specs.declared.verdicts.Clash.{Clash}
 use Rattle.air_history.specs.Clashes.{Heard, entry_of}
-use Rattle.held_entries.specs.Searches.{clash_of}
+use Rattle.held_reads.specs.Searches.{clash_of}
 
 -- Whether the column of the new read x or of the held read r has the other's item at its cycle or later.
 abbrev pub disagree : Heard → Heard → Bool

@@ -11,13 +11,13 @@ ghost use Rattle.air_history.specs.Consistency.{IsConsistent};
 ghost use Rattle.air_history.specs.Clashes.{read_at, clash_by_history, clash_by_entries};
 ghost use Rattle.air_history.specs.ClashLaws.{IsHeard};
 ghost use Rattle.air_history.specs.Columns.{scheme_of};
-ghost use Rattle.held_entries.specs.HeardReads.{heard_read};
+ghost use Rattle.held_reads.specs.HeardReads.{heard_read};
 ghost use Rattle.air_history.specs.HeldReads.{IsNew};
-ghost use Rattle.held_entries.specs.HeldCycles.{cycles_of};
+ghost use Rattle.held_reads.specs.HeldCycles.{cycles_of};
 ghost use Rattle.column_check.specs.Steps.LesserOfTwo.{lesser_of_both};
 
 use air_base::{Clash, NoMemory};
-use held_entries::{HeldEntries, ROOM, lesser_clash};
+use held_reads::{HeldEntries, ROOM, lesser_clash};
 use std::alloc::Global;
 use std::marker::Model;
 

@@ -8,4 +8,4 @@ pub mod held;
 pub mod laws;
 
 pub use held::Held;
-pub use held_entries::ROOM;
+pub use held_reads::ROOM;

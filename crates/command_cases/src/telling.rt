@@ -1,8 +1,8 @@
 //! What a command came to, in lines.
 
 use air_base::NoMemory;
-use air_cli::Status;
 use air_devices::MemShelf;
+use air_report::Status;
 use case_lines::add_line;
 use std::alloc::Global;
 

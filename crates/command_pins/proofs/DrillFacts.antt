@@ -25,7 +25,7 @@ use Rattle.air_model.specs.Judges.{by_history}
 use Rattle.air_model.specs.Sessions.{session, query_of, wanted, line_of, with_line, count_copied, count_opened, count_dozed, count_late, count_refused, count_foreign, next_query, next_attempt, accept_if_whole, hold, abort, is_unusable, drop_copy, copy_of, turn_with, turn, settle, decide, offer, open_bucket, hear_read, hear, hear_all, end_query, end}
 use Rattle.air_model.specs.Rows.{rows_text}
 use Rattle.air_model.specs.Outputs.{true_sessions}
-use Rattle.aired_sessions.specs.DrillLines.{drill_output}
+use Rattle.scripts.specs.DrillLines.{drill_output}
 
 pub line_of_drill : drill_output 0 1 ≡ codes "drill,18,10,4,28,11200,8,0,0,21,863,0\n"
 unfolding drill_output drill_deck draw draw_each draw_update draw_query number_text escaped fields_text is_blank last_place greatest cycle_at front starts writer writer_before writes reads is_start descends descends_in column_entry vector_entry value_on_base write_of value_after table origin stale descends_from runs_alone last_alone consistent least is_late clash_by_history body_at bucket_at count_of entries_at entries_of entry_count is_placed is_shaped item_of kind_of reading spelling value_of record_bytes tape_of words_by due_at due_number heard_list heard_by heard_places places_due times_heard keep without_item with_copy order order_with cut program least_common_multiple num_minors num_chunks chunk_len chunk minor_cycle minor_len disk_number chunks_of pix_number event_of script_history body_of bucket_of buckets_of body_fits fits by_history session query_of wanted line_of with_line count_copied count_opened count_dozed count_late count_refused count_foreign next_query next_attempt accept_if_whole hold abort is_unusable drop_copy copy_of turn_with turn settle decide offer open_bucket hear_read hear hear_all end_query end rows_text true_sessions

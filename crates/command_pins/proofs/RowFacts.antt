@@ -3,14 +3,14 @@ use Rattle.std.proofs.Common.{◌≡◌, ℕ, ◌≤◌, [], List, Result, Err, 
 use Rattle.std.specs.Prelude.{IfErr}
 use Rattle.csv.specs.Reading.{records_from, strip_bom}
 use Rattle.csv.specs.Machine.{next_record}
-use Rattle.text_records.specs.Records.{records_of}
+use Rattle.item_catalog.specs.Records.{records_of}
 use Rattle.item_catalog.specs.Grammar.{HasFault}
 use Rattle.air_devices.specs.Shelves.{Shelved}
 use Rattle.air_devices.specs.Told.{WhereTold}
-use Rattle.air_status.specs.declared.status.Status.{Status}
-use Rattle.air_status.specs.declared.status.Status.TheVariants as status
-use Rattle.deck_files.specs.FileLimits.{deck_limit}
-use Rattle.deck_files.specs.NamedDecks.{DeckCause, IsFaulty}
+use Rattle.air_report.specs.declared.status.Status.{Status}
+use Rattle.air_report.specs.declared.status.Status.TheVariants as status
+use Rattle.air_cli.specs.FileLimits.{deck_limit}
+use Rattle.air_cli.specs.NamedDecks.{DeckCause, IsFaulty}
 
 no_rows : length (records_of []) ≡ 0
 unfolding strip_bom records_from next_record

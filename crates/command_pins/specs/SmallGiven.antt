@@ -1,6 +1,6 @@
 -- What a small command gives.
 use Rattle.std.specs.Prelude.{[], ◌∷◌, true}
-use Rattle.delivery.specs.Given.{Given}
+use Rattle.air_cli.specs.Given.{Given}
 
 -- A text of two bytes and a tape of one; something differs.
 abbrev pub small_given : Given

@@ -1,4 +1,4 @@
-//! These pins say what `air_casts` sends to a mast in memory, and what it leaves of three datagrams that wait at an ear in memory.
+//! These pins say what `cast_run` sends to a mast in memory, and what `ear_sessions` leaves of three datagrams that wait at an ear in memory.
 //! They tell the port, the end of what was sent, and the cause of each failure of a device.
 
 ghost use Rattle.std.specs.Prelude.{◌≡◌, ◌≤◌, ◌+◌, ℕ, [], ◌∷◌, length, Err, None, Some, IsSome, OnErr, OnOk};
@@ -6,9 +6,10 @@ ghost use Rattle.air_model.specs.Decks.{disks_in};
 ghost use Rattle.air_devices.specs.Masts.{nothing_sent};
 ghost use Rattle.air_devices.specs.MemoryMasts.{told_by};
 
-use air_casts::{HearFault, Run, RunFault, cast_run, ear_sessions};
+use air_cli::{HearFault, ear_sessions};
 use air_devices::{Gate, MemEar, MemMast};
 use chunk_program::Program;
+use deck_runs::{Run, RunFault, cast_run};
 use item_catalog::Deck;
 use listeners::Sessions;
 use std::alloc::Global;

@@ -1,10 +1,10 @@
-//! This pin fixes the whole line that `run_drill` of `aired_sessions` answers for one seed and one size, byte by byte.
+//! This pin fixes the whole line that `run_drill` of `scripts` answers for one seed and one size, byte by byte.
 //! So it guards the definitions too: the deck of a drill, its script's history and tape, the ethers, and the readers' sessions.
 
 ghost use Rattle.std.specs.Prelude.{◌≡◌, codes, IfOk};
 
 use air_base::NoMemory;
-use aired_sessions::run_drill;
+use scripts::run_drill;
 use std::alloc::Global;
 use std::thread::Threads;
 

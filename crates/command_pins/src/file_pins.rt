@@ -1,16 +1,16 @@
-//! These pins say what `deck_files` gives of a named file over a shelf in memory, and why it refuses one.
+//! These pins say what `files` of `air_cli` gives of a named file over a shelf in memory, and why it refuses one.
 //! They tell its bytes, the limit, the row of a fault, the number of slots, and when a count of faults rose.
-#![tactic(auto, unfolding(deck_files::specs::NamedFiles::UnreadCause, deck_files::specs::NamedDecks::DeckCause, deck_files::specs::RunnableDecks::LengthCause, deck_files::specs::RunnableDecks::UnrunnableCause, item_catalog::specs::Grammar::HasFault))]
+#![tactic(auto, unfolding(air_cli::specs::NamedFiles::UnreadCause, air_cli::specs::NamedDecks::DeckCause, air_cli::specs::RunnableDecks::LengthCause, air_cli::specs::RunnableDecks::UnrunnableCause, item_catalog::specs::Grammar::HasFault))]
 
 ghost use Rattle.std.specs.Prelude.{◌≡◌, ◌≢◌, ◌≤◌, ◌<◌, ℕ, [], ◌∷◌, length, Err, Some, IfOk, OnOk};
 ghost use Rattle.air_model.specs.Decks.{disks_in};
 ghost use Rattle.air_model.specs.Programs.{program};
 ghost use Rattle.air_devices.specs.Memory.{told_by};
 
+use air_cli::{plan_deck, read_bytes, read_deck_file, read_runnable_deck};
 use air_devices::MemShelf;
-use air_status::Status;
+use air_report::Status;
 use chunk_program::{Cut, Program};
-use deck_files::{plan_deck, read_bytes, read_deck_file, read_runnable_deck};
 use item_catalog::Deck;
 use std::alloc::Global;
 

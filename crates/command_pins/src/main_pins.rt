@@ -1,6 +1,6 @@
 //! These pins say what `air_main` of `air_cli` does for a command's words, over devices in memory: what it prints, writes and reads.
 //! Where a command is done, the answer is the definition of its output; the other clauses say what each status leaves as it was.
-#![tactic(auto, unfolding(air_base::specs::Numbers::number_of, deck_files::specs::NamedDecks::DeckCause, air_cli::specs::Answers::QuietAnswers, air_cli::specs::Plan::PlanCause, air_cli::specs::Plan::PlanGives, air_cli::specs::Drill::DrillGives, air_cli::specs::Script::ScriptCause, air_cli::specs::Script::ScriptGives, air_cli::specs::Audit::AuditGives, air_cli::specs::Cast::CastCause))]
+#![tactic(auto, unfolding(air_base::specs::Numbers::number_of, air_cli::specs::NamedDecks::DeckCause, air_cli::specs::Answers::QuietAnswers, air_cli::specs::Plan::PlanCause, air_cli::specs::Plan::PlanGives, air_cli::specs::Drill::DrillGives, air_cli::specs::Script::ScriptCause, air_cli::specs::Script::ScriptGives, air_cli::specs::Audit::AuditGives, air_cli::specs::Cast::CastCause))]
 
 ghost use Rattle.std.specs.Prelude.{◌≡◌, ◌≤◌, ◌<◌, ℕ, List, false, [], ◌∷◌, None, Some, codes, map, string_bytes};
 ghost use Rattle.air_model.specs.Decks.{Deck};
@@ -9,13 +9,14 @@ ghost use Rattle.air_devices.specs.Masts.{nothing_sent};
 ghost use Rattle.air_devices.specs.Memory.{file_bytes, file_named, told_by};
 ghost use Rattle.air_devices.specs.MemoryEars.{eared_of};
 ghost use Rattle.air_devices.specs.MemoryMasts.{masted_of, told_by as sent_by};
-ghost use Rattle.aired_sessions.specs.DrillLines.{drill_output};
-ghost use Rattle.audited_reports.specs.FindingTexts.{findings_text, some_differ};
+ghost use Rattle.scripts.specs.DrillLines.{drill_output};
+ghost use Rattle.live_replay.specs.FindingTexts.{findings_text, some_differ};
 ghost use Rattle.item_catalog.specs.Grammar.{Spells};
 ghost use Rattle.live_replay.specs.declared.findings.Finding.{Finding};
 
-use air_cli::{Status, air_main};
+use air_cli::air_main;
 use air_devices::{Gate, MemEar, MemMast, MemShelf};
+use air_report::Status;
 use std::alloc::Global;
 use std::sync::Wait;
 use std::thread::Threads;

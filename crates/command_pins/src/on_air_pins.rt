@@ -1,20 +1,20 @@
-//! These pins say what `aired_runs` gives of a run: report and tape are the definitions' for one whole history.
+//! These pins say what `run_on_air` gives of a run: report and tape are the definitions' for one whole history.
 //! They also say when a run is refused for the length of its tape, and with which number.
-#![tactic(auto, unfolding(aired_runs::specs::GivenRuns::IsRunRefusal))]
+#![tactic(auto, unfolding(air_cli::specs::GivenRuns::IsRunRefusal))]
 
 ghost use Rattle.std.specs.Prelude.{◌≡◌, ◌≢◌, ◌<◌, ◌*◌, [], ◌∷◌, length, map, Err, IfOk, IfSome};
 ghost use Rattle.air_model.specs.Decks.{IsWhole, disks_in};
 ghost use Rattle.air_model.specs.Outputs.{run_output, run_tape};
 ghost use Rattle.air_model.specs.Programs.{program as slots_of};
 ghost use Rattle.air_model.specs.declared.reports.LookLine.{LookLine};
-ghost use Rattle.board_laws.specs.TapeSizes.{cycle_size};
-ghost use Rattle.run_laws.specs.Runs.{Run};
+ghost use Rattle.air_sender.specs.TapeSizes.{cycle_size};
+ghost use Rattle.air_model.specs.Runs.{Run};
 
+use air_cli::{Given, run_on_air};
 use air_devices::Gate;
-use air_status::Status;
-use aired_runs::{long_run, run_on_air};
+use air_report::Status;
 use chunk_program::Program;
-use delivery::Given;
+use deck_runs::long_run;
 use item_catalog::Deck;
 use std::alloc::Global;
 use std::sync::Wait;

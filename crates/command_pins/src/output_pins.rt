@@ -1,14 +1,14 @@
-//! These pins say what `delivery` prints and writes of a tape of one byte and a text of two, over a shelf in memory.
+//! These pins say what `outputs` of `air_cli` prints and writes of a tape of one byte and a text of two, over a shelf in memory.
 //! They also say when it tells a fault of writing, and that a refusal leaves the outputs as they were.
-#![tactic(auto, unfolding(delivery::specs::Deliveries::Delivers))]
+#![tactic(auto, unfolding(air_cli::specs::Deliveries::Delivers))]
 
 ghost use Rattle.std.specs.Prelude.{◌≡◌, ◌≢◌, ◌≤◌, [], ◌∷◌, None, Some, codes, option_map};
 ghost use Rattle.air_devices.specs.Memory.{told_by};
 ghost use Rattle.command_pins.specs.SmallGiven.{small_given};
 
+use air_cli::{Given, deliver, refuse};
 use air_devices::MemShelf;
-use air_status::Status;
-use delivery::{Given, deliver, refuse};
+use air_report::Status;
 use std::alloc::Global;
 
 /// What differs is told as that, and then the named output holds just the tape, and the text was printed after what was printed before.

@@ -11,11 +11,11 @@ use Rattle.air_history.specs.Histories.{is_start, writes, reads, starts, writer,
 use Rattle.air_history.specs.Columns.{column, column_entry, vector, vector_entry}
 use Rattle.air_history.specs.Tables.{table, table_list, values_of, value_after, BasesRead}
 use Rattle.air_history.specs.Boards.{Board, board_of, columns}
-use Rattle.history_laws.proofs.StepLemmas.{step}
-use Rattle.history_laws.proofs.VectorLemmas.{vector_step}
+use Rattle.air_history.proofs.StepLemmas.{step}
+use Rattle.air_history.proofs.VectorLemmas.{vector_step}
 use Rattle.air_history.proofs.ScanLemmas.{cycle_all, start_writes_nothing}
 use Rattle.air_history.proofs.TableLemmas.{table_nil, table_push}
-use Rattle.history_laws.proofs.AloneLemmas.{not_written, written_same}
+use Rattle.air_history.proofs.AloneLemmas.{not_written, written_same}
 use Rattle.control_matrix.specs.Columns.{entry_in, written_entry, next_column, next_columns}
 use Rattle.control_matrix.specs.BoardSteps.{next_vector, step_board}
 use Rattle.control_matrix.proofs.EntryLemmas.{greatest_of_within, reads_fit}

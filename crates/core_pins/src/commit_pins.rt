@@ -8,9 +8,10 @@ ghost use Rattle.air_history.specs.declared.histories.Event.TheVariants.{Start};
 ghost use Rattle.core_pins.specs.Commits.{set_to, add_to, update_of, commit};
 ghost use Rattle.core_pins.specs.SmallCores.{core_of};
 
+use air_base::NoMemory;
 use air_history::{Event, Update};
 use std::alloc::Global;
-use update_commit::{Core, NoMemory, Receipt};
+use update_commit::{Core, Receipt};
 
 /// A copy of a commit has its number, and the first event after the start is copied too. It also refuses that the copies begin one
 /// event too far.

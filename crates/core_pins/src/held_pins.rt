@@ -1,4 +1,4 @@
-//! These pins of `held_entries` say what is found among two held reads over three items.
+//! These pins of `held_reads` say what is found among two held reads over three items.
 //!
 //! A clash names a held read by its item and cycle.
 #![tactic(auto, unfolding(air_history::specs::Clashes::least))]
@@ -7,7 +7,7 @@ ghost use Rattle.std.specs.Prelude.{◌≡◌, [], ◌∷◌, Some};
 ghost use Rattle.core_pins.specs.SmallReads.{heard, two};
 
 use air_base::Clash;
-use held_entries::{HeldEntries, lesser_clash};
+use held_reads::{HeldEntries, lesser_clash};
 
 /// A clash has the cycle in which its item is held, and not the entry that reaches it.
 pub fn entry_for_the_held_cycle(held: &HeldEntries, entries: &[u32]) -> Option<Clash>

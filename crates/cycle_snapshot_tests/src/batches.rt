@@ -3,8 +3,9 @@ ghost use Rattle.std.specs.Prelude.{◌≡◌, ◌+◌, ◌≤◌, length, IfOk}
 ghost use Rattle.cycle_snapshot.specs.Batches.{IsBatch};
 ghost use Rattle.cycle_snapshot_tests.specs.Workers.{StaysPublisher};
 
+use air_base::NoMemory;
 use air_history::{Event, Update, Write};
-use cycle_snapshot::{NoMemory, Publisher};
+use cycle_snapshot::Publisher;
 use std::alloc::Global;
 use std::sync::Wait;
 

@@ -3,7 +3,8 @@ ghost use Rattle.std.specs.Prelude.{◌≡◌, length, IfOk};
 ghost use Rattle.air_history.specs.Boards.{frame_of};
 ghost use Rattle.cycle_snapshot.specs.Batches.{events_in};
 
-use cycle_snapshot::{Monitor, NoMemory, Publisher};
+use air_base::NoMemory;
+use cycle_snapshot::{Monitor, Publisher};
 
 /// A look after the monitor was told the list of a publisher that has all its batches: it gives just that list, whatever the
 /// monitor saw before.

@@ -3,7 +3,8 @@ ghost use Rattle.std.specs.Prelude.{◌≡◌, ◌+◌, ◌<◌, ◌≤◌, leng
 ghost use Rattle.cycle_snapshot_tests.specs.Workers.{IsSamePublisher, StaysPublisher};
 
 use crate::batches::{Row, batch_of};
-use cycle_snapshot::{Monitor, NoMemory, Publisher, publisher};
+use air_base::NoMemory;
+use cycle_snapshot::{Monitor, Publisher, publisher};
 use std::alloc::Global;
 use std::sync::Wait;
 use std::test::Fail;

@@ -4,7 +4,8 @@ ghost use Rattle.std.specs.Thread.{IsSync};
 ghost use Rattle.cycle_snapshot_tests.specs.Workers.{HasThree};
 
 use crate::batches::publish_all;
-use cycle_snapshot::{Monitor, NoMemory, Publisher, publisher};
+use air_base::NoMemory;
+use cycle_snapshot::{Monitor, Publisher, publisher};
 use std::alloc::Global;
 use std::sync::Wait;
 use std::test::Fail;

@@ -4,8 +4,7 @@ use crate::broken::Broken;
 use crate::shelves::{add_text, numbers};
 use air_base::NoMemory;
 use air_base::limits::MOST_DATAGRAM_BYTES;
-use air_devices::{Failed, Mast, MemMast, NetFailure, UdpMast};
-use byte_rooms::TapeRoom;
+use air_devices::{Failed, Mast, MemMast, NetFailure, TapeRoom, UdpMast};
 use case_lines::{add_line, first_word, number};
 use std::alloc::Global;
 

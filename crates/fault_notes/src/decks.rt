@@ -1,15 +1,20 @@
 //! What is wrong with a deck that was refused.
 
-use crate::ends::end_note;
-use crate::fields::{count_note, deck_field_note, tag_note};
-use crate::limits::{overdrawn_note, total_note};
-use crate::names::{id_note, twice_note, undeclared_note, unread_note};
+pub(crate) mod ends;
+pub(crate) mod limits;
+pub(crate) mod names;
+pub(crate) mod settings;
+
+use crate::decks::ends::end_note;
+use crate::decks::limits::{overdrawn_note, total_note};
+use crate::decks::names::{id_note, twice_note, undeclared_note, unread_note};
+use crate::decks::settings::setting_note;
+use crate::records::before::RecordsBefore;
+use crate::records::fields::{count_note, deck_field_note, tag_note};
+use crate::records::tags::{Line, Tag, deck_line};
 use crate::records::{Found, Kind, Record, find};
-use crate::records_before::RecordsBefore;
-use crate::sentences::Sentence;
-use crate::settings::setting_note;
-use crate::tags::{Line, Tag, deck_line};
-use crate::texts::Shown;
+use crate::words::sentences::Sentence;
+use crate::words::texts::Shown;
 use air_base::{NoMemory, read_u64};
 use item_catalog::DeckFault;
 use std::alloc::Global;

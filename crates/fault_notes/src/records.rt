@@ -1,8 +1,13 @@
 //! The record of a row: where it begins, its fields, and what the records before it say.
 
-use crate::records_before::RecordsBefore;
-use crate::sentences::Sentence;
-use crate::texts::Shown;
+pub(crate) mod before;
+pub(crate) mod fields;
+pub(crate) mod lists;
+pub(crate) mod tags;
+
+use crate::records::before::RecordsBefore;
+use crate::words::sentences::Sentence;
+use crate::words::texts::Shown;
 use air_base::{NoMemory, read_u64};
 use csv::{ByteRecord, ReaderBuilder};
 use std::alloc::Global;

@@ -1,12 +1,14 @@
 //! What is wrong with a report that was refused.
 
-use crate::fields::{count_note, report_field_note, tag_note};
-use crate::lists::{Test, first_failing};
+pub(crate) mod strangers;
+
+use crate::records::before::RecordsBefore;
+use crate::records::fields::{count_note, report_field_note, tag_note};
+use crate::records::lists::{Test, first_failing};
+use crate::records::tags::{Line, Tag, report_line, section};
 use crate::records::{Found, Kind, Record, find};
-use crate::records_before::RecordsBefore;
-use crate::sentences::Sentence;
-use crate::strangers::{commit_note, stranger_note};
-use crate::tags::{Line, Tag, report_line, section};
+use crate::reports::strangers::{commit_note, stranger_note};
+use crate::words::sentences::Sentence;
 use air_base::NoMemory;
 use item_catalog::Deck;
 use std::alloc::Global;

@@ -2,8 +2,8 @@
 
 ghost use Rattle.std.specs.Prelude.{◌≤◌, length};
 
-use crate::sentences::Sentence;
-use crate::texts::Shown;
+use crate::words::sentences::Sentence;
+use crate::words::texts::Shown;
 use air_base::NoMemory;
 use bucket_codec::offsets::LENGTH_BYTES;
 use std::alloc::Global;

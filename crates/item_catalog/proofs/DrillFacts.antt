@@ -14,10 +14,10 @@ use Rattle.air_model.specs.Decks.{Deck, IsDeck, IsQuery, IsUpdate, Item}
 use Rattle.air_model.specs.Draws.{Draw, ◌>>=◌, draw, draw_each, generator, gives, go_on}
 use Rattle.air_model.specs.Drills.{dealt_to, draw_item, draw_query, draw_update, drill_deck, drill_disks, drill_items, drill_of, drill_script}
 use Rattle.item_catalog.specs.DeckLimits.{DiskWithin, ReaderWithin, WithinLimits, is_start_part}
-use Rattle.drill_parts.proofs.AroundFacts.{range_all}
+use Rattle.item_catalog.proofs.AroundFacts.{range_all}
 use Rattle.item_catalog.proofs.DealFacts.{dealt_all, dealt_few, script_fits, script_short}
-use Rattle.drill_parts.proofs.DrawFacts.{draw_below, drawn_all, length-draw_each}
-use Rattle.drill_parts.proofs.DrawnFacts.{query_drawn, query_short, update_drawn}
+use Rattle.item_catalog.proofs.DrawFacts.{draw_below, drawn_all, length-draw_each}
+use Rattle.item_catalog.proofs.DrawnFacts.{query_drawn, query_short, update_drawn}
 
 -- A deck of its parts.
 abbrev pub deck_by : List Item → List DiskSpec → List (List UpdateLists) → List ReaderPlan → List (List (List ℕ)) → List (Option ℕ) → Settings → Deck

@@ -11,16 +11,16 @@ use Rattle.air_history.specs.declared.updates.Write.{Write}
 use Rattle.air_history.specs.UpdateRules.{base_holds, base_is_read, has_repeat, item_of, update_fault}
 use Rattle.item_catalog.specs.DeckEntries.{query_by, script_by, update_by}
 use Rattle.item_catalog.specs.DeckEntries as e
-use Rattle.update_texts.specs.Writes.{constant, value_of, write_by, write_from, write_of, write_on_base}
+use Rattle.item_catalog.specs.Writes.{constant, value_of, write_by, write_from, write_of, write_on_base}
 use Rattle.air_base.specs.Pieces.{cut_at, two_of}
 use Rattle.item_catalog.specs.Fields.{event_of}
 use Rattle.item_catalog.specs.declared.faults.FaultKind.{FaultKind}
 use Rattle.item_catalog.specs.declared.faults.FaultKind.TheVariants as fault
-use Rattle.text_records.specs.Kinds.{first_of}
+use Rattle.item_catalog.specs.RecordKinds.{first_of}
 use Rattle.item_catalog.specs.Faults.{script_passes, update_tests}
-use Rattle.update_texts.specs.ListTests.{is_unread, option_any, reaches, write_reaches}
+use Rattle.item_catalog.specs.ListTests.{is_unread, option_any, reaches, write_reaches}
 use Rattle.item_catalog.specs.Steps.ScriptView.{EventsRead}
-use Rattle.update_texts.specs.KeptLists.{ReadIs}
+use Rattle.item_catalog.specs.KeptLists.{ReadIs}
 use Rattle.air_base.proofs.NumberFronts.{spelled_fits}
 
 -- What holds of each value that a part may spell holds of all values of a list.

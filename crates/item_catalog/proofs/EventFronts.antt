@@ -7,7 +7,7 @@ use Rattle.std.proofs.lemmas.Bool.Decides.{nat_tests}
 use Rattle.air_base.specs.Numbers.{number_of}
 use Rattle.air_base.specs.Fronts.{front, is_no_space, first_part, after_part, ends_part}
 use Rattle.air_base.proofs.NumberFronts.{ended, goes_on}
-use Rattle.text_records.specs.Fields.{◌is◌}
+use Rattle.item_catalog.specs.RecordFields.{◌is◌}
 use Rattle.item_catalog.specs.Fields.{event_of}
 use Rattle.item_catalog.specs.Steps.ScriptView.{begins_start}
 

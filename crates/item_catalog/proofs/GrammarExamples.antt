@@ -7,7 +7,7 @@ use Rattle.air_base.specs.NumberLists.{all_some}
 use Rattle.air_base.specs.declared.verdicts.Policy.TheVariants.{FMatrix}
 use Rattle.air_history.specs.UpdateRules.{has_repeat}
 use Rattle.item_catalog.specs.Fields.{event_of, freq_of}
-use Rattle.update_texts.specs.Writes.{value_of, write_of}
+use Rattle.item_catalog.specs.Writes.{value_of, write_of}
 use Rattle.item_catalog.specs.Decks.{deck_of}
 use Rattle.item_catalog.specs.Faults.{entries_in, kinds_at, some_below}
 use Rattle.item_catalog.specs.Grammar.{HasFault}

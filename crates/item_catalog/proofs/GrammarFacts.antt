@@ -1,8 +1,8 @@
 -- No text spells two decks, nor a deck where it has a fault.
 use Rattle.std.proofs.Common.{◌≡◌, ◌+◌, ◌∙◌, ℕ, List, length, sym}
 use Rattle.air_model.specs.Decks.{Deck}
-use Rattle.text_records.specs.Records.{records_of}
-use Rattle.text_records.proofs.FaultPlaces.{not_both}
+use Rattle.item_catalog.specs.Records.{records_of}
+use Rattle.item_catalog.proofs.FaultPlaces.{not_both}
 use Rattle.item_catalog.specs.Faults.{kinds_at}
 use Rattle.item_catalog.specs.Grammar.{HasFault, Spells}
 

@@ -17,7 +17,7 @@ use Rattle.item_catalog.specs.Steps.Drafts.{DraftValue, push_at}
 use Rattle.item_catalog.specs.DeckEntries.{Entry}
 use Rattle.item_catalog.specs.DeckEntries as e
 use Rattle.item_catalog.specs.Faults.{count_starts}
-use Rattle.update_texts.specs.ListTests.{option_any}
+use Rattle.item_catalog.specs.ListTests.{option_any}
 use Rattle.item_catalog.specs.Ranges.{outside}
 use Rattle.item_catalog.specs.Settings.{range_of}
 use Rattle.item_catalog.specs.declared.parts.ItemPart.{ItemPart}

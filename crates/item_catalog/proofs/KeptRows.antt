@@ -6,10 +6,10 @@ use Rattle.std.proofs.lemmas.List.FromFn.{length-map-range_with_len, get_or-map-
 use Rattle.air_base.specs.declared.limits.TheConstants.{MOST_READERS, MOST_UPDATERS}
 use Rattle.air_history.specs.UpdateLists.{UpdateLists}
 use Rattle.air_model.specs.Decks.{Deck, IsDeck}
-use Rattle.text_records.specs.FirstFaults.{NoneBefore}
-use Rattle.text_records.specs.Kinds.{first_of}
-use Rattle.text_records.proofs.KindFacts.{none_first}
-use Rattle.text_records.proofs.PlaceFacts.{along, kinds_end}
+use Rattle.item_catalog.specs.FirstFaults.{NoneBefore}
+use Rattle.item_catalog.specs.RecordKinds.{first_of}
+use Rattle.item_catalog.proofs.KindFacts.{none_first}
+use Rattle.item_catalog.proofs.RecordPlaces.{along, kinds_end}
 use Rattle.item_catalog.specs.DeckLimits.{WithinLimits}
 use Rattle.item_catalog.specs.Decks.{for_each}
 use Rattle.item_catalog.specs.Steps.Drafts.{draft_of, draft_tests}

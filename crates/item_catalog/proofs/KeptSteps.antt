@@ -16,9 +16,9 @@ use Rattle.air_model.specs.declared.deck.ReaderPlan.{ReaderPlan}
 use Rattle.item_catalog.specs.Steps.Drafts.{DraftValue, draft_tests, push_at, with_entry}
 use Rattle.item_catalog.specs.DeckEntries.{Entry}
 use Rattle.item_catalog.specs.DeckEntries as e
-use Rattle.text_records.specs.Kinds.{first_of}
+use Rattle.item_catalog.specs.RecordKinds.{first_of}
 use Rattle.item_catalog.specs.Faults.{count_starts, script_passes, some_below}
-use Rattle.update_texts.specs.ListTests.{option_any, reaches, write_reaches}
+use Rattle.item_catalog.specs.ListTests.{option_any, reaches, write_reaches}
 use Rattle.item_catalog.specs.Ranges.{outside}
 use Rattle.item_catalog.specs.declared.faults.FaultKind.TheVariants as fault
 use Rattle.item_catalog.specs.declared.parts.ItemPart.{ItemPart}

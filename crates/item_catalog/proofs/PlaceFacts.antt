@@ -4,10 +4,10 @@ use Rattle.std.proofs.Common.{◌≡◌, ◌+◌, ◌++◌, ◌∷◌, [], ℕ, 
 use Rattle.std.specs.Result.{result_ok}
 use Rattle.std.proofs.lemmas.Bool.{cases_lt}
 use Rattle.std.proofs.lemmas.List.Elements.{filter_map-append}
-use Rattle.text_records.specs.FirstFaults.{IsLeast, NoneBefore}
-use Rattle.text_records.specs.Kinds.{first_of, least_kind, with_spelled}
-use Rattle.text_records.proofs.KindFacts.{least_applies, least_spelled, none_apply, none_spelled, rising}
-use Rattle.text_records.proofs.PlaceFacts as places
+use Rattle.item_catalog.specs.FirstFaults.{IsLeast, NoneBefore}
+use Rattle.item_catalog.specs.RecordKinds.{first_of, least_kind, with_spelled}
+use Rattle.item_catalog.proofs.KindFacts.{least_applies, least_spelled, none_apply, none_spelled, rising}
+use Rattle.item_catalog.proofs.RecordPlaces as places
 use Rattle.item_catalog.specs.Steps.Drafts.{draft_of, record_kind, with_entry}
 use Rattle.item_catalog.specs.DeckEntries.{Entry, entry_of}
 use Rattle.item_catalog.specs.DeckEntries as e

@@ -3,10 +3,10 @@ use Rattle.std.proofs.Common.{◌≡◌, ◌<◌, ◌+◌, ◌++◌, ◌∷◌, 
 use Rattle.std.specs.Prelude.{IfErr, IfOk}
 use Rattle.std.proofs.lemmas.List.{append-nil}
 use Rattle.air_model.specs.Decks.{Deck}
-use Rattle.text_records.specs.FirstFaults.{NoneBefore}
-use Rattle.text_records.specs.Kinds.{first_of}
-use Rattle.text_records.specs.Records.{records_of}
-use Rattle.text_records.proofs.PlaceFacts.{refused}
+use Rattle.item_catalog.specs.FirstFaults.{NoneBefore}
+use Rattle.item_catalog.specs.RecordKinds.{first_of}
+use Rattle.item_catalog.specs.Records.{records_of}
+use Rattle.item_catalog.proofs.RecordPlaces.{refused}
 use Rattle.item_catalog.specs.Steps.Drafts.{DraftValue, deck_from, draft_of, record_kind}
 use Rattle.item_catalog.specs.Steps.ReadEnds.{CanEnd, EndsBy}
 use Rattle.item_catalog.specs.DeckEntries.{entry_of}

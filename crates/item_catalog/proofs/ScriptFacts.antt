@@ -12,7 +12,7 @@ use Rattle.air_base.specs.declared.limits.TheConstants.{MOST_EVENTS, MOST_STARTS
 use Rattle.air_model.specs.Decks.{count_parts}
 use Rattle.item_catalog.specs.DeckLimits.{is_start_part}
 use Rattle.item_catalog.specs.Faults.{count_starts, script_passes, some_below}
-use Rattle.update_texts.specs.ListTests.{option_any}
+use Rattle.item_catalog.specs.ListTests.{option_any}
 
 -- The part is a commit of the updater.
 abbrev pub is_part_of : ℕ → Option ℕ → Bool

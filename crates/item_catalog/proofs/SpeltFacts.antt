@@ -7,13 +7,13 @@ use Rattle.air_base.specs.NumberLists.{list_of, parts_of}
 use Rattle.air_base.specs.declared.verdicts.Policy.{Policy}
 use Rattle.air_history.specs.declared.updates.Write.{Write}
 use Rattle.item_catalog.specs.declared.faults.FaultKind.TheVariants as fault
-use Rattle.text_records.specs.Spelled.{◌>>=◌, or_fault}
+use Rattle.item_catalog.specs.Spelled.{◌>>=◌, or_fault}
 use Rattle.item_catalog.specs.DeckEntries.{Entry, disk_by, entry_by, entry_of, item_by, query_by, reader_by, script_by, set_by, tag_of, update_by}
 use Rattle.item_catalog.specs.DeckEntries as e
-use Rattle.text_records.specs.Fields.{◌is◌}
+use Rattle.item_catalog.specs.RecordFields.{◌is◌}
 use Rattle.item_catalog.specs.Fields.{event_of, freq_of}
 use Rattle.air_base.specs.Pieces.{one_of, three_of, two_of}
-use Rattle.update_texts.specs.Writes.{write_of}
+use Rattle.item_catalog.specs.Writes.{write_of}
 use Rattle.item_catalog.specs.Ranges.{outside}
 use Rattle.item_catalog.specs.Settings.{name_of, number_set, policy_of, range_of, setting_of}
 use Rattle.item_catalog.specs.declared.reading.Tag.{Tag}

@@ -19,9 +19,9 @@ use Rattle.item_catalog.specs.DeckLimits.{SettingsWithin, WithinLimits}
 use Rattle.item_catalog.specs.Decks.{deck_of, plain_item, with_freqs}
 use Rattle.item_catalog.specs.Steps.Drafts.{DraftValue, deck_from, draft_of}
 use Rattle.item_catalog.specs.DeckEntries.{Entry}
-use Rattle.text_records.specs.Kinds.{first_of}
+use Rattle.item_catalog.specs.RecordKinds.{first_of}
 use Rattle.item_catalog.specs.Faults.{end_tests}
-use Rattle.update_texts.specs.ListTests.{option_any}
+use Rattle.item_catalog.specs.ListTests.{option_any}
 use Rattle.item_catalog.specs.Ranges.{outside}
 use Rattle.item_catalog.specs.Settings.{default_of, number_in, number_said, range_of, same_name, settings_in}
 use Rattle.item_catalog.specs.declared.faults.FaultKind.TheVariants as fault

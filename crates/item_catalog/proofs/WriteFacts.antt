@@ -6,13 +6,13 @@ use Rattle.std.proofs.lemmas.List.{append-nil, map-append}
 use Rattle.std.proofs.lemmas.List.Folds.{list_any-append}
 use Rattle.air_history.specs.declared.updates.Write.{Write}
 use Rattle.air_history.specs.UpdateRules.{has_repeat, item_of}
-use Rattle.text_records.specs.Kinds.{first_of}
+use Rattle.item_catalog.specs.RecordKinds.{first_of}
 use Rattle.item_catalog.specs.Faults.{query_tests, update_tests}
-use Rattle.update_texts.specs.ListTests.{is_unread, reaches, write_reaches}
-use Rattle.update_texts.specs.KeptLists.{ItemsSeen, WritesSeen, among, items_seen, no_writes, see_write, writes_seen}
+use Rattle.item_catalog.specs.ListTests.{is_unread, reaches, write_reaches}
+use Rattle.item_catalog.specs.KeptLists.{ItemsSeen, WritesSeen, among, items_seen, no_writes, see_write, writes_seen}
 use Rattle.item_catalog.specs.Steps.ListKinds.{seen_query_kind, seen_update_kind}
-use Rattle.update_texts.proofs.RepeatFacts.{or_false, repeat_push}
-use Rattle.update_texts.proofs.SeenFacts.{AllSeen, all_seen, left_false, or_true}
+use Rattle.item_catalog.proofs.RepeatFacts.{or_false, repeat_push}
+use Rattle.item_catalog.proofs.SeenFacts.{AllSeen, all_seen, left_false, or_true}
 
 abbrev wide : ℕ → List Write → Bool
 wide n writes = list_any (write_reaches n) writes

@@ -7,10 +7,10 @@ use Rattle.air_base.specs.Numbers.{number_of}
 use Rattle.air_base.specs.NumberLists.{list_of}
 use Rattle.air_base.specs.Pieces.{one_of, two_of, three_of}
 use Rattle.air_history.specs.declared.updates.Write.{Write}
-use Rattle.update_texts.specs.Writes.{write_of}
-use Rattle.text_records.specs.Fields.{◌is◌}
-use Rattle.text_records.specs.Spelled.{◌>>=◌, or_fault}
-use Rattle.text_records.specs.Tags.{by_tag}
+use Rattle.item_catalog.specs.Writes.{write_of}
+use Rattle.item_catalog.specs.RecordFields.{◌is◌}
+use Rattle.item_catalog.specs.Spelled.{◌>>=◌, or_fault}
+use Rattle.item_catalog.specs.Tags.{by_tag}
 use Rattle.item_catalog.specs.Fields.{event_of, freq_of}
 use Rattle.item_catalog.specs.Settings.{setting_of}
 use Rattle.item_catalog.specs.declared.reading.Tag.{Tag}

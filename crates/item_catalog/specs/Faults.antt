@@ -10,8 +10,8 @@ use Rattle.air_base.specs.declared.limits.TheConstants.{MOST_AGE, MOST_ASKED, MO
 use Rattle.air_history.specs.declared.updates.Write.{Write}
 use Rattle.air_history.specs.UpdateRules.{has_repeat, item_of}
 use Rattle.air_model.specs.Decks.{count_parts}
-use Rattle.update_texts.specs.ListTests.{is_unread, option_any, reaches, write_reaches}
-use Rattle.text_records.specs.Kinds.{kinds_of, spelled_kinds}
+use Rattle.item_catalog.specs.ListTests.{is_unread, option_any, reaches, write_reaches}
+use Rattle.item_catalog.specs.RecordKinds.{kinds_of, spelled_kinds}
 use Rattle.item_catalog.specs.DeckLimits.{is_start_part}
 use Rattle.item_catalog.specs.Ranges.{outside}
 use Rattle.item_catalog.specs.DeckEntries.{Entry, entry_of}

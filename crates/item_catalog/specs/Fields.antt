@@ -1,8 +1,8 @@
--- What a field's text spells: a frequency, an event of the script. Numbers and lists are those of `air_base`, writes those of
--- `update_texts`.
+-- What a field's text spells: a frequency, an event of the script. Numbers and lists are those of `air_base`, writes those
+-- of `Writes`.
 use Rattle.std.specs.Prelude.{ℕ, List, Option, Some, None, option_map, codes, if◌then◌else◌}
 use Rattle.air_base.specs.Numbers.{number_of}
-use Rattle.text_records.specs.Fields.{◌is◌}
+use Rattle.item_catalog.specs.RecordFields.{◌is◌}
 
 -- A frequency: `-`, which says none, or a number.
 unfoldable pub freq_of : List ℕ → Option (Option ℕ)

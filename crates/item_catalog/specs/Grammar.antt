@@ -4,8 +4,8 @@
 -- first place at which some kind applies, with the least of them. `GrammarLaws` says that every text has just one of both.
 use Rattle.std.specs.Prelude.{◌≡◌, ◌+◌, ℕ, List, length, ⊤}
 use Rattle.air_model.specs.Decks.{Deck}
-use Rattle.text_records.specs.FirstFaults.{IsFirstFault, NoneBefore}
-use Rattle.text_records.specs.Records.{records_of}
+use Rattle.item_catalog.specs.FirstFaults.{IsFirstFault, NoneBefore}
+use Rattle.item_catalog.specs.Records.{records_of}
 use Rattle.item_catalog.specs.Faults.{entries_in, kinds_at}
 use Rattle.item_catalog.specs.Decks.{deck_of}
 use Rattle.item_catalog.specs.declared.faults.DeckError.{DeckError}

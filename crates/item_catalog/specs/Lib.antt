@@ -10,3 +10,14 @@ pub mod DeckView
 pub mod Faults
 pub mod Grammar
 pub mod Steps
+pub mod Writes
+pub mod ListTests
+pub mod KeptLists
+pub mod Records
+pub mod RecordsView
+pub mod RecordFields
+pub mod Spelled
+pub mod Tags
+pub mod RecordKinds
+pub mod FirstFaults
+pub mod DeckTexts

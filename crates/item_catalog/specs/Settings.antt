@@ -6,7 +6,7 @@ use Rattle.air_base.specs.declared.verdicts.Policy.{Policy}
 use Rattle.air_base.specs.declared.verdicts.Policy.TheVariants.{FMatrix, Datacycle, RMatrix}
 use Rattle.air_model.specs.declared.deck.Settings.{Settings}
 use Rattle.item_catalog.specs.Ranges.{outside}
-use Rattle.text_records.specs.Fields.{◌is◌}
+use Rattle.item_catalog.specs.RecordFields.{◌is◌}
 use Rattle.item_catalog.specs.declared.deck.draft.settings.Name.{Name}
 use Rattle.item_catalog.specs.declared.deck.draft.settings.Name.TheVariants.{Delta, Cycles, Seed, Loss, Again, Late, Monitors, Hears}
 use Rattle.item_catalog.specs.declared.deck.draft.settings.Setting.{Setting}

@@ -4,3 +4,5 @@ pub mod Drafts
 pub mod DraftView
 pub mod ReadEnds
 pub mod ScriptView
+pub mod WriteParts
+pub mod ReadAnswers

@@ -1,7 +1,7 @@
 //! The parts of a deck that other crates have no type for, and what the record of a disk says of its frequency.
 
 ghost use Rattle.std.specs.Prelude.{◌≡◌, ◌≤◌, ◌++◌, ◌∷◌, [], false, length, is_ok, sum_by, if◌then◌else◌};
-ghost use Rattle.update_texts.specs.ListTests.{option_any};
+ghost use Rattle.item_catalog.specs.ListTests.{option_any};
 ghost use Rattle.item_catalog.specs.Fields.{freq_of};
 ghost use Rattle.item_catalog.specs.Ranges.{outside};
 

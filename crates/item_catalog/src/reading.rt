@@ -3,7 +3,7 @@
 ghost use Rattle.std.specs.Prelude.{◌≡◌, ◌≤◌, drop, length, IfErr, IfOk, None};
 ghost use Rattle.csv.specs.Records.{fields_of};
 ghost use Rattle.air_base.specs.declared.limits.TheConstants.{MOST_DECK_BYTES};
-ghost use Rattle.text_records.specs.Kinds.{first_of};
+ghost use Rattle.item_catalog.specs.RecordKinds.{first_of};
 ghost use Rattle.item_catalog.specs.DeckEntries.{entry_by, entry_of, tag_of};
 ghost use Rattle.item_catalog.specs.Steps.Drafts.{deck_from};
 ghost use Rattle.item_catalog.specs.Steps.ReadEnds.{CanEnd, EndsBy};
@@ -13,9 +13,10 @@ ghost use Rattle.item_catalog.specs.Grammar.{IsAnswer, Spells};
 use crate::deck::Deck;
 use crate::deck::draft::Draft;
 use crate::faults::DeckError;
+use crate::records::Records;
+use crate::records::refusals::Refusal;
 use csv::ByteRecord;
 use std::alloc::Global;
-use text_records::{Records, Refusal};
 
 /// The tags of records.
 #[derive(Clone, Copy, Debug, PartialEq, Eq)]

@@ -8,3 +8,4 @@ pub mod PieceLemmas
 pub mod RunLemmas
 pub mod ApartLemmas
 pub mod TogetherLemmas
+mod HistoryLemmas

@@ -2,3 +2,4 @@ pub mod Listeners
 pub mod EtherListeners
 pub mod Hearings
 pub mod Steps
+pub mod HistoryTapes

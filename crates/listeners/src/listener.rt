@@ -12,8 +12,9 @@ ghost use Rattle.listeners.specs.Listeners.{ChangesNoAttempt, end_state, hears, 
 
 use crate::verdicts::{Line, end_queries, take_verdicts};
 use air_base::NoMemory;
+use air_model::bucket::BucketFault;
 use air_model::reports::{CountsLine, VerdictLine};
-use bucket_codec::{BucketFault, BucketView};
+use bucket_codec::BucketView;
 use chunk_program::Program;
 use item_catalog::Deck;
 use receiver_core::Receiver;

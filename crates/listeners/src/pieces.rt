@@ -8,7 +8,8 @@ ghost use Rattle.listeners.specs.Listeners.{hears};
 
 use crate::listener::Listener;
 use air_base::NoMemory;
-use bucket_codec::{BucketFault, BucketView, TapeReader, decode};
+use air_model::bucket::BucketFault;
+use bucket_codec::{BucketView, TapeReader, decode};
 use std::alloc::Global;
 
 /// How many records are decoded before they are heard.

@@ -14,8 +14,9 @@ ghost use Rattle.listeners.specs.Listeners.{AreNumbered, end_state, hears_one, l
 
 use crate::listener::Listener;
 use air_base::NoMemory;
+use air_model::bucket::BucketFault;
 use air_model::reports::{CountsLine, VerdictLine};
-use bucket_codec::{BucketFault, BucketView};
+use bucket_codec::BucketView;
 use chunk_program::Program;
 use item_catalog::Deck;
 use std::alloc::Global;

@@ -17,7 +17,7 @@ use Rattle.air_history.specs.Tables.{values_of}
 use Rattle.air_history.specs.Reads.{ReadAt, read_value}
 use Rattle.air_history.specs.Clashes.{clash_by_history, is_late}
 use Rattle.air_history.specs.ClashLaws.{Accepts}
-use Rattle.history_laws.proofs.AcceptedLemmas.{accepts_none, accepts_push}
+use Rattle.air_history.proofs.AcceptedLemmas.{accepts_none, accepts_push}
 use Rattle.air_model.specs.Aired.{air_of, scheme_in}
 use Rattle.air_model.specs.Buckets.{Bucket}
 use Rattle.air_model.specs.Decks.{Deck, values_in}

@@ -18,11 +18,11 @@ use Rattle.air_history.specs.Reads.{IsRead}
 use Rattle.air_model.specs.Decks.{Deck, IsDeck, IsQuery}
 use Rattle.air_model.specs.Reports.{Report}
 use Rattle.air_model.specs.declared.reports.VerdictLine.{VerdictLine}
-use Rattle.report_reading.specs.ReportFaults.{end_begun, follow, has_begun, its_item, leads}
-use Rattle.report_reading.specs.ReportLines.{its_line, lines_in, starts_cycle, starts_in}
-use Rattle.report_reading.specs.declared.lines.EventLine.TheVariants as EventLine
-use Rattle.report_reading.specs.declared.lines.Line.TheVariants as l
-use Rattle.report_laws.specs.ReportRules.{InGrammar, IsRight}
+use Rattle.air_report.specs.ReportFaults.{end_begun, follow, has_begun, its_item, leads}
+use Rattle.air_report.specs.ReportLines.{its_line, lines_in, starts_cycle, starts_in}
+use Rattle.air_report.specs.declared.reading.lines.EventLine.TheVariants as EventLine
+use Rattle.air_report.specs.declared.reading.lines.Line.TheVariants as l
+use Rattle.air_report.specs.ReportRules.{InGrammar, IsRight}
 use Rattle.live_replay.specs.Findings.{place_of, places_of}
 use Rattle.live_replay.specs.Steps.Lines.{EndFits, LineFits}
 

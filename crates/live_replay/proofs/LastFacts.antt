@@ -8,7 +8,7 @@ use Rattle.air_history.specs.Tables.{table, values_of}
 use Rattle.air_history.proofs.HistoryLemmas.{front_prefix, front_within}
 use Rattle.air_history.proofs.ScanLemmas.{writer_before_none}
 use Rattle.air_history.proofs.TableLemmas.{table_nil, table_push}
-use Rattle.history_laws.proofs.AloneLemmas.{not_written}
+use Rattle.air_history.proofs.AloneLemmas.{not_written}
 use Rattle.live_replay.specs.declared.writes.ItemWrite.{ItemWrite}
 use Rattle.live_replay.specs.Findings.{read_of}
 use Rattle.live_replay.specs.Steps.Writes.{count_at, write_at, writes_from}

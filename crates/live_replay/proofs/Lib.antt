@@ -13,3 +13,5 @@ pub mod FoundFacts
 pub mod FindingFacts
 pub mod RowFindings
 pub mod TrueReports
+pub mod FindingTexts
+pub mod AuditFacts

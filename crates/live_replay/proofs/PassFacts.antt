@@ -13,9 +13,9 @@ use Rattle.air_history.specs.Reads.{ReadAt, IsRead}
 use Rattle.air_history.specs.Consistency.{IsConsistent, consistent}
 use Rattle.air_history.specs.Clashes.{is_late}
 use Rattle.air_history.specs.ClashLaws.{Accepts, passes}
-use Rattle.history_laws.proofs.AcceptedLemmas.{accepted, passes_from}
-use Rattle.history_laws.proofs.ConsistencyLemmas.{whole}
-use Rattle.history_laws.proofs.PolicyLemmas.{stays_consistent}
+use Rattle.air_history.proofs.AcceptedLemmas.{accepted, passes_from}
+use Rattle.air_history.proofs.ConsistencyLemmas.{whole}
+use Rattle.air_history.proofs.PolicyLemmas.{stays_consistent}
 use Rattle.air_base.specs.declared.verdicts.ReadOf.{ReadOf}
 use Rattle.live_replay.specs.Findings.{all_pass, place_of, places_of, read_of}
 

@@ -2,12 +2,12 @@
 use Rattle.std.proofs.Common.{◌≡◌, ℕ, ◌+◌, Option, Some, List, [], ◌∷◌, ◌++◌, length, map, refl, sym, ◌∙◌, ap}
 use Rattle.std.specs.List.{enumerate_from, filter_map, range_with_len}
 use Rattle.std.proofs.lemmas.List.{append-nil}
-use Rattle.text_records.specs.Records.{records_of}
+use Rattle.item_catalog.specs.Records.{records_of}
 use Rattle.air_model.specs.Decks.{Deck}
-use Rattle.report_reading.specs.LineTexts.{line_of}
-use Rattle.report_reading.specs.ReportLines.{ReportLines, lines_in}
-use Rattle.report_reading.specs.declared.lines.Line.{Line}
-use Rattle.report_reading.specs.declared.lines.Line.TheVariants as l
+use Rattle.air_report.specs.LineTexts.{line_of}
+use Rattle.air_report.specs.ReportLines.{ReportLines, lines_in}
+use Rattle.air_report.specs.declared.reading.lines.Line.{Line}
+use Rattle.air_report.specs.declared.reading.lines.Line.TheVariants as l
 use Rattle.air_report.specs.ReadReports.{IsReportOf}
 use Rattle.air_report.specs.declared.reading.ReadReport.{ReadReport}
 use Rattle.air_report.proofs.LineRows.{all_of, by_records, by_sections, each, glance_rows, look_rows, nothing, verdict_rows}

@@ -3,3 +3,6 @@ pub mod Audits
 pub mod FindingLaws
 pub mod ReportFindings
 pub mod Steps
+pub mod FindingTexts
+pub mod TrueAudits
+pub mod AuditAnswers

@@ -8,9 +8,9 @@ use Rattle.air_model.specs.Decks.{Deck, values_in}
 use Rattle.air_model.specs.Judges.{by_history}
 use Rattle.air_model.specs.ReceiverLaws.{session_of}
 use Rattle.air_model.specs.Sessions.{State}
-use Rattle.report_reading.specs.declared.kinds.FaultKind.{FaultKind}
-use Rattle.report_reading.specs.declared.lines.Line.{Line}
-use Rattle.report_reading.specs.declared.lines.Line.TheVariants.{Counts, Event as AnEvent, Glance, Look, Verdict}
+use Rattle.air_report.specs.declared.reading.kinds.FaultKind.{FaultKind}
+use Rattle.air_report.specs.declared.reading.lines.Line.{Line}
+use Rattle.air_report.specs.declared.reading.lines.Line.TheVariants.{Counts, Event as AnEvent, Glance, Look, Verdict}
 use Rattle.live_replay.specs.declared.findings.Finding.{Finding}
 use Rattle.live_replay.specs.Findings.{look_cause, verdict_cause}
 

@@ -8,13 +8,17 @@ ghost use Rattle.live_replay.specs.Findings.{look_cause, verdict_cause};
 ghost use Rattle.live_replay.specs.Steps.Lines.{LineFits};
 ghost use Rattle.live_replay.specs.declared.limits.TheConstants.{MOST_REPLAYED};
 
+pub(crate) mod reports;
+pub(crate) mod texts;
+
 use crate::findings::{AuditError, Finding};
 use crate::limits::MOST_REPLAYED;
 use crate::lines::{look_cause, verdict_cause};
 use crate::replay::Replay;
 use air_base::NoMemory;
 use air_history::Event;
-use air_report::{LookLine, ReadReport, Report, VerdictLine};
+use air_model::reports::{LookLine, VerdictLine};
+use air_report::{ReadReport, Report};
 use item_catalog::Deck;
 use std::alloc::Global;
 

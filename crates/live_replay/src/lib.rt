@@ -2,7 +2,7 @@
 //!
 //! The scans of the history find origins (`replay`) and the commits from which reads descend, which tell whether these are consistent
 //! (`alone`). Values come of running the history once (`running`). `policies` tells what passes and clashes, `lines` what is found of
-//! a line. No type of held reads and no control column has a part in it.
+//! a line, `audits` what is found of a report, from its text and as a text. No type of held reads and no control column has a part in it.
 #![tactic(auto)]
 
 mod alone;
@@ -17,5 +17,7 @@ mod running;
 mod writes;
 
 pub use audits::audit;
+pub use audits::reports::{Audited, audit_report};
+pub use audits::texts::findings_text;
 pub use findings::{AuditError, Cause, Finding};
 pub use laws::{agrees_law, rows_law, session_law, true_report_law};

@@ -7,8 +7,9 @@ ghost use Rattle.air_devices.specs.Untold.{untold_ear};
 
 use crate::sockets::{shelf_of, words_of};
 use air_base::NoMemory;
-use air_cli::{Status, air_main};
+use air_cli::air_main;
 use air_devices::{Ear, Failed, Heard, MemMast, OpenGate};
+use air_report::Status;
 use std::alloc::Global;
 use std::sync::Wait;
 use std::test::Fail;

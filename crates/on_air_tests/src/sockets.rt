@@ -11,8 +11,9 @@ ghost use Rattle.air_devices.specs.Masts.{nothing_sent};
 ghost use Rattle.air_devices.specs.Told.{WhereTold};
 
 use air_base::NoMemory;
-use air_cli::{Status, air_main};
+use air_cli::air_main;
 use air_devices::{Ear, Failed, Heard, Mast, MemEar, MemMast, MemShelf, OpenGate, UdpEar, UdpMast};
+use air_report::Status;
 use std::alloc::Global;
 use std::io;
 use std::net::{Net, SocketAddr, UdpSocket};

@@ -9,13 +9,12 @@ use crate::decks::deck_and_program;
 use crate::reports::{add_piece, add_report, add_tape};
 use air_base::NoMemory;
 use air_base::limits::MOST_TAPE_BYTES;
-use air_sender::TapeMast;
-use aired_pieces::{AiredPieces, piece_cycles};
+use air_sender::{TapeMast, tape_len};
 use case_lines::{add_line, first_word, number};
 use chunk_program::Program;
 use item_catalog::Deck;
 use listeners::Sessions;
-use script_run::{PieceRun, tape_len};
+use scripts::{AiredPieces, PieceRun, piece_cycles};
 use std::alloc::Global;
 use std::thread::Threads;
 

@@ -3,11 +3,11 @@
 use crate::decks::deck_and_program;
 use crate::reports::add_report;
 use air_base::NoMemory;
+use air_cli::{PieceSizes, file_sessions, piece_sessions};
 use air_devices::{MemShelf, Shelf};
 use case_lines::{add_line, first_word, number};
 use std::alloc::Global;
 use std::thread::Threads;
-use tape_pieces::{PieceSizes, file_sessions, piece_sessions};
 
 /// A shelf whose file `tape` has these bytes, and whose calls of these numbers fail.
 fn shelf_of(alloc: Global, tape: &[u8], fail: Vec<u64>) -> Result<MemShelf, NoMemory> {

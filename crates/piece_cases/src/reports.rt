@@ -3,9 +3,9 @@
 use air_base::NoMemory;
 use air_base::limits::MOST_EVENTS;
 use air_history::{Event, History};
+use air_report::{Report, write_report};
 use case_lines::add_line;
 use listeners::Sessions;
-use report_texts::{Report, write_report};
 use std::alloc::Global;
 
 /// Adds the lines of these events and sessions.

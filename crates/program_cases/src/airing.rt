@@ -2,7 +2,7 @@
 
 ghost use Rattle.std.specs.Prelude.{◌≡◌, ◌≤◌, length};
 ghost use Rattle.air_model.specs.Disks.{all_items};
-ghost use Rattle.board_laws.specs.BoardBuckets.{EntriesBelow};
+ghost use Rattle.air_sender.specs.BoardBuckets.{EntriesBelow};
 
 use crate::tapes::{add_hex, add_records};
 use air_base::limits::MOST_DATAGRAM_BYTES;

@@ -3,12 +3,12 @@
 ghost use Rattle.std.specs.Prelude.{◌≡◌, ◌<◌, ◌≤◌, ℕ, List, ◌++◌, ◌∷◌, [], length, IfOk, IfSome, IsTrue};
 ghost use Rattle.air_history.specs.declared.histories.Event.{Event};
 ghost use Rattle.air_history.specs.Boards.{board_of};
-ghost use Rattle.board_laws.specs.BoardBuckets.{EntriesBelow};
+ghost use Rattle.air_sender.specs.BoardBuckets.{EntriesBelow};
 
 use air_base::NoMemory;
 use air_base::limits::MOST_VALUES;
 use air_history::Event;
-use board_laws::below_law;
+use air_sender::below_law;
 use control_matrix::Board;
 use item_catalog::Deck;
 use std::alloc::Global;

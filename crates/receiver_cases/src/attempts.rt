@@ -2,12 +2,12 @@
 
 ghost use Rattle.std.specs.Prelude.{◌↔◌, ◌≢◌, ◌<◌, All, IsTrue};
 ghost use Rattle.air_history.specs.HeldReads.{IsNew};
-ghost use Rattle.held_entries.specs.HeardReads.{heard_read};
+ghost use Rattle.held_reads.specs.HeardReads.{heard_read};
 
 use crate::held::PolicyHeld;
 use air_base::{NoMemory, Policy};
 use case_lines::add_line;
-use column_check::ROOM;
+use held_reads::ROOM;
 use std::alloc::Global;
 use std::marker::Model;
 

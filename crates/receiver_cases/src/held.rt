@@ -5,13 +5,13 @@
 ghost use Rattle.std.specs.Prelude.{◌≡◌, ◌<◌, ◌≤◌, [], ◌∷◌, ◌++◌, length, IfOk, None};
 ghost use Rattle.air_history.specs.Clashes.{clash_by_entries};
 ghost use Rattle.air_history.specs.HeldReads.{IsNew};
-ghost use Rattle.held_entries.specs.HeardReads.{heard_read};
+ghost use Rattle.held_reads.specs.HeardReads.{heard_read};
 ghost use Rattle.receiver_cases.specs.PolicyReads.{held_of, least_cycle, policy_of};
 
 use air_base::{Clash, NoMemory, Policy};
 use case_lines::add_number;
-use column_check::{Held, ROOM};
-use held_entries::NOT_HELD;
+use column_check::Held;
+use held_reads::{NOT_HELD, ROOM};
 use std::alloc::Global;
 use vector_policies::{DataHeld, RHeld};
 

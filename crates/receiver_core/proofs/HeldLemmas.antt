@@ -15,8 +15,8 @@ use Rattle.air_history.specs.ClashLaws.{Accepts, IsAllowed, IsHeard, IsSound}
 use Rattle.air_history.specs.Columns.{aired_entries}
 use Rattle.air_history.specs.Reads.{IsRead, ReadAt, last_cycle, read_value}
 use Rattle.air_history.specs.Tables.{values_of}
-use Rattle.history_laws.proofs.AcceptedLemmas.{accepted, accepts_none, accepts_push}
-use Rattle.history_laws.proofs.ClashLemmas.{clash}
+use Rattle.air_history.proofs.AcceptedLemmas.{accepted, accepts_none, accepts_push}
+use Rattle.air_history.proofs.ClashLemmas.{clash}
 use Rattle.air_model.specs.Aired.{Air, SlotsFit, aired_as, body_of, bucket_of, fits}
 use Rattle.air_model.specs.Buckets.{Bucket}
 use Rattle.air_model.specs.Judges.{by_entries, heard_of, place_of}

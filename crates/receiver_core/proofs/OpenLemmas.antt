@@ -6,7 +6,7 @@ use Rattle.std.proofs.lemmas.List.Elements.{All-cons, All-head, All-nil, All-tai
 use Rattle.std.proofs.lemmas.Option.{slice_get_within}
 use Rattle.air_base.specs.declared.verdicts.Clash.{Clash}
 use Rattle.air_base.specs.declared.verdicts.VerdictKind.TheVariants.{Abort}
-use Rattle.held_entries.specs.declared.held.TheConstants.{ROOM}
+use Rattle.held_reads.specs.declared.held.TheConstants.{ROOM}
 use Rattle.air_history.specs.UpdateRules.{has_repeat}
 use Rattle.air_history.specs.Clashes.{is_late}
 use Rattle.air_model.specs.Buckets.{Body, Bucket, Column, Idle, IsInRange, Vector, count_of, entries_of, item_of, kind_of, value_of}

@@ -1,6 +1,6 @@
 -- The fields of a reader: its plan, and its queries as lists of items.
 use Rattle.std.specs.Prelude.{◌≡◌, ℕ, ◌<◌, ◌≤◌, ◌^◌, false, length, map, All}
-use Rattle.held_entries.specs.declared.held.TheConstants.{ROOM}
+use Rattle.held_reads.specs.declared.held.TheConstants.{ROOM}
 use Rattle.air_history.specs.UpdateRules.{has_repeat}
 use Rattle.air_model.specs.Sessions.{Reader}
 use Rattle.receiver_core.specs.declared.readers.Reader.TheInside.{Inside}

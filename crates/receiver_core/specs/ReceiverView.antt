@@ -2,7 +2,7 @@
 use Rattle.std.specs.Prelude.{◌≡◌, ℕ, ◌+◌, ◌*◌, ◌<◌, ◌≤◌, List, [], get_or, length, map, take, All}
 use Rattle.air_base.specs.declared.verdicts.Policy.{Policy}
 use Rattle.air_base.specs.declared.limits.TheConstants.{MOST_TRIES}
-use Rattle.held_entries.specs.declared.held.TheConstants.{ROOM}
+use Rattle.held_reads.specs.declared.held.TheConstants.{ROOM}
 use Rattle.air_model.specs.Aired.{Air}
 use Rattle.air_model.specs.Reads.{Read}
 use Rattle.air_model.specs.Sessions.{Reader}

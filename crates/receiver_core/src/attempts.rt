@@ -13,7 +13,7 @@ ghost use Rattle.receiver_core.specs.Steps.Attempts.{columns_of, line_read, read
 use crate::policy_held::PolicyHeld;
 use crate::reads::ReadList;
 use air_base::{Clash, NoMemory, Policy, ReadOf};
-use column_check::ROOM;
+use held_reads::ROOM;
 use std::alloc::Global;
 use std::marker::Model;
 

@@ -10,11 +10,12 @@ ghost use Rattle.air_history.specs.ClashLaws.{IsHeard};
 ghost use Rattle.air_history.specs.Columns.{scheme_of};
 ghost use Rattle.air_history.specs.HeldReads.{IsNew};
 ghost use Rattle.air_history.specs.Reads.{last_cycle};
-ghost use Rattle.held_entries.specs.HeardReads.{heard_read};
+ghost use Rattle.held_reads.specs.HeardReads.{heard_read};
 ghost use Rattle.receiver_core.specs.Steps.PolicyReads.{held_of, policy_of};
 
 use air_base::{Clash, NoMemory, Policy};
-use column_check::{Held, ROOM};
+use column_check::Held;
+use held_reads::ROOM;
 use std::alloc::Global;
 use vector_policies::{DataHeld, RHeld};
 

@@ -5,7 +5,7 @@
 ghost use Rattle.std.specs.Prelude.{◌≡◌, ◌<◌, ◌≤◌, [], ◌∷◌, ◌++◌, length};
 
 use air_base::ReadOf;
-use column_check::ROOM;
+use held_reads::ROOM;
 use std::marker::Model;
 
 /// Reads in order.
@@ -18,7 +18,7 @@ pub struct ReadList {
 impl Model for ReadList {
     ghost use Rattle.std.specs.Prelude.{◌≤◌, List, take};
     ghost use Rattle.air_base.specs.declared.verdicts.ReadOf.{ReadOf};
-    ghost use Rattle.held_entries.specs.declared.held.TheConstants.{ROOM};
+    ghost use Rattle.held_reads.specs.declared.held.TheConstants.{ROOM};
 
     ghost Value = { List ReadOf };
 

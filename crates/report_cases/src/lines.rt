@@ -1,9 +1,9 @@
 //! The lines of a report, each told by its numbers.
 
 use air_base::{NoMemory, ReadOf, VerdictKind};
-use air_report::{CountsLine, LookLine, VerdictLine};
+use air_model::reports::{CountsLine, LookLine, VerdictLine};
+use air_report::EventLine;
 use case_lines::add_line;
-use report_reading::EventLine;
 
 /// Tells the lines of a history.
 pub fn add_events(lines: &[EventLine], came: &mut Vec<u8>) -> Result<(), NoMemory> {

@@ -3,7 +3,8 @@
 use crate::texts::tell;
 use air_base::{Counts, NoMemory, ReadOf, Reads, Verdict, VerdictKind};
 use air_history::{Event, History, Update, Write};
-use air_report::{CountsLine, LookLine, Report, VerdictLine, write_report};
+use air_model::reports::{CountsLine, LookLine, VerdictLine};
+use air_report::{Report, write_report};
 use case_lines::{add_line, first_word, number, text_of};
 use std::alloc::Global;
 use std::mem;

@@ -1,17 +1,16 @@
 //! Reports read from texts: their lines and rows, or the fault of the text.
 
 ghost use Rattle.std.specs.Prelude.{◌≤◌, length};
-ghost use Rattle.report_reading.specs.declared.limits.TheConstants.{MOST_REPORT_BYTES};
+ghost use Rattle.air_report.specs.declared.reading.limits.TheConstants.{MOST_REPORT_BYTES};
 
 use crate::audits::add_audit;
 use crate::lines::{add_counts, add_events, add_looks, add_verdicts};
 use crate::texts::tell;
-use air_base::NoMemory;
+use air_base::{NoMemory, Rows};
 use air_report::limits::MOST_REPORT_BYTES;
-use air_report::{ReadReport, ReportError, Rows, read_report, write_report};
+use air_report::{ReadReport, ReportError, read_lines, read_report, write_report};
 use case_lines::{add_line, add_number};
 use item_catalog::Deck;
-use report_reading::read_lines;
 use std::alloc::Global;
 
 /// Tells the fault of a text that is no report.

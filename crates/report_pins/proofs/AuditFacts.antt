@@ -12,23 +12,23 @@ use Rattle.air_history.specs.Tables.{value_on_base, write_of, value_after, table
 use Rattle.air_model.specs.Decks.{Deck}
 use Rattle.air_model.specs.Reports.{total_at}
 use Rattle.air_model.specs.Rows.{rows_text}
-use Rattle.air_status.specs.declared.status.Status.{Status}
-use Rattle.air_status.specs.declared.status.Status.TheVariants as status
-use Rattle.report_reading.specs.LineTexts.{short_of}
-use Rattle.report_reading.specs.ReportFaults.{kinds_at}
-use Rattle.report_reading.specs.ReportGrammar.{HasReportFault}
-use Rattle.report_reading.specs.ReportLines.{ReportLines, lines_in}
-use Rattle.report_reading.specs.declared.lines.EventLine.TheVariants.{Start}
+use Rattle.air_report.specs.declared.status.Status.{Status}
+use Rattle.air_report.specs.declared.status.Status.TheVariants as status
+use Rattle.air_report.specs.LineTexts.{short_of}
+use Rattle.air_report.specs.ReportFaults.{kinds_at}
+use Rattle.air_report.specs.ReportGrammar.{HasReportFault}
+use Rattle.air_report.specs.ReportLines.{ReportLines, lines_in}
+use Rattle.air_report.specs.declared.reading.lines.EventLine.TheVariants.{Start}
 use Rattle.air_report.specs.ReadReports.{IsReportOf}
 use Rattle.air_report.specs.declared.reading.ReadReport.{ReadReport}
 use Rattle.live_replay.specs.Audits.{findings, replayed_in}
 use Rattle.live_replay.specs.declared.limits.TheConstants.{MOST_REPLAYED}
 use Rattle.live_replay.specs.Findings.{look_cause}
 use Rattle.live_replay.specs.declared.findings.Cause.TheVariants.{Clash, Total}
-use Rattle.audited_reports.specs.AuditAnswers.{HasAudit, UnauditedCause}
-use Rattle.audited_reports.specs.FindingTexts.{findings_text, some_differ}
-use Rattle.audited_reports.specs.declared.reports.Audited.{Audited}
-use Rattle.audited_reports.proofs.AuditFacts.{one_report}
+use Rattle.live_replay.specs.AuditAnswers.{HasAudit, UnauditedCause}
+use Rattle.live_replay.specs.FindingTexts.{findings_text, some_differ}
+use Rattle.live_replay.specs.declared.audits.reports.Audited.{Audited}
+use Rattle.live_replay.proofs.AuditFacts.{one_report}
 use Rattle.text_pins.proofs.PlaceFacts.{first_fault, none_before_0}
 use Rattle.report_pins.proofs.FaultFacts.{no_lines, same_fault}
 use Rattle.report_pins.proofs.ReadFacts.{history_read, lines_read}

@@ -5,14 +5,14 @@ use Rattle.csv.proofs.OnLiterals.{csv_on_literals}
 use Rattle.air_base.specs.Numbers.{number_of}
 use Rattle.air_base.specs.NumberLists.{all_some}
 use Rattle.air_model.specs.Decks.{Deck}
-use Rattle.text_records.specs.Records.{records_of}
-use Rattle.text_records.proofs.FaultPlaces.{not_both, one_kind, one_place}
-use Rattle.report_reading.specs.LineTexts.{item_of, place_of, read_of, short_of}
-use Rattle.report_reading.specs.ReportFaults.{kinds_at}
-use Rattle.report_reading.specs.ReportGrammar.{HasReportFault, IsReportAnswer, SpellsReport}
-use Rattle.report_reading.specs.ReportLines.{ReportLines}
-use Rattle.report_reading.specs.declared.faults.ReportError.{ReportError}
-use Rattle.report_reading.specs.declared.faults.ReportError.TheVariants.{Fault, NoMemory}
+use Rattle.item_catalog.specs.Records.{records_of}
+use Rattle.item_catalog.proofs.FaultPlaces.{not_both, one_kind, one_place}
+use Rattle.air_report.specs.LineTexts.{item_of, place_of, read_of, short_of}
+use Rattle.air_report.specs.ReportFaults.{kinds_at}
+use Rattle.air_report.specs.ReportGrammar.{HasReportFault, IsReportAnswer, SpellsReport}
+use Rattle.air_report.specs.ReportLines.{ReportLines}
+use Rattle.air_report.specs.declared.reading.faults.ReportError.{ReportError}
+use Rattle.air_report.specs.declared.reading.faults.ReportError.TheVariants.{Fault, NoMemory}
 use Rattle.text_pins.proofs.PlaceFacts.{first_fault, first_fault_of_two, none_before_0, none_before_1}
 use Rattle.report_pins.specs.ReportAnswers.{IsFaultOrNoMemory}
 use Rattle.report_pins.specs.SmallDeck.{commit_skipped, cut_accept, glanced_before, looked_before, small_deck, started_after, two_unknown}

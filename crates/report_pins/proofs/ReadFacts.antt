@@ -5,15 +5,15 @@ use Rattle.air_base.specs.Numbers.{number_of}
 use Rattle.air_base.specs.NumberLists.{all_some}
 use Rattle.air_history.specs.declared.histories.Event.TheVariants as e
 use Rattle.air_model.specs.Decks.{Deck}
-use Rattle.text_records.specs.Records.{records_of}
-use Rattle.report_reading.specs.LineTexts.{item_of, place_of, read_of, short_of}
-use Rattle.report_reading.specs.ReportFaults.{lines_of}
-use Rattle.report_reading.specs.ReportGrammar.{SpellsReport}
-use Rattle.report_reading.specs.ReportLines.{event_in, lines_in, sections_of}
-use Rattle.report_reading.specs.declared.faults.ReportError.{ReportError}
-use Rattle.report_reading.specs.declared.lines.EventLine.{EventLine}
-use Rattle.report_reading.specs.declared.lines.EventLine.TheVariants.{Commit}
-use Rattle.report_laws.proofs.SameHistories.{legal_same}
+use Rattle.item_catalog.specs.Records.{records_of}
+use Rattle.air_report.specs.LineTexts.{item_of, place_of, read_of, short_of}
+use Rattle.air_report.specs.ReportFaults.{lines_of}
+use Rattle.air_report.specs.ReportGrammar.{SpellsReport}
+use Rattle.air_report.specs.ReportLines.{event_in, lines_in, sections_of}
+use Rattle.air_report.specs.declared.reading.faults.ReportError.{ReportError}
+use Rattle.air_report.specs.declared.reading.lines.EventLine.{EventLine}
+use Rattle.air_report.specs.declared.reading.lines.EventLine.TheVariants.{Commit}
+use Rattle.air_report.proofs.SameHistories.{legal_same}
 use Rattle.air_report.specs.ReadReports.{IsReportOf}
 use Rattle.air_report.specs.declared.reading.ReadReport.{ReadReport}
 use Rattle.report_pins.specs.SmallDeck.{add_to, each_section, set_to, small_deck, two_commits}

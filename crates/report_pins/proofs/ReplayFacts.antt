@@ -11,10 +11,10 @@ use Rattle.air_history.specs.Clashes.{least, is_late, clash_by_history}
 use Rattle.air_history.specs.ClashLaws.{passes}
 use Rattle.air_model.specs.Decks.{Deck, IsLegal}
 use Rattle.air_model.specs.Reports.{total_at}
-use Rattle.report_laws.specs.ReportRules.{InGrammar, IsRight}
-use Rattle.report_laws.proofs.SameHistories.{same_legal}
-use Rattle.report_reading.specs.ReportLines.{lines_in}
-use Rattle.report_reading.specs.declared.lines.Line.TheVariants.{Look, Verdict}
+use Rattle.air_report.specs.ReportRules.{InGrammar, IsRight}
+use Rattle.air_report.proofs.SameHistories.{same_legal}
+use Rattle.air_report.specs.ReportLines.{lines_in}
+use Rattle.air_report.specs.declared.reading.lines.Line.TheVariants.{Look, Verdict}
 use Rattle.air_report.specs.KeptReports.{KeepsGrammar}
 use Rattle.air_report.specs.declared.reading.ReadReport.{ReadReport}
 use Rattle.live_replay.specs.Audits.{findings}

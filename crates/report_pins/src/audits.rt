@@ -1,19 +1,18 @@
-//! These pins fix what `audited_reports` makes of findings and of reports' texts: the text of two findings, and the audit of two looks.
+//! These pins fix what `live_replay` makes of findings and of reports' texts: the text of two findings, and the audit of two looks.
 //! They also fix how it refuses a text with a fault, and a report that is too much to replay.
 
 ghost use Rattle.std.specs.Prelude.{◌≡◌, ◌⊎◌, ◌≤◌, ◌++◌, [], ◌∷◌, Err, Some, None, codes, length, true, IfOk};
 ghost use Rattle.air_report.specs.ReadReports.{IsReportOf};
 ghost use Rattle.air_report.specs.declared.reading.ReadReport.{ReadReport};
 ghost use Rattle.live_replay.specs.Audits.{replayed_in};
-ghost use Rattle.report_reading.specs.declared.limits.TheConstants.{MOST_REPORT_BYTES};
+ghost use Rattle.air_report.specs.declared.reading.limits.TheConstants.{MOST_REPORT_BYTES};
 ghost use Rattle.report_pins.specs.SmallDeck.{line, small_deck, two_looks};
 ghost use Rattle.report_pins.specs.SmallReports.{found};
 
 use air_base::NoMemory;
-use air_status::Status;
-use audited_reports::{Audited, audit_report, findings_text};
+use air_report::Status;
 use item_catalog::Deck;
-use live_replay::{Cause, Finding};
+use live_replay::{Audited, Cause, Finding, audit_report, findings_text};
 use std::alloc::Global;
 
 /// A finding tells its own row and its own cause, and the last row counts the findings before those that differ. It also refuses that these two

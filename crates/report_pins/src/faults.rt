@@ -1,12 +1,12 @@
-//! These pins fix what `report_reading` answers for short texts that spell no report of the small deck.
+//! These pins fix what `read_lines` of `air_report` answers for short texts that spell no report of the small deck.
 //! Each is refused with the first record that has a fault, and with the least kind there, or because memory ran out.
 
 ghost use Rattle.std.specs.Prelude.{◌≡◌, codes};
 ghost use Rattle.report_pins.specs.ReportAnswers.{IsFaultOrNoMemory};
 ghost use Rattle.report_pins.specs.SmallDeck.{commit_skipped, cut_accept, glanced_before, looked_before, small_deck, started_after, two_unknown};
 
+use air_report::{ReadLines, ReportError, read_lines};
 use item_catalog::Deck;
-use report_reading::{ReadLines, ReportError, read_lines};
 use std::alloc::Global;
 
 /// An accept has all items of its query.

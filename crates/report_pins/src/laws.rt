@@ -2,13 +2,12 @@
 
 ghost use Rattle.std.specs.Prelude.{◌≡◌, ℕ};
 ghost use Rattle.air_model.specs.Reports.{Report, report_text};
-ghost use Rattle.report_laws.specs.ReportRules.{HasWidths, InGrammar};
-ghost use Rattle.report_reading.specs.ReportGrammar.{HasReportFault, SpellsReport};
-ghost use Rattle.report_reading.specs.ReportLines.{ReportLines, lines_in};
+ghost use Rattle.air_report.specs.ReportRules.{HasWidths, InGrammar};
+ghost use Rattle.air_report.specs.ReportGrammar.{HasReportFault, SpellsReport};
+ghost use Rattle.air_report.specs.ReportLines.{ReportLines, lines_in};
 ghost use Rattle.report_pins.specs.SmallDeck.{small_deck, two_commits};
 
-use air_report::read_back_law;
-use report_reading::{not_both_reports_law, one_report_law};
+use air_report::{not_both_reports_law, one_report_law, read_back_law};
 
 /// A text that spells lines has no fault.
 pub fn fault_beside_the_lines()

@@ -3,7 +3,7 @@ use Rattle.std.proofs.Common.{◌≡◌, ◌≤◌, ◌<◌, ◌*◌, ◌∙◌,
 use Rattle.air_model.specs.Decks.{Deck, Item, disks_in}
 use Rattle.air_model.specs.Disks.{Disk, DiskSpec, cut, order, order_with}
 use Rattle.air_model.specs.Programs.{chunk, chunk_len, least_common_multiple, minor_cycle, num_chunks, num_minors, program}
-use Rattle.board_laws.specs.TapeSizes.{cycle_size}
+use Rattle.air_sender.specs.TapeSizes.{cycle_size}
 use Rattle.session_pins.specs.SmallDecks.{frequent, pair, scripted}
 
 -- The size of a cycle of these items on these disks.

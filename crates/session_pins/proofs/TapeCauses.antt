@@ -4,10 +4,10 @@ use Rattle.std.specs.Prelude.{IfErr, IfOk, MatchResult, Result, Ok, Err}
 use Rattle.air_devices.specs.Shelves.{Shelved}
 use Rattle.air_devices.specs.Told.{ToldIs, WhereTold}
 use Rattle.air_model.specs.Tapes.{tape_read}
-use Rattle.air_status.specs.declared.status.Status.{Status}
-use Rattle.air_status.specs.declared.status.Status.TheVariants as status
-use Rattle.deck_files.specs.NamedFiles.{UnreadCause}
-use Rattle.tape_pieces.specs.HeardTapes.{UnheardCause}
+use Rattle.air_report.specs.declared.status.Status.{Status}
+use Rattle.air_report.specs.declared.status.Status.TheVariants as status
+use Rattle.air_cli.specs.NamedFiles.{UnreadCause}
+use Rattle.air_cli.specs.HeardTapes.{UnheardCause}
 use Rattle.session_pins.specs.Refusals.{IsCutAt, IsUnread}
 use Rattle.session_pins.specs.SmallBuckets.{cut_tape, pair_tape}
 use Rattle.session_pins.proofs.SessionFacts.{cut_cut, pair_whole}

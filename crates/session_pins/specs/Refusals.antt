@@ -1,7 +1,7 @@
 -- Why a tape whose bytes are told isn't heard.
 use Rattle.std.specs.Prelude.{◌≡◌, ℕ, ⊤}
-use Rattle.air_status.specs.declared.status.Status.{Status}
-use Rattle.air_status.specs.declared.status.Status.TheVariants as status
+use Rattle.air_report.specs.declared.status.Status.{Status}
+use Rattle.air_report.specs.declared.status.Status.TheVariants as status
 
 -- Its file could not be read, or memory ran out.
 abbrev pub IsUnread : Status → Type 0

@@ -5,9 +5,9 @@
 //! definition. A function is named for the blunder that it refuses. `specs/` has the values: small decks, their buckets and receivers.
 #![tactic(auto)]
 
-pub mod aired_pieces_pins;
-pub mod aired_sessions_pins;
 pub mod listeners_pins;
+pub mod piece_pins;
+pub mod piece_run_pins;
 pub mod receiver_core_pins;
-pub mod script_run_pins;
-pub mod tape_pieces_pins;
+pub mod script_pins;
+pub mod tape_pins;

@@ -13,8 +13,9 @@ ghost use Rattle.session_pins.specs.SmallListeners.{accepted, listener_in};
 ghost use Rattle.session_pins.specs.SmallReceivers.{counted, counts, heard as heard_read, holding, read, told};
 
 use air_base::NoMemory;
+use air_model::bucket::BucketFault;
 use air_model::reports::{CountsLine, VerdictLine};
-use bucket_codec::{BucketFault, BucketView};
+use bucket_codec::BucketView;
 use chunk_program::Program;
 use item_catalog::Deck;
 use listeners::{Listener, Sessions, Together, ether_sessions};

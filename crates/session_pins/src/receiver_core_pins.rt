@@ -12,7 +12,8 @@ ghost use Rattle.session_pins.specs.SmallDecks.{tiered};
 ghost use Rattle.session_pins.specs.SmallReceivers.{air_by, asker, counts, heard as heard_read, holding, line, read, receiver_in};
 
 use air_base::NoMemory;
-use bucket_codec::{BucketFault, BucketView};
+use air_model::bucket::BucketFault;
+use bucket_codec::BucketView;
 use chunk_program::Program;
 use item_catalog::Deck;
 use receiver_core::{Fed, Receiver};

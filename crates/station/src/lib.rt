@@ -12,6 +12,7 @@ mod locked;
 mod passes;
 mod stations;
 
+pub use air_base::NoMemory;
 pub use passes::{ConductorPass, UpdaterPass};
 pub use stations::Station;
-pub use update_commit::{NoMemory, Receipt};
+pub use update_commit::Receipt;

@@ -6,8 +6,9 @@ ghost use Rattle.station_tests.specs.Workers.{IsReady};
 
 use crate::replays::replay;
 use crate::workers::{Conductor, Worker};
+use air_base::NoMemory;
 use item_catalog::{Deck, read_deck};
-use station::{NoMemory, Station, UpdaterPass};
+use station::{Station, UpdaterPass};
 use std::alloc::Global;
 use std::sync::Wait;
 use std::test::Fail;

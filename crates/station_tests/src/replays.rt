@@ -2,8 +2,8 @@
 ghost use Rattle.std.specs.Prelude.{◌≡◌, ◌<◌, ◌≤◌, ◌+◌, length};
 
 use crate::workers::Started;
+use air_base::NoMemory;
 use air_history::{Event, History};
-use station::NoMemory;
 use std::alloc::Global;
 use update_commit::{Core, Receipt};
 

@@ -4,9 +4,10 @@ ghost use Rattle.station.specs.PassStates.{with_seen};
 ghost use Rattle.station_tests.specs.Workers.{IsReady};
 
 use air_history::{Event, Update};
-use station::{ConductorPass, Receipt, Station, UpdaterPass};
+use station::{ConductorPass, Station, UpdaterPass};
 use std::alloc::Global;
 use std::sync::Wait;
+use update_commit::Receipt;
 
 /// An updater's pass, the update that it commits, and the receipts in order.
 #[derive(Drop)]

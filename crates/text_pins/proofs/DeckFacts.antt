@@ -6,9 +6,9 @@ use Rattle.air_base.specs.Numbers.{number_of}
 use Rattle.air_base.specs.NumberLists.{all_some}
 use Rattle.air_history.specs.UpdateRules.{has_repeat}
 use Rattle.air_model.specs.Decks.{Deck}
-use Rattle.update_texts.specs.Writes.{value_of, write_of}
-use Rattle.text_records.specs.Records.{records_of}
-use Rattle.text_records.proofs.FaultPlaces.{one_kind, one_place}
+use Rattle.item_catalog.specs.Writes.{value_of, write_of}
+use Rattle.item_catalog.specs.Records.{records_of}
+use Rattle.item_catalog.proofs.FaultPlaces.{one_kind, one_place}
 use Rattle.item_catalog.specs.Fields.{event_of, freq_of}
 use Rattle.item_catalog.specs.Faults.{kinds_at, some_below}
 use Rattle.item_catalog.specs.Grammar.{HasFault, IsAnswer, Spells}

@@ -1,6 +1,6 @@
 -- The first faulty place and the least kind there, by the kinds of the places up to it: one or two at the place, and none before.
 use Rattle.std.proofs.Common.{◌≡◌, ◌<◌, ◌≤◌, ◌∷◌, ℕ, zero, suc, List, [], All, arith, refl}
-use Rattle.text_records.specs.FirstFaults.{IsFirstFault, NoneBefore}
+use Rattle.item_catalog.specs.FirstFaults.{IsFirstFault, NoneBefore}
 
 least_one : (kind : ℕ) → All (λ other. kind ≤ other) (kind ∷ [])
 least_one kind zero d below = omega arith

@@ -2,7 +2,7 @@
 use Rattle.std.specs.Prelude.{ℕ, [], ◌∷◌, Bool, false, Some, None}
 use Rattle.air_history.specs.declared.updates.Write.{Write}
 use Rattle.air_history.specs.UpdateLists.{UpdateLists}
-use Rattle.update_texts.specs.KeptLists.{WritesSeen}
+use Rattle.item_catalog.specs.KeptLists.{WritesSeen}
 
 -- Item 1 becomes item 0 and this amount, or item 0 less it.
 abbrev pub one_on_zero : Bool → ℕ → Write

@@ -6,8 +6,9 @@ ghost use Rattle.air_model.specs.Buckets.{Bucket};
 ghost use Rattle.bucket_codec.specs.BucketsToAir.{bucket_to_air};
 ghost use Rattle.text_pins.specs.SmallBuckets.{but, column_bytes, cut_at_byte, idle, idle_bytes, varied};
 
+use air_model::bucket::BucketFault;
 use bucket_codec::{
-    Bucket, BucketFault, BucketView, TapeFault, TapeReader, decode, encode, size_of, tape_record,
+    Bucket, BucketView, TapeFault, TapeReader, decode, encode, size_of, tape_record,
 };
 
 /// A tape that is cut gives its fault, and not the bytes that are left of the record.

@@ -1,4 +1,4 @@
-//! These pins fix what `drill_parts` draws by the first words of a seed: an item, an update and a query.
+//! These pins fix what `item_catalog` draws by the first words of a seed: an item, an update and a query.
 //! They also fix the settings, which are the same in each drill but for the seed.
 
 ghost use Rattle.std.specs.Prelude.{◌≡◌, [], ◌∷◌, IfOk};
@@ -9,7 +9,7 @@ ghost use Rattle.text_pins.specs.SmallWrites.{add_to};
 use air_base::NoMemory;
 use air_history::Update;
 use air_model::deck::Settings;
-use drill_parts::{draw_item, draw_query, draw_update, drill_settings};
+use item_catalog::{draw_item, draw_query, draw_update, drill_settings};
 use rand_pcg::Lcg64Xsh32;
 use std::alloc::Global;
 

@@ -1,4 +1,4 @@
-//! These pins fix what `text_records` takes of a record: one field or two after its tag, and no field of another record.
+//! These pins fix what `Records` of `item_catalog` takes of a record: one field or two after its tag, and no field of another record.
 //! They also fix what a reader of records finds, and what is left of its text.
 
 ghost use Rattle.std.specs.Prelude.{◌≡◌, [], ◌∷◌, codes, true, None, IfOk, IfSome, IsSome};
@@ -6,7 +6,7 @@ ghost use Rattle.csv.specs.Records.{fields_of};
 
 use air_base::NoMemory;
 use csv::ByteRecord;
-use text_records::{Records, one, two};
+use item_catalog::{Records, one, two};
 
 /// Where a record has three fields after its tag, no two are taken of it.
 pub fn longer_record_taken(row: &ByteRecord) -> Option<(&[u8], &[u8])>

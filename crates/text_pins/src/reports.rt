@@ -1,15 +1,13 @@
-//! These pins fix what `report_texts` writes of small reports, whose numbers differ where a text could exchange them.
-//! They also fix how `air_rows` sets up a writer, and how `air_status` tells a refusal by its number and its line.
+//! These pins fix what `write_report` writes of small reports, whose numbers differ where a text could exchange them.
+//! They also fix how `row_writer` sets up a writer, and how `refusal_line` tells a refusal by its number and its line.
 
 ghost use Rattle.std.specs.Prelude.{◌≡◌, ◌++◌, [], codes, true, IfOk, OnOk};
 ghost use Rattle.csv.specs.Writing.{default_writer, with_flexible, writer_setup};
 ghost use Rattle.text_pins.specs.SmallReports.{line, of_a_glance_and_a_look, of_a_start, of_an_abort, of_counts, of_two_events};
 
 use air_base::NoMemory;
-use air_rows::row_writer;
-use air_status::{Status, refusal_line};
+use air_report::{Report, Status, refusal_line, row_writer, write_report};
 use csv::Writer;
-use report_texts::{Report, write_report};
 use std::alloc::Global;
 
 /// Rows may have lengths of their own.

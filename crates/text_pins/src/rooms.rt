@@ -1,9 +1,9 @@
-//! These pins fix what `byte_rooms` keeps of bytes and of records, by the room that is left.
+//! These pins fix what the rooms of `air_devices` keep of bytes and of records, by the room that is left.
 //! Of bytes it keeps those that fit; a record it keeps whole, with its length, or not at all.
 
 ghost use Rattle.std.specs.Prelude.{◌≡◌, [], ◌∷◌, true, false};
 
-use byte_rooms::{FixedBytes, TapeRoom};
+use air_devices::{FixedBytes, TapeRoom};
 
 /// Of bytes that don't all fit those that do are added.
 pub fn print_past_the_room_adds_nothing(text: &mut FixedBytes, bytes: &[u8]) -> bool

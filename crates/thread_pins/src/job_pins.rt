@@ -1,4 +1,4 @@
-//! These pins of `air_jobs` say what a job of one update, of one or two looks and of two cycles leaves.
+//! These pins of the jobs of `deck_runs` say what a job of one update, of one or two looks and of two cycles leaves.
 //!
 //! Other jobs may commit at the same time, so they say what every order of events must keep.
 #![tactic(auto, unfolding(air_model::specs::DeckLaws::made_by, air_model::specs::DeckLaws::commits_from))]
@@ -13,16 +13,17 @@ ghost use Rattle.air_model.specs.DeckLaws.{made_by};
 ghost use Rattle.air_model.specs.Disks.{all_items};
 ghost use Rattle.bucket_codec.specs.declared.offsets.TheConstants.{ENTRY_BYTES, HEAD_BYTES};
 ghost use Rattle.cycle_snapshot.specs.Batches.{events_in};
-ghost use Rattle.air_jobs.specs.Published.{AreInStep};
+ghost use Rattle.deck_runs.specs.Published.{AreInStep};
 ghost use Rattle.thread_pins.specs.SmallBatches.{reads_and_sets, first_batch};
 
-use air_base::Policy;
+use air_base::{NoMemory, Policy};
 use air_devices::{Gate, Mast};
 use air_history::Update;
-use air_jobs::{ConductFault, LookLine, NoMemory, conductor_job, monitor_job, updater_job};
+use air_model::reports::LookLine;
 use chunk_program::Program;
 use control_matrix::Board;
 use cycle_snapshot::{Monitor, Publisher};
+use deck_runs::{ConductFault, conductor_job, monitor_job, updater_job};
 use station::{ConductorPass, Station, UpdaterPass};
 use std::alloc::Global;
 use std::sync::Wait;

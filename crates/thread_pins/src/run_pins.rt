@@ -1,4 +1,4 @@
-//! These pins of `air_runs` say what a run of three cycles with two monitors answers, and what a run tells that fails.
+//! These pins of `run_threads` say what a run of three cycles with two monitors answers, and what a run tells that fails.
 //!
 //! Its threads go on in any order, so they say what every run must keep.
 
@@ -10,8 +10,8 @@ ghost use Rattle.air_devices.specs.Masts.{Sent, nothing_sent};
 ghost use Rattle.thread_pins.specs.SmallBatches.{adds_to};
 
 use air_devices::{Gate, Mast};
-use air_runs::{Run, RunFault, run_threads};
 use chunk_program::Program;
+use deck_runs::{Run, RunFault, run_threads};
 use item_catalog::Deck;
 use std::alloc::Global;
 use std::sync::Wait;

@@ -6,8 +6,9 @@ ghost use Rattle.std.specs.Prelude.{◌≡◌, ◌≤◌, ◌<◌, [], ◌∷◌
 ghost use Rattle.air_history.specs.declared.histories.Event.TheVariants.{Start};
 ghost use Rattle.thread_pins.specs.SmallBatches.{first_values, first_batch, second_batch};
 
+use air_base::NoMemory;
 use air_history::Event;
-use cycle_snapshot::{Monitor, NoMemory, Publisher, Told, publisher};
+use cycle_snapshot::{Monitor, Publisher, Told, publisher};
 use std::alloc::Global;
 use std::sync::Wait;
 

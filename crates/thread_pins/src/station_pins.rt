@@ -13,11 +13,13 @@ ghost use Rattle.air_model.specs.Decks.{count_made};
 ghost use Rattle.update_commit.specs.Receipts.{reply_in};
 ghost use Rattle.thread_pins.specs.SmallBatches.{first_values, first_batch, second_batch, reads_and_sets};
 
+use air_base::NoMemory;
 use air_history::{Event, History, Update};
 use item_catalog::Deck;
-use station::{ConductorPass, NoMemory, Receipt, Station, UpdaterPass};
+use station::{ConductorPass, Station, UpdaterPass};
 use std::alloc::Global;
 use std::sync::Wait;
+use update_commit::Receipt;
 
 /// The first pass of a new station is that of updater 0.
 pub fn passes_in_reverse_order(

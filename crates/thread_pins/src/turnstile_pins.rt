@@ -5,8 +5,9 @@
 ghost use Rattle.std.specs.Prelude.{◌≡◌, [], ◌∷◌, length, slice_get, IfOk, Some, None};
 ghost use Rattle.turnstile.specs.PassEntries.{Below};
 
+use air_base::NoMemory;
 use std::alloc::Global;
-use turnstile::{Chronicle, NoMemory, Pass, Turnstile};
+use turnstile::{Chronicle, Pass, Turnstile};
 
 /// Two passes that are made together stand for the numbers 0 and 1, in this order, each for its own number alone. It also
 /// refuses passes that are dealt from the last, and two passes of one number.

@@ -7,11 +7,12 @@ ghost use Rattle.turnstile_tests.specs.Workers.{IsReady, InOrder};
 
 use crate::pairs::Pairs;
 use crate::workers::{Turns, Worker};
+use air_base::NoMemory;
 use std::alloc::Global;
 use std::sync::Wait;
 use std::thread;
 use std::thread::Threads;
-use turnstile::{NoMemory, Pass, Turnstile};
+use turnstile::{Pass, Turnstile};
 
 /// Gives each pass to a worker, in the order of their numbers.
 pub fn hire(

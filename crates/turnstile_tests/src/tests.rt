@@ -5,11 +5,12 @@ ghost use Rattle.turnstile_tests.specs.Workers.{IsReady};
 use crate::pairs::Pairs;
 use crate::rounds::{finish, hire, play, work_all};
 use crate::workers::{Turns, Worker};
+use air_base::NoMemory;
 use std::alloc::Global;
 use std::sync::Wait;
 use std::test::Fail;
 use std::thread::Threads;
-use turnstile::{NoMemory, Turnstile};
+use turnstile::Turnstile;
 
 /// A turnstile's passes, the threads that work, and the turns of each pass.
 #[derive(Drop)]

@@ -4,8 +4,9 @@ ghost use Rattle.turnstile.specs.PassEntries.{Foreign};
 ghost use Rattle.turnstile_tests.specs.Workers.{IsReady, IsSamePass};
 
 use crate::pairs::Pairs;
+use air_base::NoMemory;
 use std::sync::Wait;
-use turnstile::{NoMemory, Pass, Turn, Turnstile};
+use turnstile::{Pass, Turn, Turnstile};
 
 /// A pass with the number that it was made with, and whether all its turns had memory.
 #[derive(Drop)]

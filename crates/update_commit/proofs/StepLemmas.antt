@@ -13,7 +13,7 @@ use Rattle.air_history.specs.Tables.{table, values_of, value_after, write_of}
 use Rattle.air_history.specs.Boards.{Reply, reply_of}
 use Rattle.air_history.proofs.ScanLemmas.{cycle_all}
 use Rattle.air_history.proofs.TableLemmas.{table_push, value_after_same}
-use Rattle.history_laws.proofs.StepLemmas.{cycle_append}
+use Rattle.air_history.proofs.StepLemmas.{cycle_append}
 use Rattle.air_model.specs.Decks.{count_made}
 use Rattle.update_commit.proofs.EventLemmas.{made_own, made_other}
 

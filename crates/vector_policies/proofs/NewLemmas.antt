@@ -10,7 +10,7 @@ use Rattle.air_history.specs.Columns.{vector_entry, vector}
 use Rattle.air_history.specs.Clashes.{Heard}
 use Rattle.air_history.specs.HeldReads.{HeldReads, IsNew}
 use Rattle.air_history.proofs.HistoryLemmas.{front_cycle, front_cycle_same}
-use Rattle.history_laws.proofs.StaleLemmas.{writer_is}
+use Rattle.air_history.proofs.StaleLemmas.{writer_is}
 
 cycle_before : (H : List Event) (c i : ℕ) → 1 ≤ c → (o : Option ℕ) → writer (front H c) i ≡ o → option_map_or (cycle_at (front H c)) o 0 < c
 cycle_before H c i pos None e = pos

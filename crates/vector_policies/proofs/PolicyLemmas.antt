@@ -10,9 +10,9 @@ use Rattle.air_history.specs.Columns.{scheme_of}
 use Rattle.air_history.specs.Reads.{ReadAt, IsRead, last_cycle}
 use Rattle.air_history.specs.Clashes.{Heard, read_at, entry_of, entry_in, heard_clash, newest_heard, first_heard, is_late, clash_by_history, clash_by_entries, IsCurrent, Takes}
 use Rattle.air_history.specs.ClashLaws.{IsHeard, IsAllowed}
-use Rattle.history_laws.proofs.ClashLemmas.{clash}
-use Rattle.history_laws.proofs.PolicyLemmas.{stays_current, takes}
-use Rattle.held_entries.specs.Searches.{is_reached}
+use Rattle.air_history.proofs.ClashLemmas.{clash}
+use Rattle.air_history.proofs.PolicyLemmas.{stays_current, takes}
+use Rattle.held_reads.specs.Searches.{is_reached}
 
 -- ---- by the entries
 

@@ -12,11 +12,11 @@ ghost use Rattle.air_history.specs.Clashes.{read_at, clash_by_history, clash_by_
 ghost use Rattle.air_history.specs.ClashLaws.{IsHeard};
 ghost use Rattle.air_history.specs.Columns.{scheme_of};
 ghost use Rattle.air_history.specs.HeldReads.{IsNew};
-ghost use Rattle.held_entries.specs.HeardReads.{heard_read};
-ghost use Rattle.held_entries.specs.HeldCycles.{cycles_of};
+ghost use Rattle.held_reads.specs.HeardReads.{heard_read};
+ghost use Rattle.held_reads.specs.HeldCycles.{cycles_of};
 
 use air_base::{Clash, NoMemory};
-use held_entries::{HeldEntries, ROOM};
+use held_reads::{HeldEntries, ROOM};
 use std::alloc::Global;
 use std::marker::Model;
 

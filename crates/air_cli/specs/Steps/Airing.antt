@@ -1,16 +1,16 @@
 -- For private steps alone. Why a deck that has a program isn't cast, and why its readers don't report of what they hear.
 use Rattle.std.specs.Prelude.{◌≡◌, ◌≤◌, ℕ, ⊤}
-use Rattle.air_casts.specs.declared.hearings.HearFault.{HearFault}
-use Rattle.air_casts.specs.declared.hearings.HearFault.TheVariants as hear
+use Rattle.air_cli.specs.declared.commands.hearings.HearFault.{HearFault}
+use Rattle.air_cli.specs.declared.commands.hearings.HearFault.TheVariants as hear
 use Rattle.air_devices.specs.Ears.{Eared}
 use Rattle.air_devices.specs.Masts.{Masted}
 use Rattle.air_model.specs.Decks.{Deck}
-use Rattle.air_runs.specs.declared.runs.RunFault.{RunFault}
-use Rattle.air_runs.specs.declared.runs.RunFault.TheVariants as run
-use Rattle.air_status.specs.declared.status.Status.{Status}
-use Rattle.air_status.specs.declared.status.Status.TheVariants as status
-use Rattle.aired_runs.specs.RunTapes.{IsLongRun, run_tape_len}
-use Rattle.deck_files.specs.FileLimits.{tape_limit}
+use Rattle.deck_runs.specs.declared.threads.RunFault.{RunFault}
+use Rattle.deck_runs.specs.declared.threads.RunFault.TheVariants as run
+use Rattle.air_report.specs.declared.status.Status.{Status}
+use Rattle.air_report.specs.declared.status.Status.TheVariants as status
+use Rattle.deck_runs.specs.RunTapes.{IsLongRun, run_tape_len}
+use Rattle.air_cli.specs.FileLimits.{tape_limit}
 use Rattle.air_cli.specs.Cast.{IsBrokenCast}
 use Rattle.air_cli.specs.Listen.{IsBrokenListening}
 

@@ -3,10 +3,10 @@ use Rattle.std.specs.Prelude.{◌≡◌, ◌≢◌, ℕ, List}
 use Rattle.std.specs.Io.KnownBytes.{IsAtEnd}
 use Rattle.air_devices.specs.Counts.{KeepsCounts, NoCountFalls}
 use Rattle.air_devices.specs.Shelves.{Shelved}
-use Rattle.air_status.specs.declared.status.Status.{Status}
-use Rattle.air_status.specs.declared.status.Status.TheVariants as status
+use Rattle.air_report.specs.declared.status.Status.{Status}
+use Rattle.air_report.specs.declared.status.Status.TheVariants as status
 use Rattle.air_cli.specs.Meanings.{Meaning}
-use Rattle.delivery.specs.Given.{Given}
+use Rattle.air_cli.specs.Given.{Given}
 use Rattle.air_cli.specs.Untouched.{KeepsOutputs}
 
 -- This is what the command gives; its inputs were read to their ends, and no call failed.

@@ -3,11 +3,11 @@ use Rattle.std.specs.Prelude.{◌≡◌, ◌≢◌, ◌⊎◌, ℕ, List, Option
 use Rattle.air_devices.specs.Counts.{NoCountFalls}
 use Rattle.air_devices.specs.Shelves.{Shelved}
 use Rattle.air_devices.specs.Unchanged.{KeepsButPrinted}
-use Rattle.air_status.specs.declared.status.Status.{Status}
-use Rattle.air_status.specs.declared.status.Status.TheVariants as status
-use Rattle.delivery.specs.Deliveries.{Delivers, KeepsButDelivered}
-use Rattle.delivery.specs.Given.{Given}
-use Rattle.delivery.specs.Refusals.{Refuses}
+use Rattle.air_report.specs.declared.status.Status.{Status}
+use Rattle.air_report.specs.declared.status.Status.TheVariants as status
+use Rattle.air_cli.specs.Deliveries.{Delivers, KeepsButDelivered}
+use Rattle.air_cli.specs.Given.{Given}
+use Rattle.air_cli.specs.Refusals.{Refuses}
 
 -- What was made was delivered, its tape to this output, if one is named.
 pub record EndsGiven (output : Option (List ℕ)) (given : Given) (before now : Shelved) (answer : Status) : Type 0 where

@@ -3,10 +3,10 @@ use Rattle.std.specs.Prelude.{◌≡◌, ◌⊎◌, ℕ, List, Option}
 use Rattle.air_devices.specs.Shelves.{Shelved}
 use Rattle.air_model.specs.Decks.{Deck}
 use Rattle.air_model.specs.Outputs.{script_tape}
-use Rattle.air_status.specs.declared.status.Status.{Status}
-use Rattle.air_status.specs.declared.status.Status.TheVariants as status
-use Rattle.delivery.specs.Deliveries.{Delivers}
-use Rattle.delivery.specs.OutputPieces.{IsCutOff, IsPartWritten}
+use Rattle.air_report.specs.declared.status.Status.{Status}
+use Rattle.air_report.specs.declared.status.Status.TheVariants as status
+use Rattle.air_cli.specs.Deliveries.{Delivers}
+use Rattle.air_cli.specs.OutputPieces.{IsCutOff, IsPartWritten}
 use Rattle.air_cli.specs.Script.{script_given}
 
 -- Why the airing stopped: memory ran out, and a beginning of the tape was written; or a write failed.

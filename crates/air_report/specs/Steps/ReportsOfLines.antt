@@ -2,9 +2,9 @@
 use Rattle.std.specs.Prelude.{◌≡◌, ◌<◌, ◌+◌, length, ⊤}
 use Rattle.std.specs.List.{range_with_len}
 use Rattle.air_model.specs.Decks.{Deck, updates_by}
-use Rattle.report_reading.specs.ReportLines.{ReportLines, report_in}
-use Rattle.report_reading.specs.declared.lines.EventLine.{EventLine}
-use Rattle.report_reading.specs.declared.lines.EventLine.TheVariants.{Commit, Start}
+use Rattle.air_report.specs.ReportLines.{ReportLines, report_in}
+use Rattle.air_report.specs.declared.reading.lines.EventLine.{EventLine}
+use Rattle.air_report.specs.declared.reading.lines.EventLine.TheVariants.{Commit, Start}
 use Rattle.air_report.specs.declared.reading.ReadReport.{ReadReport}
 
 -- A line's update is one of the deck's.

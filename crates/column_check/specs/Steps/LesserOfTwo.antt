@@ -1,7 +1,7 @@
 -- For private steps alone. The choice between what two searches answer.
 use Rattle.std.specs.Prelude.{Option, Some, None}
 use Rattle.air_base.specs.declared.verdicts.Clash.{Clash}
-use Rattle.held_entries.specs.Searches.{lesser_of}
+use Rattle.held_reads.specs.Searches.{lesser_of}
 
 -- Of two clashes, where there are any, that of lesser item number.
 abbrev pub lesser_of_both : Option Clash → Option Clash → Option Clash

@@ -10,9 +10,9 @@ use Rattle.air_model.specs.Decks.{Deck}
 use Rattle.item_catalog.specs.Decks.{for_each, plain_item, with_freqs}
 use Rattle.item_catalog.specs.Settings.{number_in, settings_in}
 use Rattle.item_catalog.specs.declared.deck.draft.settings.Name.TheVariants.{Delta}
-use Rattle.text_records.specs.Kinds.{least_kind, with_spelled}
-use Rattle.text_records.specs.Steps.ReadAnswers.{Answers}
-use Rattle.text_records.specs.declared.refusals.Refusal.{Refusal}
+use Rattle.item_catalog.specs.RecordKinds.{least_kind, with_spelled}
+use Rattle.item_catalog.specs.Steps.ReadAnswers.{Answers}
+use Rattle.item_catalog.specs.declared.records.refusals.Refusal.{Refusal}
 use Rattle.item_catalog.specs.Faults.{item_tests, disk_tests, update_tests, reader_tests, query_tests, script_tests, set_tests}
 use Rattle.item_catalog.specs.declared.faults.FaultKind.{FaultKind}
 use Rattle.item_catalog.specs.declared.parts.ItemPart.{ItemPart}

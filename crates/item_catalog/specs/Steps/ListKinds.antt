@@ -1,9 +1,9 @@
 -- For private steps alone. The first kind that an update or a query has, by what was kept of its lists.
 use Rattle.std.specs.Prelude.{◌||◌, ℕ, [], ◌∷◌, Option, length, nat_le, nat_lt}
 use Rattle.air_base.specs.declared.limits.TheConstants.{MOST_ASKED, MOST_QUERIES, MOST_READS, MOST_UPDATERS, MOST_UPDATES, MOST_WRITES}
-use Rattle.update_texts.specs.KeptLists.{ItemsSeen, WritesSeen}
+use Rattle.item_catalog.specs.KeptLists.{ItemsSeen, WritesSeen}
 use Rattle.item_catalog.specs.Ranges.{outside}
-use Rattle.text_records.specs.Kinds.{first_of}
+use Rattle.item_catalog.specs.RecordKinds.{first_of}
 use Rattle.item_catalog.specs.declared.faults.FaultKind.{FaultKind}
 use Rattle.item_catalog.specs.declared.faults.FaultKind.TheVariants as fault
 

@@ -5,7 +5,7 @@ use Rattle.air_base.specs.declared.limits.TheConstants.{MOST_DELTA}
 use Rattle.air_model.specs.Decks.{IsDeck}
 use Rattle.item_catalog.specs.DeckLimits.{WithinLimits}
 use Rattle.item_catalog.specs.Steps.Drafts.{DraftValue, deck_from}
-use Rattle.text_records.specs.Kinds.{first_of}
+use Rattle.item_catalog.specs.RecordKinds.{first_of}
 use Rattle.item_catalog.specs.Faults.{end_tests}
 use Rattle.item_catalog.specs.Kinds.{code_of}
 use Rattle.item_catalog.specs.Settings.{number_in}

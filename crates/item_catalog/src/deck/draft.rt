@@ -6,7 +6,7 @@
 ghost use Rattle.std.specs.Prelude.{◌≡◌, ◌<◌, ◌≤◌, [], IfOk, drop, length, replicate};
 ghost use Rattle.csv.specs.Records.{fields_of};
 ghost use Rattle.air_model.specs.Decks.{IsDeck};
-ghost use Rattle.text_records.specs.Kinds.{first_of};
+ghost use Rattle.item_catalog.specs.RecordKinds.{first_of};
 ghost use Rattle.item_catalog.specs.DeckLimits.{WithinLimits};
 ghost use Rattle.item_catalog.specs.Steps.Drafts.{Adds, deck_from, draft_of};
 ghost use Rattle.item_catalog.specs.Settings.{number_in};
@@ -24,7 +24,11 @@ use crate::parts::{
     DiskPart, ItemPart, Queries, Updates, is_no_freq, narrow_freq, read_freq, sizes_of,
 };
 use crate::reading::{Tag, read_tag};
+use crate::records::fields::{three, two};
+use crate::records::refusals::Refusal;
 use crate::scripts::Script;
+use crate::updates::item_lists::ItemList;
+use crate::updates::write_lists::WriteList;
 use air_base::limits::{
     MOST_AGE, MOST_DELTA, MOST_DISKS, MOST_ITEMS, MOST_RATE, MOST_READERS, MOST_ROOM, MOST_SIZE,
     MOST_TRIES, MOST_UPDATERS,
@@ -34,8 +38,6 @@ use air_model::deck::ReaderPlan;
 use csv::ByteRecord;
 use std::alloc::Global;
 use std::marker::Model;
-use text_records::{Refusal, three, two};
-use update_texts::{ItemList, WriteList};
 
 /// The parts so far, with a list for each updater and each reader that there can be, and the lists of the record at hand.
 #[derive(Debug, Drop)]

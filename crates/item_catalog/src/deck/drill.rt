@@ -10,11 +10,12 @@ ghost use Rattle.item_catalog.specs.Decks.{plain_item, with_freqs};
 ghost use Rattle.item_catalog.specs.declared.deck.drill.TheConstants.{MOST_DRILL_SIZE, MOST_DRILL_UPDATES};
 
 use crate::deck::Deck;
+use crate::drills::draws::{draw_item, draw_query, draw_update};
+use crate::drills::plans::{drill_readers, drill_settings};
 use crate::laws::drill_law;
 use crate::parts::{DiskPart, ItemPart, Queries, Query, Updates};
 use crate::scripts::Script;
 use air_base::NoMemory;
-use drill_parts::{draw_item, draw_query, draw_update, drill_readers, drill_settings};
 use rand_pcg::Lcg64Xsh32;
 use std::alloc::Global;
 

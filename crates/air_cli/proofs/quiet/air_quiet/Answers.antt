@@ -1,5 +1,5 @@
 use Rattle.std.proofs.Common.{map, string_bytes, subst}
-use Rattle.air_status.specs.declared.status.Status.TheVariants as status
+use Rattle.air_report.specs.declared.status.Status.TheVariants as status
 use Rattle.air_cli.specs.Answers.{QuietAnswers}
 use Rattle.air_cli.specs.Commands.{words_meaning}
 use Rattle.air_cli.specs.Meanings.{no_form}

@@ -1,12 +1,12 @@
 use Rattle.std.proofs.Common.{sym, ◌∙◌}
 use Rattle.air_model.specs.Reports.{report_text}
-use Rattle.text_records.specs.Records.{records_of}
-use Rattle.text_records.proofs.FaultPlaces.{not_both}
-use Rattle.report_reading.specs.ReportFaults.{kinds_at}
-use Rattle.report_reading.specs.ReportGrammar.{HasReportFault, SpellsReport}
-use Rattle.report_reading.specs.ReportLines.{lines_in}
-use Rattle.report_laws.proofs.SameHistories.{read_same, report_same}
-use Rattle.report_laws.proofs.StandingLines.{read_back}
+use Rattle.item_catalog.specs.Records.{records_of}
+use Rattle.item_catalog.proofs.FaultPlaces.{not_both}
+use Rattle.air_report.specs.ReportFaults.{kinds_at}
+use Rattle.air_report.specs.ReportGrammar.{HasReportFault, SpellsReport}
+use Rattle.air_report.specs.ReportLines.{lines_in}
+use Rattle.air_report.proofs.SameHistories.{read_same, report_same}
+use Rattle.air_report.proofs.StandingLines.{read_back}
 use Rattle.air_report.proofs.laws.read_back_law.Goals as goal
 
 pub returns-clause-faultless : goal.returns-clause-faultless

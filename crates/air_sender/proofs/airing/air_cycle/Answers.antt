@@ -3,7 +3,7 @@ use Rattle.air_model.specs.Disks.{all_items}
 use Rattle.air_model.specs.Programs.{program as slots_of}
 use Rattle.air_model.specs.Buckets.{spelling}
 use Rattle.air_devices.specs.Masts.{Changes, with_buckets}
-use Rattle.board_laws.specs.BoardBuckets.{bucket_on, cycle_bytes}
+use Rattle.air_sender.specs.BoardBuckets.{bucket_on, cycle_bytes}
 use Rattle.air_sender.specs.declared.airing.AirFault.TheVariants as fault
 use Rattle.air_sender.proofs.SendFacts.{last_bytes_are, length_cycle, refused, sent_all, sent_more, sent_up_to, slot_bytes, well}
 use Rattle.air_sender.proofs.airing.air_cycle.Goals as goal

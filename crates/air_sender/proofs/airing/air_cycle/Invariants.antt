@@ -1,7 +1,7 @@
 use Rattle.std.proofs.Common.{◌≡◌, take}
 use Rattle.air_model.specs.Programs.{program as slots_of}
 use Rattle.air_devices.specs.Masts.{Changes, with_buckets}
-use Rattle.board_laws.specs.BoardBuckets.{cycle_bytes}
+use Rattle.air_sender.specs.BoardBuckets.{cycle_bytes}
 use Rattle.air_sender.proofs.airing.air_cycle.Given as goal
 
 -- The buckets of the slots before were sent, and nothing else changed.

@@ -2,7 +2,7 @@ use Rattle.std.proofs.Common.{◌≡◌, ◌≤◌, ◌+◌, ◌*◌, take}
 use Rattle.air_base.specs.declared.limits.TheConstants.{MOST_ITEMS}
 use Rattle.air_model.specs.Programs.{program as slots_of}
 use Rattle.bucket_codec.specs.declared.offsets.TheConstants.{ENTRY_BYTES, HEAD_BYTES, LENGTH_BYTES}
-use Rattle.board_laws.specs.TapeSizes.{cycle_size}
+use Rattle.air_sender.specs.TapeSizes.{cycle_size}
 use Rattle.air_sender.proofs.airing.cycle_len.Given as goal
 
 -- The records of the slots before, each with at most as many entries as a deck has items.

@@ -6,7 +6,7 @@ use Rattle.air_history.specs.Clashes.{IsCurrent, read_at}
 use Rattle.air_history.specs.ClashLaws.{IsHeard}
 use Rattle.air_history.specs.Columns.{scheme_of}
 use Rattle.air_history.specs.HeldReads.{HeldReads}
-use Rattle.held_entries.specs.HeardReads.{heard_read}
+use Rattle.held_reads.specs.HeardReads.{heard_read}
 use Rattle.core_pins.proofs.vector_pins.taken_though_a_read_is_stale.Goals as goal
 
 pub returns : goal.returns

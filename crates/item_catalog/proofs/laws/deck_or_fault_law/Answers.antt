@@ -1,6 +1,6 @@
 use Rattle.std.proofs.Common.{◌+◌, inl, inr, length, refl}
-use Rattle.text_records.specs.Records.{records_of}
-use Rattle.text_records.proofs.FaultPlaces.{look}
+use Rattle.item_catalog.specs.Records.{records_of}
+use Rattle.item_catalog.proofs.FaultPlaces.{look}
 use Rattle.item_catalog.specs.Faults.{entries_in, kinds_at}
 use Rattle.item_catalog.specs.Decks.{deck_of}
 use Rattle.item_catalog.specs.Grammar.{Spells, HasFault}

@@ -1,6 +1,6 @@
 use Rattle.std.proofs.Common.{◌+◌, ◌∙◌, ap, length, sym}
-use Rattle.text_records.specs.Records.{records_of}
-use Rattle.text_records.proofs.FaultPlaces.{one_kind, one_place}
+use Rattle.item_catalog.specs.Records.{records_of}
+use Rattle.item_catalog.proofs.FaultPlaces.{one_kind, one_place}
 use Rattle.item_catalog.specs.Faults.{kinds_at}
 use Rattle.item_catalog.specs.Grammar.{HasFault}
 use Rattle.item_catalog.proofs.laws.one_fault_law.Goals as goal

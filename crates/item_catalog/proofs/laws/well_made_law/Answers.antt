@@ -1,5 +1,5 @@
 use Rattle.item_catalog.specs.Grammar.{Spells}
-use Rattle.text_records.specs.Records.{records_of}
+use Rattle.item_catalog.specs.Records.{records_of}
 use Rattle.item_catalog.proofs.KeptRows.{spelled_made}
 use Rattle.item_catalog.proofs.laws.well_made_law.Goals as goal
 

@@ -1,7 +1,7 @@
 use Rattle.std.proofs.Common.{ℕ, ◌≡◌, ◌∙◌, sym, refl, subst, arith, ap, append_assoc, Some, None, ◌∷◌, [], ◌++◌, length, length-append}
 use Rattle.csv.specs.Records.{fields_of}
-use Rattle.text_records.specs.Kinds.{with_spelled}
-use Rattle.text_records.proofs.RowFacts.{few_records}
+use Rattle.item_catalog.specs.RecordKinds.{with_spelled}
+use Rattle.item_catalog.proofs.RowFacts.{few_records}
 use Rattle.item_catalog.specs.Kinds.{code_of}
 use Rattle.item_catalog.specs.Steps.Drafts.{DraftValue, draft_of, record_kind, with_entry}
 use Rattle.item_catalog.specs.Steps.ReadEnds.{CanEnd}

@@ -1,6 +1,6 @@
 use Rattle.std.proofs.Common.{◌∙◌, ap, drop, sym}
 use Rattle.csv.specs.Records.{fields_of}
-use Rattle.text_records.proofs.TagFacts.{tagged, untagged}
+use Rattle.item_catalog.proofs.TagFacts.{tagged, untagged}
 use Rattle.item_catalog.specs.DeckEntries.{entry_by, tag_of}
 use Rattle.item_catalog.proofs.reading.read_tag.Goals as goal
 

@@ -10,6 +10,10 @@ ghost use Rattle.item_catalog.specs.Steps.ListKinds.{seen_query_kind, seen_updat
 use crate::deck::draft::Draft;
 use crate::faults::FaultKind;
 use crate::parts::Query;
+use crate::records::fields::{one, three, two};
+use crate::records::refusals::Refusal;
+use crate::updates::item_lists::ItemList;
+use crate::updates::write_lists::WriteList;
 use air_base::limits::{
     MOST_ASKED, MOST_QUERIES, MOST_READS, MOST_UPDATERS, MOST_UPDATES, MOST_WRITES,
 };
@@ -17,8 +21,6 @@ use air_base::read_u64;
 use air_history::Update;
 use csv::ByteRecord;
 use std::alloc::Global;
-use text_records::{Refusal, one, three, two};
-use update_texts::{ItemList, WriteList};
 
 /// The least kind that applies to an update, where so many updates were given before it.
 #[inline(always)]

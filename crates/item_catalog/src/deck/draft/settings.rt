@@ -11,13 +11,14 @@ ghost use Rattle.item_catalog.specs.Settings.{default_of, name_of, number_in, nu
 
 use crate::deck::draft::Draft;
 use crate::faults::FaultKind;
+use crate::records::fields::two;
+use crate::records::refusals::Refusal;
 use air_base::limits::{
     DEFAULT_CYCLES, DEFAULT_HEARS, MOST_CYCLES, MOST_DELTA, MOST_HEARS, MOST_MONITORS, MOST_SHARE,
 };
 use air_base::{Policy, read_u64};
 use air_model::deck::Settings;
 use csv::ByteRecord;
-use text_records::{Refusal, two};
 
 /// The settings that are numbers.
 #[derive(Clone, Copy, Debug, PartialEq, Eq)]

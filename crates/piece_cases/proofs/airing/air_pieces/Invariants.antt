@@ -1,4 +1,4 @@
-use Rattle.aired_pieces.specs.Pieces.{IsAiring}
+use Rattle.scripts.specs.Pieces.{IsAiring}
 use Rattle.piece_cases.proofs.airing.air_pieces.Given as goal
 
 abbrev pub invariant-loop : goal.invariant-loop

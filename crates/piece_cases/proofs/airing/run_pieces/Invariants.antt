@@ -1,4 +1,4 @@
-use Rattle.script_run.specs.PieceRuns.{IsPieceRun}
+use Rattle.scripts.specs.PieceRuns.{IsPieceRun}
 use Rattle.piece_cases.proofs.airing.run_pieces.Given as goal
 
 abbrev pub invariant-loop-word : goal.invariant-loop-word

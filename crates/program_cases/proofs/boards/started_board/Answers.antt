@@ -1,6 +1,6 @@
 use Rattle.std.proofs.Common.{rules, sym, subst}
 use Rattle.std.specs.Prelude.{IsTrue}
-use Rattle.board_laws.specs.BoardBuckets.{EntriesBelow}
+use Rattle.air_sender.specs.BoardBuckets.{EntriesBelow}
 use Rattle.program_cases.proofs.boards.started_board.Goals as goal
 
 pub returns-clause-below : goal.returns-clause-below

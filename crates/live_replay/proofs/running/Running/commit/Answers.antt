@@ -6,7 +6,7 @@ use Rattle.air_history.specs.declared.histories.Event.TheVariants.{Commit}
 use Rattle.air_history.specs.UpdateRules.{UpdateFits, item_of}
 use Rattle.air_history.specs.Histories.{ItemsFit}
 use Rattle.air_history.specs.Tables.{value_after, values_of}
-use Rattle.history_laws.proofs.RepeatLemmas as repeats
+use Rattle.air_history.proofs.RepeatLemmas as repeats
 use Rattle.live_replay.specs.Steps.Runs.{added_write}
 use Rattle.live_replay.proofs.RunFacts.{run_commit}
 use Rattle.live_replay.proofs.running.Running.commit.Goals as goal

@@ -1,4 +1,4 @@
-use Rattle.held_entries.specs.HeardReads.{heard_read}
+use Rattle.held_reads.specs.HeardReads.{heard_read}
 use Rattle.receiver_core.proofs.PolicyLemmas.{in_order}
 use Rattle.receiver_core.proofs.policy_held.PolicyHeld.hold.Goals as goal
 

@@ -4,7 +4,7 @@ use Rattle.air_base.specs.declared.limits.TheConstants.{MOST_UPDATERS}
 use Rattle.air_base.specs.NumberLists.{list_of}
 use Rattle.air_history.specs.UpdateLists.{UpdateLists}
 use Rattle.air_model.specs.Decks.{count_parts}
-use Rattle.text_records.specs.Kinds.{with_spelled}
+use Rattle.item_catalog.specs.RecordKinds.{with_spelled}
 use Rattle.item_catalog.specs.Steps.Drafts.{DraftValue, record_kind, with_entry}
 use Rattle.item_catalog.specs.DeckEntries as e
 use Rattle.item_catalog.specs.DeckEntries.{script_by}

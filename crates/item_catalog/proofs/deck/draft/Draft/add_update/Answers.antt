@@ -1,7 +1,7 @@
 use Rattle.std.proofs.Common.{◌≡◌, ◌∙◌, None, ap, arith, length, sym}
 use Rattle.std.proofs.lemmas.List.{length-set}
 use Rattle.item_catalog.specs.Steps.Drafts.{DraftValue, record_kind}
-use Rattle.text_records.specs.Kinds.{first_of}
+use Rattle.item_catalog.specs.RecordKinds.{first_of}
 use Rattle.item_catalog.specs.Faults.{update_tests}
 use Rattle.item_catalog.proofs.EntryFacts.{update_tested}
 use Rattle.item_catalog.proofs.deck.draft.Draft.add_update.Goals as goal

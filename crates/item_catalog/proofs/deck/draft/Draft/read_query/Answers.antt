@@ -6,10 +6,10 @@ use Rattle.item_catalog.specs.declared.faults.FaultKind.{FaultKind}
 use Rattle.item_catalog.specs.Steps.Drafts.{DraftValue, record_kind}
 use Rattle.item_catalog.specs.DeckEntries as e
 use Rattle.item_catalog.specs.DeckEntries.{Entry, query_by}
-use Rattle.text_records.specs.Kinds.{first_of}
+use Rattle.item_catalog.specs.RecordKinds.{first_of}
 use Rattle.item_catalog.specs.Faults.{query_tests}
 use Rattle.air_base.specs.Pieces.{two_of}
-use Rattle.update_texts.specs.KeptLists.{ItemsSeen, items_seen}
+use Rattle.item_catalog.specs.KeptLists.{ItemsSeen, items_seen}
 use Rattle.item_catalog.specs.Steps.ListKinds.{seen_query_kind}
 use Rattle.item_catalog.proofs.EntryFacts.{query_spelled, read_is_some}
 use Rattle.item_catalog.proofs.WriteFacts.{query_kept, query_seen}

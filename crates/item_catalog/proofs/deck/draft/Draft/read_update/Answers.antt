@@ -9,11 +9,11 @@ use Rattle.item_catalog.specs.declared.faults.FaultKind.{FaultKind}
 use Rattle.item_catalog.specs.Steps.Drafts.{DraftValue, record_kind}
 use Rattle.item_catalog.specs.DeckEntries as e
 use Rattle.item_catalog.specs.DeckEntries.{Entry, update_by}
-use Rattle.text_records.specs.Kinds.{first_of}
+use Rattle.item_catalog.specs.RecordKinds.{first_of}
 use Rattle.item_catalog.specs.Faults.{update_tests}
 use Rattle.air_base.specs.Pieces.{three_of}
-use Rattle.update_texts.specs.Writes.{write_of}
-use Rattle.update_texts.specs.KeptLists.{ItemsSeen, WritesSeen, items_seen, writes_seen}
+use Rattle.item_catalog.specs.Writes.{write_of}
+use Rattle.item_catalog.specs.KeptLists.{ItemsSeen, WritesSeen, items_seen, writes_seen}
 use Rattle.item_catalog.specs.Steps.ListKinds.{seen_update_kind}
 use Rattle.item_catalog.proofs.EntryFacts.{read_is_some, rules_kept, update_spelled, writes_signed}
 use Rattle.item_catalog.proofs.WriteFacts.{update_kept, update_seen}

@@ -1,0 +1,57 @@
+use Rattle.std.proofs.Common.{◌≡◌, ◌≤◌, refl, None, length, subst, sym, rules, arith}
+use Rattle.std.specs.Io.KnownBytes.{IsAtEnd}
+use Rattle.air_model.specs.Outputs.{script_tape}
+use Rattle.air_cli.specs.RunnableDecks.{IsShort}
+use Rattle.air_cli.specs.Given.{Given}
+use Rattle.air_cli.specs.FileLimits.{tape_limit}
+use Rattle.air_cli.specs.Steps.BeforeDelivery.{IsUnmade}
+use Rattle.air_cli.specs.Script.{HasLongTape, ScriptCause, ScriptGives, script_given, script_meaning}
+use Rattle.air_cli.specs.Truths.{IsTrueScript}
+use Rattle.air_cli.proofs.CauseFacts.{of_deck}
+use Rattle.air_cli.proofs.ScriptFacts.{unrunnable_script}
+use Rattle.air_cli.proofs.commands.script.read_script.Goals as goal
+
+pub returns-in_err-deck-clause-unmade : goal.returns-in_err-deck-clause-unmade
+returns-in_err-deck-clause-unmade g c =
+    let S = g.S.Shelf in
+    let before = S.state c.args.shelf.now in
+    let now = S.state c.read_runnable_deck.new.shelf in
+    let h : IsUnmade (script_meaning c.args.name.now None) before now c.in_err-deck.field-0.0 = record {
+      cause = unrunnable_script c.args.name.now before now c.in_err-deck.field-0.0 c.in_err-deck.ensures.refused;
+      kept = c.in_err-deck.ensures.reads.kept;
+    } in
+    search (rules, h)
+
+pub returns-then-bytes-clause-unmade : goal.returns-then-bytes-clause-unmade
+unfolding ScriptCause
+returns-then-bytes-clause-unmade g c =
+    let S = g.S.Shelf in
+    let before = S.state c.args.shelf.now in
+    record {
+      cause = of_deck c.args.name.now before c.in_ok-deck.deck (λ d. HasLongTape d c.tape_len-bytes.result) c.in_ok-deck.ensures.deck
+          (record { runnable = c.in_ok-deck.ensures.runnable; counted = c.tape_len-bytes.ensures; above = omega (arith, c.if-bytes.true) });
+      kept = λ read. c.in_ok-deck.ensures.reads.calm;
+    }
+
+pub returns-clause-made : goal.returns-clause-made
+unfolding ScriptGives
+returns-clause-made g c =
+    let S = g.S.Shelf in
+    let name = c.args.name.now in
+    let before = S.state c.args.shelf.now in
+    let now = S.state c.read_runnable_deck.new.shelf in
+    let d = c.in_ok-deck.deck in
+    let work : Given = script_given d in
+    record {
+      gives = (
+        refl,
+        of_deck name before d (λ d. IsShort d × (length (script_tape d) ≤ tape_limit) × IsTrueScript d × (work ≡ script_given d)) c.in_ok-deck.ensures.deck (
+          c.in_ok-deck.ensures.runnable,
+          omega (arith, c.if-bytes.false, c.tape_len-bytes.ensures),
+          record { legal = c.script_is_true.ensures.legal; bases = c.script_is_true.ensures.bases; sessions = c.script_is_true.ensures.sessions },
+          refl,
+        ),
+      );
+      read = λ other same. subst (λ input. IsAtEnd (now.told.left input)) (sym same) c.in_ok-deck.ensures.reads.end;
+      calm = c.in_ok-deck.ensures.reads.calm;
+    }

@@ -1,0 +1,45 @@
+use Rattle.std.proofs.Common.{Bor, List, ℕ, inl}
+use Rattle.std.specs.Prelude.{Option}
+use Rattle.std.specs.Option.{option_map}
+use Rattle.air_cli.specs.Script.{script_meaning}
+use Rattle.air_cli.proofs.RefusalFacts.{answers_refused, leaves_refused, untouched}
+use Rattle.air_cli.proofs.ScriptAirings.{answers_aired, leaves_aired}
+use Rattle.air_cli.proofs.ScriptFacts.{reads_for, script_facts, unmade_for}
+use Rattle.air_cli.proofs.commands.script.script.Goals as goal
+
+pub returns-in-Ok : goal.returns-in-Ok
+returns-in-Ok g c =
+    let S = g.S.Shelf in
+    let deck = c.args.name.now in
+    let output : Option (List ℕ) = option_map (λ (name : Bor (List ℕ)). name.now) c.args.output in
+    let before = S.state c.args.shelf.now in
+    let mid = S.state c.read_script.new.shelf in
+    let now = S.state c.air_and_print.new.shelf in
+    record {
+      answers = answers_aired deck output c.in-Ok.deck before mid now c.air_and_print.result c.in-Ok.ensures.made c.read_script.ensures.reads c.air_and_print.ensures.airs c.air_and_print.ensures.rest;
+      leaves = leaves_aired deck output before mid now c.read_script.ensures.reads c.air_and_print.ensures.rest c.air_and_print.ensures.counts;
+    }
+
+pub returns-in-NoMemory-clause-answers : goal.returns-in-NoMemory-clause-answers
+returns-in-NoMemory-clause-answers g c =
+    let S = g.S.Shelf in
+    let output : Option (List ℕ) = option_map (λ (name : Bor (List ℕ)). name.now) c.args.output in
+    untouched (script_meaning c.args.name.now output) (S.state c.args.shelf.now) (S.state c.read_script.new.shelf) c.read_script.ensures.reads.printed c.read_script.ensures.reads.outputs
+    (inl (c.in-Err.ensures.unmade.kept (λ e. cc (c.in-NoMemory.is, e))))
+
+pub returns-in_default : goal.returns-in_default
+returns-in_default g c =
+    let S = g.S.Shelf in
+    let deck = c.args.name.now in
+    let output : Option (List ℕ) = option_map (λ (name : Bor (List ℕ)). name.now) c.args.output in
+    let meaning = script_meaning deck output in
+    let before = S.state c.args.shelf.now in
+    let mid = S.state c.read_script.new.shelf in
+    let now = S.state c.refuse.new.shelf in
+    let reads = reads_for deck output before mid c.read_script.ensures.reads in
+    let unmade = unmade_for deck output before mid c.in-Err.status c.in-Err.ensures.unmade in
+    record {
+      answers = answers_refused meaning (script_facts deck output).sound before mid now c.in-Err.status c.refuse.result c.in_default.not-NoMemory reads unmade.cause unmade.kept
+          c.refuse.ensures.gives c.refuse.ensures.rest c.refuse.ensures.counts;
+      leaves = leaves_refused meaning before mid now reads c.refuse.ensures.rest c.refuse.ensures.counts;
+    }

@@ -1,0 +1,58 @@
+use Rattle.std.proofs.Common.{inl, arith, refl, sym, ◌∙◌}
+use Rattle.std.proofs.lemmas.Result.{MatchResult-weaker}
+use Rattle.air_cli.specs.NamedFiles.{UnreadCause}
+use Rattle.air_cli.specs.HeardTapes.{UnheardCause}
+use Rattle.air_cli.proofs.HeardSoFar.{begun, heard_more, rest_after, room_for_piece, whole_heard}
+use Rattle.air_cli.proofs.ReadSoFar.{cut_cause, none_came, too_large}
+use Rattle.air_cli.proofs.ReadingFacts.{calm_twice, left_twice}
+use Rattle.air_cli.proofs.tapes.hear_pieces.Goals as goal
+
+pub loop-count-init : goal.loop-count-init
+loop-count-init g c =
+    let S = g.S.Shelf in
+    let name = c.args.name.now in
+    let empty = c.in_ok-piece.ensures.empty in
+    record {
+      far = begun c.args.sizes.tape ((S.state c.args.shelf.now).told.file name) ((S.state c.pick.new.self).told.left name) c.in_ok-piece.piece.bytes c.args.readers.now c.in-Ok.ensures.picked empty;
+      rest = inl empty;
+      room = c.in_ok-piece.ensures.room;
+      keeps = c.pick.ensures.rest;
+      calm = c.in-Ok.ensures.cause.calm;
+    }
+
+pub hear_front-requires-after_bounds : goal.hear_front-requires-after_bounds
+hear_front-requires-after_bounds g c κs within =
+    room_for_piece c.as_slice-in-loop-count.result.now (omega arith) c.requires c.loop-count.invariant.far c.in-Ok-read.ensures.moved (omega arith) c.as_slice-in-loop-count.ensures
+
+pub loop-count-preserved : goal.loop-count-preserved
+loop-count-preserved g c =
+    let inv = c.loop-count.invariant in
+    let come = c.in-Ok-read.ensures.moved in
+    let front = c.in_ok-heard.ensures.front in
+    let next = c.let_go.new.self.bytes in
+    record {
+      far = heard_more next c.hear_front.new.readers inv.far come (omega arith) c.as_slice-in-loop-count.ensures front c.in_ok-heard.ensures.heard c.in_ok-let_go.ensures.rest;
+      rest = rest_after next c.as_slice-in-loop-count.ensures front c.in_ok-let_go.ensures.rest;
+      room = c.in_ok-let_go.ensures.room;
+      keeps = left_twice inv.keeps c.read.ensures.rest;
+      calm = calm_twice inv.calm c.in-Ok-read.ensures.cause.calm;
+    }
+
+pub returns-then-count-eq0-clause-heard : goal.returns-then-count-eq0-clause-heard
+returns-then-count-eq0-clause-heard g c =
+    let S = g.S.Shelf in
+    let come = none_came c.if-count-eq0.true c.in-Ok-read.ensures.moved in
+    MatchResult-weaker c.whole_or_cut.result c.whole_or_cut.ensures
+    (λ done none. whole_heard c.args.name.now (S.state c.args.shelf.now) c.loop-count.invariant.far come (sym c.as_slice.ensures ∙ none)) (λ s cut. tt)
+
+pub returns-then-count-eq0-clause-refused : goal.returns-then-count-eq0-clause-refused
+returns-then-count-eq0-clause-refused g c =
+    let S = g.S.Shelf in
+    let inv = c.loop-count.invariant in
+    let come = none_came c.if-count-eq0.true c.in-Ok-read.ensures.moved in
+    MatchResult-weaker c.whole_or_cut.result c.whole_or_cut.ensures (λ done none. tt)
+    (λ s cut. cut_cause c.args.name.now (S.state c.args.shelf.now) (S.state c.read.new.shelf) s inv.far.read inv.rest come c.as_slice.ensures cut)
+
+pub returns-then-left-count-clause-refused : goal.returns-then-left-count-clause-refused
+unfolding UnheardCause UnreadCause
+returns-then-left-count-clause-refused g c = (refl, too_large c.in-Ok-read.count c.loop-count.invariant.far.read c.in-Ok-read.ensures.moved c.if-left-count.true c.in-Ok-read.ensures.bound)

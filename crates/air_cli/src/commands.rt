@@ -1,0 +1,14 @@
+//! The commands: a file each, which gives what the command prints and writes, or the status that refuses it.
+
+pub(crate) mod audit;
+pub(crate) mod cast;
+pub(crate) mod drill;
+pub(crate) mod hearings;
+pub(crate) mod listen;
+pub(crate) mod plan;
+pub(crate) mod reports;
+pub(crate) mod run;
+pub(crate) mod run_on_air;
+pub(crate) mod run_reports;
+pub(crate) mod script;
+pub(crate) mod tune;

@@ -1,0 +1,99 @@
+//! The command `cast`: a run of a named deck on threads, sent to a port.
+
+ghost use Rattle.std.specs.Prelude.{◌≡◌, ◌≤◌, ◌⊎◌, None, IfErr, IfOk};
+ghost use Rattle.air_devices.specs.Masts.{nothing_sent};
+ghost use Rattle.air_devices.specs.Told.{WhereTold};
+ghost use Rattle.air_model.specs.Decks.{disks_in};
+ghost use Rattle.deck_runs.specs.RunTapes.{run_tape_len};
+ghost use Rattle.air_cli.specs.FileLimits.{tape_limit};
+ghost use Rattle.air_cli.specs.RunnableDecks.{IsShort};
+ghost use Rattle.air_model.specs.Runs.{Run};
+ghost use Rattle.air_cli.specs.Cast.{HasSent, IsCast, cast_meaning};
+ghost use Rattle.air_cli.specs.MainWords.{Casts};
+ghost use Rattle.air_cli.specs.OnAir.{LeavesMast};
+ghost use Rattle.air_cli.specs.Steps.Airing.{IsCastRefusal, cast_status};
+ghost use Rattle.air_cli.specs.Steps.BeforeDelivery.{IsMade, IsUnmade, Reads};
+
+use crate::commands::reports::cast_report;
+use crate::files::runnable::read_runnable_deck;
+use crate::outputs::given::Given;
+use crate::truths::casts_are_true;
+use air_devices::{Gate, Mast, Shelf};
+use air_report::Status;
+use chunk_program::Program;
+use deck_runs::{RunFault, cast_run, long_run};
+use item_catalog::Deck;
+use std::alloc::Global;
+use std::sync::Wait;
+use std::thread::Threads;
+
+/// The report of a run of the named deck, which is cast to a port.
+#[tactic(auto, using(crate::proofs::MakeFacts::is_unmade, crate::proofs::MakeFacts::is_unmade_calm, crate::proofs::CastFacts::unrunnable_cast, crate::proofs::CastFacts::refused_cast, crate::proofs::CastFacts::leaves_cast))]
+pub(crate) fn cast<R: Threads + Wait + Sync, S: Shelf, M: Mast + Send, G: Gate + Sync>(
+    rt: &R,
+    alloc: Global,
+    shelf: &mut S,
+    mast: &mut M,
+    name: &str,
+    port: u16,
+    gate: &G,
+) -> Result<Given, Status>
+    requires unaimed { (M.state mast.old).port ≡ None }
+    requires unsent { WhereTold (M.state mast.old).told (λ s. s ≡ nothing_sent) }
+    ensures made { IfOk result (IsMade (cast_meaning name.now port (M.state mast.old) (M.state mast.new)) (S.state shelf.old) (S.state shelf.new)) }
+    ensures unmade { IfErr result (IsUnmade (cast_meaning name.now port (M.state mast.old) (M.state mast.new)) (S.state shelf.old) (S.state shelf.new)) }
+    ensures reads { Reads (cast_meaning name.now port (M.state mast.old) (M.state mast.new)) (S.state shelf.old) (S.state shelf.new) }
+    ensures mast { LeavesMast (Casts name.now port) (S.state shelf.old) (M.state mast.old) (M.state mast.new) }
+{
+    let (deck, program) = read_runnable_deck(alloc, shelf, name)?;
+    deck.well_made();
+    let given = cast_on_air(rt, alloc, &deck, &program, mast, port, gate)?;
+    Ok(given)
+}
+
+/// The report of a run of a deck, which is cast to a port. A deck whose tape would be too long is refused before the mast is aimed.
+#[tactic(auto, unfolding(crate::specs::Steps::Airing::IsCastRefusal), using(crate::proofs::CastFacts::all_cast, crate::proofs::CastFacts::part_cast, crate::proofs::CastFacts::is_cast, crate::proofs::CastFacts::fault_refused))]
+fn cast_on_air<R: Threads + Wait + Sync, M: Mast + Send, G: Gate + Sync>(
+    rt: &R,
+    alloc: Global,
+    deck: &Deck,
+    program: &Program,
+    mast: &mut M,
+    port: u16,
+    gate: &G,
+) -> Result<Given, Status>
+    requires planned { program.now ≡ disks_in deck.now }
+    requires short { IsShort deck.now }
+    requires unaimed { (M.state mast.old).port ≡ None }
+    requires unsent { WhereTold (M.state mast.old).told (λ s. s ≡ nothing_sent) }
+    ensures few { IfOk result (λ given. run_tape_len deck.now ≤ tape_limit) }
+    ensures gives { IfOk result (λ given. (run : Run) × IsCast deck.now port (M.state mast.old) (M.state mast.new) given run) }
+    ensures refused { IfErr result (IsCastRefusal deck.now port (M.state mast.old) (M.state mast.new)) }
+    ensures mast { (M.state mast.new ≡ M.state mast.old) ⊎ HasSent deck.now port (M.state mast.old) (M.state mast.new) }
+{
+    if let Some(bytes) = long_run(deck, program) {
+        return Err(Status::TooLong { bytes });
+    }
+    casts_are_true(deck);
+    match cast_run(rt, alloc, deck, program, mast, gate, port) {
+        Ok(run) => {
+            let text = cast_report(alloc, run)?;
+            Ok(Given {
+                text,
+                tape: None,
+                differs: false,
+            })
+        }
+        Err(fault) => Err(status_of(fault)),
+    }
+}
+
+/// The status of a cast that was not done.
+fn status_of(fault: RunFault) -> Status
+    ensures { result ≡ cast_status fault }
+{
+    match fault {
+        RunFault::Mast { sent } => Status::AirFault { at: sent },
+        RunFault::NoMemory => Status::NoMemory,
+    }
+}

@@ -1,0 +1,105 @@
+//! All readers of a deck, who hear an ear together: each datagram is decoded once, and nothing is kept of it.
+
+ghost use Rattle.std.specs.Prelude.{◌≡◌, ◌<◌, ◌+◌, ◌^◌, None, Some, All, IfErr, IfOk, IsSome, OnOk, length, map};
+ghost use Rattle.air_model.specs.Buckets.{bucket_in};
+ghost use Rattle.air_model.specs.Decks.{disks_in};
+ghost use Rattle.receiver_core.specs.Receivers.{heard_count};
+ghost use Rattle.listeners.specs.Listeners.{hears_one};
+ghost use Rattle.air_cli.specs.Hearings.{IsHearAnswer, IsHearing};
+ghost use Rattle.air_cli.specs.Steps.EarSteps.{HaveHeard};
+
+use air_base::NoMemory;
+use air_devices::{Ear, Heard};
+use bucket_codec::decode;
+use chunk_program::Program;
+use item_catalog::Deck;
+use listeners::{Listener, Sessions, all_hear, end_all, listeners_of};
+use std::alloc::Global;
+
+/// How many bytes are heard of a datagram at most.
+pub const MOST_HEARD_BYTES: usize = 2_048;
+
+/// Why readers did not hear all.
+#[derive(Clone, Copy, Debug, PartialEq, Eq)]
+pub enum HearFault {
+    /// The ear failed, after so many datagrams.
+    Ear { heard: u64 },
+    /// There was no memory.
+    NoMemory,
+}
+
+impl From<NoMemory> for HearFault {
+    ghost use Rattle.std.specs.Prelude.{◌≡◌};
+    ghost use Rattle.air_cli.specs.declared.commands.hearings.HearFault.TheVariants.{NoMemory};
+
+    ghost from_gives = { λ _ fault. fault ≡ NoMemory };
+
+    fn from(_error: NoMemory) -> Self {
+        HearFault::NoMemory
+    }
+}
+
+/// Lets all hear one datagram.
+fn all_hear_bytes(alloc: Global, listeners: &mut [Listener], bytes: &[u8]) -> Result<(), NoMemory>
+    requires { All (λ l. heard_count l.state.counts + 1 < 2 ^ 64) listeners.old }
+    ensures { OnOk result (listeners.new ≡ map (hears_one (bucket_in bytes.now)) listeners.old) }
+{
+    all_hear(alloc, listeners, &decode(bytes))
+}
+
+/// Lets all hear what an ear gives into this buffer, until its end, or until so many datagrams were heard.
+fn all_hear_ear<E: Ear>(
+    alloc: Global,
+    listeners: &mut [Listener],
+    ear: &mut E,
+    buf: &mut [u8],
+    hears: u32,
+) -> Result<(), HearFault>
+    requires room { length buf.old ≡ MOST_HEARD_BYTES }
+    requires tuned { IsSome (E.state ear.old).port }
+    requires counts { All (λ l. heard_count l.state.counts + hears < 2 ^ 64) listeners.old }
+    ensures heard { OnOk result (HaveHeard hears (E.state ear.old).told (E.state ear.new).told listeners.old listeners.new) }
+    ensures calm { OnOk result ((E.state ear.new).faults ≡ (E.state ear.old).faults) }
+    ensures fault { IfErr result (IsHearAnswer hears (E.state ear.old) (E.state ear.new)) }
+    ensures port { (E.state ear.new).port ≡ (E.state ear.old).port }
+{
+    for n in 0..hears {
+        let taken = u64::from(n);
+        let Ok(heard) = ear.hear(buf) else {
+            return Err(HearFault::Ear { heard: taken });
+        };
+        let Heard::Bucket(len) = heard else {
+            return Ok(());
+        };
+        all_hear_bytes(alloc, listeners, &buf[..len])?;
+    }
+    Ok(())
+}
+
+/// Tunes the ear to a port, and lets all readers of a deck hear it until its end, or until they heard as many datagrams as the deck
+/// says: the lines and the counts are those of their sessions over what was heard, of each datagram its first 2,048 bytes. Where the
+/// ear failed, so many datagrams had been heard before: none where it could not be tuned.
+pub fn ear_sessions<E: Ear>(
+    alloc: Global,
+    deck: &Deck,
+    program: &Program,
+    ear: &mut E,
+    port: u16,
+) -> Result<Sessions, HearFault>
+    requires planned { program.now ≡ disks_in deck.now }
+    requires untuned { (E.state ear.old).port ≡ None }
+    ensures sessions { IfOk result (λ s. IsHearing deck.now (E.state ear.old).told (E.state ear.new).told s.verdicts.items s.counts.items) }
+    ensures calm { OnOk result ((E.state ear.new).faults ≡ (E.state ear.old).faults) }
+    ensures fault { IfErr result (IsHearAnswer deck.now.settings.hears (E.state ear.old) (E.state ear.new)) }
+    ensures port { (E.state ear.new).port ≡ Some port }
+{
+    deck.well_made();
+    if ear.tune_in(port).is_err() {
+        return Err(HearFault::Ear { heard: 0 });
+    }
+    let mut listeners = listeners_of(alloc, deck, program)?;
+    let mut buf = [0; MOST_HEARD_BYTES];
+    all_hear_ear(alloc, &mut listeners, ear, &mut buf, deck.settings().hears)?;
+    let sessions = end_all(alloc, listeners)?;
+    Ok(sessions)
+}

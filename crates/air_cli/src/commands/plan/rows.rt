@@ -1,0 +1,229 @@
+//! The text of a plan: its rows, written as those of a report.
+//!
+//! A row for the program, then one for each disk, each minor cycle and each item. The numbers are those that the
+//! program and the cut tell.
+
+ghost use Rattle.std.specs.Prelude.{◌≡◌, ◌<◌, ◌++◌, [], None, get_or, length, map, slice_get, IfOk, IfSome, OnOk};
+ghost use Rattle.std.specs.List.{enumerate_from, range_with_len};
+ghost use Rattle.csv.specs.Writing.{row_text};
+ghost use Rattle.air_base.specs.NumberLists.{list_text};
+ghost use Rattle.air_model.specs.Decks.{disks_in, rates_in};
+ghost use Rattle.air_model.specs.Programs.{minor_cycle, minor_len, num_minors};
+ghost use Rattle.air_model.specs.PlanTexts.{disk_row, item_row, minor_row, program_row, slot_text};
+ghost use Rattle.air_model.specs.Outputs.{plan_output};
+ghost use Rattle.air_model.specs.Rows.{row_writer, rows_text};
+ghost use Rattle.air_report.specs.RowWriters.{IsReady, written_text};
+
+use air_base::{NoMemory, write_u64};
+use air_model::program::slots_law;
+use air_report::{finish, put_numbers, put_row, row_writer};
+use chunk_program::{Cut, Program};
+use csv::Writer;
+use item_catalog::Deck;
+use std::alloc::Global;
+
+/// The text of the plan of a deck.
+pub(crate) fn plan_text(
+    alloc: Global,
+    deck: &Deck,
+    cut: &Cut,
+    program: &Program,
+) -> Result<Vec<u8>, NoMemory>
+    requires cut { cut.now ≡ disks_in deck.now }
+    requires planned { program.now ≡ disks_in deck.now }
+    ensures { IfOk result (λ text. text.items ≡ plan_output deck.now) }
+{
+    let mut wtr = row_writer(Vec::new(alloc));
+    put_program(alloc, &mut wtr, program)?;
+    put_disks(alloc, &mut wtr, deck, program)?;
+    put_minors(alloc, &mut wtr, program)?;
+    put_items(alloc, &mut wtr, deck, cut, program)?;
+    let text = finish(wtr)?;
+    Ok(text)
+}
+
+/// Adds the row of the program.
+fn put_program(alloc: Global, wtr: &mut Writer<Vec<u8>>, program: &Program) -> Result<(), NoMemory>
+    requires { IsReady wtr.old }
+    ensures ready { OnOk result (IsReady wtr.new) }
+    ensures text { OnOk result
+        (written_text wtr.new ≡ written_text wtr.old ++ row_text row_writer (program_row program.now)) }
+{
+    let ns = [
+        u64::from(program.slots()),
+        u64::from(program.minors()),
+        u64::from(program.minor_len()),
+    ];
+    put_numbers(alloc, wtr, b"program", &ns)?;
+    Ok(())
+}
+
+/// Adds the rows of the disks.
+fn put_disks(
+    alloc: Global,
+    wtr: &mut Writer<Vec<u8>>,
+    deck: &Deck,
+    program: &Program,
+) -> Result<(), NoMemory>
+    requires ready { IsReady wtr.old }
+    requires planned { program.now ≡ disks_in deck.now }
+    ensures ready { OnOk result (IsReady wtr.new) }
+    ensures text { OnOk result (written_text wtr.new
+        ≡ written_text wtr.old ++ rows_text (map (disk_row (num_minors program.now)) (enumerate_from 0 program.now))) }
+{
+    for d in 0..deck.disks() {
+        put_disk(alloc, wtr, deck, program, d)?;
+    }
+    Ok(())
+}
+
+/// Adds the row of a disk.
+fn put_disk(
+    alloc: Global,
+    wtr: &mut Writer<Vec<u8>>,
+    deck: &Deck,
+    program: &Program,
+    d: u32,
+) -> Result<(), NoMemory>
+    requires ready { IsReady wtr.old }
+    requires planned { program.now ≡ disks_in deck.now }
+    requires disk { d < length deck.now.disks }
+    ensures ready { OnOk result (IsReady wtr.new) }
+    ensures text { OnOk result (IfSome (slice_get program.now d) (λ disk.
+        written_text wtr.new ≡ written_text wtr.old ++ row_text row_writer (disk_row (num_minors program.now) (d, disk)))) }
+{
+    let ns = [
+        u64::from(d),
+        u64::from(deck.freq(d)),
+        u64::from(program.chunks(d)),
+        u64::from(program.chunk_len(d)),
+    ];
+    put_numbers(alloc, wtr, b"disk", &ns)?;
+    Ok(())
+}
+
+/// Adds the rows of the minor cycles.
+fn put_minors(alloc: Global, wtr: &mut Writer<Vec<u8>>, program: &Program) -> Result<(), NoMemory>
+    requires { IsReady wtr.old }
+    ensures ready { OnOk result (IsReady wtr.new) }
+    ensures text { OnOk result (written_text wtr.new
+        ≡ written_text wtr.old ++ rows_text (map (minor_row program.now) (range_with_len 0 (num_minors program.now)))) }
+{
+    for k in 0..program.minors() {
+        put_minor(alloc, wtr, program, k)?;
+    }
+    Ok(())
+}
+
+/// Adds the row of a minor cycle.
+fn put_minor(
+    alloc: Global,
+    wtr: &mut Writer<Vec<u8>>,
+    program: &Program,
+    k: u32,
+) -> Result<(), NoMemory>
+    requires ready { IsReady wtr.old }
+    requires minor { k < num_minors program.now }
+    ensures ready { OnOk result (IsReady wtr.new) }
+    ensures text { OnOk result
+        (written_text wtr.new ≡ written_text wtr.old ++ row_text row_writer (minor_row program.now k)) }
+{
+    let mut number = Vec::new(alloc);
+    write_u64(u64::from(k), &mut number)?;
+    let slots = slots_text(alloc, program, k)?;
+    put_row(
+        wtr,
+        &[b"minor".as_slice(), number.as_slice(), slots.as_slice()],
+    )?;
+    Ok(())
+}
+
+/// The slots of a minor cycle, with one space between each two.
+fn slots_text(alloc: Global, program: &Program, k: u32) -> Result<Vec<u8>, NoMemory>
+    requires { k < num_minors program.now }
+    ensures { IfOk result (λ text.
+        text.items ≡ list_text (map slot_text (minor_cycle (num_minors program.now) program.now k))) }
+{
+    let mut text = Vec::new(alloc);
+    for j in 0..program.minor_len() {
+        if j > 0 {
+            text.extend_from_slice(b" ")?;
+        }
+        put_slot(slot_at(program, k, j), &mut text)?;
+    }
+    Ok(text)
+}
+
+/// The item of a slot of a minor cycle; none where it is idle.
+fn slot_at(program: &Program, k: u32, j: u32) -> Option<u16>
+    requires minor { k < num_minors program.now }
+    requires slot { j < minor_len (num_minors program.now) program.now }
+    ensures { result ≡ get_or (minor_cycle (num_minors program.now) program.now k) j None }
+{
+    slots_law();
+    let _slots = program.slots();
+    program.slot_item(k * program.minor_len() + j)
+}
+
+/// Appends the text of a slot.
+fn put_slot(slot: Option<u16>, text: &mut Vec<u8>) -> Result<(), NoMemory>
+    ensures { OnOk result (text.new.items ≡ text.old.items ++ slot_text slot) }
+{
+    match slot {
+        Some(item) => write_u64(u64::from(item), text)?,
+        None => text.extend_from_slice(b"-")?,
+    }
+    Ok(())
+}
+
+/// Adds the rows of the items.
+fn put_items(
+    alloc: Global,
+    wtr: &mut Writer<Vec<u8>>,
+    deck: &Deck,
+    cut: &Cut,
+    program: &Program,
+) -> Result<(), NoMemory>
+    requires ready { IsReady wtr.old }
+    requires cut { cut.now ≡ disks_in deck.now }
+    requires planned { program.now ≡ disks_in deck.now }
+    ensures ready { OnOk result (IsReady wtr.new) }
+    ensures text { OnOk result (written_text wtr.new
+        ≡ written_text wtr.old ++ rows_text (map (item_row program.now) (enumerate_from 0 (rates_in deck.now)))) }
+{
+    for i in 0..deck.items() {
+        put_item(alloc, wtr, deck, cut, program, i)?;
+    }
+    Ok(())
+}
+
+/// Adds the row of an item.
+fn put_item(
+    alloc: Global,
+    wtr: &mut Writer<Vec<u8>>,
+    deck: &Deck,
+    cut: &Cut,
+    program: &Program,
+    i: u16,
+) -> Result<(), NoMemory>
+    requires ready { IsReady wtr.old }
+    requires cut { cut.now ≡ disks_in deck.now }
+    requires planned { program.now ≡ disks_in deck.now }
+    requires item { i < length deck.now.items }
+    ensures ready { OnOk result (IsReady wtr.new) }
+    ensures text { OnOk result (IfSome (slice_get deck.now.items i) (λ item.
+        written_text wtr.new ≡ written_text wtr.old ++ row_text row_writer (item_row program.now (i, item.rate)))) }
+{
+    deck.well_made();
+    let _slots = program.slots();
+    let ns = [
+        u64::from(i),
+        u64::from(cut.disk_of(i)),
+        u64::from(program.times(i)),
+        u64::from(program.gap(i)),
+        u64::from(program.next_wake(0, i)),
+        program.pix(i, deck.rate(i)),
+    ];
+    put_numbers(alloc, wtr, b"item", &ns)?;
+    Ok(())
+}

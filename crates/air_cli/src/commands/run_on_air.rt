@@ -1,0 +1,40 @@
+//! A run, where its tape isn't too long.
+
+ghost use Rattle.std.specs.Prelude.{◌≡◌, ◌≤◌, IfErr, IfOk};
+ghost use Rattle.air_base.specs.declared.limits.TheConstants.{MOST_TAPE_BYTES};
+ghost use Rattle.air_model.specs.Decks.{disks_in};
+ghost use Rattle.air_model.specs.Runs.{Run};
+ghost use Rattle.air_cli.specs.GivenRuns.{IsGivenRun, IsRunRefusal};
+ghost use Rattle.deck_runs.specs.RunTapes.{run_tape_len};
+
+use crate::commands::run_reports::make_run;
+use crate::outputs::given::Given;
+use air_devices::Gate;
+use air_report::Status;
+use chunk_program::Program;
+use deck_runs::long_run;
+use item_catalog::Deck;
+use std::alloc::Global;
+use std::sync::Wait;
+use std::thread::Threads;
+
+/// The report and the tape of a run of the deck on threads. A deck whose tape would be too long is refused before any thread starts.
+#[tactic(auto, unfolding(crate::specs::GivenRuns::IsRunRefusal))]
+pub fn run_on_air<R: Threads + Wait + Sync, G: Gate + Sync>(
+    rt: &R,
+    alloc: Global,
+    deck: &Deck,
+    program: &Program,
+    gate: &G,
+) -> Result<Given, Status>
+    requires planned { program.now ≡ disks_in deck.now }
+    ensures short { IfOk result (λ given. run_tape_len deck.now ≤ MOST_TAPE_BYTES) }
+    ensures gives { IfOk result (λ given. (run : Run) × IsGivenRun deck.now given run) }
+    ensures refused { IfErr result (IsRunRefusal deck.now) }
+{
+    if let Some(bytes) = long_run(deck, program) {
+        return Err(Status::TooLong { bytes });
+    }
+    let given = make_run(rt, alloc, deck, program, gate)?;
+    Ok(given)
+}

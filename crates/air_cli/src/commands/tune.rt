@@ -1,0 +1,41 @@
+//! The command `tune`: what a named deck's readers hear of a named tape.
+//!
+//! The tape is read piece by piece, and all readers hear each piece side by side (`tapes`). Nothing is printed here, and no output is
+//! written: what is given is delivered at the end.
+
+ghost use Rattle.std.specs.Prelude.{IfErr, IfOk};
+ghost use Rattle.air_cli.specs.Steps.BeforeDelivery.{IsMade, IsUnmade, Reads};
+ghost use Rattle.air_cli.specs.Tune.{tune_meaning};
+
+use crate::commands::reports::heard_report;
+use crate::files::runnable::read_runnable_deck;
+use crate::outputs::given::Given;
+use crate::tapes::file_sessions;
+use crate::truths::tapes_are_true;
+use air_devices::Shelf;
+use air_report::Status;
+use std::alloc::Global;
+use std::thread::Threads;
+
+/// The report of the named deck's readers over the named tape.
+pub(crate) fn tune<T: Threads + Sync, S: Shelf>(
+    threads: &T,
+    alloc: Global,
+    shelf: &mut S,
+    name: &str,
+    tape: &str,
+) -> Result<Given, Status>
+    ensures made { IfOk result (IsMade (tune_meaning name.now tape.now) (S.state shelf.old) (S.state shelf.new)) }
+    ensures unmade { IfErr result (IsUnmade (tune_meaning name.now tape.now) (S.state shelf.old) (S.state shelf.new)) }
+    ensures reads { Reads (tune_meaning name.now tape.now) (S.state shelf.old) (S.state shelf.new) }
+{
+    let (deck, program) = read_runnable_deck(alloc, shelf, name)?;
+    let sessions = file_sessions(threads, alloc, shelf, tape, &deck, &program)?;
+    tapes_are_true(&deck);
+    let text = heard_report(alloc, sessions)?;
+    Ok(Given {
+        text,
+        tape: None,
+        differs: false,
+    })
+}

@@ -1,0 +1,40 @@
+//! An output that is written piece by piece: begun, and then each piece is added behind those before.
+
+ghost use Rattle.std.specs.Prelude.{◌++◌, [], ℕ, List, OnErr, OnOk, option_map};
+ghost use Rattle.air_devices.specs.Shelves.{Shelved};
+ghost use Rattle.air_cli.specs.OutputPieces.{IsCutOff, IsWritten};
+
+use air_devices::{Failed, Shelf};
+
+/// Makes the output of this name empty, if one is named.
+pub fn begin_output<S: Shelf>(shelf: &mut S, output: Option<&str>) -> Result<(), Failed>
+    ensures begun { OnOk result (IsWritten (option_map (λ name. name.now) output.entry) [] (S.state shelf.old) (S.state shelf.new)) }
+    ensures cut { (tape : List ℕ) → OnErr result (IsCutOff (option_map (λ name. name.now) output.entry) tape (S.state shelf.old) (S.state shelf.new)) }
+{
+    match output {
+        Some(name) => shelf.create(name),
+        None => Ok(()),
+    }
+}
+
+/// Adds a piece to the output of this name, if one is named. Told of the moment when the output was begun: where it held the pieces
+/// before, it holds this piece behind them; where the write fails, it is as it was before, or holds a beginning of every tape that begins so.
+///
+/// The shelf is given the name anew for each piece. Over real files nothing is told of an output, and each piece goes to the file that has
+/// the name then: where the output was renamed or replaced between two pieces, the later ones go to what took its place, and no answer
+/// tells of it; where nothing has the name any more, or a file that was read has it, the piece fails.
+pub fn append_piece<S: Shelf>(
+    shelf: &mut S,
+    output: Option<&str>,
+    piece: &[u8],
+) -> Result<(), Failed>
+    ensures added { (first : Shelved) (so_far : List ℕ) → IsWritten (option_map (λ name. name.now) output.entry) so_far first (S.state shelf.old) →
+        OnOk result (IsWritten (option_map (λ name. name.now) output.entry) (so_far ++ piece.now) first (S.state shelf.new)) }
+    ensures cut { (first : Shelved) (so_far rest : List ℕ) → IsWritten (option_map (λ name. name.now) output.entry) so_far first (S.state shelf.old) →
+        OnErr result (IsCutOff (option_map (λ name. name.now) output.entry) ((so_far ++ piece.now) ++ rest) first (S.state shelf.new)) }
+{
+    match output {
+        Some(name) => shelf.append(name, piece),
+        None => Ok(()),
+    }
+}

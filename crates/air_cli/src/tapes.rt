@@ -1,0 +1,127 @@
+//! A named tape that is read by pieces to its end, and the sessions of a deck's readers over it.
+
+ghost use Rattle.std.specs.Prelude.{◌≡◌, ◌≤◌, [], All, IfErr, IfOk, MatchResult, OnOk, length};
+ghost use Rattle.air_model.specs.Decks.{disks_in};
+ghost use Rattle.air_cli.specs.FileLimits.{tape_limit};
+ghost use Rattle.air_cli.specs.NamedFiles.{ReadsInput};
+ghost use Rattle.receiver_core.specs.Receivers.{heard_count};
+ghost use Rattle.air_cli.specs.HeardTapes.{AreHeard, UnheardCause};
+ghost use Rattle.air_cli.specs.Steps.Pieces.{HaveHeard, IsCutBefore};
+
+pub(crate) mod fronts;
+pub(crate) mod piece;
+
+use crate::tapes::fronts::hear_front;
+use crate::tapes::piece::Piece;
+use air_base::limits::MOST_TAPE_BYTES;
+use air_devices::Shelf;
+use air_report::Status;
+use chunk_program::Program;
+use item_catalog::Deck;
+use listeners::{Sessions, Together};
+use std::alloc::Global;
+use std::thread::Threads;
+
+/// How many bytes of a tape are read before they are heard, at most, where no record is longer.
+const READ_PIECE_BYTES: usize = 4_194_304;
+
+/// How many bytes a tape may have, and for how many the buffer of a piece has room at first.
+#[derive(Clone, Copy, Debug, PartialEq, Eq)]
+pub struct PieceSizes {
+    pub tape: usize,
+    pub piece: usize,
+}
+
+/// The sessions of all readers of a deck over the records of a named tape, which they hear side by side. `Program::plan` makes the deck's program.
+pub fn file_sessions<T: Threads + Sync, S: Shelf>(
+    threads: &T,
+    alloc: Global,
+    shelf: &mut S,
+    name: &str,
+    deck: &Deck,
+    program: &Program,
+) -> Result<Sessions, Status>
+    requires planned { program.now ≡ disks_in deck.now }
+    ensures heard { IfOk result (AreHeard name.now tape_limit (S.state shelf.old) deck.now) }
+    ensures refused { IfErr result (UnheardCause name.now tape_limit (S.state shelf.old) (S.state shelf.new)) }
+    ensures reads { ReadsInput name.now result (S.state shelf.old) (S.state shelf.new) }
+{
+    let sizes = PieceSizes {
+        tape: MOST_TAPE_BYTES,
+        piece: READ_PIECE_BYTES,
+    };
+    piece_sessions(threads, alloc, shelf, name, deck, program, sizes)
+}
+
+/// The same, where the tape is read by pieces of the given sizes.
+#[tactic(auto, unfolding(crate::specs::HeardTapes::UnheardCause, crate::specs::NamedFiles::UnreadCause))]
+pub fn piece_sessions<T: Threads + Sync, S: Shelf>(
+    threads: &T,
+    alloc: Global,
+    shelf: &mut S,
+    name: &str,
+    deck: &Deck,
+    program: &Program,
+    sizes: PieceSizes,
+) -> Result<Sessions, Status>
+    requires planned { program.now ≡ disks_in deck.now }
+    ensures heard { IfOk result (AreHeard name.now sizes.tape (S.state shelf.old) deck.now) }
+    ensures refused { IfErr result (UnheardCause name.now sizes.tape (S.state shelf.old) (S.state shelf.new)) }
+    ensures reads { ReadsInput name.now result (S.state shelf.old) (S.state shelf.new) }
+{
+    let mut readers = Together::new(alloc, deck, program)?;
+    hear_pieces(threads, alloc, shelf, name, &mut readers, sizes)?;
+    let sessions = readers.end(alloc)?;
+    Ok(sessions)
+}
+
+/// Lets all hear the records of a named tape, piece after piece, to its end.
+#[tactic(auto, unfolding(crate::specs::HeardTapes::UnheardCause, crate::specs::NamedFiles::UnreadCause))]
+fn hear_pieces<T: Threads + Sync, S: Shelf>(
+    threads: &T,
+    alloc: Global,
+    shelf: &mut S,
+    name: &str,
+    readers: &mut Together,
+    sizes: PieceSizes,
+) -> Result<(), Status>
+    requires { All (λ l. heard_count l.state.counts ≡ 0) readers.old }
+    ensures heard { OnOk result (HaveHeard name.now sizes.tape (S.state shelf.old) readers.old readers.new) }
+    ensures refused { IfErr result (UnheardCause name.now sizes.tape (S.state shelf.old) (S.state shelf.new)) }
+    ensures reads { ReadsInput name.now result (S.state shelf.old) (S.state shelf.new) }
+{
+    let Ok(()) = shelf.pick(name) else {
+        return Err(Status::ReadFault);
+    };
+    let mut piece = Piece::new(alloc, sizes.piece)?;
+    let mut left = sizes.tape;
+    loop {
+        let Ok(count) = piece.read(shelf, name, left) else {
+            return Err(Status::ReadFault);
+        };
+        if count == 0 {
+            return whole_or_cut(piece.as_slice(), sizes.tape - left);
+        }
+        if left < count {
+            return Err(Status::TooLarge {
+                limit: sizes.tape as u64,
+            });
+        }
+        left -= count;
+        let heard = hear_front(threads, alloc, readers, piece.as_slice())?;
+        piece.let_go(heard)?;
+    }
+}
+
+/// Whether a tape of so many bytes is whole, all of which were heard but these last ones: else it is cut where they begin.
+fn whole_or_cut(rest: &[u8], len: usize) -> Result<(), Status>
+    requires { length rest.now ≤ len }
+    ensures { MatchResult result (λ done. rest.now ≡ []) (IsCutBefore rest.now len) }
+{
+    if rest.is_empty() {
+        return Ok(());
+    }
+    Err(Status::TapeCut {
+        at: (len - rest.len()) as u64,
+    })
+}

@@ -1,6 +1,0 @@
-use Rattle.air_jobs.proofs.conductors.conductor_job.Goals as goal
-
-pub returns : goal.returns
-returns g c =
-    let e = c.conduct.ensures.conducted in
-    record { pass = e.pass; publisher = e.publisher; done = e.done; few = e.few; published = e.published; aired = e.aired; cause = e.cause; port = e.port; buffer = c.conduct.ensures.buffer }

@@ -1,0 +1,78 @@
+-- The kinds at the places of a report's records that are read one by one: `added` and `none_added` are the step of a reader that
+-- keeps the lines so far, `least_after` what it tells of a record that it refuses.
+use Rattle.std.proofs.Common.{◌≡◌, ◌++◌, ◌∷◌, [], ℕ, List, Option, Some, None, Result, Ok, Err, true, ◌∙◌, sym, refl, ap, length}
+use Rattle.std.specs.List.{filter_map}
+use Rattle.std.specs.Result.{result_ok}
+use Rattle.std.proofs.lemmas.List.{append-nil}
+use Rattle.std.proofs.lemmas.List.Elements.{filter_map-append}
+use Rattle.air_model.specs.Decks.{Deck}
+use Rattle.air_model.specs.declared.reports.CountsLine.{CountsLine}
+use Rattle.air_model.specs.declared.reports.LookLine.{LookLine}
+use Rattle.air_model.specs.declared.reports.VerdictLine.{VerdictLine}
+use Rattle.item_catalog.specs.FirstFaults.{IsLeast, NoneBefore}
+use Rattle.item_catalog.specs.RecordKinds.{with_spelled}
+use Rattle.item_catalog.proofs.KindFacts.{least_spelled, none_spelled, rising}
+use Rattle.item_catalog.proofs.RecordPlaces as places
+use Rattle.air_report.specs.Kinds.{code_of}
+use Rattle.air_report.specs.LineTexts.{line_of}
+use Rattle.air_report.specs.ReportFaults.{kinds_after, kinds_at, lines_of, place_kinds, tests_of}
+use Rattle.air_report.specs.ReportLines.{ReportLines, its_counts, its_event, its_glance, its_look, its_verdict, sections_of}
+use Rattle.air_report.specs.Steps.RecordAnswers.{record_kind, with_line}
+use Rattle.air_report.specs.declared.reading.kinds.FaultKind.{FaultKind}
+use Rattle.air_report.specs.declared.reading.lines.EventLine.{EventLine}
+use Rattle.air_report.specs.declared.reading.lines.Line.{Line}
+use Rattle.air_report.specs.declared.reading.lines.Line.TheVariants as l
+
+-- ---- one more line
+
+none_more : {A : Type 0} (f : Line → Option A) (lines : List Line) (x : Line) → f x ≡ None → filter_map f (lines ++ x ∷ []) ≡ filter_map f lines
+none_more f lines x h = filter_map-append f lines (x ∷ []) ∙ rw h (append-nil (filter_map f lines))
+
+one_more : {A : Type 0} (f : Line → Option A) (lines : List Line) (x : Line) (a : A) → f x ≡ Some a → filter_map f (lines ++ x ∷ []) ≡ filter_map f lines ++ a ∷ []
+one_more f lines x a h = filter_map-append f lines (x ∷ []) ∙ rw h refl
+
+same_sections : {e1 e2 : List EventLine} {v1 v2 : List VerdictLine} {c1 c2 : List CountsLine} {g1 g2 l1 l2 : List LookLine} → e1 ≡ e2 → v1 ≡ v2 → c1 ≡ c2 → g1 ≡ g2 → l1 ≡ l2
+    → ◌≡◌ {A = ReportLines} (record { events = e1; verdicts = v1; counts = c1; glances = g1; looks = l1 }) (record { events = e2; verdicts = v2; counts = c2; glances = g2; looks = l2 })
+same_sections h1 h2 h3 h4 h5 = cc
+
+pub sections_more : (ls : List Line) (x : Line) → sections_of (ls ++ x ∷ []) ≡ with_line (sections_of ls) x
+sections_more ls (l.Event line) = let x : Line = l.Event line in
+    same_sections (one_more its_event ls x line refl) (none_more its_verdict ls x refl) (none_more its_counts ls x refl) (none_more its_glance ls x refl) (none_more its_look ls x refl)
+sections_more ls (l.Verdict line) = let x : Line = l.Verdict line in
+    same_sections (none_more its_event ls x refl) (one_more its_verdict ls x line refl) (none_more its_counts ls x refl) (none_more its_glance ls x refl) (none_more its_look ls x refl)
+sections_more ls (l.Counts line) = let x : Line = l.Counts line in
+    same_sections (none_more its_event ls x refl) (none_more its_verdict ls x refl) (one_more its_counts ls x line refl) (none_more its_glance ls x refl) (none_more its_look ls x refl)
+sections_more ls (l.Glance line) = let x : Line = l.Glance line in
+    same_sections (none_more its_event ls x refl) (none_more its_verdict ls x refl) (none_more its_counts ls x refl) (one_more its_glance ls x line refl) (none_more its_look ls x refl)
+sections_more ls (l.Look line) = let x : Line = l.Look line in
+    same_sections (none_more its_event ls x refl) (none_more its_verdict ls x refl) (none_more its_counts ls x refl) (none_more its_glance ls x refl) (one_more its_look ls x line refl)
+
+pub lines_more : (rows : List (List (List ℕ))) (row : List (List ℕ)) (x : Line) → line_of row ≡ Ok x → lines_of (rows ++ row ∷ []) ≡ lines_of rows ++ x ∷ []
+lines_more rows row x h = filter_map-append (λ row. result_ok (line_of row)) rows (row ∷ []) ∙ rw h refl
+
+-- ---- places
+
+module _ (deck : Deck) where
+  -- The kinds of a record, if there is one, behind records.
+  abbrev pub judge : List (List (List ℕ)) → Option (List (List ℕ)) → List ℕ
+  judge rows row = place_kinds deck (sections_of (lines_of rows)) row
+
+  tests_rise : (before : ReportLines) (line : Line) → rising code_of 0 (tests_of deck before line) ≡ true
+  tests_rise before line = refl
+
+  -- One more record to which no kind applies, and one to which some kind does.
+  module _ (rows : List (List (List ℕ))) (row : List (List ℕ)) where
+    pub added : record_kind deck (sections_of (lines_of rows)) (line_of row) ≡ None → with_spelled with_line (sections_of (lines_of rows)) (line_of row) ≡ sections_of (lines_of (rows ++ row ∷ []))
+    added h = by (line_of row) refl h
+      where
+        by : (r : Result Line FaultKind) → line_of row ≡ r → record_kind deck (sections_of (lines_of rows)) r ≡ None → with_spelled with_line (sections_of (lines_of rows)) r ≡ sections_of (lines_of (rows ++ row ∷ []))
+        by (Err kind) e h = cc h
+        by (Ok x) e h = sym (ap sections_of (lines_more rows row x e) ∙ sections_more (lines_of rows) x)
+
+    pub none_added : NoneBefore (kinds_at deck rows) (length rows) → record_kind deck (sections_of (lines_of rows)) (line_of row) ≡ None
+        → NoneBefore (kinds_at deck (rows ++ row ∷ [])) (length (rows ++ row ∷ []))
+    unfolding kinds_at
+    none_added before h = places.none_more judge rows row before (none_spelled code_of (tests_of deck (sections_of (lines_of rows))) (line_of row) h)
+
+    pub least_after : (kind : FaultKind) → record_kind deck (sections_of (lines_of rows)) (line_of row) ≡ Some kind → IsLeast (code_of kind) (kinds_after deck (sections_of (lines_of rows)) (line_of row))
+    least_after kind h = least_spelled code_of (tests_of deck (sections_of (lines_of rows))) (tests_rise (sections_of (lines_of rows))) (line_of row) kind h

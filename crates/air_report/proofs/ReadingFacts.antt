@@ -1,0 +1,30 @@
+-- What is answered of a text whose first records were read: the fault of the next one, or the lines of all.
+use Rattle.std.proofs.Common.{◌≡◌, ◌<◌, ◌+◌, ◌++◌, ◌∷◌, ◌∙◌, [], ℕ, List, Some, sym, refl, subst, length, length-append, arith}
+use Rattle.std.proofs.lemmas.List.{append-nil}
+use Rattle.air_model.specs.Decks.{Deck}
+use Rattle.item_catalog.specs.FirstFaults.{IsFirstFault, NoneBefore}
+use Rattle.item_catalog.specs.Records.{records_of}
+use Rattle.item_catalog.proofs.RecordPlaces.{refused}
+use Rattle.air_report.specs.Kinds.{code_of}
+use Rattle.air_report.specs.LineTexts.{line_of}
+use Rattle.air_report.specs.ReportFaults.{kinds_at, lines_of}
+use Rattle.air_report.specs.ReportGrammar.{HasReportFault, RowsSpellLines, SpellsReport}
+use Rattle.air_report.specs.ReportLines.{sections_of}
+use Rattle.air_report.specs.Steps.RecordAnswers.{record_kind}
+use Rattle.air_report.specs.declared.reading.kinds.FaultKind.{FaultKind}
+use Rattle.air_report.proofs.PlaceFacts.{judge, least_after}
+
+module _ (deck : Deck) (text : List ℕ) (rows : List (List (List ℕ))) (before : NoneBefore (kinds_at deck rows) (length rows)) where
+  pub read_fault : (row : List (List ℕ)) (left : List (List (List ℕ))) (kind : FaultKind) → records_of text ≡ rows ++ row ∷ left
+      → record_kind deck (sections_of (lines_of rows)) (line_of row) ≡ Some kind → HasReportFault deck text (length rows + 1) (code_of kind)
+  unfolding HasReportFault kinds_at
+  read_fault row left kind all h =
+      let P : List (List (List ℕ)) → Type 0 = λ all. IsFirstFault (length all) (kinds_at deck all) (length rows) (code_of kind) in
+      let within : length rows < length (rows ++ row ∷ left) = omega (arith, length-append rows (row ∷ left)) in
+      (length rows, refl, subst P (sym all) (refused (judge deck) rows row left (length (rows ++ row ∷ left)) (code_of kind) within before (least_after deck rows row kind h)))
+
+  pub read_all : records_of text ≡ rows ++ [] → SpellsReport deck text (sections_of (lines_of rows))
+  unfolding SpellsReport
+  read_all all =
+      let P : List (List (List ℕ)) → Type 0 = λ all. RowsSpellLines deck all (sections_of (lines_of rows)) in
+      subst P (sym (all ∙ append-nil rows)) (record { faultless = before; sections = refl })

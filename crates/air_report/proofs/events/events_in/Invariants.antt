@@ -1,6 +1,0 @@
-use Rattle.std.proofs.Common.{◌≡◌, map, take}
-use Rattle.report_reading.specs.ReportLines.{event_in}
-use Rattle.air_report.proofs.events.events_in.Given as goal
-
-abbrev pub invariant-loop-line : goal.invariant-loop-line
-invariant-loop-line l = l.events.items ≡ map (event_in l.deck) (take l.line-index l.lines)

@@ -1,0 +1,150 @@
+-- What a record of a report spells by itself: a line, or the kind of its fault.
+--
+-- Three kinds need no other record and no deck: those of the number of fields, of the form of a field and of the tag. Every
+-- other kind is asked of a line, so a record that spells none has the one kind told here.
+use Rattle.std.specs.Prelude.{◌^◌, ℕ, List, [], ◌∷◌, Option, Some, None, Result, Ok, Err, codes, nat_lt, if◌then◌else◌}
+use Rattle.air_base.specs.Numbers.{number_of}
+use Rattle.air_base.specs.NumberLists.{list_of}
+use Rattle.air_base.specs.Pieces.{cut_at, two_of, three_of}
+use Rattle.air_base.specs.declared.verdicts.ReadOf.{ReadOf}
+use Rattle.air_base.specs.declared.verdicts.VerdictKind.{VerdictKind}
+use Rattle.air_base.specs.declared.verdicts.VerdictKind.TheVariants as kind
+use Rattle.air_model.specs.declared.reports.LookLine.{LookLine}
+use Rattle.item_catalog.specs.RecordFields.{◌is◌, four_of, seven_of, six_of}
+use Rattle.item_catalog.specs.Spelled.{◌>>=◌, or_fault}
+use Rattle.item_catalog.specs.Tags.{by_tag}
+use Rattle.air_report.specs.declared.reading.tags.Tag.{Tag}
+use Rattle.air_report.specs.declared.reading.tags.Tag.TheVariants as t
+use Rattle.air_report.specs.declared.reading.kinds.FaultKind.{FaultKind}
+use Rattle.air_report.specs.declared.reading.kinds.FaultKind.TheVariants as fault
+use Rattle.air_report.specs.declared.reading.lines.EventLine.TheVariants.{Commit, Start}
+use Rattle.air_report.specs.declared.reading.lines.Line.{Line}
+use Rattle.air_report.specs.declared.reading.lines.Line.TheVariants.{Event, Verdict, Counts, Glance, Look}
+
+-- A number, where it is below a bound.
+abbrev pub below : ℕ → Option ℕ → Option ℕ
+below bound None = None
+below bound (Some n) = if nat_lt n bound then Some n else None
+
+-- The item that a text spells: a number of 16 bits.
+unfoldable pub item_of : List ℕ → Option ℕ
+item_of text = below (2 ^ 16) (number_of text)
+
+-- The cycle that a text spells, or the number of an updater, an update, a reader, a query, an attempt or a monitor: one of 32 bits.
+unfoldable pub short_of : List ℕ → Option ℕ
+short_of text = below (2 ^ 32) (number_of text)
+
+-- A place on the air: `<item>@<cycle>`.
+unfoldable pub place_of : List ℕ → Option (ℕ × ℕ)
+place_of text = do
+  sides ← two_of (cut_at 64 text)
+  item ← item_of sides.0
+  cycle ← short_of sides.1
+  Some (item, cycle)
+
+-- A read: `<item>@<cycle>=<value>`.
+unfoldable pub read_of : List ℕ → Option ReadOf
+read_of text = do
+  sides ← two_of (cut_at 61 text)
+  place ← place_of sides.0
+  value ← number_of sides.1
+  Some (record { item = place.0; cycle = place.1; value = value })
+
+-- The verdict on an attempt with these reads.
+abbrev pub verdict_by : Option VerdictKind → List ℕ → List ℕ → List ℕ → List ℕ → Option Line
+verdict_by ended reader query attempt reads = do
+  r ← short_of reader
+  q ← short_of query
+  a ← short_of attempt
+  rs ← list_of read_of reads
+  end ← ended
+  Some (Verdict (record { reader = r; verdict = record { query = q; attempt = a; kind = end }; reads = rs }))
+
+-- The end of an attempt by an abort: the read that was refused, and the item of the held read with which it clashed.
+abbrev pub abort_of : List ℕ → List ℕ → Option VerdictKind
+abort_of place clash = do
+  p ← place_of place
+  c ← item_of clash
+  Some (kind.Abort p.0 p.1 c)
+
+-- `commit,<by>,<seq>`
+abbrev pub commit_by : Option (List ℕ × List ℕ) → Result Line FaultKind
+commit_by None = Err fault.Fields
+commit_by (Some f) = or_fault fault.Form (do
+  by ← short_of f.0
+  seq ← short_of f.1
+  Some (Event (Commit by seq)))
+
+-- `start`
+abbrev pub start_by : List (List ℕ) → Result Line FaultKind
+start_by [] = Ok (Event Start)
+start_by (field ∷ fields) = Err fault.Fields
+
+-- `accept,<reader>,<query>,<attempt>,<reads>`, and likewise `unfinished`
+abbrev pub ended_by : VerdictKind → Option (List ℕ × List ℕ × List ℕ × List ℕ) → Result Line FaultKind
+ended_by end None = Err fault.Fields
+ended_by end (Some f) = or_fault fault.Form (verdict_by (Some end) f.0 f.1 f.2 f.3)
+
+-- `abort,<reader>,<query>,<attempt>,<reads>,<item>@<cycle>,<clash>`
+abbrev pub abort_by : Option (List ℕ × List ℕ × List ℕ × List ℕ × List ℕ × List ℕ) → Result Line FaultKind
+abort_by None = Err fault.Fields
+abort_by (Some f) = or_fault fault.Form (verdict_by (abort_of f.4 f.5) f.0 f.1 f.2 f.3)
+
+-- `counts,<reader>,<opened>,<dozed>,<late>,<refused>,<foreign>,<copied>`
+abbrev pub counts_by : Option (List ℕ × List ℕ × List ℕ × List ℕ × List ℕ × List ℕ × List ℕ) → Result Line FaultKind
+counts_by None = Err fault.Fields
+counts_by (Some f) = or_fault fault.Form (do
+  reader ← short_of f.0
+  opened ← number_of f.1
+  dozed ← number_of f.2
+  late ← number_of f.3
+  refused ← number_of f.4
+  foreign ← number_of f.5
+  copied ← number_of f.6
+  Some (Counts (record {
+    reader = reader;
+    counts = record { opened = opened; dozed = dozed; late = late; refused = refused; foreign = foreign; copied = copied };
+  })))
+
+-- `glance,<monitor>,<cycle>,<total>`, and likewise `look`
+abbrev pub seen_by : Option (List ℕ × List ℕ × List ℕ) → Result LookLine FaultKind
+seen_by None = Err fault.Fields
+seen_by (Some f) = or_fault fault.Form (do
+  monitor ← short_of f.0
+  cycle ← short_of f.1
+  total ← number_of f.2
+  Some (record { monitor = monitor; cycle = cycle; total = total }))
+
+-- The tag of this name, if there is one.
+abbrev pub tag_of : List ℕ → Option Tag
+tag_of text =
+    if text is codes "commit" then Some t.Commit
+    else if text is codes "start" then Some t.Start
+    else if text is codes "accept" then Some t.Accept
+    else if text is codes "abort" then Some t.Abort
+    else if text is codes "unfinished" then Some t.Unfinished
+    else if text is codes "counts" then Some t.Counts
+    else if text is codes "glance" then Some t.Glance
+    else if text is codes "look" then Some t.Look
+    else None
+
+-- What is spelled, as a line.
+abbrev pub as_line : {A : Type 0} → (A → Line) → Result A FaultKind → Result Line FaultKind
+as_line f (Err kind) = Err kind
+as_line f (Ok x) = Ok (f x)
+
+-- What the fields after a tag spell.
+abbrev pub line_by : Option Tag → List (List ℕ) → Result Line FaultKind
+line_by (Some t.Commit) fields = commit_by (two_of fields)
+line_by (Some t.Start) fields = start_by fields
+line_by (Some t.Accept) fields = ended_by kind.Accept (four_of fields)
+line_by (Some t.Abort) fields = abort_by (six_of fields)
+line_by (Some t.Unfinished) fields = ended_by kind.Unfinished (four_of fields)
+line_by (Some t.Counts) fields = counts_by (seven_of fields)
+line_by (Some t.Glance) fields = as_line Glance (seen_by (three_of fields))
+line_by (Some t.Look) fields = as_line Look (seen_by (three_of fields))
+line_by None fields = Err fault.Tag
+
+-- What a record spells, by its tag.
+abbrev pub line_of : List (List ℕ) → Result Line FaultKind
+line_of row = by_tag tag_of line_by row

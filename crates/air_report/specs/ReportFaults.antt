@@ -1,0 +1,130 @@
+-- Which kinds of fault apply to a record of a report, after the records before it and against a deck.
+--
+-- A line is asked four things, by rising kind: whether a line of a later section stands before it, whether a commit is its
+-- updater's next, whether what it names is the deck's, and whether each of its cycles has begun before it.
+use Rattle.std.specs.Prelude.{◌==◌, ◌&&◌, ◌||◌, ℕ, List, [], ◌∷◌, Bool, true, false, not, Option, Some, None, Result, length, map, nat_lt, nat_le, get_or, slice_get, take}
+use Rattle.std.specs.List.{list_all, list_any, filter_map}
+use Rattle.std.specs.Option.{option_map_or}
+use Rattle.std.specs.Result.{result_ok}
+use Rattle.air_base.specs.declared.verdicts.ReadOf.{ReadOf}
+use Rattle.air_base.specs.declared.verdicts.VerdictKind.{VerdictKind}
+use Rattle.air_base.specs.declared.verdicts.VerdictKind.TheVariants.{Accept, Abort, Unfinished}
+use Rattle.air_model.specs.Decks.{Deck, updates_by}
+use Rattle.air_model.specs.declared.reports.VerdictLine.{VerdictLine}
+use Rattle.item_catalog.specs.RecordKinds.{spelled_kinds}
+use Rattle.air_report.specs.Kinds.{code_of}
+use Rattle.air_report.specs.LineTexts.{line_of}
+use Rattle.air_report.specs.ReportLines.{ReportLines, commits_by, sections_of, starts_in}
+use Rattle.air_report.specs.declared.reading.kinds.FaultKind.{FaultKind}
+use Rattle.air_report.specs.declared.reading.kinds.FaultKind.TheVariants as fault
+use Rattle.air_report.specs.declared.reading.lines.EventLine.{EventLine}
+use Rattle.air_report.specs.declared.reading.lines.EventLine.TheVariants.{Commit, Start}
+use Rattle.air_report.specs.declared.reading.lines.Line.{Line}
+use Rattle.air_report.specs.declared.reading.lines.Line.TheVariants.{Event, Verdict, Counts, Glance, Look}
+
+-- ---- order
+
+-- There is a line.
+abbrev pub is_filled : {A : Type 0} → List A → Bool
+is_filled lines = nat_lt 0 (length lines)
+
+-- A line of a later section stands among those before.
+abbrev pub comes_late : ReportLines → Line → Bool
+comes_late before (Event line) = is_filled before.verdicts || is_filled before.counts || is_filled before.glances || is_filled before.looks
+comes_late before (Verdict line) = is_filled before.counts || is_filled before.glances || is_filled before.looks
+comes_late before (Counts line) = is_filled before.glances || is_filled before.looks
+comes_late before (Glance line) = is_filled before.looks
+comes_late before (Look line) = false
+
+-- ---- the history
+
+-- A commit is its updater's next: its number is that of the updater's commits before, and the deck has an update of that number.
+abbrev pub is_next : Deck → List EventLine → EventLine → Bool
+is_next deck before (Commit by seq) = (seq == commits_by by before) && nat_lt seq (length (updates_by deck by))
+is_next deck before Start = true
+
+-- No other line is a commit.
+abbrev pub comes_next : Deck → List EventLine → Line → Bool
+comes_next deck before (Event line) = is_next deck before line
+comes_next deck before line = true
+
+-- ---- the deck
+
+-- The first numbers stand in order at the front of the others.
+abbrev pub leads : List ℕ → List ℕ → Bool
+leads [] ys = true
+leads (x ∷ xs) [] = false
+leads (x ∷ xs) (y ∷ ys) = (x == y) && leads xs ys
+
+-- The item of a read.
+abbrev pub its_item : ReadOf → ℕ
+its_item read = read.item
+
+-- The items of reads follow a query. For an accept they are all its items in order; else some of them are left: of an abort, the
+-- refused read is of the next one, and the clash is with an item that was read.
+abbrev pub follow : List ℕ → List ℕ → VerdictKind → Bool
+follow query items Accept = leads items query && (length items == length query)
+follow query items (Abort item cycle clash) =
+    leads items query && option_map_or (λ next. next == item) (slice_get query (length items)) false && list_any (λ other. other == clash) items
+follow query items Unfinished = leads items query && nat_lt (length items) (length query)
+
+-- The verdict is on an attempt of the deck: its reader tries so often, and its reads follow a query of the reader.
+abbrev pub is_tried : Deck → VerdictLine → Bool
+is_tried deck line =
+    option_map_or (λ plan. nat_le 1 line.verdict.attempt && nat_le line.verdict.attempt plan.tries) (slice_get deck.readers line.reader) false
+    && option_map_or (λ query. follow query (map its_item line.reads) line.verdict.kind) (slice_get (get_or deck.queries line.reader []) line.verdict.query) false
+
+-- What a line names, beside updates and cycles, is the deck's.
+abbrev pub is_known : Deck → Line → Bool
+is_known deck (Event line) = true
+is_known deck (Verdict line) = is_tried deck line
+is_known deck (Counts line) = nat_lt line.reader (length deck.readers)
+is_known deck (Glance line) = nat_lt line.monitor deck.settings.monitors
+is_known deck (Look line) = nat_lt line.monitor deck.settings.monitors
+
+-- ---- cycles
+
+-- A cycle is one of the first so many.
+abbrev pub has_begun : ℕ → ℕ → Bool
+has_begun starts cycle = nat_le 1 cycle && nat_le cycle starts
+
+-- The cycle of a read that was refused.
+abbrev pub end_begun : ℕ → VerdictKind → Bool
+end_begun starts Accept = true
+end_begun starts (Abort item cycle clash) = has_begun starts cycle
+end_begun starts Unfinished = true
+
+-- Each cycle that a line names began among so many starts before it; a monitor may also have seen the catalog, as cycle 0.
+abbrev pub is_begun : ℕ → Line → Bool
+is_begun starts (Event line) = true
+is_begun starts (Verdict line) = list_all (λ read. has_begun starts read.cycle) line.reads && end_begun starts line.verdict.kind
+is_begun starts (Counts line) = true
+is_begun starts (Glance line) = nat_le line.cycle starts
+is_begun starts (Look line) = nat_le line.cycle starts
+
+-- ---- the kinds
+
+-- The kinds that a line may have after these lines, by rising kind, each with its test.
+abbrev pub tests_of : Deck → ReportLines → Line → List (FaultKind × Bool)
+tests_of deck before line =
+    (fault.Order, comes_late before line) ∷
+    (fault.Update, not (comes_next deck before.events line)) ∷
+    (fault.Deck, not (is_known deck line)) ∷
+    (fault.Cycle, not (is_begun (starts_in before.events) line)) ∷ []
+
+-- The numbers of the kinds that apply to what a record spells, after lines.
+abbrev pub kinds_after : Deck → ReportLines → Result Line FaultKind → List ℕ
+kinds_after deck before spelled = spelled_kinds code_of (tests_of deck before) spelled
+
+-- The lines that records spell; a record that spells none adds nothing.
+abbrev pub lines_of : List (List (List ℕ)) → List Line
+lines_of rows = filter_map (λ row. result_ok (line_of row)) rows
+
+-- At the end no kind applies.
+abbrev pub place_kinds : Deck → ReportLines → Option (List (List ℕ)) → List ℕ
+place_kinds deck before (Some row) = kinds_after deck before (line_of row)
+place_kinds deck before None = []
+
+-- The numbers of the kinds that apply to the record at a place, counted from 0, after all records before it.
+unfoldable pub kinds_at : Deck → List (List (List ℕ)) → ℕ → List ℕ
+kinds_at deck rows place = place_kinds deck (sections_of (lines_of (take place rows))) (slice_get rows place)

@@ -1,0 +1,167 @@
+//! A report while it is read: the lines so far, with what they count.
+//!
+//! A call takes a record, and adds its line where no kind of fault applies; else it answers the least kind. What a draft is
+//! after a fault is told by no clause: it is thrown away.
+
+ghost use Rattle.std.specs.Prelude.{◌≡◌, [], Ok, None};
+ghost use Rattle.csv.specs.Records.{fields_of};
+ghost use Rattle.air_report.specs.LineTexts.{line_of};
+ghost use Rattle.air_report.specs.ReportFaults.{comes_late, comes_next, is_next};
+ghost use Rattle.air_report.specs.ReportLines.{sections_of};
+ghost use Rattle.air_report.specs.Steps.RecordAnswers.{Adds, CanCommit, CanPush, Pushed, record_kind, with_line};
+
+use crate::reading::kinds::FaultKind;
+use crate::reading::lines::{EventLine, Line};
+use crate::reading::parsing::read_line;
+use crate::reading::rules::{is_begun, is_known};
+use crate::reading::sections::ReadLines;
+use air_base::limits::MOST_UPDATERS;
+use csv::ByteRecord;
+use item_catalog::{Deck, Refusal};
+use std::alloc::Global;
+use std::marker::Model;
+
+/// The lines so far, the number of each updater's commits, and that of starts.
+#[derive(Debug, Drop)]
+pub struct Draft {
+    lines: ReadLines,
+    made: [u64; MOST_UPDATERS],
+    starts: u64,
+}
+
+impl Model for Draft {
+    ghost use Rattle.air_report.specs.ReportLines.{ReportLines};
+    ghost use Rattle.air_report.specs.Steps.ReportView.{DraftCounts};
+
+    ghost Value = { ReportLines };
+
+    ghost view = { λ d. d.lines };
+
+    ghost invariant = { DraftCounts };
+}
+
+impl Draft {
+    /// No lines.
+    pub fn new(alloc: Global) -> Draft
+        ensures { result ≡ sections_of [] }
+    {
+        Draft {
+            lines: ReadLines::new(alloc),
+            made: [0; MOST_UPDATERS],
+            starts: 0,
+        }
+    }
+
+    /// Whether a line of a later section stands among those before.
+    fn comes_late(&self, line: &Line) -> bool
+        ensures { result ≡ comes_late self.now line.now }
+    {
+        let lines = &self.lines;
+        let looks = !lines.looks.is_empty();
+        let glances = !lines.glances.is_empty() || looks;
+        let counts = !lines.counts.is_empty() || glances;
+        match line {
+            Line::Event(_) => !lines.verdicts.is_empty() || counts,
+            Line::Verdict(_) => counts,
+            Line::Counts(_) => glances,
+            Line::Glance(_) => looks,
+            Line::Look(_) => false,
+        }
+    }
+
+    /// Whether a line of the history is a start, or the next commit of its updater.
+    fn is_next(&self, deck: &Deck, line: EventLine) -> bool
+        ensures { result ≡ is_next deck.now self.now.events line }
+    {
+        match line {
+            EventLine::Start => true,
+            EventLine::Commit { by, seq } => {
+                by < deck.updaters()
+                    && u64::from(seq) == self.made[by as usize]
+                    && (seq as usize) < deck.updates(by).len()
+            }
+        }
+    }
+
+    /// Whether a line is no commit, or the next one of its updater.
+    fn comes_next(&self, deck: &Deck, line: &Line) -> bool
+        ensures { result ≡ comes_next deck.now self.now.events line.now }
+    {
+        match line {
+            Line::Event(event) => self.is_next(deck, *event),
+            _ => true,
+        }
+    }
+
+    /// The least kind that applies to a line.
+    fn kind_of(&self, deck: &Deck, line: &Line) -> Option<FaultKind>
+        ensures { result ≡ record_kind deck.now self.now (Ok line.now) }
+    {
+        if self.comes_late(line) {
+            return Some(FaultKind::Order);
+        }
+        if !self.comes_next(deck, line) {
+            return Some(FaultKind::Update);
+        }
+        if !is_known(deck, line) {
+            return Some(FaultKind::Deck);
+        }
+        if !is_begun(self.starts, line) {
+            return Some(FaultKind::Cycle);
+        }
+        None
+    }
+
+    /// Adds a line of the history, which is a start or its updater's next commit.
+    fn push_event(&mut self, event: EventLine) -> Result<(), Refusal<FaultKind>>
+        requires { CanCommit self.old event }
+        ensures { Pushed result (self.new ≡ with_line self.old (Line.Event event)) }
+    {
+        self.lines.push_event(event)?;
+        let _places = self.lines.history().len();
+        match event {
+            EventLine::Start => self.starts += 1,
+            EventLine::Commit { by, seq } => self.made[by as usize] = u64::from(seq) + 1,
+        }
+        Ok(())
+    }
+
+    /// Adds a line to which no kind applies.
+    fn push(&mut self, line: Line) -> Result<(), Refusal<FaultKind>>
+        requires { CanPush self.old line }
+        ensures { Pushed result (self.new ≡ with_line self.old line) }
+    {
+        match line {
+            Line::Event(event) => self.push_event(event)?,
+            Line::Verdict(line) => self.lines.push_verdict(line)?,
+            Line::Counts(line) => self.lines.push_counts(line)?,
+            Line::Glance(line) => self.lines.push_glance(line)?,
+            Line::Look(line) => self.lines.push_look(line)?,
+        }
+        Ok(())
+    }
+
+    /// Adds the line of a record.
+    pub fn add(
+        &mut self,
+        alloc: Global,
+        deck: &Deck,
+        row: &ByteRecord,
+    ) -> Result<(), Refusal<FaultKind>>
+        ensures { Adds result deck.now (line_of (fields_of row.now)) self.old self.new }
+    {
+        deck.well_made();
+        let line = read_line(alloc, row)?;
+        if let Some(kind) = self.kind_of(deck, &line) {
+            return Err(Refusal::Kind(kind));
+        }
+        self.push(line)
+    }
+
+    /// The lines.
+    pub fn into_lines(self) -> ReadLines
+        ensures { result ≡ self }
+    {
+        self.lines
+    }
+}

@@ -1,0 +1,40 @@
+//! The kinds of a report's fault.
+
+ghost use Rattle.std.specs.Prelude.{◌≡◌};
+ghost use Rattle.air_report.specs.Kinds.{code_of};
+
+/// A kind of fault. Each has a number: of those that apply to a record, the one of the least number is told.
+#[derive(Clone, Copy, Debug, PartialEq, Eq)]
+pub enum FaultKind {
+    /// The tag has another number of fields.
+    Fields,
+    /// A field, or a part of a list, isn't of its form, or a number is above its type's range.
+    Form,
+    /// The tag is unknown.
+    Tag,
+    /// A line of a later section stands before it.
+    Order,
+    /// A commit isn't its updater's next.
+    Update,
+    /// A reader, a query, an attempt or a monitor isn't the deck's, or the items don't follow the query.
+    Deck,
+    /// A cycle hasn't begun before it.
+    Cycle,
+}
+
+impl FaultKind {
+    /// Its number.
+    pub fn code(self) -> u8
+        ensures { result ≡ code_of self }
+    {
+        match self {
+            FaultKind::Fields => 1,
+            FaultKind::Form => 2,
+            FaultKind::Tag => 3,
+            FaultKind::Order => 4,
+            FaultKind::Update => 5,
+            FaultKind::Deck => 6,
+            FaultKind::Cycle => 7,
+        }
+    }
+}

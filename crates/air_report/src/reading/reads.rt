@@ -1,0 +1,129 @@
+//! Reads as reports write them, and lists of them, read from the front in one pass.
+
+ghost use Rattle.std.specs.Prelude.{◌≡◌, ◌<◌, ◌^◌, IfOk, MatchOption, Some, None, option_map};
+ghost use Rattle.air_base.specs.Fronts.{FrontIs, after_digits, digits_of};
+ghost use Rattle.air_base.specs.NumberLists.{list_of};
+ghost use Rattle.air_report.specs.LineTexts.{below, item_of, place_of, read_of, short_of};
+ghost use Rattle.air_report.specs.Steps.ReadFronts.{leading_place, leading_read};
+
+use air_base::{ReadOf, Reads, after_byte, leading_number, number_front, read_u64};
+use std::alloc::{AllocFailed, Global};
+
+/// A number as an item, where it is one.
+fn to_item(n: u64) -> Option<u16>
+    ensures { result ≡ below (2 ^ 16) (Some n) }
+{
+    if n > 65_535 {
+        return None;
+    }
+    Some(n as u16)
+}
+
+/// A number of 32 bits, where it is one.
+fn to_short(n: u64) -> Option<u32>
+    ensures { result ≡ below (2 ^ 32) (Some n) }
+{
+    if n > 4_294_967_295 {
+        return None;
+    }
+    Some(n as u32)
+}
+
+/// The item that a text spells.
+#[tactic(auto, unfolding(crate::specs::LineTexts::item_of))]
+pub fn read_item(text: &[u8]) -> Option<u16>
+    ensures { result ≡ item_of text.now }
+{
+    to_item(read_u64(text)?)
+}
+
+/// The number of 32 bits that a text spells.
+#[tactic(auto, unfolding(crate::specs::LineTexts::short_of))]
+pub fn read_short(text: &[u8]) -> Option<u32>
+    ensures { result ≡ short_of text.now }
+{
+    to_short(read_u64(text)?)
+}
+
+/// The item at the front, and the text behind its digits.
+#[tactic(auto, unfolding(crate::specs::LineTexts::item_of))]
+fn leading_item(text: &[u8]) -> Option<(u16, &[u8])>
+    ensures { MatchOption result (item_of (digits_of text.now) ≡ None) (λ f. (item_of (digits_of text.now) ≡ Some f.0) × (f.1.now ≡ after_digits text.now)) }
+{
+    let (n, rest) = leading_number(text)?;
+    let item = to_item(n)?;
+    Some((item, rest))
+}
+
+/// The number of 32 bits at the front, and the text behind its digits.
+#[tactic(auto, unfolding(crate::specs::LineTexts::short_of))]
+fn leading_short(text: &[u8]) -> Option<(u32, &[u8])>
+    ensures { MatchOption result (short_of (digits_of text.now) ≡ None) (λ f. (short_of (digits_of text.now) ≡ Some f.0) × (f.1.now ≡ after_digits text.now)) }
+{
+    let (n, rest) = leading_number(text)?;
+    let short = to_short(n)?;
+    Some((short, rest))
+}
+
+/// The place at the front, and the text behind it.
+#[tactic(auto, unfolding(crate::specs::Steps::ReadFronts::leading_place))]
+fn leading_place(text: &[u8]) -> Option<(u16, u32, &[u8])>
+    ensures { option_map (λ f. (f.0, f.1, f.2.now)) result ≡ leading_place text.now }
+{
+    let (item, rest) = leading_item(text)?;
+    let more = after_byte(rest, b'@')?;
+    let (cycle, rest) = leading_short(more)?;
+    Some((item, cycle, rest))
+}
+
+/// The place that a text spells.
+pub fn read_place(text: &[u8]) -> Option<(u16, u32)>
+    ensures { result ≡ place_of text.now }
+{
+    let Some((item, cycle, rest)) = leading_place(text) else {
+        return None;
+    };
+    if !rest.is_empty() {
+        return None;
+    }
+    Some((item, cycle))
+}
+
+/// The read at the front, and the text behind its part.
+#[tactic(auto, unfolding(crate::specs::Steps::ReadFronts::leading_read))]
+fn leading_read(text: &[u8]) -> Option<(ReadOf, &[u8])>
+    ensures { option_map (λ f. (f.0, f.1.now)) result ≡ leading_read text.now }
+{
+    let (item, cycle, rest) = leading_place(text)?;
+    let more = after_byte(rest, b'=')?;
+    let (value, rest) = number_front(more)?;
+    Some((ReadOf { item, cycle, value }, rest))
+}
+
+/// The read that the first part spells, and what follows the part.
+fn read_front(text: &[u8]) -> Option<(ReadOf, &[u8])>
+    ensures { FrontIs read_of text.now (option_map (λ f. (f.0, f.1.now)) result) }
+{
+    leading_read(text)
+}
+
+/// The reads of the list that a text spells; none where it spells no list.
+pub fn read_reads(alloc: Global, text: &[u8]) -> Result<Option<Reads>, AllocFailed<ReadOf>>
+    ensures { IfOk result (λ list. list ≡ list_of read_of text.now) }
+{
+    let mut reads = Vec::new(alloc);
+    if text.is_empty() {
+        return Ok(Some(Reads::from_vec(reads)));
+    }
+    let mut rest = text;
+    loop {
+        let Some((read, after)) = read_front(rest) else {
+            return Ok(None);
+        };
+        reads.push(read)?;
+        let Some((_, more)) = after.split_first() else {
+            return Ok(Some(Reads::from_vec(reads)));
+        };
+        rest = more;
+    }
+}

@@ -1,0 +1,34 @@
+//! The lines of reports read from texts: one pass over the records, each taken once and forgotten.
+
+ghost use Rattle.std.specs.Prelude.{◌≤◌, length, IfErr, IfOk};
+ghost use Rattle.air_report.specs.declared.reading.limits.TheConstants.{MOST_REPORT_BYTES};
+ghost use Rattle.air_report.specs.ReportGrammar.{IsReportAnswer, SpellsReport};
+
+use crate::reading::draft::Draft;
+use crate::reading::faults::ReportError;
+use crate::reading::sections::ReadLines;
+use csv::ByteRecord;
+use item_catalog::{Deck, Records, Refusal};
+use std::alloc::Global;
+
+/// The lines of the report of the deck that a text spells, or the first faulty record of the text with the least kind that applies there.
+pub fn read_lines(alloc: Global, deck: &Deck, bytes: &[u8]) -> Result<ReadLines, ReportError>
+    requires limit { length bytes.now ≤ MOST_REPORT_BYTES }
+    ensures lines { IfOk result (SpellsReport deck.now bytes.now) }
+    ensures fault { IfErr result (IsReportAnswer deck.now bytes.now) }
+{
+    let mut draft = Draft::new(alloc);
+    let mut records = Records::new(alloc, bytes);
+    let mut record = ByteRecord::new(alloc);
+    for row in 1..u32::MAX {
+        if !records.next(&mut record)? {
+            return Ok(draft.into_lines());
+        }
+        match draft.add(alloc, deck, &record) {
+            Ok(()) => {}
+            Err(Refusal::Kind(kind)) => return Err(ReportError::at(row, kind)),
+            Err(Refusal::NoMemory) => return Err(ReportError::NoMemory),
+        }
+    }
+    unreachable!()
+}

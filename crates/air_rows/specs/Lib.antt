@@ -1,2 +1,0 @@
-pub mod RowWriters
-pub mod BegunRows

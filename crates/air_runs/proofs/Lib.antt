@@ -1,4 +1,0 @@
-pub mod StageLemmas
-pub mod EndLemmas
-pub mod SentLemmas
-pub mod SightLemmas

@@ -1,3 +1,0 @@
-pub mod DeckBytes
-pub mod RunAnswers
-pub mod Steps

@@ -1,3 +1,0 @@
--- Definitions that private steps alone speak of: no public contract cites them.
-pub mod StageSteps
-pub mod SightSteps

@@ -1,0 +1,160 @@
+-- How the buckets of a history grow with it: by none with a commit, and by those of the new cycle with a start.
+--
+-- What comes later changes no bucket of a started cycle, so the buckets that were sent stay those of the history. The
+-- program of a deck has all its items, and its board has as many values. The steps of a run cite these.
+use Rattle.std.proofs.Common.{◌≡◌, ℕ, zero, suc, ◌+◌, ◌≤◌, true, false, cond, List, [], ◌∷◌, ◌++◌, Some, length, map, refl, sym, ◌∙◌, ap, inl, inr, arith}
+use Rattle.std.specs.Prelude.{sum_by}
+use Rattle.std.specs.List.{flat_map, range_with_len}
+use Rattle.std.proofs.lemmas.Grind.{flat_map-append}
+use Rattle.std.proofs.lemmas.Bool.{cases_Bool}
+use Rattle.std.proofs.lemmas.List.{append-nil, append_assoc, length-map, map-append}
+use Rattle.std.proofs.lemmas.List.FromFn.{length-map-range_with_len}
+use Rattle.std.proofs.lemmas.List.Sums.{sum_by-append}
+use Rattle.air_history.specs.declared.histories.Event.{Event}
+use Rattle.air_history.specs.declared.histories.Event.TheVariants.{Commit, Start}
+use Rattle.air_history.specs.Histories.{is_start, starts}
+use Rattle.air_history.specs.Boards.{Board, board_of}
+use Rattle.air_history.specs.Tables.{table, values_of}
+use Rattle.air_base.specs.declared.verdicts.Policy.{Policy}
+use Rattle.air_model.specs.Buckets.{Bucket, spelling}
+use Rattle.air_model.specs.Aired.{Air, air_of, bucket_of, buckets_of}
+use Rattle.air_model.specs.Decks.{Deck, IsDeck, disks_in, rates_in, values_in}
+use Rattle.air_model.specs.Disks.{Disk, all_items, order}
+use Rattle.air_model.specs.Programs.{program}
+use Rattle.air_sender.specs.BoardBuckets.{cycle_buckets, cycle_bytes}
+use Rattle.air_sender.proofs.StartedBoards.{OwnCycleLaw}
+use Rattle.air_devices.specs.Masts.{Sent}
+use Rattle.air_sender.specs.AiredBytes.{aired_bytes}
+use Rattle.air_model.proofs.DeckLemmas.{air}
+use Rattle.air_model.proofs.ItemOrder.{cut_items, length-order}
+use Rattle.air_model.proofs.LaterLemmas.{later}
+
+-- ---- histories
+
+-- An event is a start exactly if the test says so.
+pub start_event : (e : Event) → is_start e ≡ true → e ≡ Start
+unfolding is_start
+start_event (Commit by seq update) e = cc
+start_event Start e = refl
+
+pub starts_more : (G : List Event) (e : Event) → starts (G ++ e ∷ []) ≡ starts G + cond (is_start e) 1 0
+unfolding starts
+starts_more G e =
+    let weight : Event → ℕ = λ x. cond (is_start x) 1 0 in
+    let one : sum_by weight (e ∷ []) ≡ cond (is_start e) 1 0 = omega arith in
+    sum_by-append weight G (e ∷ []) ∙ ap (λ n. sum_by weight G + n) one
+
+-- A start is one more, a commit none.
+pub starts_start : (G : List Event) → starts (G ++ Start ∷ []) ≡ starts G + 1
+unfolding is_start
+starts_start G = starts_more G Start
+
+range_more : (a n : ℕ) → range_with_len a (suc n) ≡ range_with_len a n ++ (a + n) ∷ []
+range_more a zero = let same : a ≡ a + 0 = omega arith in ap (λ k. k ∷ []) same
+range_more a (suc n) = let same : a + 1 + n ≡ a + suc n = omega arith in ap (λ l. a ∷ l) (range_more (a + 1) n ∙ ap (λ k. range_with_len (a + 1) n ++ k ∷ []) same)
+
+-- ---- buckets
+
+-- What agrees at each element gives one list.
+pub map_same : {X Y : Type 0} (f g : X → Y) (xs : List X) → ((x : X) → f x ≡ g x) → map f xs ≡ map g xs
+map_same f g [] same = refl
+map_same f g (x ∷ xs) same = ap (λ y. y ∷ map f xs) (same x) ∙ ap (λ l. g x ∷ l) (map_same f g xs same)
+
+module _ (values : List ℕ) (air : Air) where
+  -- the buckets of a cycle, slot by slot
+  abbrev pub buckets_in : List Event → ℕ → List Bucket
+  buckets_in H c = map (bucket_of values air H c) (range_with_len 0 (length air.slots))
+
+  cycles_later : (H more : List Event) (a n : ℕ) → a + n ≤ starts H + 1 → flat_map (buckets_in (H ++ more)) (range_with_len a n) ≡ flat_map (buckets_in H) (range_with_len a n)
+  cycles_later H more a zero within = refl
+  cycles_later H more a (suc n) within =
+      let started : a ≤ starts H = omega arith in
+      ap (λ l. l ++ flat_map (buckets_in (H ++ more)) (range_with_len (a + 1) n)) (map_same (bucket_of values air (H ++ more) a) (bucket_of values air H a) (range_with_len 0 (length air.slots)) (λ s. later values air H more a s started))
+      ∙ ap (λ l. buckets_in H a ++ l) (cycles_later H more (a + 1) n (omega arith))
+
+  -- a history without events airs nothing
+  pub buckets_none : buckets_of values air [] ≡ []
+  unfolding buckets_of starts
+  buckets_none = refl
+
+  -- a commit airs nothing
+  pub buckets_commit : (H : List Event) (e : Event) → is_start e ≡ false → buckets_of values air (H ++ e ∷ []) ≡ buckets_of values air H
+  unfolding buckets_of
+  buckets_commit H e commit =
+      let same : starts (H ++ e ∷ []) ≡ starts H = starts_more H e ∙ ap (λ b. starts H + cond b 1 0) commit ∙ omega arith in
+      ap (λ n. flat_map (buckets_in (H ++ e ∷ [])) (range_with_len 1 n)) same ∙ cycles_later H (e ∷ []) 1 (starts H) (omega arith)
+
+  -- a start airs its cycle
+  pub buckets_start : (H : List Event) → buckets_of values air (H ++ Start ∷ []) ≡ buckets_of values air H ++ buckets_in (H ++ Start ∷ []) (starts (H ++ Start ∷ []))
+  unfolding buckets_of
+  buckets_start H =
+      let after = H ++ Start ∷ [] in
+      let n = starts H in
+      let more : starts after ≡ suc n = starts_start H ∙ omega arith in
+      let last : 1 + n ≡ starts after = omega arith in
+      ap (λ k. flat_map (buckets_in after) (range_with_len 1 k)) more ∙ ap (flat_map (buckets_in after)) (range_more 1 n) ∙ flat_map-append (buckets_in after) (range_with_len 1 n) ((1 + n) ∷ [])
+      ∙ ap (λ l. l ++ (buckets_in after (1 + n) ++ [])) (cycles_later H (Start ∷ []) 1 n (omega arith))
+      ∙ ap (λ l. flat_map (buckets_in H) (range_with_len 1 n) ++ l) (append-nil (buckets_in after (1 + n)) ∙ ap (buckets_in after) last)
+
+-- ---- a deck's boards
+
+-- The program of a deck has all its items.
+pub items_aired : (deck : Deck) → IsDeck deck → length (all_items (disks_in deck)) ≡ length deck.items
+items_aired deck is =
+    let rates = rates_in deck in
+    let all : length (order rates) ≡ length deck.items = length-order rates ∙ length-map deck.items (λ i. i.rate) in
+    ap length (cut_items (order rates) deck.disks (is.sizes ∙ sym all)) ∙ all
+
+-- What is told twice alike is alike.
+pub told_alike : {s t : Sent} → Some s ≡ Some t → s ≡ t
+told_alike e = cc
+
+-- A board has a value for each item.
+pub values_kept : (deck : Deck) (board : Board) (H : List Event) → board ≡ board_of (values_in deck) H → length board.values ≡ length deck.items
+values_kept deck board H is =
+    let values = values_in deck in
+    ap (λ (b : Board). length b.values) is ∙ length-map-range_with_len (table (values_of values) H) 0 (length values) ∙ length-map deck.items (λ i. i.value)
+
+module _ (deck : Deck) (G : List Event) (e : Event) (board : Board) (is : board ≡ board_of (values_in deck) (G ++ e ∷ [])) where
+  -- after a start the board is that of the history with the start
+  pub started_board : is_start e ≡ true → board ≡ board_of (values_in deck) (G ++ Start ∷ [])
+  started_board start = is ∙ ap (λ e. board_of (values_in deck) (G ++ e ∷ [])) (start_event e start)
+
+  pub board_started : is_start e ≡ true → 1 ≤ board.cycle
+  board_started start = let cycle : board.cycle ≡ starts G + 1 = ap (λ (b : Board). b.cycle) (started_board start) ∙ starts_start G in omega arith
+
+  -- what the board airs is the new cycle of the history
+  pub start_aired : OwnCycleLaw → IsDeck deck → is_start e ≡ true → (policy : Policy) (disks : List Disk) (before after : List (List ℕ)) → policy ≡ deck.settings.policy → disks ≡ disks_in deck
+      → before ≡ aired_bytes deck G → after ≡ before ++ cycle_bytes policy (program disks) board → after ≡ aired_bytes deck (G ++ e ∷ [])
+  start_aired own made start policy disks before after p d so_far grew =
+      let values = values_in deck in
+      let a = air_of deck in
+      let new = G ++ Start ∷ [] in
+      let cycle : cycle_buckets policy (program disks) board ≡ buckets_in values a new (starts new) =
+      ap (λ p. cycle_buckets p (program disks) board) p ∙ ap (λ d. cycle_buckets a.scheme.policy (program d) board) d ∙ ap (cycle_buckets a.scheme.policy a.slots) (started_board start)
+      ∙ own values a G (sym (length-map deck.items (λ i. i.value))) ((air deck made).0) in
+      grew ∙ ap (λ l. l ++ cycle_bytes policy (program disks) board) so_far ∙ ap (λ l. aired_bytes deck G ++ map spelling l) cycle
+      ∙ sym (map-append spelling (buckets_of values a G) (buckets_in values a new (starts new))) ∙ ap (map spelling) (sym (buckets_start values a G))
+      ∙ ap (λ e. aired_bytes deck (G ++ e ∷ [])) (sym (start_event e start))
+
+-- A commit airs nothing.
+pub commit_aired : (deck : Deck) (G : List Event) (e : Event) (sent : List (List ℕ)) → is_start e ≡ false → sent ≡ aired_bytes deck G → sent ≡ aired_bytes deck (G ++ e ∷ [])
+commit_aired deck G e sent commit so_far = so_far ∙ ap (map spelling) (sym (buckets_commit (values_in deck) (air_of deck) G e commit))
+
+one_aired : (deck : Deck) (H : List Event) (e : Event) → (rest : List (List ℕ)) × (aired_bytes deck (H ++ e ∷ []) ≡ aired_bytes deck H ++ rest)
+one_aired deck H e = elim (cases_Bool (is_start e)) as (λ _. (rest : List (List ℕ)) × (aired_bytes deck (H ++ e ∷ []) ≡ aired_bytes deck H ++ rest)) [
+  | inl start ↦ (
+    map spelling (buckets_in (values_in deck) (air_of deck) (H ++ Start ∷ []) (starts (H ++ Start ∷ []))),
+    ap (λ e. aired_bytes deck (H ++ e ∷ [])) (start_event e start) ∙ ap (map spelling) (buckets_start (values_in deck) (air_of deck) H)
+        ∙ map-append spelling (buckets_of (values_in deck) (air_of deck) H) (buckets_in (values_in deck) (air_of deck) (H ++ Start ∷ []) (starts (H ++ Start ∷ []))),
+  )
+  | inr commit ↦ ([], sym (commit_aired deck H e (aired_bytes deck H) commit refl) ∙ sym (append-nil (aired_bytes deck H)))
+]
+
+-- What the first events of a history air stands in front of what all of them air.
+pub front_aired : (deck : Deck) (H more : List Event) → (rest : List (List ℕ)) × (aired_bytes deck (H ++ more) ≡ aired_bytes deck H ++ rest)
+front_aired deck H [] = ([], ap (aired_bytes deck) (append-nil H) ∙ sym (append-nil (aired_bytes deck H)))
+front_aired deck H (e ∷ more) =
+    let one = one_aired deck H e in
+    let later = front_aired deck (H ++ e ∷ []) more in
+    (one.0 ++ later.0, ap (aired_bytes deck) (sym (append_assoc H (e ∷ []) more)) ∙ later.1 ∙ ap (λ l. l ++ later.0) one.1 ∙ append_assoc (aired_bytes deck H) one.0 later.0)

@@ -1,0 +1,159 @@
+-- The board of a history that ends with a start: it is the board of what came before, in the next cycle.
+-- `own_cycle` and `below` are the two laws that the sender rests on.
+use Rattle.std.proofs.Common.{◌≡◌, ℕ, zero, suc, ◌+◌, ◌<◌, cond, Option, Some, None, List, [], ◌∷◌, ◌++◌, length, map, get_or, refl, sym, ◌∙◌, ap, subst, arith}
+use Rattle.std.specs.Prelude.{All, IfSome}
+use Rattle.std.specs.List.{range_with_len}
+use Rattle.std.specs.Option.{option_map_or}
+use Rattle.std.proofs.lemmas.List.Sums.{sum_by-cons}
+use Rattle.std.proofs.lemmas.List.FromFn.{fill_by_all, get_or-map-range_with_len, length-map-range_with_len}
+use Rattle.air_base.specs.declared.verdicts.Policy.{Policy}
+use Rattle.air_base.specs.declared.verdicts.Policy.TheVariants.{FMatrix, Datacycle, RMatrix}
+use Rattle.air_history.specs.UpdateLists.{UpdateLists}
+use Rattle.air_history.specs.declared.histories.Event.{Event}
+use Rattle.air_history.specs.declared.histories.Event.TheVariants.{Commit, Start}
+use Rattle.air_history.specs.Histories.{ItemsFit, cycle_at, front, is_start, starts, writer}
+use Rattle.air_history.specs.Columns.{policy_entries, column, column_entry, vector, vector_entry}
+use Rattle.air_history.specs.Reads.{read_value}
+use Rattle.air_history.specs.Tables.{BasesRead, table, table_list, values_of}
+use Rattle.air_history.specs.Boards.{Board, board_of, columns}
+use Rattle.air_history.proofs.PlaceLemmas.{greatest_below}
+use Rattle.air_history.proofs.HistoryLemmas.{front_cycle, front_cycle_same, writer_before_some}
+use Rattle.control_matrix.proofs.BoardLemmas.{board_push, start_board}
+use Rattle.air_model.specs.Buckets.{Body, Bucket}
+use Rattle.air_model.specs.Aired.{Air, SlotsFit, aired_as, body_of, bucket_of}
+use Rattle.air_sender.specs.BoardBuckets.{EntriesBelow, body_on, bucket_on, cycle_buckets, entries_on}
+
+-- ---- the front of the last cycle
+
+starts_start : (G : List Event) → starts (Start ∷ G) ≡ 1 + starts G
+unfolding starts is_start
+starts_start G = sum_by-cons (λ e. cond (is_start e) 1 0) Start G
+
+starts_commit : (G : List Event) (by seq : ℕ) (update : UpdateLists) → starts (Commit by seq update ∷ G) ≡ 0 + starts G
+unfolding starts is_start
+starts_commit G by seq update = sum_by-cons (λ e. cond (is_start e) 1 0) (Commit by seq update) G
+
+no_starts : starts [] ≡ 0
+unfolding starts
+no_starts = refl
+
+front_at : (G : List Event) (c : ℕ) → c ≡ starts G → front (G ++ Start ∷ []) (suc c) ≡ G
+unfolding front
+front_at [] zero e = refl
+front_at [] (suc c) e = absurd (omega (arith, no_starts))
+front_at (Start ∷ G) zero e = absurd (omega (arith, starts_start G))
+front_at (Start ∷ G) (suc c) e = ap (λ t. Start ∷ t) (front_at G c (omega (arith, starts_start G)))
+front_at (Commit by seq update ∷ G) c e = ap (λ t. Commit by seq update ∷ t) (front_at G c (omega (arith, starts_commit G by seq update)))
+
+-- The front of the cycle that a start begins is what came before it.
+pub front_started : (G : List Event) → front (G ++ Start ∷ []) (starts G + 1) ≡ G
+front_started G = ap (front (G ++ Start ∷ [])) (let e : starts G + 1 ≡ suc (starts G) = omega arith in e) ∙ front_at G (starts G) refl
+
+-- ---- the board
+
+-- The board of a list of events, in the next cycle.
+abbrev pub next_cycle : List ℕ → List Event → Board
+next_cycle values G = record { cycle = starts G + 1; values = table_list values G; columns = columns (length values) G; vector = vector (length values) G }
+
+pub started : (values : List ℕ) (G : List Event) → board_of values (G ++ Start ∷ []) ≡ next_cycle values G
+unfolding ItemsFit BasesRead is_start
+started values G =
+    let n = length values in
+    let sized : length (table_list values G) ≡ n = length-map-range_with_len (table (values_of values) G) 0 n in
+    sym (board_push values G Start tt tt)
+    ∙ start_board (board_of values G) Start refl
+    (length-map-range_with_len (column n G) 0 n ∙ sym sized)
+    (length-map-range_with_len (vector_entry G) 0 n ∙ sym sized)
+
+pub starts_push : (values : List ℕ) (G : List Event) → starts (G ++ Start ∷ []) ≡ starts G + 1
+starts_push values G = ap (λ (b : Board). b.cycle) (started values G)
+
+-- ---- what the board airs is what the history airs
+
+-- An item's body, by a list of events that stands before the cycle.
+body_by : Policy → List ℕ → ℕ → List Event → ℕ → Body
+body_by FMatrix values n G item = aired_as FMatrix item (table (values_of values) G item) (column n G item)
+body_by Datacycle values n G item = aired_as Datacycle item (table (values_of values) G item) (vector n G)
+body_by RMatrix values n G item = aired_as RMatrix item (table (values_of values) G item) (vector n G)
+
+history_body : (p : Policy) (values : List ℕ) (n : ℕ) (H : List Event) (c item : ℕ) →
+    aired_as p item (read_value (values_of values) H (record { item = item; cycle = c })) (policy_entries p n H c item) ≡ body_by p values n (front H c) item
+unfolding body_by
+history_body FMatrix values n H c item = refl
+history_body Datacycle values n H c item = refl
+history_body RMatrix values n H c item = refl
+
+board_body : (p : Policy) (values : List ℕ) (G : List Event) (item : ℕ) → item < length values →
+    body_on p (next_cycle values G) (Some item) ≡ body_by p values (length values) G item
+unfolding body_on body_by
+board_body p values G item l = ap (λ v. aired_as p item v (entries_on p (next_cycle values G) item)) (get_or-map-range_with_len (table (values_of values) G) 0 (length values) item item 0 l (omega arith)) ∙ by p
+  where
+    by : (p : Policy) → aired_as p item (table (values_of values) G item) (entries_on p (next_cycle values G) item) ≡ body_by p values (length values) G item
+    by FMatrix = ap (aired_as FMatrix item (table (values_of values) G item)) (get_or-map-range_with_len (column (length values) G) 0 (length values) item item [] l (omega arith))
+    by Datacycle = refl
+    by RMatrix = refl
+
+slot_body : (values : List ℕ) (air : Air) (G : List Event) (o : Option ℕ) → air.items ≡ length values → IfSome o (λ i. i < air.items) →
+    body_on air.scheme.policy (next_cycle values G) o ≡ body_of values air (G ++ Start ∷ []) (starts G + 1) o
+unfolding body_on body_of
+slot_body values air G None n h = ap (λ k. let y : Body = Rattle.air_model.specs.Buckets.Idle k in y) (length-map-range_with_len (table (values_of values) G) 0 (length values) ∙ sym n)
+slot_body values air G (Some item) n h =
+    board_body air.scheme.policy values G item (omega arith)
+    ∙ ap (λ k. body_by air.scheme.policy values k G item) (sym n)
+    ∙ ap (λ F. body_by air.scheme.policy values air.items F item) (sym (front_started G))
+    ∙ sym (history_body air.scheme.policy values air.items (G ++ Start ∷ []) (starts G + 1) item)
+
+slot_bucket : (values : List ℕ) (air : Air) (G : List Event) (s : ℕ) → air.items ≡ length values → IfSome (get_or air.slots s None) (λ i. i < air.items) →
+    bucket_on air.scheme.policy air.slots (next_cycle values G) s ≡ bucket_of values air (G ++ Start ∷ []) (starts G + 1) s
+unfolding bucket_on bucket_of
+slot_bucket values air G s n h =
+    ap (λ y. let b : Bucket = record { edition = 0; cycle = starts G + 1; slot = s; body = y } in b) (slot_body values air G (get_or air.slots s None) n h)
+
+-- The law that `own_cycle_law` has, for those who take it from there.
+abbrev pub OwnCycleLaw : Type 0
+OwnCycleLaw = (values : List ℕ) (air : Air) (G : List Event) → air.items ≡ length values → SlotsFit air →
+    cycle_buckets air.scheme.policy air.slots (board_of values (G ++ Start ∷ []))
+    ≡ map (bucket_of values air (G ++ Start ∷ []) (starts (G ++ Start ∷ []))) (range_with_len 0 (length air.slots))
+
+pub own_cycle : OwnCycleLaw
+own_cycle values air G n fit =
+    let H = G ++ Start ∷ [] in
+    let buckets = map (bucket_on air.scheme.policy air.slots (next_cycle values G)) (range_with_len 0 (length air.slots)) in
+    ap (cycle_buckets air.scheme.policy air.slots) (started values G)
+    ∙ fill_by_all (bucket_of values air H (starts G + 1)) buckets (length air.slots) (bucket_on air.scheme.policy air.slots (next_cycle values G) 0)
+    (length-map-range_with_len (bucket_on air.scheme.policy air.slots (next_cycle values G)) 0 (length air.slots))
+    (λ s l. get_or-map-range_with_len (bucket_on air.scheme.policy air.slots (next_cycle values G)) 0 (length air.slots) s s _ l (omega arith) ∙ slot_bucket values air G s n (fit s None l))
+    ∙ ap (λ c. map (bucket_of values air H c) (range_with_len 0 (length air.slots))) (sym (starts_push values G))
+
+-- ---- its entries are below the cycle
+
+place_below : (G : List Event) (p : ℕ) → p < length G → cycle_at G p < starts G + 1
+place_below G p l =
+    let H = G ++ Start ∷ [] in
+    let whole : length (front H (starts G + 1)) ≡ length G = ap length (front_started G) in
+    let low : cycle_at H p < starts G + 1 = front_cycle H (starts G + 1) p (omega arith) in
+    let same : cycle_at (front H (starts G + 1)) p ≡ cycle_at H p = front_cycle_same H (starts G + 1) p (omega arith) in
+    subst (λ F. cycle_at F p < starts G + 1) (front_started G) (omega arith)
+
+column_below : (G : List Event) (j i : ℕ) → column_entry G j i < starts G + 1
+unfolding column_entry
+column_below G j i = greatest_below (length G) _ (cycle_at G) (starts G + 1) (omega arith) (λ p l e. place_below G p l)
+
+vector_below : (G : List Event) (i : ℕ) → vector_entry G i < starts G + 1
+unfolding vector_entry writer
+vector_below G i = by (writer G i) refl
+  where
+    by : (o : Option ℕ) → writer G i ≡ o → option_map_or (cycle_at G) o 0 < starts G + 1
+    by None e = omega arith
+    by (Some w) e = place_below G w ((writer_before_some G (length G) i w e).0)
+
+row_below : {X : Type 0} (P : X → Type 0) (f : ℕ → X) (n : ℕ) → ((i : ℕ) → P (f i)) → All P (map f (range_with_len 0 n))
+row_below P f n h k d l =
+    let within : k < n = omega (arith, length-map-range_with_len f 0 n) in
+    subst P (sym (get_or-map-range_with_len f 0 n k k d within (omega arith))) (h k)
+
+pub below : (values : List ℕ) (G : List Event) → EntriesBelow (board_of values (G ++ Start ∷ []))
+below values G = subst EntriesBelow (sym (started values G)) (record {
+  columns = row_below (All (λ e. e < starts G + 1)) (column (length values) G) (length values) (λ j. row_below (λ e. e < starts G + 1) (column_entry G j) (length values) (column_below G j));
+  vector = row_below (λ e. e < starts G + 1) (vector_entry G) (length values) (vector_below G);
+})

@@ -1,0 +1,92 @@
+-- The tape of a history of a deck: it is whole, its records are the buckets that the history airs, and none of them is long.
+use Rattle.std.proofs.Common.{◌≡◌, ℕ, ◌+◌, ◌*◌, ◌<◌, ◌≤◌, ◌^◌, Option, None, Some, List, [], ◌∷◌, length, map, get_or, All, refl, sym, ◌∙◌, ap, subst, arith}
+use Rattle.std.specs.List.{flat_map, range_with_len}
+use Rattle.std.proofs.lemmas.List.{map-append}
+use Rattle.std.proofs.lemmas.List.Elements.{All-append, All-cons, All-map, All-nil}
+use Rattle.std.proofs.lemmas.Simd.{map-map}
+use Rattle.air_base.specs.declared.verdicts.Policy.{Policy}
+use Rattle.air_base.specs.declared.verdicts.Policy.TheVariants.{FMatrix, Datacycle, RMatrix}
+use Rattle.air_history.specs.declared.histories.Event.{Event}
+use Rattle.air_history.specs.Histories.{starts}
+use Rattle.air_history.specs.Columns.{aired_entries}
+use Rattle.air_history.specs.Reads.{read_value}
+use Rattle.air_history.specs.Tables.{values_of}
+use Rattle.air_history.proofs.ScanLemmas.{starts_within}
+use Rattle.air_model.specs.Aired.{Air, aired_as, air_of, body_of, bucket_of, buckets_of, history_tape}
+use Rattle.air_model.specs.AiredLaws.{CanAir}
+use Rattle.air_model.specs.Buckets.{entries_of, spelling}
+use Rattle.air_model.specs.Decks.{Deck, IsDeck, script_history, values_in}
+use Rattle.air_model.specs.Tapes.{tape_of, tape_read}
+use Rattle.air_model.proofs.AiredLemmas.{entries_long}
+use Rattle.air_model.proofs.ScriptLemmas.{script}
+use Rattle.air_model.proofs.TapeFacts.{length_record, whole_read}
+use Rattle.air_sender.proofs.RangeFacts.{spelling_within}
+use Rattle.air_sender.specs.AiredBytes.{aired_bytes}
+use Rattle.air_sender.proofs.RunLoops.{script_length}
+
+-- ---- the tape
+
+-- Records of a tape that isn't too long are short.
+short_records : (rs : List (List ℕ)) → length (tape_of rs) < 2 ^ 32 → All (λ r. length r < 2 ^ 32) rs
+unfolding tape_of
+short_records [] few = All-nil (λ r. length r < 2 ^ 32)
+short_records (r ∷ rs) few =
+    let long = length_record r (tape_of rs) in
+    All-cons (λ r. length r < 2 ^ 32) r rs (omega arith) (short_records rs (omega arith))
+
+-- Such a tape is read back as its records.
+pub tape_back : (deck : Deck) (H : List Event) (tape : List ℕ) → tape ≡ history_tape (values_in deck) (air_of deck) H → length tape ≤ 1073741824 → tape_read tape ≡ record { records = aired_bytes deck H; cut = None }
+tape_back deck H tape same few =
+    let rs = aired_bytes deck H in
+    let long = ap length same in
+    ap tape_read same ∙ whole_read rs (length (tape_of rs)) 0 (short_records rs (omega arith)) (omega arith)
+
+-- A deck's script can be aired with it.
+pub script_airs : (deck : Deck) → IsDeck deck → length deck.script ≤ 200000 → length ((air_of deck).slots) ≤ 16384 → CanAir deck (script_history deck)
+script_airs deck made few slots = record {
+  made = made;
+  legal = script deck made.script;
+  cycles = (let most = starts_within (script_history deck) in let long = script_length deck in omega arith);
+  slots = omega arith;
+}
+
+-- ---- the records
+
+entries_aired : (p : Policy) (item value : ℕ) (es : List ℕ) → entries_of (aired_as p item value es) ≡ es
+unfolding entries_of
+entries_aired FMatrix item value es = refl
+entries_aired Datacycle item value es = refl
+entries_aired RMatrix item value es = refl
+
+entries_few : (values : List ℕ) (air : Air) (H : List Event) (c : ℕ) (o : Option ℕ) → length (entries_of (body_of values air H c o)) ≤ air.items
+unfolding body_of entries_of
+entries_few values air H c None = omega arith
+entries_few values air H c (Some item) =
+    let same = ap length (entries_aired air.scheme.policy item (read_value (values_of values) H (record { item = item; cycle = c })) (aired_entries air.scheme air.items H c item)) in
+    let long = entries_long air.scheme.policy air.items H c item in
+    omega arith
+
+-- A bucket of a history has a head, and an entry for each item at most.
+bucket_short : (values : List ℕ) (air : Air) (H : List Event) (c s : ℕ) → length (spelling (bucket_of values air H c s)) ≤ 24 + 4 * air.items
+unfolding bucket_of
+bucket_short values air H c s =
+    let b = bucket_of values air H c s in
+    spelling_within b (entries_of b.body) air.items refl (entries_few values air H c (get_or air.slots s None))
+
+abbrev IsShort : ℕ → List ℕ → Type 0
+IsShort n r = length r ≤ 24 + 4 * n
+
+cycles_short : (values : List ℕ) (air : Air) (H : List Event) (cs : List ℕ) → All (IsShort air.items) (map spelling (flat_map (λ c. map (bucket_of values air H c) (range_with_len 0 (length air.slots))) cs))
+cycles_short values air H [] = All-nil (IsShort air.items)
+cycles_short values air H (c ∷ cs) =
+    let ks = range_with_len 0 (length air.slots) in
+    let here = map (bucket_of values air H c) ks in
+    let rest = flat_map (λ c. map (bucket_of values air H c) ks) cs in
+    subst (All (IsShort air.items)) (sym (map-append spelling here rest)) (All-append (IsShort air.items) (map spelling here) (map spelling rest)
+    (subst (All (IsShort air.items)) (sym (map-map spelling (bucket_of values air H c) ks)) (All-map (IsShort air.items) (λ s. spelling (bucket_of values air H c s)) ks (λ k d below. bucket_short values air H c (get_or ks k d))))
+    (cycles_short values air H cs))
+
+-- So none of the records is longer than that.
+pub records_short : (deck : Deck) (H : List Event) → All (λ r. length r ≤ 24 + 4 * length deck.items) (aired_bytes deck H)
+unfolding buckets_of
+records_short deck H = cycles_short (values_in deck) (air_of deck) H (range_with_len 1 (starts H))

@@ -1,0 +1,5 @@
+use Rattle.air_sender.proofs.GrowFacts.{grow}
+use Rattle.air_sender.proofs.board_laws.grow_law.Goals as goal
+
+pub returns : goal.returns
+returns c = grow

@@ -1,7 +1,0 @@
-use Rattle.std.proofs.Common.{length, sym, ap, ◌∙◌}
-use Rattle.air_model.specs.Disks.{all_items}
-use Rattle.script_run.proofs.AiredLemmas.{items_aired}
-use Rattle.aired_pieces.proofs.sizes.piece_cycles.Goals as goal
-
-pub tape_bytes-cycle-requires : goal.tape_bytes-cycle-requires
-tape_bytes-cycle-requires c = c.items.ensures.told ∙ sym (items_aired c.args.deck.now c.well_made.ensures.made) ∙ ap (λ disks. length (all_items disks)) (sym c.requires)

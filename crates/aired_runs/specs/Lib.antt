@@ -1,3 +1,0 @@
-pub mod RunTapes
-pub mod RunTruths
-pub mod GivenRuns

@@ -1,6 +1,0 @@
-mod HistoryLemmas
-mod DrillSlots
-mod DrillTapes
-mod CountBounds
-mod DrillCounts
-mod DrillExamples

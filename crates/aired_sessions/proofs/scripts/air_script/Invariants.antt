@@ -1,9 +1,0 @@
-use Rattle.std.proofs.Common.{length, ◌-◌}
-use Rattle.aired_pieces.specs.Pieces.{IsAiring}
-use Rattle.aired_sessions.proofs.scripts.air_script.Given as goal
-
-abbrev pub invariant-loop-aired : goal.invariant-loop-aired
-invariant-loop-aired g l = IsAiring l.deck l.aired
-
-abbrev pub decreases-loop-aired : goal.decreases-loop-aired
-decreases-loop-aired g l = length l.deck.script - length l.aired.run.events.items

@@ -1,3 +1,0 @@
-pub mod HistoryTapes
-pub mod DrillLines
-pub mod DrillSums

@@ -1,2 +1,0 @@
-pub mod FindingFacts
-pub mod AuditFacts

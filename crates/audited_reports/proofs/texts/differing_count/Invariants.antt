@@ -1,6 +1,0 @@
-use Rattle.std.proofs.Common.{◌≡◌, ◌≤◌, count_by, take}
-use Rattle.audited_reports.specs.FindingTexts.{differs}
-use Rattle.audited_reports.proofs.texts.differing_count.Given as goal
-
-abbrev pub invariant-loop-finding : goal.invariant-loop-finding
-invariant-loop-finding l = (l.count ≡ count_by differs (take l.finding-index l.found)) × (l.count ≤ l.finding-index)

@@ -1,3 +1,0 @@
-pub mod FindingTexts
-pub mod TrueAudits
-pub mod AuditAnswers

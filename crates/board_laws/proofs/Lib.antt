@@ -1,3 +1,0 @@
-pub mod StartedBoards
-pub mod TapeLengths
-pub mod GrowFacts

@@ -1,2 +1,0 @@
-pub mod BoardBuckets
-pub mod TapeSizes

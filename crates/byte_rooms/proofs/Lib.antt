@@ -1,2 +1,0 @@
-pub mod WrittenFacts
-pub mod RecordFacts

@@ -1,4 +1,0 @@
-pub mod FileLimits
-pub mod NamedFiles
-pub mod NamedDecks
-pub mod RunnableDecks

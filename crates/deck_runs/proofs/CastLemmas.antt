@@ -1,0 +1,120 @@
+-- What a cast has sent, step by step: it had sent nothing before.
+use Rattle.std.proofs.Common.{◌≡◌, ℕ, zero, suc, ◌+◌, ◌*◌, Option, Some, None, List, length, map, take, sym, ◌∙◌, ap, subst, arith}
+use Rattle.std.specs.List.{flat_map, range_with_len}
+use Rattle.std.proofs.lemmas.List.{append-nil, length-append, length-map, take_all}
+use Rattle.std.proofs.lemmas.List.FromFn.{length-map-range_with_len}
+use Rattle.air_history.specs.declared.histories.Event.{Event}
+use Rattle.air_history.specs.Histories.{starts}
+use Rattle.air_model.specs.Aired.{air_of, bucket_of, buckets_of}
+use Rattle.air_model.specs.Buckets.{spelling}
+use Rattle.air_model.specs.Decks.{Deck, IsWhole, values_in}
+use Rattle.air_devices.specs.Counts.{Rose}
+use Rattle.air_devices.specs.Masts.{Changes, Masted, Sent, nothing_sent, with_buckets, with_end}
+use Rattle.air_devices.specs.Told.{WhereTold}
+use Rattle.deck_runs.specs.DeckBytes.{deck_bytes}
+use Rattle.deck_runs.specs.RunAnswers.{IsRunAnswer}
+use Rattle.deck_runs.specs.declared.threads.RunFault.{RunFault}
+use Rattle.deck_runs.specs.declared.threads.RunFault.TheVariants as fault
+use Rattle.deck_runs.proofs.SentLemmas.{sends_nothing}
+use Rattle.deck_runs.specs.Casts.{IsCastAnswer, IsCastPart, all_sent, first_sent}
+use Rattle.deck_runs.specs.Steps.CastSteps.{bucket_count}
+
+-- It had sent nothing, where that is told.
+abbrev pub Unsent : Option Sent → Type 0
+Unsent before = WhereTold before (λ s. s ≡ nothing_sent)
+
+-- ---- what was sent after the aim
+
+-- The first of these buckets, behind nothing.
+first_behind : (n : ℕ) (B : List (List ℕ)) (before mid now : Option Sent) → Unsent before → mid ≡ before → Changes (with_buckets (take n B)) mid now → Changes (λ _. first_sent n B) before now
+first_behind n B None mid now unsent same h = tt
+first_behind n B (Some s) mid now unsent same h =
+    let a : now ≡ Some (with_buckets (take n B) s) = subst (λ o. Changes (with_buckets (take n B)) o now) same h in
+    a ∙ ap (λ x. Some (with_buckets (take n B) x)) unsent
+
+-- None of them.
+nothing_more : (B : List (List ℕ)) (told : Option Sent) → Changes (with_buckets (take 0 B)) told told
+nothing_more B None = tt
+nothing_more B (Some s) = ap (λ l. let t : Sent = record s { buckets = l } in Some t) (sym (append-nil s.buckets))
+
+-- All of them, before an end that failed.
+all_behind : (n : ℕ) (B : List (List ℕ)) (before mid now last : Option Sent) → n ≡ length B → Unsent before → mid ≡ before → Changes (with_buckets B) mid now → last ≡ now
+    → Changes (λ _. first_sent n B) before last
+all_behind n B None mid now last e unsent same h kept = tt
+all_behind n B (Some s) mid now last e unsent same h kept =
+    let a : now ≡ Some (with_buckets B s) = subst (λ o. Changes (with_buckets B) o now) same h in
+    kept ∙ a ∙ ap (λ x. Some (with_buckets B x)) unsent ∙ ap (λ l. let t : Sent = record { buckets = l; ended = None } in Some t) (sym (take_all n B (omega arith)))
+
+-- All of them, and then the end.
+pub end_behind : (B : List (List ℕ)) (before mid now last : Option Sent) → Unsent before → mid ≡ before → Changes (with_buckets B) mid now → Changes with_end now last
+    → Changes (λ _. all_sent B) before last
+end_behind B None mid now last unsent same h ended = tt
+end_behind B (Some s) mid now last unsent same h ended =
+    let a : now ≡ Some (with_buckets B s) = subst (λ o. Changes (with_buckets B) o now) same h in
+    let b : last ≡ Some (with_end (with_buckets B s)) = subst (λ o. Changes with_end o last) a ended in
+    b ∙ ap (λ x. Some (with_end (with_buckets B x))) unsent
+
+-- ---- how many buckets there are
+
+count_flat : {X : Type 0} (f : ℕ → List X) (n : ℕ) → ((c : ℕ) → length (f c) ≡ n) → (a k : ℕ) → length (flat_map f (range_with_len a k)) ≡ n * k
+count_flat f n h a zero = omega arith
+count_flat f n h a (suc k) =
+    let rest = count_flat f n h (a + 1) k in
+    let both = length-append (f a) (flat_map f (range_with_len (a + 1) k)) in
+    let one = h a in
+    let more : n * suc k ≡ n + n * k = omega arith in
+    omega arith
+
+-- A whole history airs so many buckets.
+bytes_count : (deck : Deck) (H : List Event) → IsWhole deck H → length (deck_bytes deck H) ≡ bucket_count deck
+unfolding buckets_of
+bytes_count deck H whole =
+    let air = air_of deck in
+    length-map (buckets_of (values_in deck) air H) spelling
+    ∙ count_flat (λ c. map (bucket_of (values_in deck) air H c) (range_with_len 0 (length air.slots))) (length air.slots)
+    (λ c. length-map-range_with_len (bucket_of (values_in deck) air H c) 0 (length air.slots)) 1 (starts H)
+    ∙ ap (λ k. length air.slots * k) whole.cycles
+
+-- ---- what a fault says
+
+-- Before all buckets.
+pub none_cast : {M : Type 0} (state : M → Masted) (deck : Deck) (before now : M) → Unsent (state before).told → (state now).told ≡ (state before).told → IsCastPart deck 0 (state before).told (state now).told
+none_cast state deck before now unsent same =
+    let h = sends_nothing state deck now in
+    let first = nothing_more (deck_bytes deck h.history) (state now).told in
+    record { history = h.history; whole = h.whole; within = omega arith; sent = first_behind 0 (deck_bytes deck h.history) (state before).told (state now).told (state now).told unsent same first }
+
+-- What the threads didn't do isn't cast.
+pub run_cast : {M : Type 0} (state : M → Masted) (deck : Deck) (before mid now : M) (e : RunFault) → Unsent (state before).told → (state mid).told ≡ (state before).told → (state mid).faults ≡ (state before).faults
+    → IsRunAnswer state deck mid now e → IsCastAnswer deck (state before) (state now) e
+run_cast state deck before mid now (fault.Mast sent) unsent same calm h =
+    let f = h.failed in
+    let B = deck_bytes deck h.history in
+    let first : Changes (with_buckets (take sent B)) (state mid).told (state now).told = subst (λ o. Changes (with_buckets (take sent B)) (state mid).told o) (sym f.kept) f.sent in (
+      subst (λ n. Rose n (state now).faults) (f.calm ∙ calm) f.rose,
+      record {
+        history = h.history;
+        whole = h.whole;
+        within = (let w = f.within in omega arith);
+        sent = first_behind sent B (state before).told (state mid).told (state now).told unsent same first;
+      },
+    )
+run_cast state deck before mid now fault.NoMemory unsent same calm h = (
+  h.calm ∙ calm,
+  (
+    h.count,
+    record {
+      history = h.history;
+      whole = h.whole;
+      within = h.within;
+      sent = first_behind h.count (deck_bytes deck h.history) (state before).told (state mid).told (state now).told unsent same h.sent;
+    },
+  ),
+)
+
+-- After all buckets.
+pub all_cast : (deck : Deck) (H : List Event) (n : ℕ) (before mid now last : Option Sent) → IsWhole deck H → n ≡ bucket_count deck → Unsent before → mid ≡ before
+    → Changes (with_buckets (deck_bytes deck H)) mid now → last ≡ now → IsCastPart deck n before last
+all_cast deck H n before mid now last whole is unsent same sent kept =
+    let count : n ≡ length (deck_bytes deck H) = is ∙ sym (bytes_count deck H whole) in
+    record { history = H; whole = whole; within = omega arith; sent = all_behind n (deck_bytes deck H) before mid now last count unsent same sent kept }

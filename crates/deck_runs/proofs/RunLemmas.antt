@@ -1,0 +1,106 @@
+-- A deck's run, from the beginning.
+use Rattle.std.proofs.Common.{◌≡◌, ℕ, ◌+◌, ◌≤◌, Option, List, [], ◌++◌, length, All, inl, refl, sym, ◌∙◌, ap, subst, arith}
+use Rattle.std.proofs.lemmas.List.{length-map}
+use Rattle.std.specs.Prelude.{Result, Ok, Err, MatchResult, OnErr, OnOk}
+use Rattle.air_base.specs.declared.verdicts.Policy.{Policy}
+use Rattle.air_history.specs.declared.histories.Event.{Event}
+use Rattle.air_history.specs.Histories.{starts}
+use Rattle.air_history.specs.Boards.{Board, board_of}
+use Rattle.air_model.specs.Disks.{Disk, all_items, order}
+use Rattle.air_model.specs.Programs.{program as slots_of}
+use Rattle.air_model.specs.Decks.{Deck, IsDeck, disks_in, rates_in, values_in}
+use Rattle.air_model.specs.Aired.{Air, air_of, buckets_of}
+use Rattle.air_model.proofs.ItemOrder.{cut_items, length-order}
+use Rattle.air_devices.specs.Masts.{Changes, Masted, Sent, with_buckets}
+use Rattle.air_sender.specs.AirFaults.{FailedAt}
+use Rattle.station.specs.PassStates.{PassState}
+use Rattle.cycle_snapshot.specs.Batches.{IsBatch, events_in}
+use Rattle.cycle_snapshot.specs.SnapshotStates.{PublisherState}
+use Rattle.update_commit.proofs.EventLemmas.{starts_none}
+use Rattle.air_model.specs.Batches.{AirsByBatches, EndsWithStart}
+use Rattle.air_model.proofs.BatchLemmas.{airs_by_batches}
+use Rattle.deck_runs.specs.Published.{AreInStep, IsUpTo, PublishesOn}
+use Rattle.deck_runs.specs.Sendings.{FailsAfter, IsAirOf, SendsCycles, SendsPart, SendsUpTo, bytes_aired}
+use Rattle.deck_runs.specs.declared.jobs.conductors.ConductFault.{ConductFault}
+use Rattle.deck_runs.specs.declared.jobs.conductors.ConductFault.TheVariants as fault
+
+-- The values are as many as the items.
+pub values_sized : (deck : Deck) → length (values_in deck) ≡ length deck.items
+values_sized deck = length-map deck.items (λ i. i.value)
+
+-- The program has all items.
+pub items_aired : (deck : Deck) (disks : List Disk) → IsDeck deck → disks ≡ disks_in deck → length (all_items disks) ≡ length (values_in deck)
+items_aired deck disks is same =
+    let rates = rates_in deck in
+    let all : length (order rates) ≡ length deck.items = length-order rates ∙ length-map deck.items (λ i. i.rate) in
+    ap (λ d. length (all_items d)) same ∙ ap length (cut_items (order rates) deck.disks (is.sizes ∙ sym all)) ∙ all ∙ sym (values_sized deck)
+
+-- A new pass, a new publisher and a new board are in step.
+pub new_in_step : (p : PassState) (f : PublisherState) (b : Board) (values : List ℕ) → p.values ≡ values → p.seen ≡ [] → f.values ≡ values → f.batches ≡ [] → b ≡ board_of values [] → AreInStep p f b
+new_in_step p f b values pv ps fv fb is = record {
+  values = fv ∙ sym pv;
+  published = record {
+    later = [];
+    begins = ps ∙ ap (λ bs. events_in bs ++ []) (sym fb);
+    ends = inl (ap events_in fb);
+    rest = starts_none;
+    count = let a = ap length fb in let b = ap starts ps ∙ starts_none in omega arith;
+  };
+  board = is ∙ (λ i. board_of (sym pv i) (events_in (sym fb i)));
+}
+
+-- The deck's air is of its values, its policy and its slots.
+pub own_air : (deck : Deck) (disks : List Disk) (values : List ℕ) (policy : Policy) → disks ≡ disks_in deck → values ≡ values_in deck → policy ≡ deck.settings.policy → IsAirOf values policy (slots_of disks) (air_of deck)
+own_air deck disks values policy same first is = record {
+  items = sym (ap length first ∙ values_sized deck);
+  policy_is = sym is;
+  slots_are = ap slots_of (sym same);
+}
+
+-- Nothing is aired before any event.
+pub none_aired : (values : List ℕ) (air : Air) → bytes_aired values air [] ≡ []
+unfolding buckets_of starts
+none_aired values air = refl
+
+module _ (values : List ℕ) (air : Air) (G H : List Event) (none : G ≡ []) where
+  more_is : (more : List (List ℕ)) → bytes_aired values air H ≡ bytes_aired values air G ++ more → more ≡ bytes_aired values air H
+  more_is more e = sym (e ∙ ap (λ l. bytes_aired values air l ++ more) none ∙ ap (λ l. l ++ more) (none_aired values air))
+
+  pub all_sent : (n : ℕ) (o q : Option Sent) → SendsCycles values air n G H o q → Changes (with_buckets (bytes_aired values air H)) o q
+  all_sent n o q s = subst (λ l. Changes (with_buckets l) o q) (more_is s.more s.aired) s.sent
+
+  pub part_sent : {M : Type 0} (state : M → Masted) (n : ℕ) (o q : M) → FailsAfter state values air n G H o q → FailedAt state n (bytes_aired values air H) o q
+  part_sent state n o q s = subst (λ l. FailedAt state n l o q) (more_is s.more s.aired) s.failed
+
+-- ---- what a run says of its deck
+
+pub run_whole : (p q : PassState) (g : PublisherState) (b : Board) (n cycles : ℕ) (r : Result (Unit {0}) ConductFault) → p.seen ≡ [] → n ≡ cycles → OnOk r (AreInStep q g b × (starts q.seen ≡ starts p.seen + n))
+    → OnOk r (IsUpTo 0 q.seen g.batches × (starts q.seen ≡ cycles))
+run_whole p q g b n cycles (Ok x) new same h = (h.0.published, (let none = ap starts new ∙ starts_none in let count = h.1 in omega arith))
+run_whole p q g b n cycles (Err e) new same h = h
+
+-- What is published, each time the events of one cycle, airs what the conductor has seen.
+pub run_batches : (deck : Deck) (p q : PassState) (f g : PublisherState) (b : Board) (n : ℕ) (r : Result (Unit {0}) ConductFault) → f.batches ≡ [] → PublishesOn f g → OnOk r (AreInStep q g b × (starts q.seen ≡ starts p.seen + n))
+    → OnOk r (AirsByBatches deck q.seen g.batches)
+run_batches deck p q f g b n (Ok x) none on h =
+    let up = h.0.published in
+    let all : All (IsBatch (length f.values)) g.batches = subst (All (IsBatch (length f.values))) (ap (λ l. l ++ on.batches.0) (sym none) ∙ on.batches.1) on.each in
+    subst (λ l. AirsByBatches deck l g.batches) (sym up.begins) (airs_by_batches deck g.batches up.later (λ k d l. ends_with (length f.values) _ (all k d l)) up.rest)
+  where
+    ends_with : (n : ℕ) (batch : List Event) → IsBatch n batch → EndsWithStart batch
+    ends_with n batch is = record { commits = is.ends.0; ends = is.ends.1; one = is.ends.2 }
+run_batches deck p q f g b n (Err e) none on h = h
+
+pub run_few : (p q : PassState) (g : PublisherState) (b : Board) (n cycles : ℕ) (r : Result (Unit {0}) ConductFault) → p.seen ≡ [] → n ≡ cycles → OnOk r (AreInStep q g b × (starts q.seen ≡ starts p.seen + n))
+    → OnErr r (starts q.seen ≤ starts p.seen + n) → starts q.seen ≤ cycles
+run_few p q g b n cycles (Ok x) new same h k = let none = ap starts new ∙ starts_none in let count = h.1 in omega arith
+run_few p q g b n cycles (Err e) new same h k = let none = ap starts new ∙ starts_none in let count = k in omega arith
+
+module _ {M : Type 0} (state : M → Masted) (deck : Deck) (p q : PassState) (f g : PublisherState) (n : ℕ) (before now : M) (values : p.values ≡ values_in deck) (new : p.seen ≡ []) (none : f.batches ≡ []) where
+  pub run_aired : (r : Result (Unit {0}) ConductFault)
+      → MatchResult r (λ _. SendsCycles p.values (air_of deck) n p.seen q.seen (state before).told (state now).told) (SendsUpTo state p.values (air_of deck) n p q f g before now)
+      → MatchResult r (λ _. Changes (with_buckets (bytes_aired (values_in deck) (air_of deck) q.seen)) (state before).told (state now).told) (SendsPart state deck q.seen g.batches before now)
+  run_aired (Ok x) h = subst (λ v. Changes (with_buckets (bytes_aired v (air_of deck) q.seen)) (state before).told (state now).told) values (all_sent p.values (air_of deck) p.seen q.seen new n (state before).told (state now).told h)
+  run_aired (Err (fault.Mast sent)) h = subst (λ v. FailedAt state sent (bytes_aired v (air_of deck) q.seen) before now) values (part_sent p.values (air_of deck) p.seen q.seen new state sent before now h)
+  run_aired (Err fault.NoMemory) h = subst (λ v. Changes (with_buckets (bytes_aired v (air_of deck) (events_in g.batches))) (state before).told (state now).told) values
+      (all_sent p.values (air_of deck) (events_in f.batches) (events_in g.batches) (ap events_in none) h.0 (state before).told (state now).told h.2)

@@ -1,0 +1,49 @@
+use Rattle.std.proofs.Common.{◌∙◌, sym, subst}
+use Rattle.air_model.specs.Programs.{program as slots_of}
+use Rattle.deck_runs.specs.Published.{PublishesOn}
+use Rattle.deck_runs.proofs.CycleLemmas.{publishes_batch, publishes_none}
+use Rattle.deck_runs.proofs.SendLemmas.{cycle_failed_by, cycle_sent, front, last_board, rose_by, within_cycle}
+use Rattle.deck_runs.proofs.jobs.cycles.conduct_cycle.Goals as goal
+
+pub returns-in-Ok-clause-aired : goal.returns-in-Ok-clause-aired
+returns-in-Ok-clause-aired g c = λ air is.
+    let b = c.in_ok-begin_cycle.ensures.begun in
+    let p = c.args.pass.now in
+    let q = c.begin_cycle.new.pass in
+    let f = c.args.publisher.now in
+    let h = c.begin_cycle.new.publisher in
+    let board = c.begin_cycle.new.board in
+    let on = c.begin_cycle.ensures.pass in
+    let policy = c.args.means.now.policy in
+    let slots = slots_of c.args.means.now.program.now in
+    cycle_sent p q f h board on b.0 b.1 air policy slots is _ _ (c.in-Ok.ensures.history p.values air (front p q f h board on b.0 b.1) (last_board p q f h board on b.0 b.1 air policy slots is))
+
+pub returns-in-Err-clause-aired : goal.returns-in-Err-clause-aired
+returns-in-Err-clause-aired g c = λ air is.
+    let b = c.in_ok-begin_cycle.ensures.begun in
+    let p = c.args.pass.now in
+    let q = c.begin_cycle.new.pass in
+    let f = c.args.publisher.now in
+    let h = c.begin_cycle.new.publisher in
+    let board = c.begin_cycle.new.board in
+    let on = c.begin_cycle.ensures.pass in
+    let policy = c.args.means.now.policy in
+    let slots = slots_of c.args.means.now.program.now in
+    cycle_failed_by p q f h board on b.0 b.1 air policy slots is g.M.Mast.state _ c.from.result c.args.mast.now c.air_cycle.new.mast (c.from.ensures ∙ c.slot_of.ensures)
+    (c.in-Err.ensures.history p.values air (front p q f h board on b.0 b.1) (last_board p q f h board on b.0 b.1 air policy slots is)) c.in-Err.ensures.fault
+
+pub returns-in-Err-clause-short : goal.returns-in-Err-clause-short
+returns-in-Err-clause-short g c =
+    within_cycle g.M.Mast.state c.args.means.now.policy (slots_of c.args.means.now.program.now) c.begin_cycle.new.board _ c.from.result c.args.mast.now c.air_cycle.new.mast (c.from.ensures ∙ c.slot_of.ensures) c.in-Err.ensures.fault
+
+pub returns-in-Err-clause-cause : goal.returns-in-Err-clause-cause
+returns-in-Err-clause-cause g c = rose_by g.M.Mast.state _ _ c.args.mast.now c.air_cycle.new.mast c.in-Err.ensures.fault
+
+pub returns-in-Ok-clause-publisher : goal.returns-in-Ok-clause-publisher
+returns-in-Ok-clause-publisher g c = let adds = c.in_ok-begin_cycle.ensures.begun.1 in publishes_batch c.args.publisher.now c.begin_cycle.new.publisher adds.0 adds.1 adds.2
+
+pub returns-in-Err-clause-publisher : goal.returns-in-Err-clause-publisher
+returns-in-Err-clause-publisher g c = let adds = c.in_ok-begin_cycle.ensures.begun.1 in publishes_batch c.args.publisher.now c.begin_cycle.new.publisher adds.0 adds.1 adds.2
+
+pub returns-in_err-begin_cycle-clause-publisher : goal.returns-in_err-begin_cycle-clause-publisher
+returns-in_err-begin_cycle-clause-publisher g c = let f = c.args.publisher.now in subst (PublishesOn f) (sym c.in_err-begin_cycle.ensures.stopped.0) (publishes_none f)

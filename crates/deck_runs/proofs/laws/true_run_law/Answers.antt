@@ -1,0 +1,5 @@
+use Rattle.deck_runs.proofs.AiredRunLemmas.{true_run}
+use Rattle.deck_runs.proofs.laws.true_run_law.Goals as goal
+
+pub returns : goal.returns
+returns c = true_run c.one_history_law.ensures

@@ -1,0 +1,118 @@
+use Rattle.std.proofs.Common.{◌≡◌, length, All, sym, ap, subst, ◌∙◌, rules, arith}
+use Rattle.std.proofs.lemmas.List.{with_items_is}
+use Rattle.air_devices.specs.Masts.{Changes, with_buckets}
+use Rattle.deck_runs.specs.Crews.{EachWatched}
+use Rattle.deck_runs.specs.declared.jobs.crews.MonitorRun.{MonitorRun}
+use Rattle.deck_runs.specs.declared.jobs.TheConstants.{LOOKS}
+use Rattle.cycle_snapshot.specs.Beginnings.{Beginning}
+use Rattle.air_model.specs.Batches.{AirsByBatches}
+use Rattle.air_model.specs.Runs.{IsRun, Run}
+use Rattle.air_model.proofs.BatchLemmas.{airs_further}
+use Rattle.deck_runs.specs.DeckBytes.{deck_bytes}
+use Rattle.deck_runs.specs.RunAnswers.{IsRunAnswer, run_fault}
+use Rattle.deck_runs.specs.Steps.SightSteps.{AreAllSights}
+use Rattle.deck_runs.specs.declared.threads.RunFault.TheVariants as fault
+use Rattle.deck_runs.proofs.SentLemmas.{all_sent, fault_answer, same_bytes, sends_first, sends_nothing}
+use Rattle.deck_runs.proofs.SightLemmas.{glances_are, keep_publisher, looks_are}
+use Rattle.deck_runs.proofs.threads.run_threads.Goals as goal
+
+pub returns-in_err-stage-clause-fault : goal.returns-in_err-stage-clause-fault
+returns-in_err-stage-clause-fault g c =
+    let state = g.M.Mast.state in
+    let m = c.args.mast.now in
+    let h : IsRunAnswer state c.args.deck.now m m fault.NoMemory = sends_nothing state c.args.deck.now m in
+    search (rules, h)
+
+pub returns-in_err-source-clause-fault : goal.returns-in_err-source-clause-fault
+returns-in_err-source-clause-fault g c =
+    let state = g.M.Mast.state in
+    let m = c.args.mast.now in
+    let h : IsRunAnswer state c.args.deck.now m m fault.NoMemory = sends_nothing state c.args.deck.now m in
+    search (rules, h)
+
+pub all_sights-sights-requires-clause-own : goal.all_sights-sights-requires-clause-own
+all_sights-sights-requires-clause-own g c =
+    let runs = c.in_ok-source.watchers in
+    let now = c.play-conducted.new.watchers in
+    let f = c.in_ok-source.source in
+    let h = c.play-conducted.new.source in
+    let watched = subst (λ old. EachWatched LOOKS old now) c.deref_mut.ensures.value c.play-conducted.ensures.watched in
+    subst (All (λ (run : MonitorRun). run.monitor.publisher ≡ h.id)) (sym (with_items_is runs now (watched.0 ∙ sym runs.ok.0)))
+    (keep_publisher f h runs.items now c.in_ok-source.ensures.each c.play-conducted.ensures.publisher watched)
+
+pub all_sights-sights-requires-clause-few : goal.all_sights-sights-requires-clause-few
+all_sights-sights-requires-clause-few g c =
+    let runs = c.in_ok-source.watchers in
+    let now = c.play-conducted.new.watchers in
+    let watched = subst (λ old. EachWatched LOOKS old now) c.deref_mut.ensures.value c.play-conducted.ensures.watched in
+    let same = ap length (with_items_is runs now (watched.0 ∙ sym runs.ok.0)) in
+    let kept = watched.0 in
+    let count = c.in_ok-source.ensures.count in
+    let few = c.well_made.ensures.limits.settings.monitors in
+    omega (arith, same, kept, count, few)
+
+pub returns-in_err-conducted-clause-fault : goal.returns-in_err-conducted-clause-fault
+returns-in_err-conducted-clause-fault g c =
+    let state = g.M.Mast.state in
+    let deck = c.args.deck.now in
+    let old = c.args.mast.now in
+    let new = c.play-conducted.new.mast in
+    let seen = c.play-conducted.new.self.pass.seen in
+    let e = c.in_err-conducted.field-0.0 in
+    let h : IsRunAnswer state deck old new (run_fault e) = fault_answer state deck old new seen e c.end-history.ensures.begins c.in_err-conducted.ensures.aired in
+    search (rules, h)
+
+pub returns-in_err-history-clause-fault : goal.returns-in_err-history-clause-fault
+returns-in_err-history-clause-fault g c =
+    let state = g.M.Mast.state in
+    let deck = c.args.deck.now in
+    let old = c.args.mast.now in
+    let new = c.play-conducted.new.mast in
+    let seen = c.play-conducted.new.self.pass.seen in
+    let aired = c.in_ok-conducted.ensures.aired in
+    let h : IsRunAnswer state deck old new fault.NoMemory = sends_first state deck old new seen c.end-history.ensures.begins (all_sent state deck old new seen aired.0 aired.1) in
+    search (rules, h)
+
+pub returns-in_err-sights-clause-fault : goal.returns-in_err-sights-clause-fault
+returns-in_err-sights-clause-fault g c =
+    let state = g.M.Mast.state in
+    let deck = c.args.deck.now in
+    let old = c.args.mast.now in
+    let new = c.play-conducted.new.mast in
+    let seen = c.play-conducted.new.self.pass.seen in
+    let aired = c.in_ok-conducted.ensures.aired in
+    let h : IsRunAnswer state deck old new fault.NoMemory = sends_first state deck old new seen c.end-history.ensures.begins (all_sent state deck old new seen aired.0 aired.1) in
+    search (rules, h)
+
+pub returns-clause-run : goal.returns-clause-run
+returns-clause-run g c =
+    let deck = c.args.deck.now in
+    let runs = c.in_ok-source.watchers in
+    let now = c.play-conducted.new.watchers in
+    let f = c.in_ok-source.source in
+    let h = c.play-conducted.new.source in
+    let seen = c.play-conducted.new.self.pass.seen in
+    let H = c.in_ok-history.history in
+    let given = c.in_ok-source.ensures in
+    let on = c.play-conducted.ensures.publisher in
+    let watched = subst (λ old. EachWatched LOOKS old now) c.deref_mut.ensures.value c.play-conducted.ensures.watched in
+    let glances = c.in_ok-sights.sights.glances.items in
+    let looks = c.in_ok-sights.sights.looks.items in
+    let sights = subst (λ l. AreAllSights h l glances looks) (with_items_is runs now (watched.0 ∙ sym runs.ok.0)) c.in_ok-sights.ensures in
+    let whole = c.in_ok-conducted.ensures.whole in
+    let ended = c.in_ok-history.ensures.end in
+    subst (IsRun deck) (sym c.new.ensures) (record {
+      whole = ended.whole whole.1;
+      batches = subst (AirsByBatches deck H) (sym (ap (λ (l : Beginning). l.batches) c.tell-note.ensures)) (airs_further deck seen H h.batches ended.goes_on c.in_ok-conducted.ensures.batches);
+      glances = glances_are deck f h runs.items now glances looks seen H given.publisher given.count given.each on watched sights whole.0 whole.1 ended.goes_on;
+      looks = looks_are deck f h runs.items now glances looks seen H given.publisher given.count given.each on watched sights whole.0 whole.1 ended.goes_on;
+    })
+
+pub returns-clause-aired : goal.returns-clause-aired
+returns-clause-aired g c =
+    let state = g.M.Mast.state in
+    let deck = c.args.deck.now in
+    let seen = c.play-conducted.new.self.pass.seen in
+    let H = c.in_ok-history.history in
+    let same = ap (λ (run : Run). deck_bytes deck run.history) c.new.ensures ∙ same_bytes deck seen H c.in_ok-history.ensures.end.goes_on in
+    subst (λ l. Changes (with_buckets l) (state c.args.mast.now).told (state c.play-conducted.new.mast).told) (sym same) c.in_ok-conducted.ensures.aired.0

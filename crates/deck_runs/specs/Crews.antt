@@ -1,0 +1,46 @@
+-- Jobs before and after they ran side by side.
+use Rattle.std.specs.Prelude.{◌≡◌, ℕ, ◌<◌, List, length, map, take, get_or, MatchBool, Option, Some, None}
+use Rattle.turnstile.specs.Passes.{GateId}
+use Rattle.air_model.specs.Decks.{Deck, updates_by}
+use Rattle.air_model.specs.DeckLaws.{commits_from, made_by}
+use Rattle.air_model.specs.declared.reports.LookLine.{LookLine}
+use Rattle.station.specs.PassStates.{PassState, new_pass, with_seen}
+use Rattle.cycle_snapshot.specs.SnapshotStates.{MonitorState}
+use Rattle.deck_runs.specs.declared.jobs.crews.UpdaterRun.{UpdaterRun}
+use Rattle.deck_runs.specs.declared.jobs.crews.MonitorRun.{MonitorRun}
+use Rattle.deck_runs.specs.Looks.{IsLineOf, LookedTimes}
+
+-- The passes of updaters.
+abbrev pub passes_of : List UpdaterRun → List PassState
+passes_of updaters = map (λ run. run.pass) updaters
+
+-- The monitors of watchers.
+abbrev pub monitors_of : List MonitorRun → List MonitorState
+monitors_of watchers = map (λ run. run.monitor) watchers
+
+-- The pass is a new one of the station and the deck.
+unfoldable pub IsReady : GateId → Deck → UpdaterRun → Type 0
+IsReady station deck run = (run.pass ≡ new_pass station deck run.pass.number) × (run.pass.number < length deck.updates)
+
+-- The pass, which is the same but for what it has seen, made all updates of its updater, or the first of them and not all.
+unfoldable pub IsDone : Deck → UpdaterRun → UpdaterRun → Type 0
+IsDone deck run now = (now.pass ≡ with_seen run.pass now.pass.seen) × MatchBool now.done
+    (made_by run.pass.number now.pass.seen ≡ commits_from run.pass.number 0 (updates_by deck run.pass.number))
+    ((n : ℕ) × (n < length (updates_by deck run.pass.number)) × (made_by run.pass.number now.pass.seen ≡ commits_from run.pass.number 0 (take n (updates_by deck run.pass.number))))
+
+-- What a monitor's job gave: a line, after all looks, or none, after fewer.
+abbrev pub GivesLine : ℕ → MonitorState → MonitorState → Option LookLine → Type 0
+GivesLine looks m n (Some line) = LookedTimes looks m n × IsLineOf n line
+GivesLine looks m n None = (k : ℕ) × (k < looks) × LookedTimes k m n
+
+-- The monitor looked so many times, and its last look is the glance.
+unfoldable pub IsWatched : ℕ → MonitorRun → MonitorRun → Type 0
+IsWatched looks run now = GivesLine looks run.monitor now.monitor now.glance
+
+-- Each updater is done.
+abbrev pub EachDone : Deck → List UpdaterRun → List UpdaterRun → Type 0
+EachDone deck runs now = (length now ≡ length runs) × ((k : ℕ) (d : UpdaterRun) → k < length runs → IsDone deck (get_or runs k d) (get_or now k d))
+
+-- Each monitor has watched.
+abbrev pub EachWatched : ℕ → List MonitorRun → List MonitorRun → Type 0
+EachWatched looks runs now = (length now ≡ length runs) × ((k : ℕ) (d : MonitorRun) → k < length runs → IsWatched looks (get_or runs k d) (get_or now k d))

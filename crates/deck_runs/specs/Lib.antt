@@ -1,0 +1,11 @@
+pub mod Commits
+pub mod Published
+pub mod Looks
+pub mod Crews
+pub mod Sendings
+pub mod Steps
+pub mod DeckBytes
+pub mod RunAnswers
+pub mod Casts
+pub mod RunTapes
+pub mod RunTruths

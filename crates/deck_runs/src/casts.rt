@@ -1,0 +1,71 @@
+//! A deck's run, cast to a mast.
+
+ghost use Rattle.std.specs.Prelude.{◌≡◌, None, Some, IfErr, IfOk, OnErr, OnOk};
+ghost use Rattle.air_model.specs.Decks.{disks_in};
+ghost use Rattle.air_devices.specs.Counts.{Rose};
+ghost use Rattle.air_devices.specs.Masts.{Changes, nothing_sent, with_end};
+ghost use Rattle.air_devices.specs.Told.{WhereTold};
+ghost use Rattle.air_model.specs.Runs.{IsRun};
+ghost use Rattle.deck_runs.specs.DeckBytes.{deck_bytes};
+ghost use Rattle.deck_runs.specs.Casts.{IsCastAnswer, all_sent};
+ghost use Rattle.deck_runs.specs.Steps.CastSteps.{bucket_count};
+
+use crate::threads::{Run, RunFault, run_threads};
+use air_devices::{Gate, Mast};
+use chunk_program::Program;
+use item_catalog::Deck;
+use std::alloc::Global;
+use std::sync::Wait;
+use std::thread::Threads;
+
+/// How many buckets the deck's cycles have.
+fn bucket_count(deck: &Deck, program: &Program) -> u64
+    requires { program.now ≡ disks_in deck.now }
+    ensures { result ≡ bucket_count deck.now }
+{
+    u64::from(program.slots()) * u64::from(deck.settings().cycles)
+}
+
+/// Sends the end behind so many buckets.
+fn send_end<M: Mast>(mast: &mut M, sent: u64) -> Result<(), RunFault>
+    ensures ended { OnOk result (Changes with_end (M.state mast.old).told (M.state mast.new).told) }
+    ensures calm { OnOk result ((M.state mast.new).faults ≡ (M.state mast.old).faults) }
+    ensures fault { IfErr result (λ fault. fault ≡ RunFault.Mast sent) }
+    ensures rose { OnErr result (Rose (M.state mast.old).faults (M.state mast.new).faults) }
+    ensures unended { OnErr result ((M.state mast.new).told ≡ (M.state mast.old).told) }
+    ensures port { (M.state mast.new).port ≡ (M.state mast.old).port }
+{
+    match mast.finish() {
+        Ok(()) => Ok(()),
+        Err(_) => Err(RunFault::Mast { sent }),
+    }
+}
+
+/// Aims the mast at a port, runs the deck on threads with it, and sends the end: exactly the run's buckets were sent and then the
+/// end. Where the mast failed, it had sent so many buckets of a whole history, and no end: none where it could not be aimed, and
+/// all where only the end failed. After `NoMemory` it sent the first of one, maybe none.
+pub fn cast_run<R: Threads + Wait + Sync, M: Mast + Send, G: Gate + Sync>(
+    rt: &R,
+    alloc: Global,
+    deck: &Deck,
+    program: &Program,
+    mast: &mut M,
+    gate: &G,
+    port: u16,
+) -> Result<Run, RunFault>
+    requires planned { program.now ≡ disks_in deck.now }
+    requires unaimed { (M.state mast.old).port ≡ None }
+    requires unsent { WhereTold (M.state mast.old).told (λ s. s ≡ nothing_sent) }
+    ensures run { IfOk result (IsRun deck.now) }
+    ensures sent { IfOk result (λ run. Changes (λ _. all_sent (deck_bytes deck.now run.history)) (M.state mast.old).told (M.state mast.new).told) }
+    ensures calm { OnOk result ((M.state mast.new).faults ≡ (M.state mast.old).faults) }
+    ensures fault { IfErr result (IsCastAnswer deck.now (M.state mast.old) (M.state mast.new)) }
+    ensures port { (M.state mast.new).port ≡ Some port }
+{
+    if mast.aim(port).is_err() {
+        return Err(RunFault::Mast { sent: 0 });
+    }
+    let run = run_threads(rt, alloc, deck, program, mast, gate)?;
+    send_end(mast, bucket_count(deck, program))?;
+    Ok(run)
+}

@@ -1,0 +1,123 @@
+//! The conductor's job.
+ghost use Rattle.std.specs.Prelude.{◌≡◌, ◌<◌, ◌≤◌, ◌+◌, ◌*◌, ◌^◌, length, IfErr, MatchResult, OnErr, OnOk};
+ghost use Rattle.air_history.specs.Histories.{starts};
+ghost use Rattle.air_model.specs.Disks.{all_items};
+ghost use Rattle.air_model.specs.Programs.{program as slots_of};
+ghost use Rattle.air_model.specs.Aired.{Air};
+ghost use Rattle.bucket_codec.specs.declared.offsets.TheConstants.{ENTRY_BYTES, HEAD_BYTES};
+ghost use Rattle.deck_runs.specs.Published.{AreInStep, GoesOn, IsPublishedUpTo, PublishesOn};
+ghost use Rattle.deck_runs.specs.Sendings.{IsAirOf, IsCause, SendsCycles, SendsUpTo};
+ghost use Rattle.deck_runs.specs.Steps.CycleSteps.{HasConducted};
+
+use crate::jobs::cycles::conduct_cycle;
+use crate::jobs::means::Means;
+use air_base::{NoMemory, Policy};
+use air_devices::{Gate, Mast};
+use chunk_program::Program;
+use control_matrix::Board;
+use cycle_snapshot::Publisher;
+use station::{ConductorPass, Station};
+use std::alloc::Global;
+use std::sync::Wait;
+
+/// Why not all cycles were conducted.
+#[derive(Clone, Copy, Debug, PartialEq, Eq)]
+pub enum ConductFault {
+    /// The mast failed, after so many buckets of the call.
+    Mast { sent: u64 },
+    /// There was no memory. The cycles before stand.
+    NoMemory,
+}
+
+impl From<NoMemory> for ConductFault {
+    ghost use Rattle.std.specs.Prelude.{◌≡◌};
+    ghost use Rattle.deck_runs.specs.declared.jobs.conductors.ConductFault.TheVariants.{NoMemory};
+
+    ghost from_gives = { λ _ fault. fault ≡ NoMemory };
+
+    fn from(_error: NoMemory) -> Self {
+        ConductFault::NoMemory
+    }
+}
+
+/// Conducts so many cycles. A cycle starts; its fresh events are applied to the board, once each; they are published as one batch;
+/// and its buckets are sent. What was sent are the buckets of the history that the pass has seen, for each way in which receivers
+/// may know them. After a fault nothing is said of the board. `ConductorPass::started` tells how many cycles the pass started.
+/// Each cycle stands between its two gate calls, of which no clause speaks.
+pub fn conductor_job<R: Wait, M: Mast, G: Gate>(
+    wait: &R,
+    alloc: Global,
+    station: &Station,
+    pass: &mut ConductorPass,
+    publisher: &mut Publisher,
+    board: &mut Board,
+    program: &Program,
+    policy: Policy,
+    cycles: u32,
+    mast: &mut M,
+    buf: &mut [u8],
+    gate: &G,
+) -> Result<(), ConductFault>
+    requires own { pass.old.station ≡ station.now }
+    requires step { AreInStep pass.old publisher.old board.old }
+    requires room { (starts pass.old.seen + cycles ≤ publisher.old.most) × (starts pass.old.seen + cycles + 1 < 2 ^ 32) }
+    requires items { length (all_items program.now) ≡ length pass.old.values }
+    requires buffer { HEAD_BYTES + ENTRY_BYTES * length pass.old.values ≤ length buf.old }
+    ensures pass { GoesOn pass.old pass.new }
+    ensures publisher { PublishesOn publisher.old publisher.new }
+    ensures done { OnOk result (AreInStep pass.new publisher.new board.new × (starts pass.new.seen ≡ starts pass.old.seen + cycles)) }
+    ensures few { OnErr result (starts pass.new.seen ≤ starts pass.old.seen + cycles) }
+    ensures published { IfErr result (IsPublishedUpTo pass.new.seen publisher.new.batches) }
+    ensures aired { (air : Air) → IsAirOf pass.old.values policy (slots_of program.now) air →
+        MatchResult result (λ _. SendsCycles pass.old.values air cycles pass.old.seen pass.new.seen (M.state mast.old).told (M.state mast.new).told) (SendsUpTo M.state pass.old.values air cycles pass.old pass.new publisher.old publisher.new mast.old mast.new) }
+    ensures cause { MatchResult result (λ _. (M.state mast.new).faults ≡ (M.state mast.old).faults) (IsCause (M.state mast.old).faults (M.state mast.new).faults) }
+    ensures port { (M.state mast.new).port ≡ (M.state mast.old).port }
+    ensures buffer { length buf.new ≡ length buf.old }
+{
+    let means = Means {
+        wait,
+        alloc,
+        station,
+        program,
+        policy,
+    };
+    conduct(&means, pass, publisher, board, cycles, mast, buf, gate)
+}
+
+/// The conductor's job, with all that it leaves said at once.
+pub fn conduct<R: Wait, M: Mast, G: Gate>(
+    means: &Means<'_, R>,
+    pass: &mut ConductorPass,
+    publisher: &mut Publisher,
+    board: &mut Board,
+    cycles: u32,
+    mast: &mut M,
+    buf: &mut [u8],
+    gate: &G,
+) -> Result<(), ConductFault>
+    requires own { pass.old.station ≡ means.now.station.now }
+    requires step { AreInStep pass.old publisher.old board.old }
+    requires room { (starts pass.old.seen + cycles ≤ publisher.old.most) × (starts pass.old.seen + cycles + 1 < 2 ^ 32) }
+    requires items { length (all_items means.now.program.now) ≡ length pass.old.values }
+    requires buffer { HEAD_BYTES + ENTRY_BYTES * length pass.old.values ≤ length buf.old }
+    ensures conducted { HasConducted M.state means.now.policy (slots_of means.now.program.now) cycles pass.old pass.new publisher.old publisher.new board.new mast.old mast.new result }
+    ensures buffer { length buf.new ≡ length buf.old }
+{
+    means.program.well_made();
+    let slots = u64::from(means.program.slots());
+    for k in 0..cycles {
+        let cycle = pass.started() + 1;
+        gate.before_cycle(cycle);
+        match conduct_cycle(means, pass, publisher, board, mast, buf) {
+            Ok(()) => gate.after_cycle(cycle),
+            Err(ConductFault::NoMemory) => {
+                return Err(ConductFault::NoMemory);
+            }
+            Err(ConductFault::Mast { sent }) => {
+                let sent = u64::from(k) * slots + sent;
+                return Err(ConductFault::Mast { sent });
+            }
+        }
+    }
+    Ok(())
+}

@@ -1,0 +1,126 @@
+//! One cycle of a conductor: it starts, its events change the board, their batch is published, and its buckets are sent.
+ghost use Rattle.std.specs.Prelude.{◌≡◌, ◌<◌, ◌≤◌, ◌+◌, ◌-◌, ◌*◌, ◌^◌, ◌++◌, ◌∷◌, List, [], length, All, IfErr, MatchResult, OnErr, OnOk};
+ghost use Rattle.air_history.specs.declared.histories.Event.{Event};
+ghost use Rattle.air_history.specs.Histories.{starts, ItemsFit};
+ghost use Rattle.air_history.specs.Tables.{BasesRead};
+ghost use Rattle.air_model.specs.Disks.{all_items};
+ghost use Rattle.air_model.specs.Programs.{program as slots_of};
+ghost use Rattle.air_model.specs.Aired.{Air};
+ghost use Rattle.air_sender.specs.BoardBuckets.{EntriesBelow};
+ghost use Rattle.bucket_codec.specs.declared.offsets.TheConstants.{ENTRY_BYTES, HEAD_BYTES};
+ghost use Rattle.air_sender.specs.AirFaults.{failed_slot};
+ghost use Rattle.cycle_snapshot.specs.Batches.{IsBatch, events_in};
+ghost use Rattle.cycle_snapshot.specs.Steps.BoardRuns.{step_all};
+ghost use Rattle.deck_runs.specs.Published.{AreInStep, GoesOn, IsPublishedUpTo, IsUpTo, PublishesOn};
+ghost use Rattle.deck_runs.specs.declared.jobs.conductors.ConductFault.TheVariants as fault;
+ghost use Rattle.deck_runs.specs.Sendings.{IsAirOf, IsCause, SendsCycles};
+ghost use Rattle.deck_runs.specs.Steps.CycleSteps.{AddsBatch, HasStopped, IsWithin, SendsInCycle};
+
+use crate::jobs::conductors::ConductFault;
+use crate::jobs::means::Means;
+use air_base::NoMemory;
+use air_devices::Mast;
+use air_history::Event;
+use air_sender::{AirFault, air_cycle, below_law};
+use control_matrix::Board;
+use cycle_snapshot::Publisher;
+use station::ConductorPass;
+use std::sync::Wait;
+
+/// Changes the board by the events, in order.
+fn apply_all(board: &mut Board, events: &[Event])
+    requires fits { All (ItemsFit (length board.old.values)) events.now }
+    requires room { board.old.cycle + starts events.now + 1 < 2 ^ 32 }
+    ensures stepped { board.new ≡ step_all board.old events.now }
+    ensures bases { All BasesRead events.now }
+{
+    for event in events {
+        event.keeps_rules();
+        board.apply(event);
+    }
+}
+
+/// Starts a cycle, and gives its events: those since the start before, with the new start.
+fn start_fresh<R: Wait>(
+    means: &Means<'_, R>,
+    pass: &mut ConductorPass,
+) -> Result<Vec<Event>, NoMemory>
+    requires own { pass.old.station ≡ means.now.station.now }
+    requires few { starts pass.old.seen < 2 ^ 32 - 1 }
+    ensures on { GoesOn pass.old pass.new }
+    ensures started { (batches : List (List Event)) → IsUpTo 0 pass.old.seen batches →
+        MatchResult result (λ fresh. IsBatch (length pass.old.values) fresh.items × IsUpTo 1 pass.new.seen batches × IsUpTo 0 pass.new.seen (batches ++ fresh.items ∷ [])) (λ _. IsUpTo 0 pass.new.seen batches) }
+{
+    let mut fresh = Vec::new(means.alloc);
+    let _cycle = means
+        .station
+        .start_cycle(means.wait, means.alloc, pass, &mut fresh)?;
+    Ok(fresh)
+}
+
+/// Starts a cycle, applies its events to the board, and publishes them as one batch.
+fn begin_cycle<R: Wait>(
+    means: &Means<'_, R>,
+    pass: &mut ConductorPass,
+    publisher: &mut Publisher,
+    board: &mut Board,
+) -> Result<(), NoMemory>
+    requires own { pass.old.station ≡ means.now.station.now }
+    requires step { AreInStep pass.old publisher.old board.old }
+    requires room { (starts pass.old.seen < publisher.old.most) × (starts pass.old.seen + 2 < 2 ^ 32) }
+    ensures pass { GoesOn pass.old pass.new }
+    ensures begun { OnOk result (AreInStep pass.new publisher.new board.new × AddsBatch publisher.old publisher.new) }
+    ensures stopped { OnErr result ((publisher.new ≡ publisher.old) × IsPublishedUpTo pass.new.seen publisher.new.batches fault.NoMemory) }
+    ensures started { OnOk result (1 ≤ board.new.cycle) }
+    ensures below { OnOk result (EntriesBelow board.new) }
+    ensures sized { OnOk result (length board.new.values ≡ length pass.old.values) }
+{
+    let fresh = start_fresh(means, pass)?;
+    apply_all(board, &fresh);
+    publisher.publish(means.wait, fresh)?;
+    below_law();
+    Ok(())
+}
+
+/// The slot at which the mast failed.
+fn slot_of(fault: AirFault) -> u32
+    ensures { result ≡ failed_slot fault }
+{
+    match fault {
+        AirFault::Mast { slot } => slot,
+    }
+}
+
+/// Conducts one cycle. The fault tells how many of its buckets were sent.
+pub fn conduct_cycle<R: Wait, M: Mast>(
+    means: &Means<'_, R>,
+    pass: &mut ConductorPass,
+    publisher: &mut Publisher,
+    board: &mut Board,
+    mast: &mut M,
+    buf: &mut [u8],
+) -> Result<(), ConductFault>
+    requires own { pass.old.station ≡ means.now.station.now }
+    requires step { AreInStep pass.old publisher.old board.old }
+    requires room { (starts pass.old.seen < publisher.old.most) × (starts pass.old.seen + 2 < 2 ^ 32) }
+    requires items { length (all_items means.now.program.now) ≡ length pass.old.values }
+    requires buffer { HEAD_BYTES + ENTRY_BYTES * length pass.old.values ≤ length buf.old }
+    ensures pass { GoesOn pass.old pass.new }
+    ensures publisher { PublishesOn publisher.old publisher.new }
+    ensures done { OnOk result (AreInStep pass.new publisher.new board.new × (length publisher.new.batches ≡ length publisher.old.batches + 1)) }
+    ensures stopped { IfErr result (HasStopped 1 pass.new publisher.old publisher.new) }
+    ensures short { IfErr result (IsWithin (length (slots_of means.now.program.now))) }
+    ensures aired { (air : Air) → IsAirOf pass.old.values means.now.policy (slots_of means.now.program.now) air →
+        MatchResult result (λ _. SendsCycles pass.old.values air 1 (events_in publisher.old.batches) (events_in publisher.new.batches) (M.state mast.old).told (M.state mast.new).told) (SendsInCycle M.state pass.old.values air (events_in publisher.old.batches) (events_in publisher.new.batches) mast.old mast.new) }
+    ensures cause { MatchResult result (λ _. (M.state mast.new).faults ≡ (M.state mast.old).faults) (IsCause (M.state mast.old).faults (M.state mast.new).faults) }
+    ensures port { (M.state mast.new).port ≡ (M.state mast.old).port }
+    ensures buffer { length buf.new ≡ length buf.old }
+{
+    begin_cycle(means, pass, publisher, board)?;
+    match air_cycle(means.program, board, means.policy, mast, buf) {
+        Ok(()) => Ok(()),
+        Err(fault) => Err(ConductFault::Mast {
+            sent: u64::from(slot_of(fault)),
+        }),
+    }
+}

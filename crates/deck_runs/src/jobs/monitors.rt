@@ -1,0 +1,52 @@
+//! A monitor's job, and its last look.
+ghost use Rattle.std.specs.Prelude.{◌≡◌, ℕ, ◌<◌, ◌≤◌, MatchResult};
+ghost use Rattle.cycle_snapshot.specs.SnapshotStates.{Looked};
+ghost use mathlib.Core.List.{IsPrefix};
+ghost use Rattle.deck_runs.specs.Looks.{IsLineOf, LookedTimes};
+
+use air_base::NoMemory;
+use air_devices::Gate;
+use air_model::reports::LookLine;
+use cycle_snapshot::{Monitor, Publisher};
+
+/// What the monitor keeps, as the line of a monitor of number 0.
+fn line_of(monitor: &Monitor) -> LookLine
+    ensures line { IsLineOf monitor.now result }
+    ensures number { result.monitor ≡ 0 }
+{
+    LookLine {
+        monitor: 0,
+        cycle: monitor.cycle(),
+        total: monitor.total(),
+    }
+}
+
+/// Looks so many times, and gives the last look, with the monitor's number 0. It ends at the first look that answers `NoMemory`.
+/// It waits for nobody. Each look stands between its two gate calls, of which no clause speaks.
+pub fn monitor_job<G: Gate>(
+    monitor: &mut Monitor,
+    looks: u32,
+    gate: &G,
+) -> Result<LookLine, NoMemory>
+    requires some { 1 ≤ looks }
+    ensures looked { MatchResult result (λ line. LookedTimes looks monitor.old monitor.new × IsLineOf monitor.new line) (λ _. (n : ℕ) × (n < looks) × LookedTimes n monitor.old monitor.new) }
+{
+    let _before = monitor.looks();
+    for look in 0..looks {
+        gate.before_look(look);
+        monitor.look()?;
+        gate.after_look(look);
+    }
+    Ok(line_of(monitor))
+}
+
+/// Looks once more, after the monitor learned what is published: its look goes on from all of it.
+pub fn last_look(monitor: &mut Monitor, publisher: &Publisher) -> Result<LookLine, NoMemory>
+    requires own { monitor.old.publisher ≡ publisher.now.id }
+    ensures told { IsPrefix publisher.now.batches monitor.new.told × IsPrefix monitor.old.told monitor.new.told }
+    ensures looked { MatchResult result (λ line. Looked (record monitor.old { told = monitor.new.told }) monitor.new × IsLineOf monitor.new line) (λ _. monitor.new ≡ record monitor.old { told = monitor.new.told }) }
+{
+    monitor.learn(publisher.tell());
+    monitor.look()?;
+    Ok(line_of(monitor))
+}

@@ -1,0 +1,134 @@
+//! A run of a deck.
+
+ghost use Rattle.std.specs.Prelude.{◌≡◌, IfErr, IfOk, OnOk};
+ghost use Rattle.air_model.specs.Decks.{disks_in};
+ghost use Rattle.air_devices.specs.Masts.{Changes, with_buckets};
+ghost use Rattle.air_model.specs.Runs.{IsRun};
+ghost use Rattle.deck_runs.specs.DeckBytes.{deck_bytes};
+ghost use Rattle.deck_runs.specs.RunAnswers.{IsRunAnswer};
+
+pub(crate) mod sights;
+pub(crate) mod stages;
+
+use crate::jobs::conductors::ConductFault;
+use crate::threads::sights::{Sights, all_sights};
+use crate::threads::stages::{open_publisher, open_stage};
+use air_base::NoMemory;
+use air_devices::{Gate, Mast};
+use air_history::History;
+use air_model::reports::LookLine;
+use chunk_program::Program;
+use cycle_snapshot::Told;
+use item_catalog::Deck;
+use std::alloc::Global;
+use std::marker::Model;
+use std::sync::Wait;
+use std::thread::Threads;
+
+/// A run's history; the note of its publisher, which tells all batches that the conductor published; and what the monitors saw: each
+/// one's last look beside the run, and its look at the end.
+#[derive(Drop)]
+pub struct Run {
+    pub history: History,
+    pub note: Told,
+    pub glances: Vec<LookLine>,
+    pub looks: Vec<LookLine>,
+}
+
+impl Model for Run {
+    ghost use Rattle.air_model.specs.Runs.{Run};
+
+    ghost Value = { Run };
+
+    ghost view = { λ r. record { history = r.history; batches = r.note.batches; glances = r.glances.items; looks = r.looks.items } };
+}
+
+impl Run {
+    /// The run with this history, this note of its publisher, and what its monitors saw.
+    fn new(history: History, note: Told, sights: Sights) -> Run
+        ensures { result ≡ record { history = history; batches = note.batches; glances = sights.glances.items; looks = sights.looks.items } }
+    {
+        let Sights { glances, looks } = sights;
+        Run {
+            history,
+            note,
+            glances,
+            looks,
+        }
+    }
+}
+
+/// Why a run wasn't done.
+#[derive(Clone, Copy, Debug, PartialEq, Eq)]
+pub enum RunFault {
+    /// The mast failed, after so many buckets of the run.
+    Mast { sent: u64 },
+    /// There was no memory.
+    NoMemory,
+}
+
+impl From<NoMemory> for RunFault {
+    ghost use Rattle.std.specs.Prelude.{◌≡◌};
+    ghost use Rattle.deck_runs.specs.declared.threads.RunFault.TheVariants.{NoMemory};
+
+    ghost from_gives = { λ _ fault. fault ≡ NoMemory };
+
+    fn from(_error: NoMemory) -> Self {
+        RunFault::NoMemory
+    }
+}
+
+impl From<ConductFault> for RunFault {
+    ghost use Rattle.std.specs.Prelude.{◌≡◌};
+    ghost use Rattle.deck_runs.specs.RunAnswers.{run_fault};
+
+    ghost from_gives = { λ fault answer. answer ≡ run_fault fault };
+
+    fn from(fault: ConductFault) -> Self {
+        match fault {
+            ConductFault::Mast { sent } => RunFault::Mast { sent },
+            ConductFault::NoMemory => RunFault::NoMemory,
+        }
+    }
+}
+
+/// Runs the deck on threads: its conductor beside all its updaters and its monitors. The history is whole, the batches that the
+/// publisher's note tells air it, the mast got exactly its buckets, and each monitor saw it. Where the mast failed, it got so many
+/// buckets of a whole history; after `NoMemory` the first of one, maybe none.
+pub fn run_threads<R: Threads + Wait + Sync, M: Mast + Send, G: Gate + Sync>(
+    rt: &R,
+    alloc: Global,
+    deck: &Deck,
+    program: &Program,
+    mast: &mut M,
+    gate: &G,
+) -> Result<Run, RunFault>
+    requires { program.now ≡ disks_in deck.now }
+    ensures run { IfOk result (IsRun deck.now) }
+    ensures aired { IfOk result (λ run. Changes (with_buckets (deck_bytes deck.now run.history)) (M.state mast.old).told (M.state mast.new).told) }
+    ensures calm { OnOk result ((M.state mast.new).faults ≡ (M.state mast.old).faults) }
+    ensures fault { IfErr result (IsRunAnswer M.state deck.now mast.old mast.new) }
+    ensures port { (M.state mast.new).port ≡ (M.state mast.old).port }
+{
+    deck.well_made();
+    let mut stage = open_stage(alloc, deck)?;
+    let (mut source, mut watchers) = open_publisher(rt, alloc, deck)?;
+    let conducted = stage.play(
+        rt,
+        alloc,
+        deck,
+        program,
+        &mut source,
+        &mut watchers,
+        mast,
+        gate,
+    );
+    let sights = all_sights(alloc, &source, watchers);
+    let note = source.tell();
+    source.close(rt);
+    let history = stage.end(deck);
+    conducted?;
+    let history = history?;
+    let sights = sights?;
+    Ok(Run::new(history, note, sights))
+}

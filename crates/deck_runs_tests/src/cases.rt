@@ -1,0 +1,195 @@
+//! What a run is to leave, and its checker.
+
+ghost use Rattle.std.specs.Prelude.{◌≤◌, length};
+ghost use Rattle.air_base.specs.declared.limits.TheConstants.{MOST_DECK_BYTES};
+
+use crate::decks::{Aired, tape_of};
+use crate::plays::{Left, play};
+use air_devices::Gate;
+use air_history::{Event, History};
+use air_model::reports::LookLine;
+use deck_runs::{Run, RunFault};
+use std::alloc::{AllocError, Global};
+use std::sync::Wait;
+use std::test::Fail;
+use std::thread::Threads;
+
+/// What a line may show: the first cycle and the last, and the total where there is just one.
+pub type Shown = (u32, u32, Option<u64>);
+
+/// An event: the updater of a commit and its number for it, or none for a start.
+pub type Named = Option<(u32, u32)>;
+
+/// What is told of a history.
+#[derive(Clone, Copy)]
+pub enum Events<'a> {
+    /// Its events.
+    Listed(&'a [Named]),
+    /// How many commits it has, and how many starts.
+    Counted(usize, usize),
+}
+
+/// What is told of a run.
+#[derive(Clone, Copy)]
+pub struct Told<'a> {
+    pub events: Events<'a>,
+    pub glances: &'a [Shown],
+    pub looks: &'a [Shown],
+}
+
+/// What is told of a tape.
+#[derive(Clone, Copy)]
+pub enum Tape<'a> {
+    /// Its buckets.
+    Buckets(&'a [Aired]),
+    /// How many bytes it has.
+    Bytes(usize),
+}
+
+/// A deck, how many bytes its tape has room for, and what is left: the run, or why it wasn't done, and the tape.
+#[derive(Clone, Copy)]
+pub struct Case<'a> {
+    pub deck: &'a [u8],
+    pub room: u64,
+    pub run: Result<Told<'a>, RunFault>,
+    pub tape: Tape<'a>,
+}
+
+/// A part that is other than told, as it is.
+#[derive(Clone, Copy, Debug, PartialEq, Eq)]
+pub enum Other {
+    /// The run was done.
+    Done,
+    /// It wasn't.
+    Fault(RunFault),
+    /// How many commits and starts there are.
+    Events(usize, usize),
+    /// The event of this place.
+    Event(usize, Named),
+    /// How many lines there are.
+    Lines(usize),
+    /// The line of this place.
+    Line(usize, LookLine),
+    /// How many bytes the tape has.
+    Bytes(usize),
+    /// The byte at this place of the tape.
+    Byte(usize, u8),
+}
+
+/// The event by its numbers.
+fn name_of(event: &Event) -> Named {
+    match event {
+        Event::Commit { by, seq, .. } => Some((*by, *seq)),
+        Event::Start => None,
+    }
+}
+
+/// How many events are starts.
+fn starts_in(events: &[Event]) -> usize {
+    events.iter().filter(|event| event.is_start()).count()
+}
+
+/// In what a history is other than told.
+fn other_event(history: &History, told: Events<'_>) -> Option<Other> {
+    let events = history.events();
+    let starts = starts_in(events);
+    let commits = events.iter().filter(|event| !event.is_start()).count();
+    let listed = match told {
+        Events::Counted(all, cycles) if all == commits && cycles == starts => return None,
+        Events::Listed(listed) if listed.len() == events.len() => listed,
+        _ => return Some(Other::Events(commits, starts)),
+    };
+    for (place, (event, told)) in events.iter().zip(listed).enumerate() {
+        if name_of(event) != *told {
+            return Some(Other::Event(place, name_of(event)));
+        }
+    }
+    None
+}
+
+/// Whether a line shows what it may, and has the number of its place.
+fn shows(line: LookLine, place: usize, told: Shown) -> bool {
+    let (first, last, total) = told;
+    let in_time = first <= line.cycle && line.cycle <= last;
+    line.monitor as usize == place && in_time && total.is_none_or(|total| line.total == total)
+}
+
+/// The first line that is other than told.
+fn other_line(lines: &[LookLine], told: &[Shown]) -> Option<Other> {
+    if lines.len() != told.len() {
+        return Some(Other::Lines(lines.len()));
+    }
+    for (place, (line, told)) in lines.iter().zip(told).enumerate() {
+        if !shows(*line, place, *told) {
+            return Some(Other::Line(place, *line));
+        }
+    }
+    None
+}
+
+/// In what a run is other than told.
+fn other_in(run: &Run, told: &Told<'_>) -> Option<Other> {
+    if let Some(other) = other_event(&run.history, told.events) {
+        return Some(other);
+    }
+    if let Some(other) = other_line(&run.glances, told.glances) {
+        return Some(other);
+    }
+    other_line(&run.looks, told.looks)
+}
+
+/// In what the end of a run is other than told.
+fn other_end(run: &Result<Run, RunFault>, told: &Result<Told<'_>, RunFault>) -> Option<Other> {
+    match (run, told) {
+        (Ok(run), Ok(told)) => other_in(run, told),
+        (Ok(_), Err(_)) => Some(Other::Done),
+        (Err(fault), Err(told)) if fault == told => None,
+        (Err(fault), _) => Some(Other::Fault(*fault)),
+    }
+}
+
+/// The first byte that is other than told.
+fn other_byte(tape: &[u8], told: &[u8]) -> Option<Other> {
+    if tape.len() != told.len() {
+        return Some(Other::Bytes(tape.len()));
+    }
+    for (place, (byte, told)) in tape.iter().zip(told).enumerate() {
+        if byte != told {
+            return Some(Other::Byte(place, *byte));
+        }
+    }
+    None
+}
+
+/// In what a tape is other than told.
+fn other_on(alloc: Global, tape: &[u8], told: Tape<'_>) -> Result<Option<Other>, AllocError> {
+    match told {
+        Tape::Buckets(buckets) => {
+            let told = tape_of(alloc, buckets)?;
+            Ok(other_byte(tape, &told))
+        }
+        Tape::Bytes(bytes) if tape.len() == bytes => Ok(None),
+        Tape::Bytes(_) => Ok(Some(Other::Bytes(tape.len()))),
+    }
+}
+
+/// The first part of what was left that is other than told.
+fn other_left(alloc: Global, left: &Left, case: &Case<'_>) -> Result<Option<Other>, AllocError> {
+    if let Some(other) = other_end(&left.run, &case.run) {
+        return Ok(Some(other));
+    }
+    other_on(alloc, left.mast.tape(), case.tape)
+}
+
+/// Runs the case's deck with this gate. Tells the first part of what was left that is other than told.
+pub fn first_other<R: Threads + Wait + Sync, G: Gate + Sync>(
+    rt: &R,
+    alloc: Global,
+    case: &Case<'_>,
+    gate: &G,
+) -> Result<Option<Other>, Fail>
+    requires { length case.now.deck.now ≤ MOST_DECK_BYTES }
+{
+    let left = play(rt, alloc, case.deck, case.room, gate)?;
+    Ok(other_left(alloc, &left, case)?)
+}

@@ -1,0 +1,17 @@
+//! Tests of runs: small decks on threads, whatever the schedule, one in which a gate lets three threads meet, and a monitor's last look.
+//!
+//! `decks` has what is run, `plays` runs it, `cases` tells in what a run left something else (`runs`, `meetings`).
+#![tactic(auto)]
+
+#[cfg(test)]
+mod cases;
+#[cfg(test)]
+mod decks;
+#[cfg(test)]
+mod lasts;
+#[cfg(test)]
+mod meetings;
+#[cfg(test)]
+mod plays;
+#[cfg(test)]
+mod runs;

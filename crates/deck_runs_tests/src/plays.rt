@@ -1,0 +1,39 @@
+//! A deck that is run on threads, and what is left.
+
+ghost use Rattle.std.specs.Prelude.{◌≤◌, length};
+ghost use Rattle.air_base.specs.declared.limits.TheConstants.{MOST_DECK_BYTES};
+
+use air_devices::Gate;
+use air_sender::TapeMast;
+use chunk_program::{Program, cut};
+use deck_runs::{Run, RunFault, run_threads};
+use item_catalog::read_deck;
+use std::alloc::Global;
+use std::sync::Wait;
+use std::test::Fail;
+use std::thread::Threads;
+
+/// The run, or why it wasn't done, and the mast.
+#[derive(Drop)]
+pub struct Left {
+    pub run: Result<Run, RunFault>,
+    pub mast: TapeMast,
+}
+
+/// Runs a deck on threads. The tape has so much room.
+pub fn play<R: Threads + Wait + Sync, G: Gate + Sync>(
+    rt: &R,
+    alloc: Global,
+    text: &[u8],
+    room: u64,
+    gate: &G,
+) -> Result<Left, Fail>
+    requires { length text.now ≤ MOST_DECK_BYTES }
+{
+    let deck = read_deck(alloc, text)?;
+    let order = cut(alloc, &deck)?;
+    let program = Program::plan(alloc, &deck, &order)?;
+    let mut mast = TapeMast::new(alloc, room)?;
+    let run = run_threads(rt, alloc, &deck, &program, &mut mast, gate);
+    Ok(Left { run, mast })
+}

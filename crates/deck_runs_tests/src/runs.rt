@@ -1,0 +1,59 @@
+//! Runs whose outcome doesn't depend on the schedule.
+
+use crate::cases::{Case, Events, Tape, Told, first_other};
+use crate::decks::{Aired, BUSY, QUIET};
+use air_devices::OpenGate;
+use deck_runs::RunFault;
+use std::test::Fail;
+
+/// What a run without updates airs.
+const QUIET_TAPE: [Aired; 4] = [
+    (1, 0, 10, [0, 0]),
+    (1, 1, 20, [0, 0]),
+    (2, 0, 10, [0, 0]),
+    (2, 1, 20, [0, 0]),
+];
+
+#[test]
+fn without_updates_each_cycle_airs_the_first_values(rt: HostRuntime) -> Result<(), Fail> {
+    let case = Case {
+        deck: QUIET,
+        room: 144,
+        run: Ok(Told {
+            events: Events::Listed(&[None, None]),
+            glances: &[(0, 2, Some(30)), (0, 2, Some(30))],
+            looks: &[(2, 2, Some(30)), (2, 2, Some(30))],
+        }),
+        tape: Tape::Buckets(&QUIET_TAPE),
+    };
+    assert_eq!(rt; first_other(&rt, rt.alloc(), &case, &OpenGate)?, None);
+    Ok(())
+}
+
+#[test]
+fn all_updates_are_committed_and_all_cycles_aired(rt: HostRuntime) -> Result<(), Fail> {
+    let case = Case {
+        deck: BUSY,
+        room: 480,
+        run: Ok(Told {
+            events: Events::Counted(4, 4),
+            glances: &[(0, 4, None)],
+            looks: &[(4, 4, None)],
+        }),
+        tape: Tape::Bytes(480),
+    };
+    assert_eq!(rt; first_other(&rt, rt.alloc(), &case, &OpenGate)?, None);
+    Ok(())
+}
+
+#[test]
+fn where_the_mast_fails_the_first_buckets_were_sent(rt: HostRuntime) -> Result<(), Fail> {
+    let case = Case {
+        deck: QUIET,
+        room: 108,
+        run: Err(RunFault::Mast { sent: 3 }),
+        tape: Tape::Buckets(&QUIET_TAPE[..3]),
+    };
+    assert_eq!(rt; first_other(&rt, rt.alloc(), &case, &OpenGate)?, None);
+    Ok(())
+}

@@ -1,3 +1,0 @@
-pub mod CountFacts
-pub mod PieceFacts
-pub mod DeliveryFacts

@@ -1,6 +1,0 @@
-pub mod Given
-pub mod SentTapes
-pub mod Refusals
-pub mod Outputs
-pub mod Deliveries
-pub mod OutputPieces

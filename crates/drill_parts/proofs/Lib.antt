@@ -1,3 +1,0 @@
-pub mod DrawFacts
-pub mod AroundFacts
-pub mod DrawnFacts

@@ -1,6 +1,0 @@
-use Rattle.std.proofs.Common.{◌≡◌}
-use Rattle.air_model.specs.Drills.{around}
-use Rattle.drill_parts.proofs.draws.around.Given as goal
-
-abbrev pub invariant-loop-t : goal.invariant-loop-t
-invariant-loop-t l = l.items.items ≡ around l.n l.first l.gap l.t

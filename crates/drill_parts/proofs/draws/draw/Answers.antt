@@ -1,5 +1,0 @@
-use Rattle.drill_parts.proofs.DrawFacts.{draw_told}
-use Rattle.drill_parts.proofs.draws.draw.Goals as goal
-
-pub returns-clause-drawn : goal.returns-clause-drawn
-returns-clause-drawn c = draw_told c.args.m c.next_word-word.result c.args.generator.now c.next_word-word.new.self c.next_word-word.ensures

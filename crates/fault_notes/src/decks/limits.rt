@@ -1,0 +1,69 @@
+//! Totals that pass a limit, numbers of a script, and updaters that commit more updates than they have.
+
+use crate::records::Record;
+use crate::records::before::RecordsBefore;
+use crate::records::lists::{Test, first_failing};
+use crate::records::tags::Tag;
+use crate::words::sentences::Sentence;
+use air_base::limits::{
+    MOST_DISKS, MOST_EVENTS, MOST_ITEMS, MOST_QUERIES, MOST_READERS, MOST_STARTS, MOST_UPDATERS,
+    MOST_UPDATES,
+};
+
+/// A total that is above its limit; none where it isn't.
+fn total(count: u64, name: &'static str, most: u64) -> Option<Sentence<'static>> {
+    if count <= most {
+        return None;
+    }
+    let form = "makes #first# #name#: at most #second#";
+    Some(Sentence::words(form, "", name, "").with(count, most, ""))
+}
+
+/// The first updater of a script record whose number is too great; none where there is none.
+fn passing_updater(events: &str) -> Option<Sentence<'static>> {
+    let (_, by) = first_failing(events, Test::Item(MOST_UPDATERS as u64))?;
+    let form = "has updater #first#: at most #second#";
+    Some(Sentence::numbers(form, by, MOST_UPDATERS as u64 - 1, 0))
+}
+
+/// A script's record passes a limit; none where it doesn't.
+fn script_note(before: &RecordsBefore, record: &Record) -> Option<Sentence<'static>> {
+    let mut all = *before;
+    all.add_events(record.field(1));
+    passing_updater(record.field(1))
+        .or(total(all.events, "events", MOST_EVENTS as u64))
+        .or(total(all.starts, "starts", MOST_STARTS as u64))
+}
+
+/// With a record a total passes a limit, or a script's updater does; none where none does.
+pub fn total_note(before: &RecordsBefore, record: &Record, tag: Tag) -> Option<Sentence<'static>> {
+    let (before, name, most) = match tag {
+        Tag::Item => (before.items, "items", MOST_ITEMS as u64),
+        Tag::Disk => (before.disks, "disks", MOST_DISKS as u64),
+        Tag::Update => (before.updates, "updates", MOST_UPDATES as u64),
+        Tag::Reader => (before.readers, "readers", MOST_READERS as u64),
+        Tag::Query => (before.queries, "queries", MOST_QUERIES as u64),
+        _ => return script_note(before, record),
+    };
+    total(before.saturating_add(1), name, most)
+}
+
+/// An updater commits more updates than stand before the record.
+pub fn overdrawn_note(before: &RecordsBefore, record: &Record) -> Option<Sentence<'static>> {
+    let mut all = *before;
+    all.add_events(record.field(1));
+    for by in 0..MOST_UPDATERS {
+        let committed = all.commits_by[by];
+        let there = all.updates_by[by];
+        if there < committed {
+            let form = if committed == 1 {
+                "up to here the script commits 1 update of updater #last#, which has "
+            } else {
+                "up to here the script commits #first# updates of updater #last#, which has "
+            };
+            let sentence = Sentence::numbers(form, committed, 0, by as u64);
+            return Some(sentence.only(there, "update", "updates"));
+        }
+    }
+    None
+}

@@ -1,0 +1,139 @@
+//! What the records before a faulty one say, of a deck or of a report. They have no fault, so each is taken as its tag says.
+
+use crate::decks::settings::setting_place;
+use crate::records::tags::{Line, Tag, deck_line, report_line, section};
+use air_base::limits::MOST_UPDATERS;
+use air_base::read_u64;
+use csv::ByteRecord;
+
+/// How many of each there are, and the sums that limits speak of; of a report also the rows at which its sections begin.
+#[derive(Clone, Copy)]
+pub struct RecordsBefore {
+    pub items: u64,
+    pub disks: u64,
+    pub sizes: u64,
+    pub updates: u64,
+    pub updates_by: [u64; MOST_UPDATERS],
+    pub readers: u64,
+    pub queries: u64,
+    pub events: u64,
+    pub starts: u64,
+    pub commits_by: [u64; MOST_UPDATERS],
+    pub set: [bool; 9],
+    pub begun: [Option<(u32, &'static str)>; 5],
+}
+
+/// Adds one.
+fn raise(count: &mut u64) {
+    *count = count.saturating_add(1);
+}
+
+/// Adds one to an updater's count.
+fn raise_of(counts: &mut [u64; MOST_UPDATERS], by: u64) {
+    if by < MOST_UPDATERS as u64 {
+        let place = by as usize;
+        counts[place] = counts[place].saturating_add(1);
+    }
+}
+
+/// The text in a field.
+fn text_in(record: &ByteRecord, place: usize) -> &str {
+    match record.get(place) {
+        Some(bytes) => match std::str::from_utf8(bytes) {
+            Ok(text) => text,
+            Err(_) => "",
+        },
+        None => "",
+    }
+}
+
+/// The number in a field; 0 where there is none.
+fn number_in(record: &ByteRecord, place: usize) -> u64 {
+    read_u64(text_in(record, place).as_bytes()).unwrap_or(0)
+}
+
+impl RecordsBefore {
+    /// What no record says.
+    pub fn new() -> RecordsBefore {
+        RecordsBefore {
+            items: 0,
+            disks: 0,
+            sizes: 0,
+            updates: 0,
+            updates_by: [0; MOST_UPDATERS],
+            readers: 0,
+            queries: 0,
+            events: 0,
+            starts: 0,
+            commits_by: [0; MOST_UPDATERS],
+            set: [false; 9],
+            begun: [None; 5],
+        }
+    }
+
+    /// Takes one more event of the script.
+    fn add_event(&mut self, event: &str) {
+        raise(&mut self.events);
+        if event == "s" {
+            raise(&mut self.starts);
+        } else if let Some(by) = read_u64(event.as_bytes()) {
+            raise_of(&mut self.commits_by, by);
+        }
+    }
+
+    /// Takes the events of a script record.
+    pub fn add_events(&mut self, events: &str) {
+        if events.is_empty() {
+            return;
+        }
+        for event in events.split(' ') {
+            self.add_event(event);
+        }
+    }
+
+    /// Takes one more record of a deck.
+    fn add_to_deck(&mut self, record: &ByteRecord, tag: Tag) {
+        match tag {
+            Tag::Item => raise(&mut self.items),
+            Tag::Disk => {
+                raise(&mut self.disks);
+                self.sizes = self.sizes.saturating_add(number_in(record, 1));
+            }
+            Tag::Update => {
+                raise(&mut self.updates);
+                raise_of(&mut self.updates_by, number_in(record, 1));
+            }
+            Tag::Reader => raise(&mut self.readers),
+            Tag::Query => raise(&mut self.queries),
+            Tag::Script => self.add_events(text_in(record, 1)),
+            _ => {
+                if let Some(place) = setting_place(text_in(record, 1)) {
+                    self.set[place] = true;
+                }
+            }
+        }
+    }
+
+    /// Takes one more record of a report.
+    fn add_to_report(&mut self, record: &ByteRecord, row: u32, line: Line) {
+        if line.tag == Tag::Start {
+            raise(&mut self.starts);
+        } else if line.tag == Tag::Commit {
+            raise_of(&mut self.commits_by, number_in(record, 1));
+        }
+        let place = section(line.tag);
+        if self.begun[place].is_none() {
+            self.begun[place] = Some((row, line.name));
+        }
+    }
+
+    /// Takes the record of a row.
+    pub fn add(&mut self, record: &ByteRecord, row: u32) {
+        let tag = text_in(record, 0);
+        if let Some(line) = deck_line(tag) {
+            self.add_to_deck(record, line.tag);
+        } else if let Some(line) = report_line(tag) {
+            self.add_to_report(record, row, line);
+        }
+    }
+}

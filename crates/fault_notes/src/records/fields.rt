@@ -1,0 +1,276 @@
+//! The fields of records: what each has to spell, and within which limits.
+
+use crate::records::Record;
+use crate::records::lists::parts_in;
+use crate::records::tags::{Line, has_list};
+use crate::words::sentences::{Sentence, range};
+use crate::words::texts::{cut_at, cut_at_sign, has_outer_space, why_no_number};
+use air_base::limits::{
+    MOST_AGE, MOST_ASKED, MOST_FREQ, MOST_RATE, MOST_READS, MOST_ROOM, MOST_SIZE, MOST_TRIES,
+    MOST_UPDATERS, MOST_WRITES,
+};
+use air_base::read_u64;
+
+/// What a field is, or each part of its list.
+#[derive(Clone, Copy)]
+enum Form {
+    Number,
+    Frequency,
+    Place,
+    Items,
+    Writes,
+    Events,
+    Reads,
+}
+
+/// A field as forms write it, its name, and its limits: of the number, or of the length of the list.
+type Field = (&'static str, &'static str, Form, u64, u64);
+
+/// The greatest number of 32 bits.
+const SHORT: u64 = u32::MAX as u64;
+
+/// The greatest updater.
+const LAST_UPDATER: u64 = MOST_UPDATERS as u64 - 1;
+
+/// The fields of a deck's records.
+const DECK: [Field; 14] = [
+    ("<id>", "id", Form::Number, 0, u64::MAX),
+    ("<value>", "value", Form::Number, 0, u64::MAX),
+    ("<rate>", "rate", Form::Number, 0, MOST_RATE),
+    ("<size>", "size", Form::Number, 1, MOST_SIZE),
+    ("<freq>", "frequency", Form::Frequency, 1, MOST_FREQ),
+    ("<by>", "updater", Form::Number, 0, LAST_UPDATER),
+    ("<reads>", "reads", Form::Items, 0, MOST_READS as u64),
+    ("<writes>", "writes", Form::Writes, 1, MOST_WRITES as u64),
+    ("<room>", "room", Form::Number, 0, MOST_ROOM),
+    ("<age>", "age", Form::Number, 0, MOST_AGE),
+    ("<tries>", "number of tries", Form::Number, 1, MOST_TRIES),
+    ("<reader>", "reader", Form::Number, 0, u64::MAX),
+    ("<items>", "items", Form::Items, 1, MOST_ASKED as u64),
+    ("<events>", "events", Form::Events, 0, u64::MAX),
+];
+
+/// The fields of a report's records.
+const REPORT: [Field; 17] = [
+    ("<by>", "updater", Form::Number, 0, SHORT),
+    ("<seq>", "seq", Form::Number, 0, SHORT),
+    ("<reader>", "reader", Form::Number, 0, SHORT),
+    ("<query>", "query", Form::Number, 0, SHORT),
+    ("<attempt>", "attempt", Form::Number, 0, SHORT),
+    ("<reads>", "reads", Form::Reads, 0, u64::MAX),
+    ("<item>@<cycle>", "refused read", Form::Place, 0, u64::MAX),
+    ("<clash>", "clash", Form::Number, 0, u16::MAX as u64),
+    ("<opened>", "count of opened", Form::Number, 0, u64::MAX),
+    ("<dozed>", "count of dozed", Form::Number, 0, u64::MAX),
+    ("<late>", "count of late", Form::Number, 0, u64::MAX),
+    ("<refused>", "count of refused", Form::Number, 0, u64::MAX),
+    ("<foreign>", "count of foreign", Form::Number, 0, u64::MAX),
+    ("<copied>", "count of copied", Form::Number, 0, u64::MAX),
+    ("<monitor>", "monitor", Form::Number, 0, SHORT),
+    ("<cycle>", "cycle", Form::Number, 0, SHORT),
+    ("<total>", "total", Form::Number, 0, u64::MAX),
+];
+
+/// The field that a form writes so.
+fn field_in(fields: &[Field], written: &str) -> Option<Field> {
+    for field in fields {
+        if field.0 == written {
+            return Some(*field);
+        }
+    }
+    None
+}
+
+/// Whether a text spells a number up to this one.
+fn is_number(text: &[u8], most: u64) -> bool {
+    match read_u64(text) {
+        Some(number) => number <= most,
+        None => false,
+    }
+}
+
+/// Why a text is no item at a cycle, where that is told of one without `@`; none where it is one.
+fn why_no_place(text: &[u8], told: &'static str) -> Option<&'static str> {
+    let Some((item, cycle)) = cut_at(text, b'@') else {
+        return Some(told);
+    };
+    if !is_number(item, u16::MAX as u64) {
+        return Some("its item isn't a number up to 65535");
+    }
+    if !is_number(cycle, SHORT) {
+        return Some("its cycle isn't a number up to 4294967295");
+    }
+    None
+}
+
+/// Why a text is no read; none where it is one.
+fn why_no_read(text: &[u8]) -> Option<&'static str> {
+    let told = "it isn't item@cycle=value";
+    let Some((place, value)) = cut_at(text, b'=') else {
+        return Some(told);
+    };
+    let why = why_no_place(place, told);
+    if why.is_none() && !is_number(value, u64::MAX) {
+        return Some("its value isn't a number up to 18446744073709551615");
+    }
+    why
+}
+
+/// Whether a text spells a write.
+fn is_write(text: &[u8]) -> bool {
+    let Some((item, value)) = cut_at(text, b'=') else {
+        return false;
+    };
+    if !is_number(item, u64::MAX) {
+        return false;
+    }
+    match cut_at_sign(value) {
+        Some((base, amount)) => is_number(base, u64::MAX) && is_number(amount, u64::MAX),
+        None => is_number(value, u64::MAX),
+    }
+}
+
+impl Form {
+    /// Whether the field is a list.
+    fn is_list(self) -> bool {
+        matches!(
+            self,
+            Form::Items | Form::Writes | Form::Events | Form::Reads
+        )
+    }
+
+    /// Why a field or a part of a list isn't of this form; none where it is.
+    fn why_not(self, text: &str) -> Option<&'static str> {
+        let bytes = text.as_bytes();
+        match self {
+            Form::Place => why_no_place(bytes, "it isn't item@cycle"),
+            Form::Reads => why_no_read(bytes),
+            Form::Writes if is_write(bytes) => None,
+            Form::Writes => { Some("none of item=amount, item=base+amount and item=base-amount") }
+            _ if is_number(bytes, u64::MAX) => None,
+            Form::Frequency if text == "-" => None,
+            Form::Events if text == "s" => None,
+            Form::Events => Some("neither s nor the number of an updater"),
+            _ => Some(why_no_number(text)),
+        }
+    }
+}
+
+/// The first part of a list that isn't of its form; none where each is.
+fn list_note<'a>(name: &'static str, form: Form, list: &'a str) -> Option<Sentence<'a>> {
+    if list.is_empty() {
+        return None;
+    }
+    for text in list.split(' ') {
+        if text.is_empty() {
+            let form =
+                "has an empty part among its #name#: one space stands between two parts, and none at the ends";
+            return Some(Sentence::words(form, text, name, ""));
+        }
+        if let Some(why) = form.why_not(text) {
+            return Some(Sentence::words("has #text# among its #name#: #why#", text, name, why));
+        }
+    }
+    None
+}
+
+/// A field isn't of its form; none where it is.
+fn field_note<'a>(field: Field, text: &'a str) -> Option<Sentence<'a>> {
+    let (_, name, form, _, _) = field;
+    if form.is_list() {
+        return list_note(name, form, text);
+    }
+    let why = form.why_not(text)?;
+    let form = if matches!(form, Form::Frequency) {
+        "has the #name# #text#: no single -, and #why#"
+    } else {
+        "has the #name# #text#: #why#"
+    };
+    Some(Sentence::words(form, text, name, why))
+}
+
+/// A field passes a limit; none where it doesn't.
+fn limit_note<'a>(field: Field, text: &'a str) -> Option<Sentence<'a>> {
+    let (_, name, form, least, most) = field;
+    let (form, number) = if form.is_list() {
+        ("has #first# #name#: ", parts_in(text))
+    } else {
+        ("has the #name# #first#: ", read_u64(text.as_bytes())?)
+    };
+    if least <= number && number <= most {
+        return None;
+    }
+    Some(Sentence::words(form, "", name, "").with(number, most, range(least)))
+}
+
+/// The first field of a record that isn't of its form, or that passes a limit; none where there is none.
+fn first_note<'a>(
+    record: &'a Record,
+    form: &str,
+    fields: &[Field],
+    by_limit: bool,
+) -> Option<Sentence<'a>> {
+    let mut place = 0_usize;
+    for written in form.split(',') {
+        let text = record.field(place);
+        place = place.saturating_add(1);
+        let Some(field) = field_in(fields, written) else {
+            continue;
+        };
+        let sentence = if by_limit {
+            limit_note(field, text)
+        } else {
+            field_note(field, text)
+        };
+        if sentence.is_some() {
+            return sentence;
+        }
+    }
+    None
+}
+
+/// The first field of a record that isn't of its form or, where each is, the first that passes a limit; none where there is none.
+fn faulty_field_note<'a>(record: &'a Record, form: &str, fields: &[Field]) -> Option<Sentence<'a>> {
+    match first_note(record, form, fields, false) {
+        Some(sentence) => Some(sentence),
+        None => first_note(record, form, fields, true),
+    }
+}
+
+/// A field of a deck's record isn't of its form, or passes a limit.
+pub fn deck_field_note<'a>(record: &'a Record, form: &str) -> Option<Sentence<'a>> {
+    faulty_field_note(record, form, &DECK)
+}
+
+/// A field of a report's record isn't of its form, or is above its range.
+pub fn report_field_note<'a>(record: &'a Record, form: &str) -> Option<Sentence<'a>> {
+    faulty_field_note(record, form, &REPORT)
+}
+
+/// The record has another number of fields than its form.
+pub fn count_note<'a>(record: &Record, line: Line) -> Sentence<'a> {
+    let count = record.len() as u64;
+    let wanted = line.form.split(',').count() as u64;
+    let tail = if wanted < count && has_list(line.tag) {
+        ": the parts of a list are separated by spaces"
+    } else {
+        ""
+    };
+    let form = if count == 1 {
+        "it has 1 field, and #why# has #second#"
+    } else {
+        "it has #first# fields, and #why# has #second#"
+    };
+    Sentence::words(form, "", "", line.form).with(count, wanted, tail)
+}
+
+/// The tag of the record is none of these.
+pub fn tag_note<'a>(record: &'a Record, name: &'static str) -> Sentence<'a> {
+    let text = record.field(0);
+    let form = if has_outer_space(text) {
+        "the tag is #text#: it has a space, and is none of #name#"
+    } else {
+        "the tag is #text#: none of #name#"
+    };
+    Sentence::words(form, text, name, "")
+}

@@ -1,0 +1,90 @@
+//! Lists of items, of writes and of reads.
+
+use crate::words::texts::{cut_at, cut_at_sign, front_of};
+use air_base::read_u64;
+
+/// The item that a part of a list names: all of it, or what stands before `@` or, where there is none, before `=`.
+pub fn item_of(part: &str) -> Option<u64> {
+    let bytes = part.as_bytes();
+    match cut_at(bytes, b'@') {
+        Some((front, _)) => read_u64(front),
+        None => read_u64(front_of(bytes, b'=')),
+    }
+}
+
+/// The cycle of a part `<item>@<cycle>`, whatever stands behind a `=`.
+fn cycle_of(part: &str) -> Option<u64> {
+    let (_, cycle) = cut_at(front_of(part.as_bytes(), b'='), b'@')?;
+    read_u64(cycle)
+}
+
+/// The base of a write that has one, whatever stands in the other places.
+fn base_of(part: &str) -> Option<u64> {
+    let (_, value) = cut_at(part.as_bytes(), b'=')?;
+    let (base, _) = cut_at_sign(value)?;
+    read_u64(base)
+}
+
+/// How many parts a list has.
+pub fn parts_in(text: &str) -> u64 {
+    if text.is_empty() {
+        return 0;
+    }
+    text.split(' ').count() as u64
+}
+
+/// How often an item stands in a list.
+pub fn times_in(text: &str, item: u64) -> u64 {
+    let mut times = 0_u64;
+    for part in text.split(' ') {
+        if let Some(named) = item_of(part)
+            && named == item
+        {
+            times = times.saturating_add(1);
+        }
+    }
+    times
+}
+
+/// What each part of a list has to keep.
+#[derive(Clone, Copy)]
+pub enum Test<'a> {
+    /// Its item is below this one.
+    Item(u64),
+    /// Its base is below this one.
+    Base(u64),
+    /// Its base stands in this list.
+    Read(&'a str),
+    /// Its item stands once in this list.
+    Once(&'a str),
+    /// Its cycle is from 1 to this one.
+    Cycle(u64),
+}
+
+impl Test<'_> {
+    /// The item, the base or the cycle by which a part fails; none where it doesn't.
+    fn failing_number(self, part: &str) -> Option<u64> {
+        let number = match self {
+            Test::Item(_) | Test::Once(_) => item_of(part)?,
+            Test::Base(_) | Test::Read(_) => base_of(part)?,
+            Test::Cycle(_) => cycle_of(part)?,
+        };
+        let is_kept = match self {
+            Test::Item(count) | Test::Base(count) => number < count,
+            Test::Read(list) => 0 < times_in(list, number),
+            Test::Once(list) => times_in(list, number) < 2,
+            Test::Cycle(last) => 0 < number && number <= last,
+        };
+        if is_kept { None } else { Some(number) }
+    }
+}
+
+/// The first part of a list that fails, and by what.
+pub fn first_failing<'a>(list: &'a str, test: Test<'_>) -> Option<(&'a str, u64)> {
+    for part in list.split(' ') {
+        if let Some(number) = test.failing_number(part) {
+            return Some((part, number));
+        }
+    }
+    None
+}

@@ -1,9 +1,0 @@
-use Rattle.air_history.proofs.ClosureLemmas.{closure}
-use Rattle.history_laws.proofs.descent_law.Goals as goal
-
-pub returns : goal.returns
-returns c = record {
-  itself = λ G p. (closure G p).itself;
-  closed = λ G p. (closure G p).closed;
-  least = λ G p. (closure G p).least;
-}

@@ -1,5 +1,0 @@
-use Rattle.history_laws.proofs.RepeatLemmas.{rules}
-use Rattle.history_laws.proofs.rules_law.Goals as goal
-
-pub returns : goal.returns
-returns c = rules

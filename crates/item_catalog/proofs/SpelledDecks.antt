@@ -1,0 +1,67 @@
+-- A deck is spelled by its text, and what some text spells has a last updater with an update.
+use Rattle.std.proofs.Common.{◌≡◌, ◌<◌, ◌+◌, ◌∷◌, [], ℕ, List, Bool, true, false, refl, sym, ap, ◌∙◌, subst, length, map, get_or, arith}
+use Rattle.std.specs.Prelude.{◌==◌}
+use Rattle.std.specs.List.{filter_map}
+use Rattle.std.proofs.lemmas.Bool.Decides.{nat_tests}
+use Rattle.std.proofs.lemmas.List.FromFn.{get_or-map-range_with_len, length-map-range_with_len}
+use Rattle.air_history.specs.UpdateLists.{UpdateLists}
+use Rattle.air_model.specs.Decks.{Deck, IsDeck}
+use Rattle.air_model.specs.Rows.{rows_text}
+use Rattle.item_catalog.specs.DeckEntries.{Entry}
+use Rattle.item_catalog.specs.DeckEntries as e
+use Rattle.item_catalog.specs.DeckLimits.{WithinLimits}
+use Rattle.item_catalog.specs.Decks.{deck_of}
+use Rattle.item_catalog.specs.Faults.{entries_in}
+use Rattle.item_catalog.specs.Grammar.{RowsSpell, Spells}
+use Rattle.item_catalog.specs.Parts.{greatest, its_update, its_updaters, updaters_in, updates_in}
+use Rattle.item_catalog.specs.DeckTexts.{LastUpdates, deck_entries, deck_text, entry_row}
+use Rattle.item_catalog.proofs.DraftSteps.{entries_spell}
+use Rattle.item_catalog.proofs.DeckDrafts.{all_named, deck_back, deck_drafted, last_named, whole_draft}
+use Rattle.item_catalog.proofs.DeckTests.{deck_passes, end_none, few_queries}
+
+-- ---- a deck has a text
+
+every_named : (updates : List (List UpdateLists)) → ((last : ℕ) → length updates ≡ last + 1 → 0 < length (get_or updates last [])) → all_named 0 updates ≡ length updates
+every_named [] some = refl
+every_named (own ∷ others) some =
+    let long : length (own ∷ others) ≡ length others + 1 = omega arith in
+    last_named 0 (own ∷ others) (length others) long (some (length others) long) ∙ omega arith
+
+pub deck_spelled : (deck : Deck) → IsDeck deck → WithinLimits deck → LastUpdates deck → Spells (deck_text deck) deck
+unfolding deck_text
+deck_spelled deck made within last =
+    let text = rows_text (map entry_row (deck_entries deck)) in
+    let drafted = deck_drafted deck within.updaters (few_queries deck made within) in
+    subst (λ d. Spells text d) (deck_back deck (every_named deck.updates last) made.readers)
+    (entries_spell (deck_entries deck) (whole_draft deck) drafted (deck_passes deck made within) (end_none deck made within))
+
+-- ---- what a text spells
+
+-- The last updater that entries name has an update.
+module _ (last : ℕ) where
+  abbrev own_updates : List Entry → List UpdateLists
+  own_updates entries = filter_map (its_update last) entries
+
+  last_updates : (entries : List Entry) → greatest (map its_updaters entries) ≡ last + 1 → 0 < length (own_updates entries)
+  last_updates [] same = absurd (omega arith)
+  last_updates (e.Item id value rate ∷ entries) same = last_updates entries (omega arith)
+  last_updates (e.Disk size freq ∷ entries) same = last_updates entries (omega arith)
+  last_updates (e.Update by reads writes ∷ entries) same = at (by == last) refl (last_updates entries)
+    where
+      at : (b : Bool) → (by == last) ≡ b → (greatest (map its_updaters entries) ≡ last + 1 → 0 < length (own_updates entries)) → 0 < length (own_updates (e.Update by reads writes ∷ entries))
+      at true h more = rw h (omega arith)
+      at false h more = let other : by ≡ last → ⊥ = grind (arith, nat_tests) in rw h (more (omega (arith, other, same)))
+  last_updates (e.Reader room age tries ∷ entries) same = last_updates entries (omega arith)
+  last_updates (e.Query reader items ∷ entries) same = last_updates entries (omega arith)
+  last_updates (e.Script events ∷ entries) same = last_updates entries (omega arith)
+  last_updates (e.Set s ∷ entries) same = last_updates entries (omega arith)
+
+entries_last : (entries : List Entry) → LastUpdates (deck_of entries)
+entries_last entries last same =
+    let n = updaters_in entries in
+    let long : n ≡ last + 1 = sym (length-map-range_with_len (updates_in entries) 0 n) ∙ same in
+    let own = get_or-map-range_with_len (updates_in entries) 0 n last last [] (omega arith) (omega arith) in
+    omega (arith, ap length own, last_updates last entries long)
+
+pub spelled_last : (rows : List (List (List ℕ))) (deck : Deck) → RowsSpell rows deck → LastUpdates deck
+spelled_last rows deck spelled = subst LastUpdates (sym spelled.parts) (entries_last (entries_in rows))

@@ -1,0 +1,64 @@
+//! The records of a text, one after the other, each taken once and forgotten.
+//!
+//! A reader is seen as the records that it has still to give.
+
+ghost use Rattle.std.specs.Prelude.{◌≡◌, ◌∷◌, [], IfOk, if◌then◌else◌};
+ghost use Rattle.csv.specs.Records.{fields_of};
+ghost use Rattle.item_catalog.specs.Records.{records_of};
+
+pub mod fields;
+pub mod refusals;
+
+use air_base::NoMemory;
+use csv::{ByteRecord, Reader, ReaderBuilder};
+use std::alloc::Global;
+use std::marker::Model;
+
+/// A reader of the records of a text; after it ran out of memory it gives no more.
+#[derive(Drop)]
+pub struct Records<'a> {
+    reader: Reader<&'a [u8]>,
+    has_ended: bool,
+}
+
+impl<'a> Model for Records<'a> {
+    ghost use Rattle.std.specs.Prelude.{List, ℕ};
+    ghost use Rattle.item_catalog.specs.RecordsView.{RecordsKept, records_seen};
+
+    ghost Value = { List (List (List ℕ)) };
+
+    ghost view = { records_seen };
+
+    ghost invariant = { RecordsKept };
+}
+
+impl<'a> Records<'a> {
+    /// The reader of a text, before its first record.
+    pub fn new(alloc: Global, text: &'a [u8]) -> Records<'a>
+        ensures { result ≡ records_of text.now }
+    {
+        Records {
+            reader: ReaderBuilder::new()
+                .has_headers(false)
+                .flexible(true)
+                .from_reader(alloc, text),
+            has_ended: false,
+        }
+    }
+
+    /// Takes the next record, and answers whether there is one.
+    pub fn next(&mut self, row: &mut ByteRecord) -> Result<bool, NoMemory>
+        ensures { IfOk result (λ found. self.old ≡ (if found then fields_of row.new ∷ self.new else [])) }
+    {
+        if self.has_ended {
+            return Ok(false);
+        }
+        match self.reader.read_byte_record(row) {
+            Ok(found) => Ok(found),
+            Err(_) => {
+                self.has_ended = true;
+                Err(NoMemory)
+            }
+        }
+    }
+}

@@ -1,8 +1,0 @@
-use Rattle.text_records.specs.Records.{records_of}
-use Rattle.report_reading.specs.ReportGrammar.{SpellsReport}
-use Rattle.report_laws.proofs.KeptLines.{spelled_kept}
-use Rattle.report_laws.proofs.kept_law.Goals as goal
-
-pub returns : goal.returns
-unfolding SpellsReport
-returns c = λ deck text lines spelled. spelled_kept deck (records_of text) lines spelled

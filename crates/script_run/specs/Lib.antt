@@ -1,3 +1,0 @@
-pub mod AiredBytes
-pub mod PieceRuns
-pub mod Steps

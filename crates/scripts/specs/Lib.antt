@@ -1,0 +1,5 @@
+pub mod PieceRuns
+pub mod Steps
+pub mod Pieces
+pub mod DrillLines
+pub mod DrillSums

@@ -1,0 +1,16 @@
+-- How far a run of a deck's script is that goes on piece by piece.
+use Rattle.std.specs.Prelude.{◌≡◌, ℕ, ◌+◌, ◌*◌, ◌<◌, ◌≤◌, length, get_or, take}
+use Rattle.air_history.specs.Boards.{board_of}
+use Rattle.air_model.specs.Decks.{Deck, count_parts, script_history, values_in}
+use Rattle.bucket_codec.specs.declared.offsets.TheConstants.{ENTRY_BYTES, HEAD_BYTES}
+use Rattle.scripts.specs.declared.piece_runs.PieceRun.{PieceRun}
+
+-- Its events begin the script's history, the board is theirs, and so are the parts of each updater that are counted; and there
+-- is room for a bucket's bytes.
+pub record IsPieceRun (deck : Deck) (r : PieceRun) : Type 0 where
+  pub begun : r.events.items ≡ take (length r.events.items) (script_history deck)
+  pub within : length r.events.items ≤ length deck.script
+  pub stepped : r.board ≡ board_of (values_in deck) r.events.items
+  pub updaters : length r.made.items ≡ length deck.updates
+  pub counts : (by : ℕ) → by < length r.made.items → get_or r.made.items by 0 ≡ count_parts by (take (length r.events.items) deck.script)
+  pub room : length r.room.items ≡ HEAD_BYTES + ENTRY_BYTES * length deck.items

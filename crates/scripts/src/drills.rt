@@ -1,0 +1,95 @@
+//! A drill: the script of a deck that is made from a seed and a size, and what it came to in one line.
+
+ghost use Rattle.std.specs.Prelude.{◌≡◌, ◌≤◌, IfOk, length};
+ghost use Rattle.air_base.specs.declared.limits.TheConstants.{MOST_SLOTS};
+ghost use Rattle.air_model.specs.Decks.{disks_in};
+ghost use Rattle.air_model.specs.Outputs.{script_tape};
+ghost use Rattle.air_model.specs.Programs.{program};
+ghost use Rattle.scripts.specs.DrillLines.{drill_line, drill_numbers, drill_output};
+ghost use Rattle.scripts.specs.DrillSums.{SumsFit};
+ghost use Rattle.item_catalog.specs.declared.deck.drill.TheConstants.{MOST_DRILL_SIZE};
+
+mod sums;
+
+use crate::drills::sums::{
+    count_aborted, count_accepted, count_commits, count_starts, count_unfinished, sum_copied,
+    sum_dozed, sum_opened,
+};
+use crate::laws::{drill_counts_law, drill_slots_law, drill_tape_law};
+use crate::whole_scripts::{AiredScript, air_script};
+use air_base::NoMemory;
+use air_report::{finish, put_numbers, row_writer};
+use air_sender::tape_len;
+use chunk_program::{PlanFault, Program, cut};
+use item_catalog::{Deck, drill_deck};
+use std::alloc::Global;
+use std::thread::Threads;
+
+/// The line of the drill of a seed and a size.
+pub fn run_drill<T: Threads + Sync>(
+    threads: &T,
+    alloc: Global,
+    seed: u64,
+    size: u32,
+) -> Result<Vec<u8>, NoMemory>
+    requires some { 1 ≤ size }
+    requires few { size ≤ MOST_DRILL_SIZE }
+    ensures { IfOk result (λ text. text.items ≡ drill_output seed size) }
+{
+    drill_slots_law();
+    drill_tape_law();
+    drill_counts_law();
+    let deck = drill_deck(alloc, seed, size)?;
+    let program = short_program(alloc, &deck)?;
+    let aired = air_script(threads, alloc, &deck, &program)?;
+    let text = line_of(alloc, &numbers_of(&deck, &program, &aired))?;
+    Ok(text)
+}
+
+/// The program of a deck that is short enough.
+fn short_program(alloc: Global, deck: &Deck) -> Result<Program, NoMemory>
+    requires { length (program (disks_in deck.now)) ≤ MOST_SLOTS }
+    ensures { IfOk result (λ p. p ≡ disks_in deck.now) }
+{
+    let cut = cut(alloc, deck)?;
+    match Program::plan(alloc, deck, &cut) {
+        Ok(program) => Ok(program),
+        Err(PlanFault::NoMemory) => Err(NoMemory),
+        Err(PlanFault::TooLong { .. }) => unreachable!(),
+    }
+}
+
+/// The numbers of a deck, of its script's history and tape, and of what its readers' sessions tell.
+fn numbers_of(deck: &Deck, program: &Program, aired: &AiredScript) -> [u64; 11]
+    requires planned { program.now ≡ disks_in deck.now }
+    requires sums { SumsFit aired.now.sessions.counts.items }
+    ensures { result
+        ≡ drill_numbers deck.now aired.now.events.items (script_tape deck.now) aired.now.sessions.verdicts.items aired.now.sessions.counts.items }
+{
+    let verdicts = &aired.sessions.verdicts;
+    let counts = &aired.sessions.counts;
+    [
+        u64::from(deck.items()),
+        count_commits(&aired.events),
+        count_starts(&aired.events),
+        u64::from(program.slots()),
+        tape_len(deck, program),
+        count_accepted(verdicts),
+        count_aborted(verdicts),
+        count_unfinished(verdicts),
+        sum_opened(counts),
+        sum_dozed(counts),
+        sum_copied(counts),
+    ]
+}
+
+/// The line of these numbers.
+#[tactic(auto, unfolding(air_model::specs::Rows::rows_text))]
+fn line_of(alloc: Global, numbers: &[u64]) -> Result<Vec<u8>, NoMemory>
+    ensures { IfOk result (λ text. text.items ≡ drill_line numbers.now) }
+{
+    let mut wtr = row_writer(Vec::new(alloc));
+    put_numbers(alloc, &mut wtr, b"drill", numbers)?;
+    let text = finish(wtr)?;
+    Ok(text)
+}

@@ -1,0 +1,50 @@
+//! The parts of a deck's script: the event of each, and how many are each updater's; and the values of a deck's items.
+
+ghost use Rattle.std.specs.Prelude.{◌≡◌, ◌<◌, ◌+◌, None, IfOk, get_or, length, take};
+ghost use Rattle.air_model.specs.Decks.{event_of, values_in};
+ghost use Rattle.scripts.specs.Steps.RunSteps.{CountsParts};
+
+use air_base::NoMemory;
+use air_history::Event;
+use item_catalog::Deck;
+use std::alloc::Global;
+
+/// The values of a deck's items.
+pub(crate) fn values_of(alloc: Global, deck: &Deck) -> Result<Vec<u64>, NoMemory>
+    ensures { IfOk result (λ values. values.items ≡ values_in deck.now) }
+{
+    let mut values = Vec::new(alloc);
+    for i in 0..deck.items() {
+        values.push(deck.value(i))?;
+    }
+    Ok(values)
+}
+
+/// The event of a part of the script, after the parts before it; `made` tells how many of these are each updater's.
+pub(crate) fn event_at(alloc: Global, deck: &Deck, made: &[u32], k: u32) -> Result<Event, NoMemory>
+    requires within { k < length deck.now.script }
+    requires updaters { length made.now ≡ length deck.now.updates }
+    requires made { CountsParts deck.now k made.now }
+    ensures { IfOk result (λ event. event ≡ event_of deck.now (take k deck.now.script) (get_or deck.now.script k None)) }
+{
+    deck.well_made();
+    let Some(by) = deck.script(k) else {
+        return Ok(Event::Start);
+    };
+    let seq = made[by as usize];
+    let update = deck.updates(by)[seq as usize].copy(alloc)?;
+    Ok(Event::Commit { by, seq, update })
+}
+
+/// Counts a part of the script as its updater's.
+pub(crate) fn count_part(deck: &Deck, made: &mut [u32], k: u32)
+    requires within { k < length deck.now.script }
+    requires updaters { length made.old ≡ length deck.now.updates }
+    requires made { CountsParts deck.now k made.old }
+    ensures { CountsParts deck.now (k + 1) made.new }
+{
+    deck.well_made();
+    if let Some(by) = deck.script(k) {
+        made[by as usize] += 1;
+    }
+}

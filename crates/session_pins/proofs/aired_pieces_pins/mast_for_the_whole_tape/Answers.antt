@@ -1,6 +1,0 @@
-use Rattle.std.proofs.Common.{◌∙◌}
-use Rattle.session_pins.proofs.SizeFacts.{scripted_size}
-use Rattle.session_pins.proofs.aired_pieces_pins.mast_for_the_whole_tape.Goals as goal
-
-pub returns : goal.returns
-returns c = c.in_ok-aired.ensures.room ∙ scripted_size c.args.deck.now c.args.program.now c.requires.deck c.requires.planned

@@ -1,0 +1,10 @@
+use Rattle.std.proofs.Common.{◌∙◌}
+use Rattle.air_model.specs.Decks.{script_history}
+use Rattle.session_pins.proofs.SessionFacts.{pair_history, pair_short, pair_verdicts}
+use Rattle.session_pins.proofs.script_pins.last_piece_not_heard.Goals as goal
+
+pub air_script-requires-clause-few : goal.air_script-requires-clause-few
+air_script-requires-clause-few g c κs within = pair_short c.args.deck.now c.requires.deck
+
+pub returns : goal.returns
+returns g c = c.in_ok-aired.ensures.verdicts ∙ pair_verdicts c.args.deck.now (script_history c.args.deck.now) c.requires.deck (pair_history c.args.deck.now c.requires.deck)

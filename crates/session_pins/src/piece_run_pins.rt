@@ -1,0 +1,71 @@
+//! Pins of `PieceRun`: the events and the buckets of the next piece of a run.
+#![tactic(auto)]
+
+ghost use Rattle.std.specs.Prelude.{◌≡◌, [], ◌∷◌, None, OnOk, Some};
+ghost use Rattle.air_history.specs.declared.histories.Event.TheVariants.{Start};
+ghost use Rattle.air_model.specs.Decks.{disks_in};
+ghost use Rattle.air_sender.specs.TapeMasts.{told_by};
+ghost use Rattle.scripts.specs.PieceRuns.{IsPieceRun};
+ghost use Rattle.session_pins.specs.SmallBuckets.{item_bytes};
+ghost use Rattle.session_pins.specs.SmallDecks.{commit, scripted, set_to, updated};
+
+use air_base::NoMemory;
+use air_sender::TapeMast;
+use chunk_program::Program;
+use item_catalog::Deck;
+use scripts::PieceRun;
+use std::alloc::Global;
+
+/// An updater commits its updates one after another.
+pub fn another_update_of_the_updater(
+    run: &mut PieceRun,
+    alloc: Global,
+    deck: &Deck,
+    program: &Program,
+    piece: &mut TapeMast,
+) -> Result<(), NoMemory>
+    requires deck { deck.now ≡ updated (Some 0 ∷ Some 0 ∷ []) }
+    requires planned { program.now ≡ disks_in deck.now }
+    requires kept { IsPieceRun deck.now run.old }
+    requires events { run.old.events.items ≡ commit 0 (set_to 0 11) ∷ [] }
+    ensures { OnOk result (run.new.events.items ≡ commit 0 (set_to 0 11) ∷ commit 1 (set_to 1 21) ∷ []) }
+{
+    run.next_piece(alloc, deck, program, 1, piece)?;
+    Ok(())
+}
+
+/// A piece has the buckets of its own cycles alone, whatever the mast had before.
+pub fn mast_not_emptied(
+    run: &mut PieceRun,
+    alloc: Global,
+    deck: &Deck,
+    program: &Program,
+    piece: &mut TapeMast,
+) -> Result<(), NoMemory>
+    requires deck { deck.now ≡ scripted (None ∷ None ∷ []) }
+    requires planned { program.now ≡ disks_in deck.now }
+    requires kept { IsPieceRun deck.now run.old }
+    requires events { run.old.events.items ≡ Start ∷ [] }
+    ensures { OnOk result ((told_by piece.new).buckets ≡ item_bytes 2 0 10 ∷ item_bytes 2 1 20 ∷ []) }
+{
+    run.next_piece(alloc, deck, program, 1, piece)?;
+    Ok(())
+}
+
+/// A piece has as many cycles as it is to have, and no more (piece goes on past its cycles).
+pub fn piece_ends_early(
+    run: &mut PieceRun,
+    alloc: Global,
+    deck: &Deck,
+    program: &Program,
+    piece: &mut TapeMast,
+) -> Result<(), NoMemory>
+    requires deck { deck.now ≡ scripted (None ∷ None ∷ None ∷ []) }
+    requires planned { program.now ≡ disks_in deck.now }
+    requires kept { IsPieceRun deck.now run.old }
+    requires events { run.old.events.items ≡ [] }
+    ensures { OnOk result (run.new.events.items ≡ Start ∷ Start ∷ []) }
+{
+    run.next_piece(alloc, deck, program, 2, piece)?;
+    Ok(())
+}

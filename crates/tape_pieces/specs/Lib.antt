@@ -1,2 +1,0 @@
-pub mod HeardTapes
-pub mod Steps

@@ -1,6 +1,0 @@
-use Rattle.std.proofs.Common.{arith}
-use Rattle.update_texts.proofs.KeptOnceFacts.{kept_none}
-use Rattle.update_texts.proofs.item_lists.ItemList.clear.Goals as goal
-
-pub invariant_of-self : goal.invariant_of-self
-invariant_of-self c = (omega arith, kept_none)

@@ -1,6 +1,0 @@
-use Rattle.std.proofs.Common.{arith}
-use Rattle.update_texts.proofs.KeptOnceFacts.{kept_none}
-use Rattle.update_texts.proofs.item_lists.ItemList.new.Goals as goal
-
-pub invariant_of-result : goal.invariant_of-result
-invariant_of-result c = (omega arith, kept_none)

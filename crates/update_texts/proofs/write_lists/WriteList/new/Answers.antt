@@ -1,6 +1,0 @@
-use Rattle.std.proofs.Common.{arith, refl}
-use Rattle.update_texts.proofs.KeptOnceFacts.{kept_none}
-use Rattle.update_texts.proofs.write_lists.WriteList.new.Goals as goal
-
-pub invariant_of-result : goal.invariant_of-result
-invariant_of-result c = (refl, omega arith, kept_none)

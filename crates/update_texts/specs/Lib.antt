@@ -1,4 +1,0 @@
-pub mod Writes
-pub mod ListTests
-pub mod KeptLists
-pub mod Steps

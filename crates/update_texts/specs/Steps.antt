@@ -1,2 +1,0 @@
--- Definitions that private steps alone speak of: no public contract cites them, nor what a public type shows.
-pub mod WriteParts
