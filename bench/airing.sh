@@ -6,7 +6,7 @@ set -u
 cd "$(dirname "$0")/.." || exit 1
 runs=${1:-11}
 source bench/build.sh
-build airing air_base air_history air_model control_matrix item_catalog chunk_program board_laws air_sender
+build airing air_base air_history air_model control_matrix item_catalog chunk_program air_sender
 printf '%-12s %12s\n' memory 'GB a second'
 for _ in $(seq "$runs"); do "$program"; done | sort -k1,1 -k2,2 -k3,3n | awk '
     { name = $1 " " $2; times[name, ++count[name]] = $3; if (count[name] == 1) order[++names] = name }

@@ -6,7 +6,7 @@ set -u
 cd "$(dirname "$0")/.." || exit 1
 runs=${1:-11}
 source bench/build.sh
-build held air_base air_history column_check
+build held air_base air_history held_reads column_check
 median() { awk -v column="$1" '{ print $column }' | sort -n | awk '{ times[NR] = $1 } END { print times[int((NR + 1) / 2)] / 100 }'; }
 for _ in $(seq "$runs"); do "$program" || exit 1; done >"$scratch/times"
 printf '%6s %6s %10s %10s %10s\n' items held clashes plain ratio

@@ -10,7 +10,7 @@ cd "$(dirname "$0")/.." || exit 1
 size=${1:-134217728}
 runs=${2:-5}
 source bench/build.sh
-build reports air_base air_history air_model item_catalog report_texts report_reading report_laws air_report csv
+build reports air_base air_history air_model item_catalog air_report csv
 
 # 256 items, 16 updaters with 6,250 updates each, 64 readers of 16 tries with 156 queries of sixteen items each, and 16 monitors
 awk 'BEGIN {
