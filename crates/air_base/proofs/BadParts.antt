@@ -4,10 +4,10 @@ use Rattle.std.specs.Prelude.{is_none}
 use Rattle.std.specs.List.{position, position_or_len}
 use Rattle.std.proofs.lemmas.Bool.Decides.{nat_tests}
 use Rattle.std.proofs.lemmas.List.Sums.{sum_by-cons}
-use Rattle.air_base.specs.Fronts.{after_part, first_part, is_no_space}
+use Rattle.air_base.specs.LeadingParts.{after_part, first_part, is_no_space}
 use Rattle.air_base.specs.NumberLists.{bad_part_at, part_start}
 use Rattle.air_base.specs.Pieces.{cut_at}
-use Rattle.air_base.proofs.FrontFacts.{front_behind}
+use Rattle.air_base.proofs.LeadingPartLemmas.{front_behind}
 use Rattle.air_base.proofs.ListFronts.{parts_front}
 
 -- The byte at which the first bad one of these parts begins.

@@ -6,9 +6,9 @@ use Rattle.std.specs.Str.Parse.{digits_value}
 use Rattle.std.proofs.lemmas.Bool.{cases_lt}
 use Rattle.std.proofs.lemmas.List.{get_or-take, length-take-le, take-append-drop, take-append-le, take_all}
 use Rattle.air_base.specs.Numbers.{number_of}
-use Rattle.air_base.proofs.NumberFacts.{bad_front, spelled, too_great, value_more}
-use Rattle.air_base.specs.Fronts.{DigitsRead, after_digits, behind, digits_of, front}
-use Rattle.air_base.proofs.FrontFacts.{end_behind, end_front, front_past, scan_behind, scan_front, scan_more}
+use Rattle.air_base.proofs.NumberLemmas.{bad_front, spelled, too_great, value_more}
+use Rattle.air_base.specs.LeadingParts.{DigitsRead, after_digits, behind, digits_of, leading_part}
+use Rattle.air_base.proofs.LeadingPartLemmas.{end_behind, end_front, front_past, scan_behind, scan_front, scan_more}
 
 -- All digits at the front were read: what stands behind them, if anything does, is no digit.
 module _ (text : List ℕ) (len n : ℕ) (read : DigitsRead text len n) (within : len ≤ length text) (stop : is_ascii_digit (get_or text len 0) ≡ false) where
@@ -17,7 +17,7 @@ module _ (text : List ℕ) (len n : ℕ) (read : DigitsRead text len n) (within 
 
   digits : take len text ≡ digits_of text
   unfolding digits_of
-  digits = elim (cases_lt len (length text)) as (λ _. take len text ≡ front is_ascii_digit text) [
+  digits = elim (cases_lt len (length text)) as (λ _. take len text ≡ leading_part is_ascii_digit text) [
     | inl less ↦ scan_front is_ascii_digit text len read.digits 0 less stop
     | inr end ↦ end_front is_ascii_digit text len read.digits len end end
   ]
@@ -49,10 +49,10 @@ unfolding digits_of
 too_long text i n within digit read above =
     let all = scan_more is_ascii_digit text i read.digits 0 within digit in
     let taken = take (i + 1) text in
-    let rest = front is_ascii_digit (drop (i + 1) text) in
-    let past : front is_ascii_digit text ≡ taken ++ rest = ap (front is_ascii_digit) (sym (take-append-drop (i + 1) text)) ∙ front_past is_ascii_digit taken (drop (i + 1) text) all in
+    let rest = leading_part is_ascii_digit (drop (i + 1) text) in
+    let past : leading_part is_ascii_digit text ≡ taken ++ rest = ap (leading_part is_ascii_digit) (sym (take-append-drop (i + 1) text)) ∙ front_past is_ascii_digit taken (drop (i + 1) text) all in
     let many : length taken ≡ i + 1 = length-take-le (i + 1) text (omega arith) in
-    let same : taken ≡ take (i + 1) (front is_ascii_digit text) =
+    let same : taken ≡ take (i + 1) (leading_part is_ascii_digit text) =
     sym (ap (take (i + 1)) past ∙ take-append-le (i + 1) taken rest (omega (arith, many)) ∙ take_all (i + 1) taken (omega (arith, many))) in
     let value = value_more text i n within digit read in
-    sym (too_great (front is_ascii_digit text) (i + 1) (subst (λ l. 2 ^ 64 ≤ digits_value 10 l) same (omega (arith, value, above))))
+    sym (too_great (leading_part is_ascii_digit text) (i + 1) (subst (λ l. 2 ^ 64 ≤ digits_value 10 l) same (omega (arith, value, above))))

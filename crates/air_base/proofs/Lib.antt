@@ -1,7 +1,7 @@
-pub mod NumberFacts
-pub mod PartFacts
+pub mod NumberLemmas
+pub mod PartLemmas
 pub mod ListLaws
-pub mod FrontFacts
+pub mod LeadingPartLemmas
 pub mod LeadingNumbers
 pub mod MoreDigits
 pub mod NumberFronts

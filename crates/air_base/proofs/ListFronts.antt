@@ -2,7 +2,7 @@
 use Rattle.std.proofs.Common.{◌≡◌, ◌<◌, ◌≤◌, ◌++◌, ◌∷◌, [], ℕ, List, Option, Some, None, Bool, true, false, cond, refl, sym, ap, ◌∙◌, map, length, append_assoc, option_map, arith}
 use Rattle.air_base.specs.NumberLists.{all_some, list_of}
 use Rattle.air_base.specs.Pieces.{cut_at}
-use Rattle.air_base.specs.Fronts.{after_part, behind, first_part, is_no_space}
+use Rattle.air_base.specs.LeadingParts.{after_part, behind, first_part, is_no_space}
 use Rattle.air_base.specs.ReadParts.{part_values, prepend}
 use Rattle.air_base.proofs.Cuts.{cut_first, cut_rest}
 

@@ -12,8 +12,8 @@ use Rattle.std.proofs.lemmas.List.Sums.{AllPass-from_list_all}
 use Rattle.std.proofs.lemmas.List.Splits.{join_with_byte-slice_split, slice_split_at, slice_split_none}
 use Rattle.air_base.specs.Numbers.{number_of, number_text}
 use Rattle.air_base.specs.NumberLists.{all_some, bad_part_at, list_of, list_text, part_start, parts_of}
-use Rattle.air_base.proofs.NumberFacts.{number_digits, one_spelling, text_spells}
-use Rattle.air_base.proofs.PartFacts.{all_some-Some, parts_of-pieces, pieces}
+use Rattle.air_base.proofs.NumberLemmas.{number_digits, one_spelling, text_spells}
+use Rattle.air_base.proofs.PartLemmas.{all_some-Some, parts_of-pieces, pieces}
 
 -- A part of a list has a byte, and no space.
 pub record IsPart (part : List ℕ) : Type 0 where

@@ -7,8 +7,8 @@ use Rattle.std.specs.Str.Parse.{digits_value}
 use Rattle.std.proofs.lemmas.Bool.Decides.{nat_tests}
 use Rattle.std.proofs.lemmas.List.{length-take-le}
 use Rattle.std.proofs.lemmas.Str.Parse.{IsNumeralModel, digits_value_short, numerals_by_value}
-use Rattle.air_base.specs.Fronts.{DigitsRead}
-use Rattle.air_base.proofs.NumberFacts.{digits_more_read}
+use Rattle.air_base.specs.LeadingParts.{DigitsRead}
+use Rattle.air_base.proofs.NumberLemmas.{digits_more_read}
 
 -- A byte of a text, which is a digit's.
 pub record IsDigit (text : List ℕ) (place byte : ℕ) : Type 0 where

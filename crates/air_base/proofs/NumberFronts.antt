@@ -12,8 +12,8 @@ use Rattle.std.proofs.lemmas.List.Folds.{list_all-append}
 use Rattle.std.proofs.lemmas.Bool.{and_parts}
 use Rattle.std.proofs.lemmas.Bool.Decides.{nat_tests}
 use Rattle.air_base.specs.Numbers.{is_numeral, number_of}
-use Rattle.air_base.specs.Fronts.{FrontIs, front, behind, is_no_space, first_part, after_part, begins, digits_of, after_digits, ends_part}
-use Rattle.air_base.proofs.FrontFacts.{front_past, behind_past, front_all, front_behind}
+use Rattle.air_base.specs.LeadingParts.{FrontIs, leading_part, behind, is_no_space, first_part, after_part, begins, digits_of, after_digits, ends_part}
+use Rattle.air_base.proofs.LeadingPartLemmas.{front_past, behind_past, front_all, front_behind}
 
 -- A number's text is digits, and its value fits 64 bits.
 pub spelled_digits : (text : List ℕ) (n : ℕ) → number_of text ≡ Some n → list_all is_ascii_digit text ≡ true
@@ -63,20 +63,20 @@ all_such p q such (x ∷ xs) h = let both = and_parts (p x) (list_all p xs) h in
 
 digits_no_spaces : (text : List ℕ) → list_all is_no_space (digits_of text) ≡ true
 unfolding digits_of
-digits_no_spaces text = all_such is_ascii_digit is_no_space digit_no_space (front is_ascii_digit text) (front_all is_ascii_digit text)
+digits_no_spaces text = all_such is_ascii_digit is_no_space digit_no_space (leading_part is_ascii_digit text) (front_all is_ascii_digit text)
 
 -- The first part begins with the digits at the front; the rest of it is at the front of what follows them.
 pub part_by_digits : (text : List ℕ) → first_part text ≡ digits_of text ++ first_part (after_digits text)
 unfolding first_part digits_of after_digits
 part_by_digits text =
-    ap (front is_no_space) (front_behind is_ascii_digit text)
-    ∙ front_past is_no_space (front is_ascii_digit text) (behind is_ascii_digit text) (unfold digits_of in digits_no_spaces text)
+    ap (leading_part is_no_space) (front_behind is_ascii_digit text)
+    ∙ front_past is_no_space (leading_part is_ascii_digit text) (behind is_ascii_digit text) (unfold digits_of in digits_no_spaces text)
 
 pub after_by_digits : (text : List ℕ) → after_part text ≡ after_part (after_digits text)
 unfolding after_part digits_of after_digits
 after_by_digits text =
     ap (behind is_no_space) (front_behind is_ascii_digit text)
-    ∙ behind_past is_no_space (front is_ascii_digit text) (behind is_ascii_digit text) (unfold digits_of in digits_no_spaces text)
+    ∙ behind_past is_no_space (leading_part is_ascii_digit text) (behind is_ascii_digit text) (unfold digits_of in digits_no_spaces text)
 
 -- Nothing is before a space or the end.
 pub ended : (text : List ℕ) → ends_part text ≡ true → (first_part text ≡ []) × (after_part text ≡ text)
@@ -131,12 +131,12 @@ other_part c rest other no_space = ap number_of (goes_on c rest no_space) ∙ no
 -- A text that is its first digits spells their number.
 pub whole_number : (text : List ℕ) → after_digits text ≡ [] → number_of (digits_of text) ≡ number_of text
 unfolding digits_of after_digits
-whole_number text none = ap number_of (sym (front_behind is_ascii_digit text ∙ rw none (append-nil (front is_ascii_digit text))))
+whole_number text none = ap number_of (sym (front_behind is_ascii_digit text ∙ rw none (append-nil (leading_part is_ascii_digit text))))
 
 -- A text spells no number where more than digits stands there, or where its first digits spell none.
 digits_and_more : (text : List ℕ) (c : ℕ) (cs : List ℕ) → after_digits text ≡ c ∷ cs → text ≡ digits_of text ++ c ∷ cs
 unfolding digits_of after_digits
-digits_and_more text c cs more = front_behind is_ascii_digit text ∙ ap (λ l. front is_ascii_digit text ++ l) more
+digits_and_more text c cs more = front_behind is_ascii_digit text ∙ ap (λ l. leading_part is_ascii_digit text ++ l) more
 
 pub more_whole : (text : List ℕ) (c : ℕ) (cs : List ℕ) → after_digits text ≡ c ∷ cs → number_of text ≡ None
 more_whole text c cs more = no_number text (ap (list_all is_ascii_digit) (digits_and_more text c cs more) ∙ digits_then (digits_of text) c cs (behind_digits text c cs more))

@@ -4,7 +4,7 @@ use Rattle.std.proofs.Common.{◌≡◌, ◌<◌, ◌≤◌, ◌+◌, ◌-◌, �
 use Rattle.std.specs.Char.{is_ascii_digit}
 use Rattle.std.proofs.lemmas.List.{append_cancel_right, drop-append-le, drop-drop, drop_more, get_or-drop, length-append, take_all}
 use Rattle.air_base.specs.Numbers.{number_of}
-use Rattle.air_base.specs.Fronts.{DigitsRead, after_digits, after_part, behind, digits_of, ends_part, first_part, is_no_space}
+use Rattle.air_base.specs.LeadingParts.{DigitsRead, after_digits, after_part, behind, digits_of, ends_part, first_part, is_no_space}
 use Rattle.air_base.specs.ReadParts.{PlainAt}
 use Rattle.air_base.proofs.LeadingNumbers.{front_number, rest_read}
 use Rattle.air_base.proofs.NumberFronts.{after_ends, ended, part_ends}

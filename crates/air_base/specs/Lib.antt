@@ -2,5 +2,5 @@ pub mod Numbers
 pub mod Pieces
 pub mod NumberLists
 pub mod ListFault
-pub mod Fronts
+pub mod LeadingParts
 pub mod ReadParts

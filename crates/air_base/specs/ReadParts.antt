@@ -1,6 +1,6 @@
 -- Parts of a list that are read by their places in it, and how much of the list was read.
 use Rattle.std.specs.Prelude.{◌≡◌, ◌<◌, ◌≤◌, ◌+◌, ◌++◌, ℕ, List, Option, Some, None, map, drop, get_or, length}
-use Rattle.air_base.specs.Fronts.{DigitsRead, FrontIs}
+use Rattle.air_base.specs.LeadingParts.{DigitsRead, FrontIs}
 use Rattle.air_base.specs.NumberLists.{all_some, list_of}
 use Rattle.air_base.specs.Pieces.{cut_at}
 

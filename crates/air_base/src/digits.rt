@@ -8,7 +8,7 @@ ghost use Rattle.std.specs.Prelude.{◌≡◌, ◌==◌, ◌<◌, ◌≤◌, ◌
 ghost use Rattle.std.specs.Char.{is_ascii_digit};
 ghost use Rattle.air_base.specs.Numbers.{number_of};
 ghost use Rattle.std.specs.Option.{SomeIff};
-ghost use Rattle.air_base.specs.Fronts.{DigitsRead, digits_of};
+ghost use Rattle.air_base.specs.LeadingParts.{DigitsRead, digits_of};
 ghost use Rattle.air_base.specs.ReadParts.{ShortAt};
 
 /// Whether a byte is a digit's.

@@ -8,7 +8,7 @@ ghost use Rattle.air_base.specs.Numbers.{number_of, number_text};
 ghost use Rattle.air_base.specs.NumberLists.{list_of, bad_part_at, list_text, parts_of};
 ghost use Rattle.air_base.specs.ListFault.{TellsBadPart};
 
-use crate::number_fronts::number_front;
+use crate::leading_numbers::read_leading_number;
 use std::alloc::{AllocFailed, Global};
 use std::error::Error;
 use std::fmt;
@@ -56,7 +56,7 @@ pub fn read_list(alloc: Global, text: &[u8]) -> Result<Vec<u64>, ListFault>
     }
     let mut rest = text;
     loop {
-        let Some((number, after)) = number_front(rest) else {
+        let Some((number, after)) = read_leading_number(rest) else {
             let at = text.len() - rest.len();
             return Err(ListFault::BadNumber { at: at as u32 });
         };

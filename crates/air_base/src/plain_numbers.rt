@@ -1,7 +1,7 @@
 //! Plain numbers of a list, read by their places in it.
 //!
 //! A plain number has at most three digits, or more with the common way first, and a space or the list's end behind it. What
-//! isn't plain is left to the readers of `number_fronts`: so none says nothing of the part. The last part of a list, where it
+//! isn't plain is left to the readers of `leading_numbers`: so none says nothing of the part. The last part of a list, where it
 //! is too near to the end for the readers by place, is read from a copy with spaces behind it.
 
 ghost use Rattle.std.specs.Prelude.{◌<◌, ◌≤◌, ◌+◌, length, IfSome};
@@ -9,7 +9,7 @@ ghost use Rattle.air_base.specs.Numbers.{number_of};
 ghost use Rattle.air_base.specs.ReadParts.{PlainAt};
 
 use crate::digits::{all_digits, short_number};
-use crate::number_fronts::ends_part;
+use crate::leading_numbers::ends_part;
 
 /// The number of a plain part, where it has at most three digits, and the place at which the part ends.
 #[inline(always)]

@@ -6,8 +6,8 @@
 ghost use Rattle.std.specs.Prelude.{◌≡◌, ◌<◌, ◌^◌, ◌++◌, ℕ, List, Some, OnOk, OnErr};
 ghost use Rattle.air_base.specs.Numbers.{number_of, number_text};
 
+use crate::leading_numbers::leading_number;
 use crate::memory::NoMemory;
-use crate::number_fronts::leading_number;
 
 /// The number that the text spells, and None where it spells none.
 pub fn read_u64(text: &[u8]) -> Option<u64>

@@ -2,16 +2,16 @@
 use Rattle.std.proofs.Common.{◌≡◌, ap, ◌∙◌, ℕ, Bool, true, false, List, [], ◌∷◌, codes, length, Option, Some, None, refl, arith}
 use Rattle.std.specs.Prelude.{◌==◌, ◌||◌, ◌&&◌, nat_le, if◌then◌else◌, Contains}
 use Rattle.air_base.specs.Numbers.{number_of}
-use Rattle.air_devices.specs.Ears.{Eared}
-use Rattle.air_devices.specs.Masts.{Masted}
-use Rattle.air_devices.specs.Shelves.{Shelved}
-use Rattle.air_report.specs.Statuses.{code_of}
+use Rattle.air_devices.specs.Ears.{EarState}
+use Rattle.air_devices.specs.Masts.{MastState}
+use Rattle.air_devices.specs.Shelves.{ShelfState}
+use Rattle.air_report.specs.Statuses.{status_number}
 use Rattle.air_report.specs.declared.status.Status.{Status}
 use Rattle.air_report.specs.declared.status.Status.TheVariants as status
 use Rattle.item_catalog.specs.declared.deck.drill.TheConstants.{MOST_DRILL_SIZE}
 use Rattle.air_cli.specs.Answers.{QuietAnswers}
 use Rattle.air_cli.specs.Commands.{words_meaning}
-use Rattle.air_cli.specs.Given.{Given, given_status}
+use Rattle.air_cli.specs.ReportsAndTapes.{ReportAndTape, given_status}
 use Rattle.air_cli.specs.Drill.{DrillCause, DrillGives}
 use Rattle.air_cli.specs.Meanings.{Meaning, WordsCause}
 use Rattle.air_cli.specs.MainWords.{OnShelf, called_of}
@@ -20,14 +20,14 @@ use Rattle.air_cli.specs.Words.{AsksDrill, asked_drill, asked_of_one}
 
 -- The status is one of these.
 abbrev IsAmong : Status → Type 0
-IsAmong s = Contains (0 ∷ 1 ∷ 4 ∷ 5 ∷ []) (code_of s)
+IsAmong s = Contains (0 ∷ 1 ∷ 4 ∷ 5 ∷ []) (status_number s)
 
 -- No status but these is a refusal's, and nothing that is given differs.
 record RefusesFew (command : Meaning) : Type 0 where
-  refuses : (before now : Shelved) (s : Status) → command.Refuses before now s → IsAmong s
-  same : (before : Shelved) (given : Given) → command.Gives before given → given.differs ≡ false
+  refuses : (before now : ShelfState) (s : Status) → command.Refuses before now s → IsAmong s
+  same : (before : ShelfState) (given : ReportAndTape) → command.Gives before given → given.differs ≡ false
 
-ends_among : (command : Meaning) → RefusesFew command → (before now : Shelved) (s : Status) → QuietAnswers command before now s → IsAmong s
+ends_among : (command : Meaning) → RefusesFew command → (before now : ShelfState) (s : Status) → QuietAnswers command before now s → IsAmong s
 unfolding QuietAnswers
 ends_among command few before now status.Ok h = (0, omega arith, refl)
 ends_among command few before now status.Differs h = absurd (cc (h.gives.2 ∙ ap given_status (few.same before h.gives.0 h.gives.1)))
@@ -46,7 +46,7 @@ unfolding DrillCause
 drill_among status.NoMemory h = (3, omega arith, refl)
 drill_among s h = absurd h
 
-drill_same : (seed size : ℕ) (given : Given) → DrillGives seed size given → given.differs ≡ false
+drill_same : (seed size : ℕ) (given : ReportAndTape) → DrillGives seed size given → given.differs ≡ false
 unfolding DrillGives
 drill_same seed size given h = ap (λ given. given.differs) h.1
 
@@ -63,7 +63,7 @@ drill_few (Some seed) (Some size) = by (nat_le 1 size && nat_le size MOST_DRILL_
     by true = record { refuses = λ before now s h. drill_among s h; same = λ before given h. drill_same seed size given h }
     by false = none_few
 
-words_few : (words : List (List ℕ)) (mast mast_now : Masted) (ear ear_now : Eared) → RefusesFew (called_meaning (called_of (codes "drill" ∷ words)) mast mast_now ear ear_now)
+words_few : (words : List (List ℕ)) (mast mast_now : MastState) (ear ear_now : EarState) → RefusesFew (called_meaning (called_of (codes "drill" ∷ words)) mast mast_now ear ear_now)
 words_few [] mast mast_now ear ear_now = none_few
 words_few (first ∷ []) mast mast_now ear ear_now = by (length first == 0)
   where
@@ -77,6 +77,6 @@ words_few (first ∷ second ∷ []) mast mast_now ear ear_now = by (length first
     by false = drill_few (number_of first) (number_of second)
 words_few (first ∷ second ∷ more ∷ words) mast mast_now ear ear_now = none_few
 
-pub drill_ends : (words : List (List ℕ)) (mast mast_now : Masted) (ear ear_now : Eared) (before now : Shelved) (s : Status)
+pub drill_ends : (words : List (List ℕ)) (mast mast_now : MastState) (ear ear_now : EarState) (before now : ShelfState) (s : Status)
     → QuietAnswers (called_meaning (called_of (codes "drill" ∷ words)) mast mast_now ear ear_now) before now s → IsAmong s
 drill_ends words mast mast_now ear ear_now = ends_among (called_meaning (called_of (codes "drill" ∷ words)) mast mast_now ear ear_now) (words_few words mast mast_now ear ear_now)

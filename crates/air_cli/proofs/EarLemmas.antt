@@ -10,8 +10,8 @@ use Rattle.air_devices.specs.declared.ears.Heard.TheVariants as heard
 use Rattle.listeners.specs.Listeners.{Listener, hears, hears_one}
 use Rattle.listeners.proofs.ReaderLemmas.{hears_none}
 use Rattle.listeners.proofs.HearLemmas.{pieces}
-use Rattle.air_cli.specs.Hearings.{AreHeard, TakesJust, TakesUpTo, heard_of}
-use Rattle.air_cli.specs.Steps.EarSteps.{HaveHeard}
+use Rattle.air_cli.specs.Hearings.{AreFirstHeard, TakesJust, TakesUpTo, heard_bytes}
+use Rattle.air_cli.specs.Private.EarSteps.{HaveHeardEar}
 use Rattle.air_cli.specs.declared.commands.hearings.TheConstants.{MOST_HEARD_BYTES}
 
 -- ---- what was taken
@@ -19,7 +19,7 @@ use Rattle.air_cli.specs.declared.commands.hearings.TheConstants.{MOST_HEARD_BYT
 -- Just so many datagrams were taken, and this is what was heard of them.
 abbrev pub AreFirst : ℕ → Option (List (List ℕ)) → Option (List (List ℕ)) → List (List ℕ) → Type 0
 AreFirst count None now heard = ⊤
-AreFirst count (Some waiting) now heard = (count ≤ length waiting) × (now ≡ Some (drop count waiting)) × (heard ≡ map heard_of (take count waiting))
+AreFirst count (Some waiting) now heard = (count ≤ length waiting) × (now ≡ Some (drop count waiting)) × (heard ≡ map heard_bytes (take count waiting))
 
 drop_step : (w : List (List ℕ)) (n : ℕ) (first : List ℕ) (more : List (List ℕ)) → drop n w ≡ first ∷ more → (n < length w) × (drop (suc n) w ≡ more) × (take (suc n) w ≡ take n w ++ first ∷ [])
 drop_step [] zero first more e = cc
@@ -34,22 +34,22 @@ none_first : (before : Option (List (List ℕ))) → AreFirst 0 before before []
 none_first None = tt
 none_first (Some w) = (omega arith, refl, refl)
 
-one_first : (n : ℕ) (w : List (List ℕ)) (now : Option (List (List ℕ))) (heard : List (List ℕ)) (bytes : List ℕ) (rest : List (List ℕ)) → rest ≡ drop n w → heard ≡ map heard_of (take n w)
-    → TakesFirst (Some rest) now (λ first. bytes ≡ heard_of first) → AreFirst (n + 1) (Some w) now (heard ++ bytes ∷ [])
+one_first : (n : ℕ) (w : List (List ℕ)) (now : Option (List (List ℕ))) (heard : List (List ℕ)) (bytes : List ℕ) (rest : List (List ℕ)) → rest ≡ drop n w → heard ≡ map heard_bytes (take n w)
+    → TakesFirst (Some rest) now (λ first. bytes ≡ heard_bytes first) → AreFirst (n + 1) (Some w) now (heard ++ bytes ∷ [])
 one_first n w now heard bytes [] is so h = absurd h
 one_first n w now heard bytes (first ∷ more) is so h =
     let step = drop_step w n first more (sym is) in
     let next : n + 1 ≡ suc n = omega arith in (
       omega (arith, step.0),
       h.0 ∙ ap Some (sym (ap (λ k. drop k w) next ∙ step.1)),
-      ap (λ l. l ++ bytes ∷ []) so ∙ ap (λ b. map heard_of (take n w) ++ b ∷ []) h.1
-          ∙ sym (ap (λ k. map heard_of (take k w)) next ∙ ap (map heard_of) step.2 ∙ map-append heard_of (take n w) (first ∷ [])),
+      ap (λ l. l ++ bytes ∷ []) so ∙ ap (λ b. map heard_bytes (take n w) ++ b ∷ []) h.1
+          ∙ sym (ap (λ k. map heard_bytes (take k w)) next ∙ ap (map heard_bytes) step.2 ∙ map-append heard_bytes (take n w) (first ∷ [])),
     )
 
-more_first : (n : ℕ) (before mid now : Option (List (List ℕ))) (heard : List (List ℕ)) (bytes : List ℕ) → AreFirst n before mid heard → TakesFirst mid now (λ first. bytes ≡ heard_of first)
+more_first : (n : ℕ) (before mid now : Option (List (List ℕ))) (heard : List (List ℕ)) (bytes : List ℕ) → AreFirst n before mid heard → TakesFirst mid now (λ first. bytes ≡ heard_bytes first)
     → AreFirst (n + 1) before now (heard ++ bytes ∷ [])
 more_first n None mid now heard bytes are h = tt
-more_first n (Some w) mid now heard bytes are h = one_first n w now heard bytes (drop n w) refl are.2 (subst (λ o. TakesFirst o now (λ first. bytes ≡ heard_of first)) are.1 h)
+more_first n (Some w) mid now heard bytes are h = one_first n w now heard bytes (drop n w) refl are.2 (subst (λ o. TakesFirst o now (λ first. bytes ≡ heard_bytes first)) are.1 h)
 
 nothing_left : (w : List (List ℕ)) (n : ℕ) → drop n w ≡ [] → length w ≤ n
 nothing_left [] n e = omega arith
@@ -62,12 +62,12 @@ drop_past [] (suc n) l = refl
 drop_past (x ∷ w) zero l = absurd (omega arith)
 drop_past (x ∷ w) (suc n) l = drop_past w n (omega arith)
 
-over : (n most : ℕ) (before mid now : Option (List (List ℕ))) (heard : List (List ℕ)) → n ≤ most → AreFirst n before mid heard → IsUsedUp mid now → AreHeard most before heard × TakesUpTo most before now
+over : (n most : ℕ) (before mid now : Option (List (List ℕ))) (heard : List (List ℕ)) → n ≤ most → AreFirst n before mid heard → IsUsedUp mid now → AreFirstHeard most before heard × TakesUpTo most before now
 over n most None mid now heard l are used = (tt, tt)
 over n most (Some w) mid now heard l are used =
     let u : IsUsedUp (Some (drop n w)) now = subst (λ o. IsUsedUp o now) are.1 used in
     let long = nothing_left w n u.0 in
-    (are.2 ∙ ap (map heard_of) (take_all n w long ∙ sym (take_all most w (omega arith))), u.1 ∙ ap Some (sym (drop_past w most (omega arith))))
+    (are.2 ∙ ap (map heard_bytes) (take_all n w long ∙ sym (take_all most w (omega arith))), u.1 ∙ ap Some (sym (drop_past w most (omega arith))))
 
 -- Just so many were taken.
 just : (n : ℕ) (before now : Option (List (List ℕ))) (heard : List (List ℕ)) → AreFirst n before now heard → TakesJust n before now
@@ -88,7 +88,7 @@ just_taken most (Some w) now h = let (count, few, within, same) = just_some most
 
 -- The bytes in front of the buffer are what is heard of the datagram that was taken.
 pub taken_so : (before now : Option (List (List ℕ))) (buf bytes : List ℕ) (len : ℕ) → length buf ≡ MOST_HEARD_BYTES → bytes ≡ take len buf → Hears before now buf (heard.Bucket len)
-    → TakesFirst before now (λ d. bytes ≡ heard_of d)
+    → TakesFirst before now (λ d. bytes ≡ heard_bytes d)
 taken_so None now buf bytes len long is h = tt
 taken_so (Some []) now buf bytes len long is h = h.2
 taken_so (Some (d ∷ rest)) now buf bytes len long is h = (h.2.0, is ∙ h.2.1 ∙ ap (λ k. take k d) long)
@@ -132,7 +132,7 @@ module _ (before : Option (List (List ℕ))) (first : List Listener) where
 
   -- One more datagram, of so many bytes.
   pub heard_more : (n : ℕ) (mid now : Option (List (List ℕ))) (last next : List Listener) (bytes : List ℕ) → HaveHeardFirst n before mid first last → (1 ≤ length bytes) × (length bytes ≤ MOST_HEARD_BYTES)
-      → TakesFirst mid now (λ d. bytes ≡ heard_of d) → next ≡ map (hears_one (bucket_in bytes)) last → HaveHeardFirst (n + 1) before now first next
+      → TakesFirst mid now (λ d. bytes ≡ heard_bytes d) → next ≡ map (hears_one (bucket_in bytes)) last → HaveHeardFirst (n + 1) before now first next
   heard_more n mid now last next bytes h size takes is = record {
     heard = h.heard ++ bytes ∷ [];
     long = (let both = length-append h.heard (bytes ∷ []) in let so = h.long in omega arith);
@@ -141,7 +141,7 @@ module _ (before : Option (List (List ℕ))) (first : List Listener) where
     same = is ∙ ap (map (hears_one (bucket_in bytes))) h.same ∙ one_behind (bucket_in bytes) (map bucket_in h.heard) first ∙ ap (λ l. map (hears l) first) (sym (map-append bucket_in h.heard (bytes ∷ [])));
   }
 
-  pub heard_over : (n most : ℕ) (mid now : Option (List (List ℕ))) (last : List Listener) → n ≤ most → HaveHeardFirst n before mid first last → IsUsedUp mid now → HaveHeard most before now first last
+  pub heard_over : (n most : ℕ) (mid now : Option (List (List ℕ))) (last : List Listener) → n ≤ most → HaveHeardFirst n before mid first last → IsUsedUp mid now → HaveHeardEar most before now first last
   heard_over n most mid now last l h used =
       let o = over n most before mid now h.heard l h.are used in
       record { heard = h.heard; is = record { few = (let so = h.long in omega arith); each = h.each; are = o.0; taken = o.1 }; same = h.same }

@@ -3,15 +3,15 @@ use Rattle.std.proofs.Common.{◌≡◌, ◌≤◌, ◌<◌, ◌+◌, ◌-◌, �
 use Rattle.std.proofs.lemmas.List.{append-nil, length-map, map-append}
 use Rattle.std.proofs.lemmas.List.Elements.{All-map}
 use Rattle.air_devices.specs.Told.{ToldIs}
-use Rattle.air_devices.specs.Shelves.{Shelved}
+use Rattle.air_devices.specs.Shelves.{ShelfState}
 use Rattle.air_model.specs.Buckets.{Bucket, bucket_in}
 use Rattle.air_model.specs.Tapes.{TapeRead, tape_of, tape_read}
-use Rattle.air_model.proofs.TapeFacts.{whole_read}
+use Rattle.air_model.proofs.TapeLemmas.{whole_read}
 use Rattle.listeners.specs.Listeners.{Listener, hears}
 use Rattle.listeners.proofs.CountLemmas.{heard_by}
 use Rattle.listeners.proofs.HearLemmas.{counted_all, pieces}
 use Rattle.listeners.proofs.ReaderLemmas.{few_records, hears_none}
-use Rattle.air_cli.specs.Steps.Pieces.{HasCome, HaveHeard, IsFront, IsRest}
+use Rattle.air_cli.specs.Private.Pieces.{AreWholeRecords, HasCome, HaveHeardFile, IsRest}
 use Rattle.air_cli.proofs.TapeFronts.{many_bytes}
 use Rattle.air_cli.proofs.ReadSoFar.{IsRead, all_told, came, let_go, nothing_came, read_none}
 
@@ -34,7 +34,7 @@ begun most file left piece before whole none =
 
 -- Bytes came, and the whole records at the front of the piece, which was lent as a slice, were heard and let go.
 pub heard_more : {most : ℕ} {file left later : Option (List ℕ)} {piece after slice : List ℕ} {still n used : ℕ} {before now : List Listener} (next : List ℕ) (all : List Listener)
-    → SoFar most file left piece still before now → HasCome n piece after left later → n ≤ still → slice ≡ after → IsFront slice used
+    → SoFar most file left piece still before now → HasCome n piece after left later → n ≤ still → slice ≡ after → AreWholeRecords slice used
     → all ≡ map (hears (map bucket_in (tape_read slice).records)) now → next ≡ drop used after → SoFar most file later next (still - n) before all
 heard_more {most} {file} {left} {later} {piece} {after} {slice} {still} {n} {used} {before} {now} next all far come few lent front heard rest =
     let more = (tape_read slice).records in
@@ -47,12 +47,12 @@ heard_more {most} {file} {left} {later} {piece} {after} {slice} {still} {n} {use
     }
 
 -- What follows them is nothing, or ends inside its first record.
-pub rest_after : {after slice : List ℕ} {used : ℕ} (next : List ℕ) → slice ≡ after → IsFront slice used → next ≡ drop used after → IsRest next
+pub rest_after : {after slice : List ℕ} {used : ℕ} (next : List ℕ) → slice ≡ after → AreWholeRecords slice used → next ≡ drop used after → IsRest next
 rest_after {after} {slice} {used} next lent front rest = subst IsRest (sym (rest ∙ ap (drop used) (sym lent))) front.rest
 
 -- The file is at its end, and no byte is left that wasn't heard: the tape is whole, and all of it was heard.
-pub whole_heard : {most still : ℕ} {left later : Option (List ℕ)} {piece after : List ℕ} {before now : List Listener} (name : List ℕ) (shelf : Shelved)
-    → SoFar most (shelf.told.file name) left piece still before now → HasCome 0 piece after left later → after ≡ [] → HaveHeard name most shelf before now
+pub whole_heard : {most still : ℕ} {left later : Option (List ℕ)} {piece after : List ℕ} {before now : List Listener} (name : List ℕ) (shelf : ShelfState)
+    → SoFar most (shelf.told.file name) left piece still before now → HasCome 0 piece after left later → after ≡ [] → HaveHeardFile name most shelf before now
 whole_heard {most} {still} {left} {later} {piece} {after} {before} {now} name shelf far come none =
     let tape = tape_of far.records in
     let upto = far.read.upto in

@@ -4,14 +4,14 @@ use Rattle.std.proofs.Common.{◌≡◌, ◌≤◌, ◌<◌, ◌+◌, ◌-◌, �
 use Rattle.std.specs.Io.KnownBytes.{Consumes, IsAtEnd, Keeps, prepend_known}
 use Rattle.std.proofs.lemmas.List.{append-nil, drop_at, nil_from_length, take-append-drop}
 use Rattle.std.proofs.lemmas.List.Elements.{All-append, All-nil}
-use Rattle.air_devices.specs.Shelves.{Shelved}
+use Rattle.air_devices.specs.Shelves.{ShelfState}
 use Rattle.air_devices.specs.Told.{ToldIs, WhereTold}
 use Rattle.air_model.specs.Tapes.{TapeRead, ends_inside, tape_of, tape_read}
-use Rattle.air_model.proofs.TapeFacts.{AreShort, cut_read}
+use Rattle.air_model.proofs.TapeLemmas.{AreShort, cut_read}
 use Rattle.air_report.specs.declared.status.Status.{Status}
-use Rattle.air_cli.proofs.CauseFacts.{where_read}
+use Rattle.air_cli.proofs.CauseLemmas.{where_read}
 use Rattle.air_cli.specs.HeardTapes.{UnheardCause}
-use Rattle.air_cli.specs.Steps.Pieces.{HasCome, IsCutBefore, IsFront, IsRest}
+use Rattle.air_cli.specs.Private.Pieces.{AreWholeRecords, HasCome, IsCutBefore, IsRest}
 use Rattle.air_cli.proofs.TapeFronts.{tape_joined}
 
 -- The tape of these records and then the piece were read off the front of the file, which may have so many bytes; so many of these are
@@ -70,7 +70,7 @@ came {most} {file} {left} {records} {piece} {still} n after later far come few =
 
 -- The whole records at its front were let go.
 pub let_go : {most : ℕ} {file left : Option (List ℕ)} {records : List (List ℕ)} {piece : List ℕ} {still n : ℕ} (next : List ℕ)
-    → IsRead most file left records piece still → IsFront piece n → next ≡ drop n piece → IsRead most file left (records ++ (tape_read piece).records) next still
+    → IsRead most file left records piece still → AreWholeRecords piece n → next ≡ drop n piece → IsRead most file left (records ++ (tape_read piece).records) next still
 let_go {most} {file} {left} {records} {piece} {still} {n} next far front rest =
     let more = (tape_read piece).records in
     let split : piece ≡ tape_of more ++ next = sym (take-append-drop n piece) ∙ ap (λ l. l ++ drop n piece) front.whole.1 ∙ ap (λ l. tape_of more ++ l) (sym rest) in
@@ -115,7 +115,7 @@ cut_told {most} {file} {left} {later} {records} {piece} {after} {still} at far r
     (omega (arith, length-append tape piece), ap (λ (t : TapeRead). t.cut) read ∙ ap (λ p. Some p) place)
 
 -- So this is why the named tape can't be heard.
-pub cut_cause : {most : ℕ} {left later : Option (List ℕ)} {records : List (List ℕ)} {piece after slice : List ℕ} {still : ℕ} (name : List ℕ) (before now : Shelved) (s : Status)
+pub cut_cause : {most : ℕ} {left later : Option (List ℕ)} {records : List (List ℕ)} {piece after slice : List ℕ} {still : ℕ} (name : List ℕ) (before now : ShelfState) (s : Status)
     → IsRead most (before.told.file name) left records piece still → IsRest piece → HasCome 0 piece after left later → slice ≡ after → IsCutBefore slice (most - still) s → UnheardCause name most before now s
 unfolding UnheardCause
 cut_cause {most} {left} {later} {records} {piece} {after} {slice} {still} name before now s far rest come lent cut =

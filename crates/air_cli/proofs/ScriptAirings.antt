@@ -5,7 +5,7 @@ use Rattle.std.specs.Io.KnownBytes.{Appends}
 use Rattle.std.proofs.Math.Seq.{take-append_seam}
 use Rattle.std.proofs.lemmas.List.{append-nil}
 use Rattle.air_devices.specs.Counts.{KeepsCounts, NoCountFalls, Rose}
-use Rattle.air_devices.specs.Shelves.{Shelved}
+use Rattle.air_devices.specs.Shelves.{ShelfState}
 use Rattle.air_devices.specs.Told.{AppendsPart, Becomes}
 use Rattle.air_devices.specs.Unchanged.{KeepsButPrinted}
 use Rattle.air_model.specs.Aired.{air_of, history_tape}
@@ -16,29 +16,29 @@ use Rattle.air_report.specs.declared.status.Status.TheVariants as status
 use Rattle.air_cli.specs.Deliveries.{Delivers, KeepsButDelivered}
 use Rattle.air_cli.specs.OutputPieces.{IsCutOff, IsPartWritten, IsWritten}
 use Rattle.air_cli.specs.Outputs.{OutputHoldsPart}
-use Rattle.air_cli.proofs.CountFacts.{kept_twice}
-use Rattle.air_cli.proofs.DeliveryFacts.{delivers_all, delivers_none, delivers_part}
-use Rattle.air_cli.proofs.OutputFacts.{no_fall}
+use Rattle.air_cli.proofs.CountLemmas.{kept_twice}
+use Rattle.air_cli.proofs.DeliveryLemmas.{delivers_all, delivers_none, delivers_part}
+use Rattle.air_cli.proofs.OutputLemmas.{no_fall}
 use Rattle.scripts.specs.Pieces.{tape_so_far}
-use Rattle.scripts.specs.declared.aired_pieces.AiredPieces.{AiredPieces}
+use Rattle.scripts.specs.declared.script_airing.ScriptAiring.{ScriptAiring}
 use Rattle.air_cli.specs.Answers.{HasBegun, IsWanting, Leaves, QuietAnswers}
 use Rattle.air_cli.specs.Script.{script_given, script_meaning}
-use Rattle.air_cli.specs.Steps.BeforeDelivery.{IsMade, Reads}
-use Rattle.air_cli.specs.Steps.Scripting.{AirsScript, IsStopped}
+use Rattle.air_cli.specs.Private.BeforeDelivery.{IsMade, ReadsInputs}
+use Rattle.air_cli.specs.Private.Scripting.{AirsScript, IsStopped}
 use Rattle.air_cli.specs.Untouched.{IsUntouched}
-use Rattle.air_cli.proofs.AnswerFacts.{answers_made}
-use Rattle.air_cli.proofs.ReadFacts.{falls_twice}
-use Rattle.air_cli.proofs.ScriptFacts.{made_for, reads_for}
+use Rattle.air_cli.proofs.AnswerLemmas.{answers_made}
+use Rattle.air_cli.proofs.ReadLemmas.{falls_twice}
+use Rattle.air_cli.proofs.ScriptLemmas.{made_for, reads_for}
 
 -- ---- memory ran out
 
 -- An output to which a beginning of the tape was written.
-begun_part : (name tape : List ℕ) (before mid now : Shelved) → mid.told.output name ≡ before.told.output name → IsPartWritten (Some name) tape mid now → OutputHoldsPart name tape before now
+begun_part : (name tape : List ℕ) (before mid now : ShelfState) → mid.told.output name ≡ before.told.output name → IsPartWritten (Some name) tape mid now → OutputHoldsPart name tape before now
 begun_part name tape before mid now same part =
     let front : part.so_far ≡ take (length part.so_far) tape = sym (take-append_seam part.so_far part.left) ∙ ap (take (length part.so_far)) (sym part.joined) in
     inr (length part.so_far, subst (λ o. Becomes o (now.told.output name) (take (length part.so_far) tape)) same (subst (Becomes (mid.told.output name) (now.told.output name)) front part.written.holds))
 
-untouched_or_begun : (deck : List ℕ) (output : Option (List ℕ)) (d : Deck) (before mid now : Shelved) → IsMade (script_meaning deck None) before mid (script_given d) → Reads (script_meaning deck None) before mid
+untouched_or_begun : (deck : List ℕ) (output : Option (List ℕ)) (d : Deck) (before mid now : ShelfState) → IsMade (script_meaning deck None) before mid (script_given d) → ReadsInputs (script_meaning deck None) before mid
     → IsPartWritten output (script_tape d) mid now → IsUntouched before now ⊎ HasBegun (script_meaning deck output) before now
 untouched_or_begun deck None d before mid now made reads part = inl (record {
   printed = part.written.printed ∙ reads.printed;
@@ -57,8 +57,8 @@ untouched_or_begun deck (Some name) d before mid now made reads part = inr (reco
 -- ---- the answer
 
 -- A script that was aired, or in part.
-pub answers_aired : (deck : List ℕ) (output : Option (List ℕ)) (d : Deck) (before mid now : Shelved) (s : Status) → IsMade (script_meaning deck None) before mid (script_given d)
-    → Reads (script_meaning deck None) before mid → AirsScript output d mid now s → KeepsButDelivered output mid.told now.told → QuietAnswers (script_meaning deck output) before now s
+pub answers_aired : (deck : List ℕ) (output : Option (List ℕ)) (d : Deck) (before mid now : ShelfState) (s : Status) → IsMade (script_meaning deck None) before mid (script_given d)
+    → ReadsInputs (script_meaning deck None) before mid → AirsScript output d mid now s → KeepsButDelivered output mid.told now.told → QuietAnswers (script_meaning deck output) before now s
 unfolding QuietAnswers
 answers_aired deck output d before mid now s made reads (inl delivers) keeps =
     answers_made (script_meaning deck output) (script_given d) before mid now s (made_for deck output before mid (script_given d) made) (reads_for deck output before mid reads) delivers keeps
@@ -70,7 +70,7 @@ answers_aired deck output d before mid now s made reads (inr (wanting, part)) ke
     subst (QuietAnswers (script_meaning deck output) before now) (sym wanting) h
 
 -- Whatever the status.
-pub leaves_aired : (deck : List ℕ) (output : Option (List ℕ)) (before mid now : Shelved) → Reads (script_meaning deck None) before mid → KeepsButDelivered output mid.told now.told
+pub leaves_aired : (deck : List ℕ) (output : Option (List ℕ)) (before mid now : ShelfState) → ReadsInputs (script_meaning deck None) before mid → KeepsButDelivered output mid.told now.told
     → NoCountFalls mid.faults now.faults → Leaves (script_meaning deck output) before now
 leaves_aired deck output before mid now reads keeps counts = record {
   files = λ name. keeps.files name ∙ reads.files name;
@@ -82,54 +82,54 @@ leaves_aired deck output before mid now reads keeps counts = record {
 -- ---- the end of the airing
 
 -- All of the tape was written, and then the text was printed.
-pub printed_all : (output : Option (List ℕ)) (d : Deck) (text : List ℕ) (before mid now : Shelved) → text ≡ script_output d → IsWritten output (script_tape d) before mid
+pub printed_all : (output : Option (List ℕ)) (d : Deck) (text : List ℕ) (before mid now : ShelfState) → text ≡ script_output d → IsWritten output (script_tape d) before mid
     → Appends mid.told.printed now.told.printed text → KeepsButPrinted mid.told now.told → KeepsCounts mid.faults now.faults → AirsScript output d before now status.Ok
 printed_all output d text before mid now same was printed rest calm =
     inl (delivers_all output (script_given d) (script_tape d) text before mid now status.Ok refl same refl was.holds was.calm was.printed rest.outputs printed calm)
 
 -- Or a part of it.
-pub printed_part : (output : Option (List ℕ)) (d : Deck) (text : List ℕ) (before mid now : Shelved) → text ≡ script_output d → IsWritten output (script_tape d) before mid
+pub printed_part : (output : Option (List ℕ)) (d : Deck) (text : List ℕ) (before mid now : ShelfState) → text ≡ script_output d → IsWritten output (script_tape d) before mid
     → AppendsPart mid.told.printed now.told.printed text → KeepsButPrinted mid.told now.told → Rose mid.faults.printing now.faults.printing → AirsScript output d before now status.WriteFault
 printed_part output d text before mid now same was printed rest rose =
     inl (delivers_part output (script_given d) (script_tape d) text before mid now refl same was.holds (omega (arith, was.calm.printing)) was.printed rest.outputs printed rose)
 
 -- The airing stopped before.
-pub stopped_airs : (output : Option (List ℕ)) (d : Deck) (before now : Shelved) (s : Status) → IsStopped output d before now s → AirsScript output d before now s
+pub stopped_airs : (output : Option (List ℕ)) (d : Deck) (before now : ShelfState) (s : Status) → IsStopped output d before now s → AirsScript output d before now s
 stopped_airs output d before now s (inl (wanting, part)) = inr (wanting, part)
 stopped_airs output d before now s (inr (failed, cut)) =
     inl (subst (Delivers output (script_given d) before now) (sym failed) (delivers_none output (script_given d) (script_tape d) before now refl cut.fails cut.printed))
 
-pub stopped_rest : (output : Option (List ℕ)) (d : Deck) (before now : Shelved) (s : Status) → IsStopped output d before now s → KeepsButDelivered output before.told now.told
+pub stopped_rest : (output : Option (List ℕ)) (d : Deck) (before now : ShelfState) (s : Status) → IsStopped output d before now s → KeepsButDelivered output before.told now.told
 stopped_rest output d before now s (inl (wanting, part)) = part.written.rest
 stopped_rest output d before now s (inr (failed, cut)) = cut.rest
 
-pub stopped_counts : (output : Option (List ℕ)) (d : Deck) (before now : Shelved) (s : Status) → IsStopped output d before now s → NoCountFalls before.faults now.faults
+pub stopped_counts : (output : Option (List ℕ)) (d : Deck) (before now : ShelfState) (s : Status) → IsStopped output d before now s → NoCountFalls before.faults now.faults
 stopped_counts output d before now s (inl (wanting, part)) = no_fall before.faults now.faults part.written.calm
 stopped_counts output d before now s (inr (failed, cut)) = cut.counts
 
 -- ---- piece by piece
 
 -- Memory ran out after a beginning of the tape.
-pub wanting_after : (output : Option (List ℕ)) (d : Deck) (before now : Shelved) (so_far : List ℕ) → (rest : List ℕ) × (script_tape d ≡ so_far ++ rest) → IsWritten output so_far before now
+pub wanting_after : (output : Option (List ℕ)) (d : Deck) (before now : ShelfState) (so_far : List ℕ) → (rest : List ℕ) × (script_tape d ≡ so_far ++ rest) → IsWritten output so_far before now
     → IsStopped output d before now status.NoMemory
 wanting_after output d before now so_far begins was = inl (refl, record { so_far = so_far; left = begins.0; joined = begins.1; written = was })
 
 -- Or after all of it.
-pub wanting_all : (output : Option (List ℕ)) (d : Deck) (before now : Shelved) → IsWritten output (script_tape d) before now → IsStopped output d before now status.NoMemory
+pub wanting_all : (output : Option (List ℕ)) (d : Deck) (before now : ShelfState) → IsWritten output (script_tape d) before now → IsStopped output d before now status.NoMemory
 wanting_all output d before now was = wanting_after output d before now (script_tape d) ([], sym (append-nil (script_tape d))) was
 
 -- One piece more.
-pub written_on : (output : Option (List ℕ)) (first now : Shelved) (so_far piece bytes more : List ℕ) → bytes ≡ piece → more ≡ so_far ++ piece → IsWritten output (so_far ++ bytes) first now → IsWritten output more first now
+pub written_on : (output : Option (List ℕ)) (first now : ShelfState) (so_far piece bytes more : List ℕ) → bytes ≡ piece → more ≡ so_far ++ piece → IsWritten output (so_far ++ bytes) first now → IsWritten output more first now
 written_on output first now so_far piece bytes more same joined was =
     subst (λ t. IsWritten output t first now) (ap (λ p. so_far ++ p) same ∙ sym joined) was
 
 -- A piece that wasn't added whole.
-pub failed_after : (output : Option (List ℕ)) (d : Deck) (first now : Shelved) (so_far piece bytes more : List ℕ) → bytes ≡ piece → more ≡ so_far ++ piece → (rest : List ℕ) × (script_tape d ≡ more ++ rest)
+pub failed_after : (output : Option (List ℕ)) (d : Deck) (first now : ShelfState) (so_far piece bytes more : List ℕ) → bytes ≡ piece → more ≡ so_far ++ piece → (rest : List ℕ) × (script_tape d ≡ more ++ rest)
     → ((rest : List ℕ) → IsCutOff output ((so_far ++ bytes) ++ rest) first now) → IsStopped output d first now status.WriteFault
 failed_after output d first now so_far piece bytes more same joined begins cut =
     inr (refl, subst (λ t. IsCutOff output t first now) (ap (λ p. (so_far ++ p) ++ begins.0) same ∙ ap (λ t. t ++ begins.0) (sym joined) ∙ sym begins.1) (cut begins.0))
 
 -- The whole script was aired.
-pub all_written : (output : Option (List ℕ)) (d : Deck) (before now : Shelved) (a : AiredPieces) → a.run.events.items ≡ script_history d → IsWritten output (tape_so_far d a) before now
+pub all_written : (output : Option (List ℕ)) (d : Deck) (before now : ShelfState) (a : ScriptAiring) → a.run.events.items ≡ script_history d → IsWritten output (tape_so_far d a) before now
     → IsWritten output (script_tape d) before now
 all_written output d before now a done was = subst (λ t. IsWritten output t before now) (ap (history_tape (values_in d) (air_of d)) done) was

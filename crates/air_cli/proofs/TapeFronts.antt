@@ -4,11 +4,11 @@ use Rattle.std.proofs.Common.{◌≡◌, ◌≤◌, ◌*◌, ◌++◌, ◌∙◌
 use Rattle.std.proofs.lemmas.List.{drop_all, drop_at, take_all, take_at}
 use Rattle.std.proofs.lemmas.Grind.{flat_map-append}
 use Rattle.air_model.specs.Tapes.{TapeRead, ends_inside, record_bytes, tape_of, tape_read}
-use Rattle.air_model.proofs.ByteFacts.{AllBytes}
-use Rattle.air_model.proofs.TapeFacts.{AreShort, Tells, length_record, tells, whole_read}
-use Rattle.air_cli.specs.Steps.Pieces.{IsFront}
+use Rattle.air_model.proofs.ByteLemmas.{AllBytes}
+use Rattle.air_model.proofs.TapeLemmas.{AreShort, Tells, length_record, tells, whole_read}
+use Rattle.air_cli.specs.Private.Pieces.{AreWholeRecords}
 
-told_front : (piece : List ℕ) (n : ℕ) (rs : List (List ℕ)) (c : Option ℕ) → (tape_read piece).records ≡ rs → Tells 0 piece rs c → c ≡ Some n → IsFront piece n
+told_front : (piece : List ℕ) (n : ℕ) (rs : List (List ℕ)) (c : Option ℕ) → (tape_read piece).records ≡ rs → Tells 0 piece rs c → c ≡ Some n → AreWholeRecords piece n
 unfolding Tells
 told_front piece n rs None same t here = absurd (cc here)
 told_front piece n rs (Some p) same t here =
@@ -27,7 +27,7 @@ told_front piece n rs (Some p) same t here =
     }
 
 -- Where a piece is cut, the whole records stand before the cut.
-pub cut_front : (piece : List ℕ) (n : ℕ) → AllBytes piece → Some n ≡ (tape_read piece).cut → IsFront piece n
+pub cut_front : (piece : List ℕ) (n : ℕ) → AllBytes piece → Some n ≡ (tape_read piece).cut → AreWholeRecords piece n
 cut_front piece n all here = told_front piece n (tape_read piece).records (tape_read piece).cut refl (tells (length piece) 0 piece all (omega arith)) (sym here)
 
 told_whole : (piece : List ℕ) (rs : List (List ℕ)) (c : Option ℕ) → Tells 0 piece rs c → c ≡ None → AreShort rs × (piece ≡ tape_of rs)
@@ -36,7 +36,7 @@ told_whole piece rs None t here = t
 told_whole piece rs (Some p) t here = absurd (cc here)
 
 -- Where it isn't, they are all of it.
-pub whole_front : (piece : List ℕ) → AllBytes piece → None ≡ (tape_read piece).cut → IsFront piece (length piece)
+pub whole_front : (piece : List ℕ) → AllBytes piece → None ≡ (tape_read piece).cut → AreWholeRecords piece (length piece)
 whole_front piece all here =
     let t = told_whole piece (tape_read piece).records (tape_read piece).cut (tells (length piece) 0 piece all (omega arith)) (sym here) in
     record {
@@ -46,7 +46,7 @@ whole_front piece all here =
     }
 
 -- They are read as these records, and nothing is cut.
-pub front_read : {piece : List ℕ} {n : ℕ} → IsFront piece n → ◌≡◌ {A = TapeRead} (tape_read (take n piece)) (record { records = (tape_read piece).records; cut = None })
+pub front_read : {piece : List ℕ} {n : ℕ} → AreWholeRecords piece n → ◌≡◌ {A = TapeRead} (tape_read (take n piece)) (record { records = (tape_read piece).records; cut = None })
 front_read {piece} {n} front =
     let rs = (tape_read piece).records in
     ap (λ bytes. tape_read bytes) front.whole.1 ∙ whole_read rs (length (tape_of rs)) 0 front.whole.0 (omega arith)

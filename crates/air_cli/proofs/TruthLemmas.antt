@@ -13,13 +13,13 @@ use Rattle.air_model.specs.ReceiverLaws.{session_of}
 use Rattle.air_model.specs.Reports.{tune_text}
 use Rattle.air_model.specs.Outputs.{ether_of, odds_in}
 use Rattle.air_cli.proofs.ModelLaws.{BytesLaw, EventsLaw, HeardWasPushedLaw, ReceiverLaw, ScriptLaw}
-use Rattle.air_cli.specs.RunnableDecks.{IsShort}
+use Rattle.air_cli.specs.RunnableDecks.{HasShortProgram}
 use Rattle.air_sender.proofs.TapeSizes.{starts_script}
 use Rattle.air_cli.specs.Truths.{IsTrueScript, IsTrueTape}
 
 -- ---- the script
 
-pub can_air : (d : Deck) → IsDeck d → WithinLimits d → IsShort d → ScriptLaw → CanAir d (script_history d)
+pub can_air : (d : Deck) → IsDeck d → WithinLimits d → HasShortProgram d → ScriptLaw → CanAir d (script_history d)
 can_air d made limits short script = record {
   made = made;
   legal = script d made.script;
@@ -27,7 +27,7 @@ can_air d made limits short script = record {
   slots = omega arith;
 }
 
-pub true_script : (d : Deck) → IsDeck d → WithinLimits d → IsShort d → ScriptLaw → EventsLaw → BytesLaw → HeardWasPushedLaw → ReceiverLaw → IsTrueScript d
+pub true_script : (d : Deck) → IsDeck d → WithinLimits d → HasShortProgram d → ScriptLaw → EventsLaw → BytesLaw → HeardWasPushedLaw → ReceiverLaw → IsTrueScript d
 unfolding heard_by
 true_script d made limits short script events bytes pushed receiver =
     let H = script_history d in

@@ -6,12 +6,12 @@
 use Rattle.std.specs.Prelude.{◌≡◌, ◌≢◌, ◌⊎◌, ℕ, true, List, Some}
 use Rattle.std.specs.Io.KnownBytes.{IsAtEnd}
 use Rattle.air_devices.specs.Counts.{Faults, KeepsCounts, NoCountFalls, Rose}
-use Rattle.air_devices.specs.Shelves.{Shelved}
+use Rattle.air_devices.specs.Shelves.{ShelfState}
 use Rattle.air_report.specs.declared.status.Status.{Status}
 use Rattle.air_report.specs.declared.status.Status.TheVariants as status
 use Rattle.air_cli.specs.Meanings.{Meaning}
 use Rattle.air_cli.specs.ToldInputs.{TellsInputs}
-use Rattle.air_cli.specs.Given.{Given, given_status}
+use Rattle.air_cli.specs.ReportsAndTapes.{ReportAndTape, given_status}
 use Rattle.air_cli.specs.Deliveries.{IsGiven, IsGivenInPart}
 use Rattle.air_cli.specs.Untouched.{IsRefusal, IsUntouched}
 use Rattle.air_cli.specs.Refusals.{IsSteady}
@@ -19,51 +19,51 @@ use Rattle.air_cli.specs.Outputs.{OutputHoldsPart}
 
 -- The command succeeded: what it gives was written and printed, and this is its status; its inputs were read to their ends,
 -- and no call failed.
-pub record IsDone (command : Meaning) (before now : Shelved) (s : Status) : Type 0 where
-  pub gives : (given : Given) × command.Gives before given × (s ≡ given_status given.differs) × IsGiven command.output given before now
+pub record IsDone (command : Meaning) (before now : ShelfState) (s : Status) : Type 0 where
+  pub gives : (given : ReportAndTape) × command.Gives before given × (s ≡ given_status given.differs) × IsGiven command.output given before now
   pub read : (name : List ℕ) → command.IsInput name → IsAtEnd (now.told.left name)
   pub calm : KeepsCounts before.faults now.faults
 
 -- Writing the named output failed: it is as it was, or holds the first bytes of the tape, and nothing was printed.
-pub record OutputFailed (command : Meaning) (before now : Shelved) : Type 0 where
+pub record OutputFailed (command : Meaning) (before now : ShelfState) : Type 0 where
   pub name : List ℕ
   pub named : command.output ≡ Some name
   pub rose : Rose (before.faults.writing name) (now.faults.writing name)
-  pub gives : (given : Given) × command.Gives before given × OutputHoldsPart name given.tape before now
+  pub gives : (given : ReportAndTape) × command.Gives before given × OutputHoldsPart name given.tape before now
   pub printed : now.told.printed ≡ before.told.printed
 
 -- Printing the text failed, after the tape was written.
-pub record PrintFailed (command : Meaning) (before now : Shelved) : Type 0 where
+pub record PrintFailed (command : Meaning) (before now : ShelfState) : Type 0 where
   pub rose : Rose before.faults.printing now.faults.printing
-  pub gives : (given : Given) × command.Gives before given × IsGivenInPart command.output given before now
+  pub gives : (given : ReportAndTape) × command.Gives before given × IsGivenInPart command.output given before now
 
 -- Reading one of the named inputs failed.
-pub record InputFailed (command : Meaning) (before now : Shelved) : Type 0 where
+pub record InputFailed (command : Meaning) (before now : ShelfState) : Type 0 where
   pub name : List ℕ
   pub named : command.IsInput name
   pub rose : Rose (before.faults.reading name) (now.faults.reading name)
 
 -- A command that writes by pieces had begun its output: it is as it was, or holds the first bytes of the tape; no other output changed,
 -- nothing was printed, and no call failed.
-pub record HasBegun (command : Meaning) (before now : Shelved) : Type 0 where
+pub record HasBegun (command : Meaning) (before now : ShelfState) : Type 0 where
   pub pieces : command.by_pieces ≡ true
   pub name : List ℕ
   pub named : command.output ≡ Some name
-  pub gives : (given : Given) × command.Gives before given × OutputHoldsPart name given.tape before now
+  pub gives : (given : ReportAndTape) × command.Gives before given × OutputHoldsPart name given.tape before now
   pub others : (other : List ℕ) → other ≢ name → now.told.output other ≡ before.told.output other
   pub printed : now.told.printed ≡ before.told.printed
   pub calm : KeepsCounts before.faults now.faults
 
 -- Out of memory: nothing was printed, and no output changed but one that is written by pieces; every count is as it was, or reading
 -- an input failed.
-pub record IsWanting (command : Meaning) (before now : Shelved) : Type 0 where
+pub record IsWanting (command : Meaning) (before now : ShelfState) : Type 0 where
   pub untouched : IsUntouched before now ⊎ HasBegun command before now
   pub counts : KeepsCounts before.faults now.faults ⊎ InputFailed command before now
 
 -- What each status says. Where a command succeeded, its status tells whether something differs by what it gave. A refusal has
 -- its cause and printed its line alone; with another status than that of a failed read, every count is as it was, or that of
 -- prints rose.
-unfoldable pub QuietAnswers : Meaning → Shelved → Shelved → Status → Type 0
+unfoldable pub QuietAnswers : Meaning → ShelfState → ShelfState → Status → Type 0
 QuietAnswers command before now status.Ok = IsDone command before now status.Ok
 QuietAnswers command before now status.Differs = IsDone command before now status.Differs
 QuietAnswers command before now status.WriteFault = OutputFailed command before now ⊎ PrintFailed command before now
@@ -82,17 +82,17 @@ pub record NoCountRose (before now : Faults) : Type 0 where
   pub printing : Rose before.printing now.printing → ⊥
 
 -- The command ends with the status of what it gives.
-abbrev pub Succeeds : Meaning → Shelved → Status → Type 0
-Succeeds command before s = (given : Given) × command.Gives before given × (s ≡ given_status given.differs)
+abbrev pub Succeeds : Meaning → ShelfState → Status → Type 0
+Succeeds command before s = (given : ReportAndTape) × command.Gives before given × (s ≡ given_status given.differs)
 
 -- Where each named input is told, they suit the command, and no count of faults rose, it succeeded or memory ran out.
-abbrev pub Completes : Meaning → Shelved → Shelved → Status → Type 0
+abbrev pub Completes : Meaning → ShelfState → ShelfState → Status → Type 0
 Completes command before now s =
     TellsInputs command before → command.Suits before → NoCountRose before.faults now.faults → Succeeds command before s ⊎ (s ≡ status.NoMemory)
 
 -- Whatever the status: all files are as they were, all that is left of those that are no named input, and all outputs but
 -- the named one; no count of faults falls.
-pub record Leaves (command : Meaning) (before now : Shelved) : Type 0 where
+pub record Leaves (command : Meaning) (before now : ShelfState) : Type 0 where
   pub files : (name : List ℕ) → now.told.file name ≡ before.told.file name
   pub left : (name : List ℕ) → (command.IsInput name → ⊥) → now.told.left name ≡ before.told.left name
   pub outputs : (name : List ℕ) → (command.output ≡ Some name → ⊥) → now.told.output name ≡ before.told.output name

@@ -2,7 +2,7 @@
 use Rattle.std.specs.Prelude.{◌≡◌, ◌⊎◌, ◌≤◌, ℕ, true, false, List, [], length, None, ⊤}
 use Rattle.std.specs.Io.KnownBytes.{IsAtEnd}
 use Rattle.air_devices.specs.Told.{ToldIs, WhereTold}
-use Rattle.air_devices.specs.Shelves.{Shelved}
+use Rattle.air_devices.specs.Shelves.{ShelfState}
 use Rattle.air_model.specs.Decks.{Deck, IsDeck}
 use Rattle.air_report.specs.declared.status.Status.{Status}
 use Rattle.air_report.specs.declared.status.Status.TheVariants as status
@@ -10,7 +10,7 @@ use Rattle.live_replay.specs.AuditAnswers.{CanBeAudited, IsAudit, IsTooMuch}
 use Rattle.live_replay.specs.FindingTexts.{findings_text, some_differ}
 use Rattle.air_cli.specs.NamedDecks.{DeckCause, OfDeck, SpellsDeck}
 use Rattle.air_cli.specs.NamedFiles.{UnreadCause}
-use Rattle.air_cli.specs.Given.{Given}
+use Rattle.air_cli.specs.ReportsAndTapes.{ReportAndTape}
 use Rattle.live_replay.specs.declared.findings.Finding.{Finding}
 use Rattle.air_report.specs.ReportGrammar.{HasReportFault}
 use Rattle.air_report.specs.declared.reading.limits.TheConstants.{MOST_REPORT_BYTES}
@@ -21,12 +21,12 @@ abbrev pub report_limit : ℕ
 report_limit = MOST_REPORT_BYTES
 
 -- This is so of the named deck, and of the bytes of the named report, where they are told.
-abbrev pub OfReport : List ℕ → List ℕ → Shelved → (Deck → List ℕ → Type 0) → Type 0
+abbrev pub OfReport : List ℕ → List ℕ → ShelfState → (Deck → List ℕ → Type 0) → Type 0
 OfReport deck report before P = OfDeck deck before (λ d. WhereTold (before.told.file report) (λ bytes. (length bytes ≤ report_limit) × P d bytes))
 
 -- Why it is refused: its deck, whatever the length of the deck's program; or there is one, and the report can't be read; or it was
 -- read to its end, and has a fault, or too much would be replayed.
-unfoldable pub AuditCause : List ℕ → List ℕ → Shelved → Shelved → Status → Type 0
+unfoldable pub AuditCause : List ℕ → List ℕ → ShelfState → ShelfState → Status → Type 0
 AuditCause deck report before now (status.Report row kind) =
     IsAtEnd (now.told.left report) × OfReport deck report before (λ d bytes. HasReportFault d bytes row kind)
 AuditCause deck report before now (status.TooMuch product) =
@@ -34,12 +34,12 @@ AuditCause deck report before now (status.TooMuch product) =
 AuditCause deck report before now s = DeckCause deck before now s ⊎ (OfDeck deck before (λ d. ⊤) × UnreadCause report report_limit before now s)
 
 -- The text of findings, no tape, and whether some finding differs.
-abbrev pub audit_given : List Finding → Given
+abbrev pub audit_given : List Finding → ReportAndTape
 audit_given found = record { text = findings_text found; tape = []; differs = some_differ found }
 
 -- What it gives: there are a well-made deck and the bytes of a report, those of the named files where they are told; and this is the
 -- text of the report's findings, which are true. Something differs exactly where one of them does.
-unfoldable pub AuditGives : List ℕ → List ℕ → Shelved → Given → Type 0
+unfoldable pub AuditGives : List ℕ → List ℕ → ShelfState → ReportAndTape → Type 0
 AuditGives deck report before given =
     (found : List Finding) × (given ≡ audit_given found) × ((d : Deck) × SpellsDeck deck before d × IsDeck d × ((bytes : List ℕ) × ToldIs (before.told.file report) bytes
     × (length bytes ≤ report_limit) × IsAudit d bytes found))

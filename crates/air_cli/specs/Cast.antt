@@ -2,8 +2,8 @@
 use Rattle.std.specs.Prelude.{◌≡◌, ◌⊎◌, ◌≤◌, ℕ, false, List, [], Some, None, ⊤}
 use Rattle.deck_runs.specs.Casts.{IsCastPart, all_sent}
 use Rattle.air_devices.specs.Counts.{Rose}
-use Rattle.air_devices.specs.Masts.{Changes, Masted}
-use Rattle.air_devices.specs.Shelves.{Shelved}
+use Rattle.air_devices.specs.Masts.{Changes, MastState}
+use Rattle.air_devices.specs.Shelves.{ShelfState}
 use Rattle.air_history.specs.declared.histories.Event.{Event}
 use Rattle.air_model.specs.Decks.{Deck, IsDeck, IsWhole}
 use Rattle.air_model.specs.Outputs.{cast_output}
@@ -12,18 +12,18 @@ use Rattle.air_report.specs.declared.status.Status.{Status}
 use Rattle.air_report.specs.declared.status.Status.TheVariants as status
 use Rattle.deck_runs.specs.RunTruths.{IsTrueRun, TellsHistory}
 use Rattle.air_cli.specs.NamedDecks.{OfDeck, SpellsDeck}
-use Rattle.air_cli.specs.Given.{Given}
+use Rattle.air_cli.specs.ReportsAndTapes.{ReportAndTape}
 use Rattle.air_model.specs.Runs.{IsRun, Run}
 use Rattle.air_cli.specs.Meanings.{Meaning}
 use Rattle.air_cli.specs.Run.{CanRun, RunCause}
 
 -- The report of a run without sessions, and no tape. Nothing in it differs.
-abbrev pub cast_given : Run → Given
+abbrev pub cast_given : Run → ReportAndTape
 cast_given run = record { text = cast_output run.history run.glances run.looks; tape = []; differs = false }
 
 -- This is the report of a run of the deck, it tells the run's history, and all that is true of a run is true of it. Exactly the
 -- buckets of that history were sent to the port, and then the end; no call of the mast failed.
-pub record IsCast (d : Deck) (to : ℕ) (before now : Masted) (given : Given) (run : Run) : Type 0 where
+pub record IsCast (d : Deck) (to : ℕ) (before now : MastState) (given : ReportAndTape) (run : Run) : Type 0 where
   pub run_is : IsRun d run
   pub true_is : IsTrueRun d run
   pub given_is : given ≡ cast_given run
@@ -33,13 +33,13 @@ pub record IsCast (d : Deck) (to : ℕ) (before now : Masted) (given : Given) (r
   pub port : now.port ≡ Some to
 
 -- A call of the mast failed: to the port were sent just so many buckets of a whole history of the deck, the first ones, and no end.
-pub record IsBrokenCast (d : Deck) (to at : ℕ) (before now : Masted) : Type 0 where
+pub record IsBrokenCast (d : Deck) (to at : ℕ) (before now : MastState) : Type 0 where
   pub rose : Rose before.faults now.faults
   pub sent : IsCastPart d at before.told now.told
   pub port : now.port ≡ Some to
 
 -- The first buckets of a whole history of the deck were sent to the port, none or some or all, and after all maybe the end.
-pub record HasSent (d : Deck) (to : ℕ) (before now : Masted) : Type 0 where
+pub record HasSent (d : Deck) (to : ℕ) (before now : MastState) : Type 0 where
   pub sent : ((count : ℕ) × IsCastPart d count before.told now.told)
       ⊎ ((H : List Event) × IsWhole d H × Changes (λ _. all_sent (deck_bytes d H)) before.told now.told)
   pub later : before.faults ≤ now.faults
@@ -47,7 +47,7 @@ pub record HasSent (d : Deck) (to : ℕ) (before now : Masted) : Type 0 where
 
 -- Why it is refused: the mast failed, where there is a well-made deck that can be run, the one that the named file spells where it is
 -- told; else why a run is refused, and the mast is as it was.
-unfoldable pub CastCause : List ℕ → ℕ → Masted → Masted → Shelved → Shelved → Status → Type 0
+unfoldable pub CastCause : List ℕ → ℕ → MastState → MastState → ShelfState → ShelfState → Status → Type 0
 CastCause deck to old new before now (status.AirFault at) =
     (d : Deck) × SpellsDeck deck before d × IsDeck d × CanRun d × IsBrokenCast d to at old new
 CastCause deck to old new before now status.NoMemory = ⊤
@@ -55,13 +55,13 @@ CastCause deck to old new before now s = RunCause deck before now s × (new ≡ 
 
 -- What it gives, and what it sent: there is a well-made deck that can be run, the one that the named file spells where it is told,
 -- and this is the report of a run of it, which was cast. Nothing in it differs.
-unfoldable pub CastGives : List ℕ → ℕ → Masted → Masted → Shelved → Given → Type 0
+unfoldable pub CastGives : List ℕ → ℕ → MastState → MastState → ShelfState → ReportAndTape → Type 0
 CastGives deck to old new before given =
     (given.differs ≡ false) × ((d : Deck) × SpellsDeck deck before d × IsDeck d × CanRun d × ((run : Run) × IsCast d to old new given run))
 
 -- It reads its deck, which must be one that can be run, and writes no output; it succeeds where no call of the mast failed. The
 -- deck alone doesn't decide what it gives.
-abbrev pub cast_meaning : List ℕ → ℕ → Masted → Masted → Meaning
+abbrev pub cast_meaning : List ℕ → ℕ → MastState → MastState → Meaning
 cast_meaning deck to old new = record {
   IsInput = λ name. name ≡ deck;
   output = None;

@@ -5,7 +5,7 @@ use Rattle.air_cli.specs.declared.words.Command.{Command}
 use Rattle.air_cli.specs.declared.words.Command.TheVariants as command
 use Rattle.air_cli.specs.Audit.{audit_meaning}
 use Rattle.air_cli.specs.Drill.{drill_meaning}
-use Rattle.air_cli.specs.Meanings.{Meaning, no_form}
+use Rattle.air_cli.specs.Meanings.{Meaning, no_command}
 use Rattle.air_cli.specs.Plan.{plan_meaning}
 use Rattle.air_cli.specs.Run.{run_meaning}
 use Rattle.air_cli.specs.Script.{script_meaning}
@@ -31,5 +31,5 @@ meaning_of (AsksRun deck tape) = run_meaning deck tape
 
 -- What words mean that ask for this, or for nothing.
 abbrev pub words_meaning : Option Asked → Meaning
-words_meaning None = no_form
+words_meaning None = no_command
 words_meaning (Some asked) = meaning_of asked

@@ -3,26 +3,26 @@ use Rattle.std.specs.Prelude.{◌≡◌, ◌≢◌, ◌⊎◌, ℕ, true, false,
 use Rattle.std.specs.Io.KnownBytes.{Appends}
 use Rattle.air_devices.specs.Contents.{Contents}
 use Rattle.air_devices.specs.Counts.{KeepsCounts, Rose}
-use Rattle.air_devices.specs.Shelves.{Shelved}
+use Rattle.air_devices.specs.Shelves.{ShelfState}
 use Rattle.air_devices.specs.Told.{AppendsPart}
 use Rattle.air_report.specs.declared.status.Status.{Status}
 use Rattle.air_report.specs.declared.status.Status.TheVariants as status
-use Rattle.air_cli.specs.Given.{Given}
+use Rattle.air_cli.specs.ReportsAndTapes.{ReportAndTape}
 use Rattle.air_cli.specs.Outputs.{OutputFails, OutputHolds}
 
 -- All was given: the named output holds the tape, and the text was printed.
-pub record IsGiven (output : Option (List ℕ)) (given : Given) (before now : Shelved) : Type 0 where
+pub record IsGiven (output : Option (List ℕ)) (given : ReportAndTape) (before now : ShelfState) : Type 0 where
   pub written : OutputHolds output given.tape before now
   pub printed : Appends before.told.printed now.told.printed given.text
 
 -- The print failed: the named output holds the tape, and the first bytes of the text were printed.
-pub record IsGivenInPart (output : Option (List ℕ)) (given : Given) (before now : Shelved) : Type 0 where
+pub record IsGivenInPart (output : Option (List ℕ)) (given : ReportAndTape) (before now : ShelfState) : Type 0 where
   pub written : OutputHolds output given.tape before now
   pub printed : AppendsPart before.told.printed now.told.printed given.text
 
 -- All was given, and the status tells whether the text says that something differs; or the output failed, and nothing was
 -- printed; or the print failed.
-unfoldable pub Delivers : Option (List ℕ) → Given → Shelved → Shelved → Status → Type 0
+unfoldable pub Delivers : Option (List ℕ) → ReportAndTape → ShelfState → ShelfState → Status → Type 0
 Delivers output given before now status.Ok = (given.differs ≡ false) × IsGiven output given before now × KeepsCounts before.faults now.faults
 Delivers output given before now status.Differs = (given.differs ≡ true) × IsGiven output given before now × KeepsCounts before.faults now.faults
 Delivers output given before now status.WriteFault =

@@ -6,7 +6,7 @@ use Rattle.air_report.specs.declared.status.Status.TheVariants as status
 use Rattle.scripts.specs.DrillLines.{drill_output}
 use Rattle.air_cli.specs.Meanings.{Meaning}
 use Rattle.air_cli.specs.Truths.{IsTrueScript}
-use Rattle.air_cli.specs.Given.{Given}
+use Rattle.air_cli.specs.ReportsAndTapes.{ReportAndTape}
 
 -- It is refused out of memory alone.
 unfoldable pub DrillCause : Status → Type 0
@@ -14,11 +14,11 @@ DrillCause status.NoMemory = ⊤
 DrillCause other = ⊥
 
 -- The line of the drill, and no tape.
-abbrev pub drill_given : ℕ → ℕ → Given
+abbrev pub drill_given : ℕ → ℕ → ReportAndTape
 drill_given seed size = record { text = drill_output seed size; tape = []; differs = false }
 
 -- What it gives: the sessions that the line counts are true, and this is the line.
-unfoldable pub DrillGives : ℕ → ℕ → Given → Type 0
+unfoldable pub DrillGives : ℕ → ℕ → ReportAndTape → Type 0
 DrillGives seed size given = IsTrueScript (drill_deck seed size) × (given ≡ drill_given seed size)
 
 -- It reads no file and writes no output, and nothing need be told for it to succeed; seed and size decide the line.

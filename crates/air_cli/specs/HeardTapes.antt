@@ -1,7 +1,7 @@
 -- What a deck's readers heard of a named tape, and why it couldn't be heard.
 use Rattle.std.specs.Prelude.{◌≡◌, ◌≤◌, ℕ, List, Some, None, length}
 use Rattle.air_devices.specs.Told.{ToldIs, WhereTold}
-use Rattle.air_devices.specs.Shelves.{Shelved}
+use Rattle.air_devices.specs.Shelves.{ShelfState}
 use Rattle.air_model.specs.Aired.{scheme_in}
 use Rattle.air_model.specs.Decks.{Deck}
 use Rattle.air_model.specs.Judges.{by_entries}
@@ -15,7 +15,7 @@ use Rattle.listeners.specs.declared.readers.Sessions.{Sessions}
 
 -- There are bytes, at most so many and those of the named file where they are told, which are a whole tape: and what the sessions tell
 -- is that of the deck's readers over its records.
-pub record AreHeard (name : List ℕ) (most : ℕ) (before : Shelved) (d : Deck) (sessions : Sessions) : Type 0 where
+pub record AreFileSessions (name : List ℕ) (most : ℕ) (before : ShelfState) (d : Deck) (sessions : Sessions) : Type 0 where
   pub bytes : List ℕ
   pub told : ToldIs (before.told.file name) bytes
   pub fits : length bytes ≤ most
@@ -24,6 +24,6 @@ pub record AreHeard (name : List ℕ) (most : ℕ) (before : Shelved) (d : Deck)
   pub counts : sessions.counts.items ≡ counts_lines (sessions_over (by_entries (scheme_in d)) d (λ r. (tape_read bytes).records))
 
 -- Why a named tape couldn't be heard: it is cut at this byte, where it is told; or its file couldn't be read.
-unfoldable pub UnheardCause : List ℕ → ℕ → Shelved → Shelved → Status → Type 0
+unfoldable pub UnheardCause : List ℕ → ℕ → ShelfState → ShelfState → Status → Type 0
 UnheardCause name most before now (status.TapeCut at) = WhereTold (before.told.file name) (λ bytes. (length bytes ≤ most) × ((tape_read bytes).cut ≡ Some at))
 UnheardCause name most before now s = UnreadCause name most before now s

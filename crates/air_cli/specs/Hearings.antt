@@ -8,19 +8,19 @@ use Rattle.air_model.specs.Reports.{counts_lines, verdict_lines}
 use Rattle.air_model.specs.declared.reports.CountsLine.{CountsLine}
 use Rattle.air_model.specs.declared.reports.VerdictLine.{VerdictLine}
 use Rattle.air_devices.specs.Counts.{Rose}
-use Rattle.air_devices.specs.Ears.{Eared}
+use Rattle.air_devices.specs.Ears.{EarState}
 use Rattle.air_cli.specs.declared.commands.hearings.HearFault.{HearFault}
 use Rattle.air_cli.specs.declared.commands.hearings.HearFault.TheVariants as fault
 use Rattle.air_cli.specs.declared.commands.hearings.TheConstants.{MOST_HEARD_BYTES}
 
 -- What is heard of a datagram: its first bytes, as many as there is room for.
-abbrev pub heard_of : List ℕ → List ℕ
-heard_of bytes = take MOST_HEARD_BYTES bytes
+abbrev pub heard_bytes : List ℕ → List ℕ
+heard_bytes bytes = take MOST_HEARD_BYTES bytes
 
 -- The list is what is heard of the first so many datagrams, or of all where there are fewer.
-abbrev pub AreHeard : ℕ → Option (List (List ℕ)) → List (List ℕ) → Type 0
-AreHeard most None heard = ⊤
-AreHeard most (Some waiting) heard = heard ≡ map heard_of (take most waiting)
+abbrev pub AreFirstHeard : ℕ → Option (List (List ℕ)) → List (List ℕ) → Type 0
+AreFirstHeard most None heard = ⊤
+AreFirstHeard most (Some waiting) heard = heard ≡ map heard_bytes (take most waiting)
 
 -- So many datagrams were taken from the front, or all where there are fewer; the rest is still to be heard.
 abbrev pub TakesUpTo : ℕ → Option (List (List ℕ)) → Option (List (List ℕ)) → Type 0
@@ -33,20 +33,20 @@ TakesJust count None now = ⊤
 TakesJust count (Some waiting) now = (count ≤ length waiting) × (now ≡ Some (drop count waiting))
 
 -- Where it is told, this was heard until the end, or until so many datagrams were heard: each has a byte at least, and no more than are heard.
-pub record IsHeard (most : ℕ) (before now : Option (List (List ℕ))) (heard : List (List ℕ)) : Type 0 where
+pub record IsHeardOnEar (most : ℕ) (before now : Option (List (List ℕ))) (heard : List (List ℕ)) : Type 0 where
   pub few : length heard ≤ most
   pub each : All (λ bytes. (1 ≤ length bytes) × (length bytes ≤ MOST_HEARD_BYTES)) heard
-  pub are : AreHeard most before heard
+  pub are : AreFirstHeard most before heard
   pub taken : TakesUpTo most before now
 
 -- The deck's readers heard as many datagrams as the deck says, or all: these are the verdicts and the counts of their sessions.
-pub record IsHearing (deck : Deck) (before now : Option (List (List ℕ))) (verdicts : List VerdictLine) (counts : List CountsLine) : Type 0 where
+pub record AreEarSessions (deck : Deck) (before now : Option (List (List ℕ))) (verdicts : List VerdictLine) (counts : List CountsLine) : Type 0 where
   pub heard : List (List ℕ)
-  pub is : IsHeard deck.settings.hears before now heard
+  pub is : IsHeardOnEar deck.settings.hears before now heard
   pub verdicts_are : verdicts ≡ verdict_lines (sessions_over (by_entries (scheme_in deck)) deck (λ r. heard))
   pub counts_are : counts ≡ counts_lines (sessions_over (by_entries (scheme_in deck)) deck (λ r. heard))
 
 -- What a fault says of the ear: it failed after so many datagrams, fewer than it was to hear; without memory none of its calls failed.
-abbrev pub IsHearAnswer : ℕ → Eared → Eared → HearFault → Type 0
+abbrev pub IsHearAnswer : ℕ → EarState → EarState → HearFault → Type 0
 IsHearAnswer most before now (fault.Ear heard) = Rose before.faults now.faults × (heard < most) × TakesJust heard before.told now.told
 IsHearAnswer most before now fault.NoMemory = (now.faults ≡ before.faults) × ((count : ℕ) × (count ≤ most) × TakesJust count before.told now.told)

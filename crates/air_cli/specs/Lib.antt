@@ -15,13 +15,13 @@ pub mod Listen
 pub mod OnAir
 pub mod Untouched
 pub mod Truths
-pub mod Steps
+pub mod Private
 pub mod FileLimits
 pub mod NamedFiles
 pub mod NamedDecks
 pub mod RunnableDecks
 pub mod HeardTapes
-pub mod Given
+pub mod ReportsAndTapes
 pub mod SentTapes
 pub mod Refusals
 pub mod Outputs

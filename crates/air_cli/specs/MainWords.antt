@@ -17,7 +17,7 @@ abbrev pub port_of : Option ℕ → Option ℕ
 port_of (Some n) = if nat_le 1 n && nat_le n LAST_PORT then Some n else None
 port_of None = None
 
--- The call with a port, where there is one; else it is of no form.
+-- The call with a port, where there is one; else it is no command.
 abbrev pub called_with : (ℕ → Called) → Option ℕ → Called
 called_with call (Some port) = call port
 called_with call None = OnShelf None

@@ -1,10 +1,10 @@
 -- What a command means: what it reads, when it must succeed, why it is refused, and what it gives. Each command has one such definition, in a
 -- file of its own; `Answers` says by it what each status tells.
 use Rattle.std.specs.Prelude.{ℕ, Bool, true, false, List, Option, None, ⊤}
-use Rattle.air_devices.specs.Shelves.{Shelved}
+use Rattle.air_devices.specs.Shelves.{ShelfState}
 use Rattle.air_report.specs.declared.status.Status.{Status}
 use Rattle.air_report.specs.declared.status.Status.TheVariants as status
-use Rattle.air_cli.specs.Given.{Given}
+use Rattle.air_cli.specs.ReportsAndTapes.{ReportAndTape}
 
 -- The input files that a command names, the output that it names if any, what its inputs must be, where they are told, for
 -- nothing to refuse it, why it is refused with a status (told of the shelf as it was and as it is), what it prints and
@@ -13,20 +13,20 @@ use Rattle.air_cli.specs.Given.{Given}
 pub record Meaning : Type 1 where
   pub IsInput : List ℕ → Type 0
   pub output : Option (List ℕ)
-  pub Suits : Shelved → Type 0
-  pub Refuses : Shelved → Shelved → Status → Type 0
-  pub Gives : Shelved → Given → Type 0
+  pub Suits : ShelfState → Type 0
+  pub Refuses : ShelfState → ShelfState → Status → Type 0
+  pub Gives : ShelfState → ReportAndTape → Type 0
   pub decided : Bool
   pub by_pieces : Bool
 
--- Words of no form are refused as such.
+-- Words that are no command are refused as such.
 unfoldable pub WordsCause : Status → Type 0
 WordsCause status.Words = ⊤
 WordsCause other = ⊥
 
--- Words of no form name no file, and give nothing.
-abbrev pub no_form : Meaning
-no_form = record {
+-- Words that are no command name no file, and give nothing.
+abbrev pub no_command : Meaning
+no_command = record {
   IsInput = λ name. ⊥;
   output = None;
   Suits = λ before. ⊥;

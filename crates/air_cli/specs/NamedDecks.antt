@@ -2,7 +2,7 @@
 use Rattle.std.specs.Prelude.{ℕ, ◌≤◌, List, length}
 use Rattle.std.specs.Io.KnownBytes.{IsAtEnd}
 use Rattle.air_devices.specs.Told.{WhereTold}
-use Rattle.air_devices.specs.Shelves.{Shelved}
+use Rattle.air_devices.specs.Shelves.{ShelfState}
 use Rattle.air_model.specs.Decks.{Deck}
 use Rattle.item_catalog.specs.Grammar.{HasFault, Spells}
 use Rattle.air_report.specs.declared.status.Status.{Status}
@@ -11,19 +11,19 @@ use Rattle.air_cli.specs.FileLimits.{deck_limit}
 use Rattle.air_cli.specs.NamedFiles.{UnreadCause}
 
 -- The named file's bytes, where they are told, spell this deck.
-abbrev pub SpellsDeck : List ℕ → Shelved → Deck → Type 0
+abbrev pub SpellsDeck : List ℕ → ShelfState → Deck → Type 0
 SpellsDeck name before d = WhereTold (before.told.file name) (λ bytes. (length bytes ≤ deck_limit) × Spells bytes d)
 
 -- The named file's bytes, where they are told, spell a deck, and this is so of the deck.
-abbrev pub OfDeck : List ℕ → Shelved → (Deck → Type 0) → Type 0
+abbrev pub OfDeck : List ℕ → ShelfState → (Deck → Type 0) → Type 0
 OfDeck name before P = WhereTold (before.told.file name) (λ bytes. (length bytes ≤ deck_limit) × ((d : Deck) × Spells bytes d × P d))
 
 -- The named file was read to its end, and its bytes have this fault in place of a deck.
-pub record IsFaulty (name : List ℕ) (row kind : ℕ) (before now : Shelved) : Type 0 where
+pub record IsFaulty (name : List ℕ) (row kind : ℕ) (before now : ShelfState) : Type 0 where
   pub read : IsAtEnd (now.told.left name)
   pub fault : WhereTold (before.told.file name) (λ bytes. (length bytes ≤ deck_limit) × HasFault bytes row kind)
 
 -- Why there is no deck: its file, or its fault.
-unfoldable pub DeckCause : List ℕ → Shelved → Shelved → Status → Type 0
+unfoldable pub DeckCause : List ℕ → ShelfState → ShelfState → Status → Type 0
 DeckCause deck before now (status.Deck row kind) = IsFaulty deck row kind before now
 DeckCause deck before now s = UnreadCause deck deck_limit before now s

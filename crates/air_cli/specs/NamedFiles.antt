@@ -4,13 +4,13 @@ use Rattle.std.specs.Io.KnownBytes.{IsAtEnd}
 use Rattle.air_devices.specs.Counts.{KeepsCounts, NoCountFalls, Rose}
 use Rattle.air_devices.specs.Unchanged.{KeepsButLeft}
 use Rattle.air_devices.specs.Reading.{IsTooLarge}
-use Rattle.air_devices.specs.Shelves.{Shelved}
+use Rattle.air_devices.specs.Shelves.{ShelfState}
 use Rattle.air_report.specs.declared.status.Status.{Status}
 use Rattle.air_report.specs.declared.status.Status.TheVariants as status
 
 -- The named file is read to its end, unless that is refused. Nothing told changes but what is left of this file; no count of
 -- faults falls, and none rises but where reading failed.
-pub record ReadsInput {T : Type 0} (name : List ℕ) (result : Result T Status) (before now : Shelved) : Type 0 where
+pub record ReadsInput {T : Type 0} (name : List ℕ) (result : Result T Status) (before now : ShelfState) : Type 0 where
   pub end : OnOk result (IsAtEnd (now.told.left name))
   pub calm : OnOk result (KeepsCounts before.faults now.faults)
   pub kept : IfErr result (λ s. s ≢ status.ReadFault → KeepsCounts before.faults now.faults)
@@ -19,7 +19,7 @@ pub record ReadsInput {T : Type 0} (name : List ℕ) (result : Result T Status) 
 
 -- Why the named file could not be read: reading it failed, or it has more bytes than the limit, and was read up to one
 -- byte more.
-unfoldable pub UnreadCause : List ℕ → ℕ → Shelved → Shelved → Status → Type 0
+unfoldable pub UnreadCause : List ℕ → ℕ → ShelfState → ShelfState → Status → Type 0
 UnreadCause name most before now status.ReadFault = Rose (before.faults.reading name) (now.faults.reading name)
 UnreadCause name most before now (status.TooLarge limit) = (limit ≡ most) × IsTooLarge most name before.told now.told
 UnreadCause name most before now status.NoMemory = ⊤

@@ -2,26 +2,26 @@
 -- Facts about bytes are said where the shelf tells them; over real files nothing is told.
 use Rattle.std.specs.Prelude.{◌≡◌, ◌++◌, ℕ, List, Option}
 use Rattle.air_devices.specs.Counts.{KeepsCounts, NoCountFalls}
-use Rattle.air_devices.specs.Shelves.{Shelved}
+use Rattle.air_devices.specs.Shelves.{ShelfState}
 use Rattle.air_cli.specs.Deliveries.{KeepsButDelivered}
 use Rattle.air_cli.specs.Outputs.{OutputFails, OutputHolds}
 
 -- Since then just these bytes were written to the output of this name, if one is named; nothing was printed, and no call failed.
-pub record IsWritten (output : Option (List ℕ)) (bytes : List ℕ) (before now : Shelved) : Type 0 where
+pub record IsWritten (output : Option (List ℕ)) (bytes : List ℕ) (before now : ShelfState) : Type 0 where
   pub holds : OutputHolds output bytes before now
   pub printed : now.told.printed ≡ before.told.printed
   pub rest : KeepsButDelivered output before.told now.told
   pub calm : KeepsCounts before.faults now.faults
 
 -- Since then a beginning of these bytes was written, and nothing else.
-pub record IsPartWritten (output : Option (List ℕ)) (bytes : List ℕ) (before now : Shelved) : Type 0 where
+pub record IsPartWritten (output : Option (List ℕ)) (bytes : List ℕ) (before now : ShelfState) : Type 0 where
   pub so_far : List ℕ
   pub left : List ℕ
   pub joined : bytes ≡ so_far ++ left
   pub written : IsWritten output so_far before now
 
 -- Since then writing the named output failed: it is as it was, or holds the first of these bytes; nothing was printed.
-pub record IsCutOff (output : Option (List ℕ)) (bytes : List ℕ) (before now : Shelved) : Type 0 where
+pub record IsCutOff (output : Option (List ℕ)) (bytes : List ℕ) (before now : ShelfState) : Type 0 where
   pub fails : OutputFails output bytes before now
   pub printed : now.told.printed ≡ before.told.printed
   pub rest : KeepsButDelivered output before.told now.told

@@ -1,37 +1,37 @@
 -- The command `plan DECK`.
 use Rattle.std.specs.Prelude.{◌≡◌, ℕ, true, false, List, [], None}
 use Rattle.chunk_program.specs.Plans.{IsTooLong}
-use Rattle.air_devices.specs.Shelves.{Shelved}
+use Rattle.air_devices.specs.Shelves.{ShelfState}
 use Rattle.air_model.specs.Decks.{Deck, IsDeck, disks_in}
 use Rattle.air_model.specs.Outputs.{plan_output}
 use Rattle.air_report.specs.declared.status.Status.{Status}
 use Rattle.air_report.specs.declared.status.Status.TheVariants as status
 use Rattle.air_cli.specs.NamedDecks.{DeckCause, OfDeck, SpellsDeck}
-use Rattle.air_cli.specs.RunnableDecks.{IsShort}
+use Rattle.air_cli.specs.RunnableDecks.{HasShortProgram}
 use Rattle.air_cli.specs.Meanings.{Meaning}
-use Rattle.air_cli.specs.Given.{Given}
+use Rattle.air_cli.specs.ReportsAndTapes.{ReportAndTape}
 
 -- Why it is refused: its deck, or the length of the deck's program.
-unfoldable pub PlanCause : List ℕ → Shelved → Shelved → Status → Type 0
+unfoldable pub PlanCause : List ℕ → ShelfState → ShelfState → Status → Type 0
 PlanCause deck before now (status.PlanTooLong slots) = OfDeck deck before (λ d. IsTooLong (disks_in d) slots)
 PlanCause deck before now s = DeckCause deck before now s
 
 -- The text of the deck's plan, and no tape.
-abbrev pub plan_given : Deck → Given
+abbrev pub plan_given : Deck → ReportAndTape
 plan_given d = record { text = plan_output d; tape = []; differs = false }
 
 -- What it gives: there is a well-made deck whose program is short enough, the one that the named file spells where it is told; and
 -- this is its plan. Nothing in it differs.
-unfoldable pub PlanGives : List ℕ → Shelved → Given → Type 0
+unfoldable pub PlanGives : List ℕ → ShelfState → ReportAndTape → Type 0
 PlanGives deck before given =
-    (given.differs ≡ false) × ((d : Deck) × SpellsDeck deck before d × IsDeck d × IsShort d × (given ≡ plan_given d))
+    (given.differs ≡ false) × ((d : Deck) × SpellsDeck deck before d × IsDeck d × HasShortProgram d × (given ≡ plan_given d))
 
 -- It reads its deck, whose program must be short enough, and writes no output; the deck decides the plan.
 abbrev pub plan_meaning : List ℕ → Meaning
 plan_meaning deck = record {
   IsInput = λ name. name ≡ deck;
   output = None;
-  Suits = λ before. OfDeck deck before IsShort;
+  Suits = λ before. OfDeck deck before HasShortProgram;
   Refuses = PlanCause deck;
   Gives = PlanGives deck;
   decided = true;

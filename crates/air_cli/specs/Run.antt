@@ -1,13 +1,13 @@
 -- The command `run DECK TAPE`.
 use Rattle.std.specs.Prelude.{◌≡◌, ◌≤◌, ℕ, false, List, Some}
-use Rattle.air_devices.specs.Shelves.{Shelved}
+use Rattle.air_devices.specs.Shelves.{ShelfState}
 use Rattle.air_model.specs.Decks.{Deck, IsDeck}
 use Rattle.air_report.specs.declared.status.Status.{Status}
 use Rattle.air_report.specs.declared.status.Status.TheVariants as status
-use Rattle.air_cli.specs.RunnableDecks.{IsShort, UnrunnableCause}
+use Rattle.air_cli.specs.RunnableDecks.{HasShortProgram, UnrunnableCause}
 use Rattle.air_cli.specs.NamedDecks.{OfDeck, SpellsDeck}
 use Rattle.air_cli.specs.FileLimits.{tape_limit}
-use Rattle.air_cli.specs.Given.{Given}
+use Rattle.air_cli.specs.ReportsAndTapes.{ReportAndTape}
 use Rattle.air_model.specs.Runs.{Run}
 use Rattle.air_cli.specs.GivenRuns.{IsGivenRun}
 use Rattle.deck_runs.specs.RunTapes.{IsLongRun, run_tape_len}
@@ -15,16 +15,16 @@ use Rattle.air_cli.specs.Meanings.{Meaning}
 
 -- A deck can be run: its program is short enough, and so is the tape of each of its runs.
 abbrev pub CanRun : Deck → Type 0
-CanRun d = IsShort d × (run_tape_len d ≤ tape_limit)
+CanRun d = HasShortProgram d × (run_tape_len d ≤ tape_limit)
 
 -- Why it is refused: its deck can't be run, or the tape would be too long.
-unfoldable pub RunCause : List ℕ → Shelved → Shelved → Status → Type 0
-RunCause deck before now (status.TooLong bytes) = OfDeck deck before (λ d. IsShort d × IsLongRun d bytes)
+unfoldable pub RunCause : List ℕ → ShelfState → ShelfState → Status → Type 0
+RunCause deck before now (status.TooLong bytes) = OfDeck deck before (λ d. HasShortProgram d × IsLongRun d bytes)
 RunCause deck before now s = UnrunnableCause deck before now s
 
 -- What it gives: there is a well-made deck that can be run, the one that the named file spells where it is told; and this is report
 -- and tape of a run of it, of which all is true that is true of one. Nothing in it differs.
-unfoldable pub RunGives : List ℕ → Shelved → Given → Type 0
+unfoldable pub RunGives : List ℕ → ShelfState → ReportAndTape → Type 0
 RunGives deck before given =
     (given.differs ≡ false) × ((d : Deck) × SpellsDeck deck before d × IsDeck d × CanRun d × ((run : Run) × IsGivenRun d given run))
 

@@ -1,6 +1,6 @@
 -- Which decks can be run, and why a named deck can't be.
 use Rattle.std.specs.Prelude.{ℕ, ◌≤◌, List, length, ⊤}
-use Rattle.air_devices.specs.Shelves.{Shelved}
+use Rattle.air_devices.specs.Shelves.{ShelfState}
 use Rattle.air_model.specs.Decks.{Deck, disks_in}
 use Rattle.air_model.specs.Programs.{program}
 use Rattle.chunk_program.specs.Plans.{IsTooLong, most_slots}
@@ -9,8 +9,8 @@ use Rattle.air_report.specs.declared.status.Status.TheVariants as status
 use Rattle.air_cli.specs.NamedDecks.{DeckCause, OfDeck}
 
 -- The deck's program has no more slots than a program may have.
-abbrev pub IsShort : Deck → Type 0
-IsShort d = length (program (disks_in d)) ≤ most_slots
+abbrev pub HasShortProgram : Deck → Type 0
+HasShortProgram d = length (program (disks_in d)) ≤ most_slots
 
 -- Why the deck has no program: its program would be too long.
 unfoldable pub LengthCause : Deck → Status → Type 0
@@ -19,6 +19,6 @@ LengthCause d status.NoMemory = ⊤
 LengthCause d other = ⊥
 
 -- Why there is no deck that can be run: there is no deck, or its program would be too long.
-unfoldable pub UnrunnableCause : List ℕ → Shelved → Shelved → Status → Type 0
+unfoldable pub UnrunnableCause : List ℕ → ShelfState → ShelfState → Status → Type 0
 UnrunnableCause deck before now (status.PlanTooLong slots) = OfDeck deck before (λ d. IsTooLong (disks_in d) slots)
 UnrunnableCause deck before now s = DeckCause deck before now s

@@ -1,37 +1,37 @@
 -- The commands `script DECK` and `script DECK TAPE`.
 use Rattle.std.specs.Prelude.{◌≡◌, ◌≤◌, ◌<◌, ℕ, true, false, List, length, Option}
-use Rattle.air_devices.specs.Shelves.{Shelved}
+use Rattle.air_devices.specs.Shelves.{ShelfState}
 use Rattle.air_model.specs.Decks.{Deck}
 use Rattle.air_model.specs.Outputs.{script_output, script_tape}
 use Rattle.air_report.specs.declared.status.Status.{Status}
 use Rattle.air_report.specs.declared.status.Status.TheVariants as status
-use Rattle.air_cli.specs.RunnableDecks.{IsShort, UnrunnableCause}
+use Rattle.air_cli.specs.RunnableDecks.{HasShortProgram, UnrunnableCause}
 use Rattle.air_cli.specs.NamedDecks.{OfDeck}
 use Rattle.air_cli.specs.FileLimits.{tape_limit}
 use Rattle.air_cli.specs.Meanings.{Meaning}
-use Rattle.air_cli.specs.Given.{Given}
+use Rattle.air_cli.specs.ReportsAndTapes.{ReportAndTape}
 use Rattle.air_cli.specs.Truths.{IsTrueScript}
 
 -- The deck can be run, but its tape would have so many bytes, more than a tape may have.
 pub record HasLongTape (d : Deck) (bytes : ℕ) : Type 0 where
-  pub runnable : IsShort d
+  pub runnable : HasShortProgram d
   pub counted : bytes ≡ length (script_tape d)
   pub above : tape_limit < bytes
 
 -- Why it is refused: its deck can't be run, or the tape would be too long.
-unfoldable pub ScriptCause : List ℕ → Shelved → Shelved → Status → Type 0
+unfoldable pub ScriptCause : List ℕ → ShelfState → ShelfState → Status → Type 0
 ScriptCause deck before now (status.TooLong bytes) = OfDeck deck before (λ d. HasLongTape d bytes)
 ScriptCause deck before now s = UnrunnableCause deck before now s
 
 -- The report of the deck's script, and its tape.
-abbrev pub script_given : Deck → Given
+abbrev pub script_given : Deck → ReportAndTape
 script_given d = record { text = script_output d; tape = script_tape d; differs = false }
 
 -- What it gives: its deck can be run, the tape is short enough, the sessions in the report are true, and this is report and tape. Nothing in it
 -- differs.
-unfoldable pub ScriptGives : List ℕ → Shelved → Given → Type 0
+unfoldable pub ScriptGives : List ℕ → ShelfState → ReportAndTape → Type 0
 ScriptGives deck before given =
-    (given.differs ≡ false) × OfDeck deck before (λ d. IsShort d × (length (script_tape d) ≤ tape_limit) × IsTrueScript d × (given ≡ script_given d))
+    (given.differs ≡ false) × OfDeck deck before (λ d. HasShortProgram d × (length (script_tape d) ≤ tape_limit) × IsTrueScript d × (given ≡ script_given d))
 
 -- It reads its deck, which must be one that can be run and have a tape that is short enough, and writes the tape piece by piece
 -- where one is named; the deck decides report and tape.
@@ -39,7 +39,7 @@ abbrev pub script_meaning : List ℕ → Option (List ℕ) → Meaning
 script_meaning deck tape = record {
   IsInput = λ name. name ≡ deck;
   output = tape;
-  Suits = λ before. OfDeck deck before (λ d. IsShort d × (length (script_tape d) ≤ tape_limit));
+  Suits = λ before. OfDeck deck before (λ d. HasShortProgram d × (length (script_tape d) ≤ tape_limit));
   Refuses = ScriptCause deck;
   Gives = ScriptGives deck;
   decided = true;

@@ -1,18 +1,18 @@
 -- The command `tune DECK TAPE`.
 use Rattle.std.specs.Prelude.{◌≡◌, ◌⊎◌, ◌≤◌, ℕ, true, false, List, [], length, Some, None, ⊤}
 use Rattle.air_devices.specs.Told.{WhereTold}
-use Rattle.air_devices.specs.Shelves.{Shelved}
+use Rattle.air_devices.specs.Shelves.{ShelfState}
 use Rattle.air_model.specs.Decks.{Deck}
 use Rattle.air_model.specs.Outputs.{tune_output}
 use Rattle.air_model.specs.Tapes.{tape_read}
 use Rattle.air_report.specs.declared.status.Status.{Status}
 use Rattle.air_report.specs.declared.status.Status.TheVariants as status
-use Rattle.air_cli.specs.RunnableDecks.{IsShort, UnrunnableCause}
+use Rattle.air_cli.specs.RunnableDecks.{HasShortProgram, UnrunnableCause}
 use Rattle.air_cli.specs.NamedDecks.{OfDeck}
 use Rattle.air_cli.specs.NamedFiles.{UnreadCause}
 use Rattle.air_cli.specs.FileLimits.{tape_limit}
 use Rattle.air_cli.specs.Meanings.{Meaning}
-use Rattle.air_cli.specs.Given.{Given}
+use Rattle.air_cli.specs.ReportsAndTapes.{ReportAndTape}
 use Rattle.air_cli.specs.Truths.{IsTrueTape}
 
 -- The tape is cut at this byte.
@@ -20,23 +20,23 @@ abbrev pub IsCutAt : ℕ → List ℕ → Type 0
 IsCutAt at bytes = (length bytes ≤ tape_limit) × ((tape_read bytes).cut ≡ Some at)
 
 -- Why it is refused: its deck can't be run, or it can, and then the tape can't be heard.
-unfoldable pub TuneCause : List ℕ → List ℕ → Shelved → Shelved → Status → Type 0
-TuneCause deck tape before now (status.TapeCut at) = OfDeck deck before IsShort × WhereTold (before.told.file tape) (IsCutAt at)
-TuneCause deck tape before now s = UnrunnableCause deck before now s ⊎ (OfDeck deck before IsShort × UnreadCause tape tape_limit before now s)
+unfoldable pub TuneCause : List ℕ → List ℕ → ShelfState → ShelfState → Status → Type 0
+TuneCause deck tape before now (status.TapeCut at) = OfDeck deck before HasShortProgram × WhereTold (before.told.file tape) (IsCutAt at)
+TuneCause deck tape before now s = UnrunnableCause deck before now s ⊎ (OfDeck deck before HasShortProgram × UnreadCause tape tape_limit before now s)
 
 -- The named file's bytes, where they are told, are a whole tape, and this is so of its records.
-abbrev pub OfTape : List ℕ → Shelved → (List (List ℕ) → Type 0) → Type 0
+abbrev pub OfTape : List ℕ → ShelfState → (List (List ℕ) → Type 0) → Type 0
 OfTape name before P = WhereTold (before.told.file name) (λ bytes. (length bytes ≤ tape_limit) × ((tape_read bytes).cut ≡ None) × P (tape_read bytes).records)
 
 -- The report of the deck's readers over these records, and no tape.
-abbrev pub tune_given : Deck → List (List ℕ) → Given
+abbrev pub tune_given : Deck → List (List ℕ) → ReportAndTape
 tune_given d records = record { text = tune_output d records; tape = []; differs = false }
 
 -- What it gives: its deck can be run, its tape is whole, the sessions in the report are true, and this is the report. Nothing in it
 -- differs.
-unfoldable pub TuneGives : List ℕ → List ℕ → Shelved → Given → Type 0
+unfoldable pub TuneGives : List ℕ → List ℕ → ShelfState → ReportAndTape → Type 0
 TuneGives deck tape before given =
-    (given.differs ≡ false) × OfDeck deck before (λ d. IsShort d × OfTape tape before (λ records. IsTrueTape d records × (given ≡ tune_given d records)))
+    (given.differs ≡ false) × OfDeck deck before (λ d. HasShortProgram d × OfTape tape before (λ records. IsTrueTape d records × (given ≡ tune_given d records)))
 
 -- It reads its deck, which must be one that can be run, and the tape, which must be whole, and writes no output; the two decide
 -- the report.
@@ -44,7 +44,7 @@ abbrev pub tune_meaning : List ℕ → List ℕ → Meaning
 tune_meaning deck tape = record {
   IsInput = λ name. (name ≡ deck) ⊎ (name ≡ tape);
   output = None;
-  Suits = λ before. OfDeck deck before IsShort × OfTape tape before (λ records. ⊤);
+  Suits = λ before. OfDeck deck before HasShortProgram × OfTape tape before (λ records. ⊤);
   Refuses = TuneCause deck tape;
   Gives = TuneGives deck tape;
   decided = true;

@@ -1,21 +1,21 @@
 -- What stands outside after a refusal, or out of memory.
 -- Facts about bytes are said where the shelf tells them; over real files nothing is told.
 use Rattle.std.specs.Prelude.{◌≡◌, ℕ, List}
-use Rattle.air_devices.specs.Shelves.{Shelved}
+use Rattle.air_devices.specs.Shelves.{ShelfState}
 use Rattle.air_report.specs.declared.status.Status.{Status}
-use Rattle.air_report.specs.Statuses.{line_of}
+use Rattle.air_report.specs.Statuses.{status_line}
 use Rattle.air_cli.specs.Refusals.{PrintsUnlessFailed}
 
 -- Every output is as it was.
-abbrev pub KeepsOutputs : Shelved → Shelved → Type 0
+abbrev pub KeepsOutputs : ShelfState → ShelfState → Type 0
 KeepsOutputs before now = (name : List ℕ) → now.told.output name ≡ before.told.output name
 
 -- Nothing was printed, and no output was written.
-pub record IsUntouched (before now : Shelved) : Type 0 where
+pub record IsUntouched (before now : ShelfState) : Type 0 where
   pub printed : now.told.printed ≡ before.told.printed
   pub outputs : KeepsOutputs before now
 
 -- A refusal printed the line of its status alone, but for what a failing print left out, and no output was written.
-pub record IsRefusal (status : Status) (before now : Shelved) : Type 0 where
-  pub line : PrintsUnlessFailed (line_of status) before now
+pub record IsRefusal (status : Status) (before now : ShelfState) : Type 0 where
+  pub line : PrintsUnlessFailed (status_line status) before now
   pub outputs : KeepsOutputs before now

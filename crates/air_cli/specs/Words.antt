@@ -42,7 +42,7 @@ asked_of_two name first second =
     else if pointwise nat_eq name (codes "audit") then Some (AsksAudit first second)
     else None
 
--- What the words ask for; None where they are of no form.
+-- What the words ask for; None where they are no command.
 abbrev pub asked_of : List (List ℕ) → Option Asked
 asked_of [] = None
 asked_of (name ∷ []) = None

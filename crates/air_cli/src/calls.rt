@@ -1,7 +1,7 @@
 //! The words of the commands that wait: `run`, `cast` and `listen`.
 
 ghost use Rattle.std.specs.Prelude.{◌≡◌, map, string_bytes, MatchOption};
-ghost use Rattle.air_cli.specs.Steps.CalledWords.{called_by};
+ghost use Rattle.air_cli.specs.Private.CalledWords.{called_by};
 ghost use Rattle.air_base.specs.Numbers.{number_of};
 ghost use Rattle.air_cli.specs.MainWords.{OnShelf, called_of, called_of_two, port_of};
 ghost use Rattle.air_cli.specs.Words.{asked_of, asked_of_two};

@@ -1,11 +1,11 @@
 //! How a command ends: what it made is delivered, or why it made nothing is told.
 
 ghost use Rattle.std.specs.Prelude.{option_map, MatchResult};
-ghost use Rattle.air_cli.specs.Steps.Endings.{EndsGiven, EndsUnmade};
+ghost use Rattle.air_cli.specs.Private.Endings.{EndsGiven, EndsUnmade};
 
 use crate::outputs::deliver;
-use crate::outputs::given::Given;
 use crate::outputs::refusals::refuse;
+use crate::outputs::report_and_tape::ReportAndTape;
 use air_devices::Shelf;
 use air_report::Status;
 use std::alloc::Global;
@@ -15,7 +15,7 @@ pub(crate) fn give_or_refuse<S: Shelf>(
     alloc: Global,
     shelf: &mut S,
     output: Option<&str>,
-    made: Result<Given, Status>,
+    made: Result<ReportAndTape, Status>,
 ) -> Status
     ensures { MatchResult made
         (λ given. EndsGiven (option_map (λ name. name.now) output.entry) given (S.state shelf.old) (S.state shelf.new) result)

@@ -25,7 +25,7 @@ pub use files::read_bytes;
 pub use files::runnable::read_runnable_deck;
 pub use main_call::air_main;
 pub use outputs::deliver;
-pub use outputs::given::Given;
 pub use outputs::refusals::refuse;
+pub use outputs::report_and_tape::ReportAndTape;
 pub use quiet::air_quiet;
 pub use tapes::{PieceSizes, file_sessions, piece_sessions};

@@ -7,7 +7,7 @@ ghost use Rattle.std.specs.Prelude.{◌≡◌, map, string_bytes, None};
 ghost use Rattle.air_devices.specs.Masts.{nothing_sent};
 ghost use Rattle.air_devices.specs.Told.{WhereTold};
 ghost use Rattle.air_cli.specs.Answers.{Completes, Leaves, QuietAnswers};
-ghost use Rattle.air_cli.specs.Steps.CalledWords.{called_by};
+ghost use Rattle.air_cli.specs.Private.CalledWords.{called_by};
 ghost use Rattle.air_cli.specs.Cast.{cast_meaning};
 ghost use Rattle.air_cli.specs.Listen.{listen_meaning};
 ghost use Rattle.air_cli.specs.MainWords.{Casts, Listens, called_of};

@@ -5,18 +5,18 @@ ghost use Rattle.air_devices.specs.Counts.{NoCountFalls};
 ghost use Rattle.air_cli.specs.Deliveries.{Delivers, KeepsButDelivered};
 ghost use Rattle.air_cli.specs.OutputPieces.{IsCutOff, IsWritten};
 
-pub(crate) mod given;
 pub(crate) mod pieces;
 pub(crate) mod refusals;
+pub(crate) mod report_and_tape;
 
-use crate::outputs::given::Given;
 use crate::outputs::pieces::{append_piece, begin_output};
+use crate::outputs::report_and_tape::ReportAndTape;
 use air_devices::{Failed, Shelf};
 use air_report::Status;
 
 /// Writes the tape to the output of this name, if one is named, and then prints the text. Where both went out, the status tells
 /// whether the text says that something differs.
-pub fn deliver<S: Shelf>(shelf: &mut S, output: Option<&str>, given: &Given) -> Status
+pub fn deliver<S: Shelf>(shelf: &mut S, output: Option<&str>, given: &ReportAndTape) -> Status
     ensures gives { Delivers (option_map (λ name. name.now) output.entry) given.now (S.state shelf.old) (S.state shelf.new) result }
     ensures rest { KeepsButDelivered (option_map (λ name. name.now) output.entry) (S.state shelf.old).told (S.state shelf.new).told }
     ensures counts { NoCountFalls (S.state shelf.old).faults (S.state shelf.new).faults }

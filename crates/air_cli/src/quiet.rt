@@ -6,7 +6,7 @@
 ghost use Rattle.std.specs.Prelude.{◌≡◌, false, map, string_bytes, IfErr, IfOk};
 ghost use Rattle.air_cli.specs.Words.{HasSize, asked_of};
 ghost use Rattle.air_cli.specs.Commands.{asked_by, meaning_of, words_meaning};
-ghost use Rattle.air_cli.specs.Steps.BeforeDelivery.{IsMade, IsUnmade, Reads};
+ghost use Rattle.air_cli.specs.Private.BeforeDelivery.{IsMade, IsUnmade, ReadsInputs};
 ghost use Rattle.air_cli.specs.Answers.{Completes, Leaves, QuietAnswers};
 
 use crate::commands::audit::audit;
@@ -15,8 +15,8 @@ use crate::commands::plan::plan;
 use crate::commands::script::script;
 use crate::commands::tune::tune;
 use crate::endings::give_or_refuse;
-use crate::outputs::given::Given;
 use crate::outputs::refusals::refuse;
+use crate::outputs::report_and_tape::ReportAndTape;
 use crate::words::{Command, command_of};
 use air_devices::Shelf;
 use air_report::Status;
@@ -75,18 +75,18 @@ fn give<T: Threads + Sync, S: Shelf>(
 }
 
 /// What a command gives; nothing is printed or written yet.
-#[tactic(auto, using(crate::proofs::DrillFacts::made_drill, crate::proofs::DrillFacts::unmade_drill))]
+#[tactic(auto, using(crate::proofs::DrillLemmas::made_drill, crate::proofs::DrillLemmas::unmade_drill))]
 fn make<T: Threads + Sync, S: Shelf>(
     threads: &T,
     alloc: Global,
     shelf: &mut S,
     command: &Command,
-) -> Result<Given, Status>
+) -> Result<ReportAndTape, Status>
     requires size { HasSize (asked_by command.now) }
     requires whole { (meaning_of (asked_by command.now)).by_pieces ≡ false }
     ensures made { IfOk result (IsMade (meaning_of (asked_by command.now)) (S.state shelf.old) (S.state shelf.new)) }
     ensures unmade { IfErr result (IsUnmade (meaning_of (asked_by command.now)) (S.state shelf.old) (S.state shelf.new)) }
-    ensures reads { Reads (meaning_of (asked_by command.now)) (S.state shelf.old) (S.state shelf.new) }
+    ensures reads { ReadsInputs (meaning_of (asked_by command.now)) (S.state shelf.old) (S.state shelf.new) }
 {
     match command {
         Command::Plan { deck } => plan(alloc, shelf, deck),

@@ -5,14 +5,14 @@ ghost use Rattle.air_model.specs.Decks.{disks_in};
 ghost use Rattle.air_cli.specs.FileLimits.{tape_limit};
 ghost use Rattle.air_cli.specs.NamedFiles.{ReadsInput};
 ghost use Rattle.receiver_core.specs.Receivers.{heard_count};
-ghost use Rattle.air_cli.specs.HeardTapes.{AreHeard, UnheardCause};
-ghost use Rattle.air_cli.specs.Steps.Pieces.{HaveHeard, IsCutBefore};
+ghost use Rattle.air_cli.specs.HeardTapes.{AreFileSessions, UnheardCause};
+ghost use Rattle.air_cli.specs.Private.Pieces.{HaveHeardFile, IsCutBefore};
 
-pub(crate) mod fronts;
 pub(crate) mod piece;
+pub(crate) mod whole_records;
 
-use crate::tapes::fronts::hear_front;
 use crate::tapes::piece::Piece;
+use crate::tapes::whole_records::hear_whole_records;
 use air_base::limits::MOST_TAPE_BYTES;
 use air_devices::Shelf;
 use air_report::Status;
@@ -42,7 +42,7 @@ pub fn file_sessions<T: Threads + Sync, S: Shelf>(
     program: &Program,
 ) -> Result<Sessions, Status>
     requires planned { program.now ≡ disks_in deck.now }
-    ensures heard { IfOk result (AreHeard name.now tape_limit (S.state shelf.old) deck.now) }
+    ensures heard { IfOk result (AreFileSessions name.now tape_limit (S.state shelf.old) deck.now) }
     ensures refused { IfErr result (UnheardCause name.now tape_limit (S.state shelf.old) (S.state shelf.new)) }
     ensures reads { ReadsInput name.now result (S.state shelf.old) (S.state shelf.new) }
 {
@@ -65,7 +65,7 @@ pub fn piece_sessions<T: Threads + Sync, S: Shelf>(
     sizes: PieceSizes,
 ) -> Result<Sessions, Status>
     requires planned { program.now ≡ disks_in deck.now }
-    ensures heard { IfOk result (AreHeard name.now sizes.tape (S.state shelf.old) deck.now) }
+    ensures heard { IfOk result (AreFileSessions name.now sizes.tape (S.state shelf.old) deck.now) }
     ensures refused { IfErr result (UnheardCause name.now sizes.tape (S.state shelf.old) (S.state shelf.new)) }
     ensures reads { ReadsInput name.now result (S.state shelf.old) (S.state shelf.new) }
 {
@@ -86,7 +86,7 @@ fn hear_pieces<T: Threads + Sync, S: Shelf>(
     sizes: PieceSizes,
 ) -> Result<(), Status>
     requires { All (λ l. heard_count l.state.counts ≡ 0) readers.old }
-    ensures heard { OnOk result (HaveHeard name.now sizes.tape (S.state shelf.old) readers.old readers.new) }
+    ensures heard { OnOk result (HaveHeardFile name.now sizes.tape (S.state shelf.old) readers.old readers.new) }
     ensures refused { IfErr result (UnheardCause name.now sizes.tape (S.state shelf.old) (S.state shelf.new)) }
     ensures reads { ReadsInput name.now result (S.state shelf.old) (S.state shelf.new) }
 {
@@ -108,7 +108,7 @@ fn hear_pieces<T: Threads + Sync, S: Shelf>(
             });
         }
         left -= count;
-        let heard = hear_front(threads, alloc, readers, piece.as_slice())?;
+        let heard = hear_whole_records(threads, alloc, readers, piece.as_slice())?;
         piece.let_go(heard)?;
     }
 }

@@ -2,7 +2,7 @@
 
 ghost use Rattle.std.specs.Prelude.{ℕ, ◌≤◌, List};
 ghost use Rattle.air_model.specs.Drills.{drill_deck};
-ghost use Rattle.air_cli.specs.RunnableDecks.{IsShort};
+ghost use Rattle.air_cli.specs.RunnableDecks.{HasShortProgram};
 ghost use Rattle.air_model.specs.Outputs.{cast_output};
 ghost use Rattle.deck_runs.specs.RunTruths.{IsTrueRun, TellsHistory};
 ghost use Rattle.air_model.specs.Runs.{IsRun, Run};
@@ -19,11 +19,11 @@ use item_catalog::{Deck, drill_law};
 use scripts::laws::drill_slots_law;
 
 /// The sessions over a script's history are true of it.
-pub(crate) fn script_is_true(deck: &Deck)
-    requires { IsShort deck.now }
+pub(crate) fn shows_script_truth(deck: &Deck)
+    requires { HasShortProgram deck.now }
     ensures { IsTrueScript deck.now }
 {
-    deck.well_made();
+    deck.shows_well_made();
     script_law();
     events_law();
     bytes_law();
@@ -32,7 +32,7 @@ pub(crate) fn script_is_true(deck: &Deck)
 }
 
 /// So are those of a drill.
-pub(crate) fn drill_is_true(seed: u64, size: u32)
+pub(crate) fn shows_drill_truth(seed: u64, size: u32)
     requires some { 1 ≤ size }
     requires few { size ≤ MOST_DRILL_SIZE }
     ensures { IsTrueScript (drill_deck seed size) }
@@ -47,19 +47,19 @@ pub(crate) fn drill_is_true(seed: u64, size: u32)
 }
 
 /// The sessions over a tape are true of every history that aired it.
-pub(crate) fn tapes_are_true(deck: &Deck)
+pub(crate) fn shows_tape_truth(deck: &Deck)
     ensures { (records : List (List ℕ)) → IsTrueTape deck.now records }
 {
-    deck.well_made();
+    deck.shows_well_made();
     receiver_law();
 }
 
 /// So are the runs of a deck, and a cast's report tells the history of its run.
-pub(crate) fn casts_are_true(deck: &Deck)
-    requires { IsShort deck.now }
+pub(crate) fn shows_cast_truth(deck: &Deck)
+    requires { HasShortProgram deck.now }
     ensures { (run : Run) → IsRun deck.now run → IsTrueRun deck.now run × TellsHistory deck.now run.history (cast_output run.history run.glances run.looks) }
 {
-    deck.well_made();
+    deck.shows_well_made();
     true_run_law();
     one_history_law();
 }

@@ -69,7 +69,7 @@ impl<'a> Command<'a> {
     }
 }
 
-/// What the words ask for, and `None` exactly if they are of no form.
+/// What the words ask for, and `None` exactly if they are no command.
 pub fn command_of<'a>(words: &'a [String]) -> Option<Command<'a>>
     ensures asked { option_map asked_by result ≡ asked_of (map (λ w. string_bytes w) words.now) }
     ensures sized { IfSome result (λ c. HasSize (asked_by c)) }

@@ -1,7 +1,7 @@
 pub mod NamedLemmas
-pub mod MemoryFacts
-pub mod CallFacts
-pub mod ReadFileFacts
-pub mod EarFacts
-pub mod WrittenFacts
-pub mod RecordFacts
+pub mod MemoryLemmas
+pub mod CallLemmas
+pub mod ReadFileLemmas
+pub mod EarLemmas
+pub mod WrittenLemmas
+pub mod RecordLemmas

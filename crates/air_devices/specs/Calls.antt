@@ -5,7 +5,7 @@ use Rattle.std.specs.List.{list_any}
 use Rattle.air_devices.specs.declared.memory.calls.Calls.{Calls}
 
 -- No call was made yet, and these are the numbers of the calls that fail.
-pub record AreNew (listed : List ℕ) (c : Calls) : Type 0 where
+pub record AreNewCalls (listed : List ℕ) (c : Calls) : Type 0 where
   pub fail : c.fail.items ≡ listed
   pub made : c.made ≡ 0
   pub faults : c.faults ≡ 0

@@ -1,4 +1,4 @@
--- An ear, as a call finds or leaves it. The trait `Ear` has this as its one ghost member, and every clause on an ear
+-- An ear, as a call finds or leaves it. The trait `Ear` has this as its one ghost word, and every clause on an ear
 -- goes by it. What a form doesn't tell is None.
 use Rattle.std.specs.Prelude.{◌≡◌, ◌≤◌, ℕ, List, [], ◌∷◌, length, take, Option, Some, None, ⊤}
 use Rattle.air_devices.specs.declared.ears.Heard.{Heard}
@@ -6,7 +6,7 @@ use Rattle.air_devices.specs.declared.ears.Heard.TheVariants as heard
 
 -- What an ear tells of the datagrams that are still to be heard, how often its calls failed, and the port that it was tuned
 -- to, if it was.
-pub record Eared : Type 0 where
+pub record EarState : Type 0 where
   pub told : Option (List (List ℕ))
   pub faults : ℕ
   pub port : Option ℕ

@@ -14,5 +14,5 @@ pub mod FileFailures
 pub mod ReadFiles
 pub mod NetFailures
 pub mod Untold
-pub mod Written
+pub mod WrittenBytes
 pub mod Recordings

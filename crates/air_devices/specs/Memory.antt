@@ -4,11 +4,11 @@ use Rattle.std.specs.Prelude.{◌≡◌, length, map, true, nat_lt, ◌+◌, ◌
 use Rattle.std.specs.Cmp.Lexicographic.{pointwise}
 use Rattle.std.specs.Global.{Global}
 use Rattle.std.specs.List.{find}
-use Rattle.air_devices.specs.Written.{Written}
-use Rattle.air_devices.specs.Calls.{AreNew, IsNextCall, is_next_listed}
+use Rattle.air_devices.specs.WrittenBytes.{WrittenBytes}
+use Rattle.air_devices.specs.Calls.{AreNewCalls, IsNextCall, is_next_listed}
 use Rattle.air_devices.specs.Contents.{Contents}
 use Rattle.air_devices.specs.Counts.{Faults, one_count}
-use Rattle.air_devices.specs.Shelves.{Shelved}
+use Rattle.air_devices.specs.Shelves.{ShelfState}
 use Rattle.air_devices.specs.declared.memory.calls.Calls.{Calls}
 use Rattle.air_devices.specs.declared.memory.shelf.MemFile.{MemFile}
 use Rattle.air_devices.specs.declared.memory.shelf.MemOutput.{MemOutput}
@@ -76,7 +76,7 @@ abbrev pub faults_of : MemShelf → Faults
 faults_of s = one_count s.calls.faults
 
 -- A shelf in memory, as a call finds or leaves it.
-abbrev pub shelved_of : MemShelf → Shelved
+abbrev pub shelved_of : MemShelf → ShelfState
 shelved_of s = record { told = told_by s; faults = faults_of s }
 
 -- The file of this name on a shelf.
@@ -92,14 +92,14 @@ pub record IsNewShelf (given : List (String Global × Vec ℕ Global)) (named : 
   pub files : s.files.items ≡ map unpicked_file given
   pub outputs : s.outputs.items ≡ map (empty_output room) named
   pub printed : s.printed ≡ record { bytes = []; room = room }
-  pub calls : AreNew listed s.calls
+  pub calls : AreNewCalls listed s.calls
 
 -- Whether there is no room for all of the bytes behind those that were written.
-abbrev pub overflows : Written → List ℕ → Bool
+abbrev pub overflows : WrittenBytes → List ℕ → Bool
 overflows written bytes = nat_lt written.room (length written.bytes + length bytes)
 
 -- What a call adds of these bytes to those that were written: nothing where it is listed, and else what fits.
-abbrev pub added_bytes : Calls → Written → List ℕ → List ℕ
+abbrev pub added_bytes : Calls → WrittenBytes → List ℕ → List ℕ
 added_bytes calls written bytes = if is_next_listed calls then [] else take (written.room - length written.bytes) bytes
 
 -- Whether there is no output, or it has no room for all of the bytes.
@@ -124,7 +124,7 @@ abbrev pub output_rooms : MemShelf → List ℕ
 output_rooms s = map (λ o. o.written.room) s.outputs.items
 
 -- One call was made; the names and the rooms are as they were.
-pub record MadeCall (before now : MemShelf) : Type 0 where
+pub record MadeShelfCall (before now : MemShelf) : Type 0 where
   pub calls : IsNextCall before.calls now.calls
   pub files : file_names now ≡ file_names before
   pub outputs : output_names now ≡ output_names before

@@ -5,7 +5,7 @@
 
 ghost use Rattle.std.specs.Prelude.{◌≡◌, ◌<◌, length, Some, None, IfOk, IsSome, OnErr};
 ghost use Rattle.air_devices.specs.Counts.{HasCause};
-ghost use Rattle.air_devices.specs.Ears.{Eared, Hears};
+ghost use Rattle.air_devices.specs.Ears.{EarState, Hears};
 
 use crate::shelves::Failed;
 
@@ -22,7 +22,7 @@ pub enum Heard {
 pub trait Ear {
     /// What the ear tells of what is still to be heard, how often its calls failed, and the port that it was tuned to, if
     /// it was.
-    ghost state: { Self → Eared };
+    ghost state: { Self → EarState };
 
     /// Begins to hear on a port, which is its port then, also where it fails.
     fn tune_in(&mut self, port: u16) -> Result<(), Failed>

@@ -6,7 +6,7 @@
 ghost use Rattle.std.specs.Prelude.{◌≡◌, ◌≤◌, [], ◌∷◌, length, Some, None, OnErr, OnOk};
 ghost use Rattle.air_base.specs.declared.limits.TheConstants.{MOST_DATAGRAM_BYTES};
 ghost use Rattle.air_devices.specs.Counts.{HasCause};
-ghost use Rattle.air_devices.specs.Masts.{Changes, Masted, nothing_sent, with_buckets, with_end};
+ghost use Rattle.air_devices.specs.Masts.{Changes, MastState, nothing_sent, with_buckets, with_end};
 ghost use Rattle.air_devices.specs.Told.{WhereTold};
 
 use crate::shelves::Failed;
@@ -14,7 +14,7 @@ use crate::shelves::Failed;
 /// Buckets that are sent one after the other on a port.
 pub trait Mast {
     /// What the mast tells of what it sent, how often its calls failed, and the port that it was aimed at, if it was.
-    ghost state: { Self → Masted };
+    ghost state: { Self → MastState };
 
     /// Aims at a port, which is its port then, also where it fails.
     fn aim(&mut self, port: u16) -> Result<(), Failed>

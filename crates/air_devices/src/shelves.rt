@@ -9,7 +9,7 @@ ghost use Rattle.std.specs.Io.KnownBytes.{Appends, ReadConsumes};
 ghost use Rattle.air_devices.specs.Counts.{HasCauseIn, printing_of, reading_of, writing_of};
 ghost use Rattle.air_devices.specs.Unchanged.{KeepsButLeft, KeepsButOutput, KeepsButPrinted};
 ghost use Rattle.air_devices.specs.Told.{AppendsPart, Becomes};
-ghost use Rattle.air_devices.specs.Shelves.{Shelved};
+ghost use Rattle.air_devices.specs.Shelves.{ShelfState};
 
 use std::error::Error;
 use std::fmt;
@@ -29,7 +29,7 @@ impl Error for Failed {}
 /// Files that are read by name, outputs that are written by name, and text that is printed.
 pub trait Shelf {
     /// What the shelf tells of what it holds, and how often its calls failed.
-    ghost state: { Self → Shelved };
+    ghost state: { Self → ShelfState };
 
     /// Makes the whole named file what is left of it to read.
     fn pick(&mut self, name: &str) -> Result<(), Failed>

@@ -4,21 +4,21 @@ use Rattle.std.proofs.Math.Nat.{mod-lt}
 use Rattle.std.proofs.lemmas.Bool.{ne_eqb, cases_lt}
 use Rattle.std.proofs.lemmas.List.{get_or-map, length-map}
 use Rattle.std.proofs.lemmas.List.Elements.{All-map}
-use Rattle.air_ether.specs.declared.waiting.Waiting.{Waiting}
+use Rattle.air_ether.specs.declared.waiting.QueuedPush.{QueuedPush}
 use Rattle.air_ether.specs.declared.cursor.Cursor.{Cursor}
-use Rattle.air_ether.specs.HeardPositions.{InWindow, copies_at, of_push, position}
+use Rattle.air_ether.specs.HeardPositions.{InWindow, of_push, position, times_heard_at}
 use Rattle.air_ether.specs.KeptPushes.{Push, Waits, nothing, push_in, push_of}
 use Rattle.air_ether.proofs.RowLemmas.{length_push, number_passed, place_passed}
 
 -- The room of a place, read.
-pub room_read : (rooms : List Waiting) (place : ℕ) (w : Waiting) → length rooms ≡ 9 → w ≡ get_or rooms (place % 9) w →
+pub room_read : (rooms : List QueuedPush) (place : ℕ) (w : QueuedPush) → length rooms ≡ 9 → w ≡ get_or rooms (place % 9) w →
     push_in (map push_of rooms) place ≡ push_of w
 room_read rooms place w nine e =
     let small : place % 9 < 9 = mod-lt place (omega arith) in
     get_or-map push_of rooms (place % 9) w nothing (omega arith) ∙ ap push_of (sym e)
 
 -- No push is heard more than twice.
-pub copies_few : (rooms : List Waiting) (c : Cursor) → length rooms ≡ 9 → All (λ w. w.times ≤ 2) rooms → copies_at (map push_of rooms) c ≤ 2
+pub copies_few : (rooms : List QueuedPush) (c : Cursor) → length rooms ≡ 9 → All (λ w. w.times ≤ 2) rooms → times_heard_at (map push_of rooms) c ≤ 2
 copies_few rooms c nine few =
     let small : c.place % 9 < 9 = mod-lt c.place (omega arith) in
     by ((push_in (map push_of rooms) c.place).due == c.number) (All-map (λ w. w.times ≤ 2) push_of rooms few (c.place % 9) nothing (omega (arith, length-map rooms push_of)))
@@ -67,7 +67,7 @@ next_number pushes limit rooms c w below far = record {
 
 -- What is kept of a push in the window is the push.
 pub kept : (due times : ℕ → ℕ) (pushes limit : ℕ) (rooms : List Push) (c : Cursor) → Waits due times pushes rooms → InWindow pushes limit rooms c → c.place < pushes →
-    length (of_push due times c.number c.place) ≡ copies_at rooms c
+    length (of_push due times c.number c.place) ≡ times_heard_at rooms c
 kept due times pushes limit rooms c all w within =
     let last : pushes ≤ c.place + 9 = omega (arith, w.new, w.from) in
     length_push due times c.number c.place
@@ -75,7 +75,7 @@ kept due times pushes limit rooms c all w within =
     ∙ ap (λ t. if due c.place == c.number then t else 0) (all.times_kept c.place within last))
 
 pub same_place : (due times : ℕ → ℕ) (pushes limit : ℕ) (rooms : List Push) (c : Cursor) → Waits due times pushes rooms → InWindow pushes limit rooms c → c.place < pushes →
-    copies_at rooms c ≤ c.copy → position due times pushes (past_place c) ≡ position due times pushes c
+    times_heard_at rooms c ≤ c.copy → position due times pushes (past_place c) ≡ position due times pushes c
 same_place due times pushes limit rooms c all w within passed =
     place_passed due times pushes c.number c.place c.copy
     (let e = kept due times pushes limit rooms c all w within in let most = w.copy within in omega arith)

@@ -15,8 +15,8 @@ use Rattle.rand_pcg.specs.Pcg.{pcg32}
 use Rattle.air_model.specs.Draws.{generator, words_of}
 use Rattle.air_model.specs.Ethers.{Odds, due_at, due_number, heard_by, heard_list, heard_places, places_due, times_heard}
 use Rattle.air_ether.specs.declared.cursor.Cursor.{Cursor}
-use Rattle.air_ether.specs.HeardPositions.{InWindow, before, copies_at, left_at, of_push, position, row}
-use Rattle.air_ether.specs.HeardSoFar.{Ether, Follows, due_of, limit_of}
+use Rattle.air_ether.specs.HeardPositions.{InWindow, before, left_at, of_push, position, row, times_heard_at}
+use Rattle.air_ether.specs.HeardSoFar.{Ether, IsEtherAfter, due_of, limit_of}
 use Rattle.air_ether.specs.KeptPushes.{Push, nothing, push_in}
 use Rattle.air_ether.specs.PushWords.{due_in, left_by, times_in}
 use Rattle.air_ether.proofs.RowLemmas.{all_over, before_grown, flat_same, range_join, row_front, stands_at}
@@ -48,8 +48,8 @@ module _ (seed number given : ℕ) (pushed : List (List ℕ)) (e : Ether) where
       ∙ ap (λ n. map (λ place. slice_index_or pushed place []) (before dues times n (limit_of e.ended n))) (sym same)
 
   -- ---- what is given next
-  pub gives : (c : Cursor) → Follows seed number pushed given e → InWindow e.pushes (limit_of e.ended e.pushes) e.rooms c →
-      position dues times e.pushes c ≡ position dues times e.pushes e.cursor → c.number < limit_of e.ended e.pushes → c.place < e.pushes → c.copy < copies_at e.rooms c →
+  pub gives : (c : Cursor) → IsEtherAfter seed number pushed given e → InWindow e.pushes (limit_of e.ended e.pushes) e.rooms c →
+      position dues times e.pushes c ≡ position dues times e.pushes e.cursor → c.number < limit_of e.ended e.pushes → c.place < e.pushes → c.copy < times_heard_at e.rooms c →
       slice_get (due_of seed number e.odds pushed e.ended) given ≡ Some (push_in e.rooms c.place).bytes
   gives c f w same below within left =
       let at : position dues times e.pushes c ≡ given = same ∙ sym f.counted in
@@ -62,23 +62,23 @@ module _ (seed number given : ℕ) (pushed : List (List ℕ)) (e : Ether) where
       ∙ ap Some (sym (f.bytes c.place within (omega (arith, w.new, w.from))))
 
   -- which was pushed
-  pub gives_pushed : (c : Cursor) → Follows seed number pushed given e → InWindow e.pushes (limit_of e.ended e.pushes) e.rooms c → c.place < e.pushes →
+  pub gives_pushed : (c : Cursor) → IsEtherAfter seed number pushed given e → InWindow e.pushes (limit_of e.ended e.pushes) e.rooms c → c.place < e.pushes →
       Contains pushed (push_in e.rooms c.place).bytes
   gives_pushed c f w within =
       subst (Contains pushed) (sym (f.bytes c.place within (omega (arith, w.new, w.from)))) (Contains-get_or pushed c.place [] (omega (arith, f.pushes)))
 
   -- the cursor moved to where it stands as before
-  pub moved : (c : Cursor) → Follows seed number pushed given e → position dues times e.pushes c ≡ position dues times e.pushes e.cursor →
-      Follows seed number pushed given (record e { cursor = c })
+  pub moved : (c : Cursor) → IsEtherAfter seed number pushed given e → position dues times e.pushes c ≡ position dues times e.pushes e.cursor →
+      IsEtherAfter seed number pushed given (record e { cursor = c })
   moved c f same = record { drawn = f.drawn; pushes = f.pushes; waits = f.waits; bytes = f.bytes; counted = f.counted ∙ sym same }
 
   -- the cursor moved on by a copy
-  pub gave : (c : Cursor) → Follows seed number pushed given e → position dues times e.pushes c ≡ position dues times e.pushes e.cursor →
-      Follows seed number pushed (given + 1) (record e { cursor = record { number = c.number; place = c.place; copy = c.copy + 1 } })
+  pub gave : (c : Cursor) → IsEtherAfter seed number pushed given e → position dues times e.pushes c ≡ position dues times e.pushes e.cursor →
+      IsEtherAfter seed number pushed (given + 1) (record e { cursor = record { number = c.number; place = c.place; copy = c.copy + 1 } })
   gave c f same = record { drawn = f.drawn; pushes = f.pushes; waits = f.waits; bytes = f.bytes; counted = (let k = f.counted in omega arith) }
 
   -- at the limit all that is due was given
-  pub all_given : (c : Cursor) → Follows seed number pushed given e → InWindow e.pushes (limit_of e.ended e.pushes) e.rooms c →
+  pub all_given : (c : Cursor) → IsEtherAfter seed number pushed given e → InWindow e.pushes (limit_of e.ended e.pushes) e.rooms c →
       position dues times e.pushes c ≡ position dues times e.pushes e.cursor → c.number ≡ limit_of e.ended e.pushes → given ≡ length (due_of seed number e.odds pushed e.ended)
   all_given c f w same at =
       let limit = limit_of e.ended e.pushes in
@@ -148,9 +148,9 @@ module _ (seed number given : ℕ) (pushed : List (List ℕ)) (bytes : List ℕ)
     rooms = set e.rooms (e.pushes % 9) (record { due = due; times = times; bytes = bytes });
   }
 
-  pub followed : Follows seed number pushed given e → length e.rooms ≡ 9 → e.cursor.number ≤ e.pushes →
+  pub followed : IsEtherAfter seed number pushed given e → length e.rooms ≡ 9 → e.cursor.number ≤ e.pushes →
       due ≡ due_in seed number e.odds e.pushes → times ≡ times_in seed number e.odds e.pushes → after ≡ left_by pcg32 3 e.generator →
-      Follows seed number (pushed ++ bytes ∷ []) given one_more
+      IsEtherAfter seed number (pushed ++ bytes ∷ []) given one_more
   followed f nine upto is_due is_times is_after = record {
     drawn = is_after ∙ ap (left_by pcg32 3) f.drawn ∙ sym (left_more pcg32 (3 * length pushed) 3 (generator seed number)) ∙ ap (λ n. left_by pcg32 n (generator seed number)) longer;
     pushes = ap (λ n. n + 1) f.pushes ∙ one;
@@ -189,7 +189,7 @@ module _ (seed number given : ℕ) (pushed : List (List ℕ)) (bytes : List ℕ)
           (ap (λ w. w.bytes) (set_here e.rooms e.pushes push nine) ∙ sym (get_or_push pushed bytes [] e.pushes (sym f.pushes)))
 
 -- ---- a new ether
-pub begun : (seed number : ℕ) (e : Ether) → e.generator ≡ generator seed number → e.pushes ≡ 0 → e.cursor ≡ record { number = 0; place = 0; copy = 0 } → Follows seed number [] 0 e
+pub begun : (seed number : ℕ) (e : Ether) → e.generator ≡ generator seed number → e.pushes ≡ 0 → e.cursor ≡ record { number = 0; place = 0; copy = 0 } → IsEtherAfter seed number [] 0 e
 unfolding before row
 begun seed number e drawn none at = record {
   drawn = drawn;

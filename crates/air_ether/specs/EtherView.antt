@@ -14,8 +14,8 @@ abbrev pub odds_of : Odds → model.Odds
 odds_of o = record { loss = o.loss; again = o.again; late = o.late }
 
 -- What the fields tell.
-abbrev pub ether_of : Inside → Ether
-ether_of e = record {
+abbrev pub ether_in : Inside → Ether
+ether_in e = record {
   odds = odds_of e.odds;
   most = e.most;
   generator = e.generator;

@@ -5,8 +5,8 @@ use Rattle.air_ether.specs.declared.cursor.Cursor.{Cursor}
 use Rattle.air_ether.specs.KeptPushes.{Push, copies_of, push_in}
 
 -- How many copies are heard at the cursor.
-abbrev pub copies_at : List Push → Cursor → ℕ
-copies_at rooms c = copies_of (push_in rooms c.place) c.number
+abbrev pub times_heard_at : List Push → Cursor → ℕ
+times_heard_at rooms c = copies_of (push_in rooms c.place) c.number
 
 -- The cursor stands between the pushes that are kept and the limit; at the limit it is at the front of its number.
 pub record InWindow (pushes limit : ℕ) (rooms : List Push) (c : Cursor) : Type 0 where
@@ -15,7 +15,7 @@ pub record InWindow (pushes limit : ℕ) (rooms : List Push) (c : Cursor) : Type
   pub from : c.number ≤ c.place + 8
   pub to : c.place ≤ c.number + 1
   pub place : c.place ≤ pushes
-  pub copy : c.place < pushes → c.copy ≤ copies_at rooms c
+  pub copy : c.place < pushes → c.copy ≤ times_heard_at rooms c
   pub none : pushes ≤ c.place → c.copy ≡ 0
   pub front : c.number ≡ limit → c.place ≡ c.number - 8
   pub first : c.number ≡ limit → c.copy ≡ 0

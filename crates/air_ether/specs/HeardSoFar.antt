@@ -40,7 +40,7 @@ due_of seed number odds pushed ended =
     (places_due odds (words_of seed number (3 * length pushed)) (length pushed) (limit_of ended (length pushed)))
 
 -- The ether of this seed and this number was given this pushed list, and gave so many members of what is heard of it.
-pub record Follows (seed number : ℕ) (pushed : List (List ℕ)) (given : ℕ) (e : Ether) : Type 0 where
+pub record IsEtherAfter (seed number : ℕ) (pushed : List (List ℕ)) (given : ℕ) (e : Ether) : Type 0 where
   pub drawn : e.generator ≡ left_by pcg32 (3 * length pushed) (generator seed number)
   pub pushes : e.pushes ≡ length pushed
   pub waits : Waits (due_in seed number e.odds) (times_in seed number e.odds) e.pushes e.rooms

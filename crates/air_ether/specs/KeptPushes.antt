@@ -1,7 +1,7 @@
 -- What an ether keeps of its last `KEPT` pushes: each has the room of its place modulo `KEPT`.
 use Rattle.std.specs.Prelude.{◌≡◌, ℕ, ◌+◌, ◌%◌, ◌<◌, ◌≤◌, ◌==◌, if◌then◌else◌, List, [], take, get_or}
 use Rattle.air_ether.specs.declared.waiting.TheConstants.{KEPT}
-use Rattle.air_ether.specs.declared.waiting.Waiting.{Waiting}
+use Rattle.air_ether.specs.declared.waiting.QueuedPush.{QueuedPush}
 
 -- What is kept of a push: its due number, how often it is heard, and its bytes.
 pub record Push : Type 0 where
@@ -14,7 +14,7 @@ abbrev pub nothing : Push
 nothing = record { due = 0; times = 0; bytes = [] }
 
 -- What a room holds.
-abbrev pub push_of : Waiting → Push
+abbrev pub push_of : QueuedPush → Push
 push_of w = record { due = w.due; times = w.times; bytes = take w.len w.room.items }
 
 -- How often a push is heard at a due number.

@@ -4,7 +4,7 @@ use Rattle.std.specs.Borrow.{MutBor, Fml}
 use Rattle.std.specs.Io.BufRead.{Rests}
 use denote.Ref.{Bor}
 use Rattle.air_ether.specs.contracts.ether.Ether.{the_row}
-use Rattle.air_ether.specs.HeardSoFar.{Ether, Follows, IsQuiet, left_of}
+use Rattle.air_ether.specs.HeardSoFar.{Ether, IsEtherAfter, IsQuiet, left_of}
 
 -- The same ether, further on by one where a bucket was given, and quiet where none was.
 pub record Gave (old : Ether) (result : Option (Bor (List ℕ))) (new : Ether) : Type 0 where
@@ -14,8 +14,8 @@ pub record Gave (old : Ether) (result : Option (Bor (List ℕ))) (new : Ether) :
   pub ended : new.ended ≡ old.ended
   pub fewer : OnSome result (left_of new < left_of old)
   pub quiet : IfNone result (IsQuiet new)
-  pub follows : (seed number given : ℕ) (pushed : List (List ℕ)) → Follows seed number pushed given old →
-      MatchOption result (Follows seed number pushed given new) (λ _. Follows seed number pushed (given + 1) new)
+  pub follows : (seed number given : ℕ) (pushed : List (List ℕ)) → IsEtherAfter seed number pushed given old →
+      MatchOption result (IsEtherAfter seed number pushed given new) (λ _. IsEtherAfter seed number pushed (given + 1) new)
 
 -- The ether is so, once the result is given back.
 abbrev pub Gives : MutBor Ether → Option (Bor (List ℕ)) → Fml

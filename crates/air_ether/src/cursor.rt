@@ -2,10 +2,10 @@
 
 ghost use Rattle.std.specs.Prelude.{◌≡◌, ◌≤◌, ◌<◌, ◌+◌, ◌-◌, ◌%◌, ℕ, length, map, true, false, IsTrue};
 ghost use Rattle.air_ether.specs.declared.ether.TheConstants.{MOST_PUSHES};
-ghost use Rattle.air_ether.specs.HeardPositions.{InWindow, copies_at, left_at, position};
+ghost use Rattle.air_ether.specs.HeardPositions.{InWindow, left_at, position, times_heard_at};
 ghost use Rattle.air_ether.specs.KeptPushes.{Waits, push_of};
 
-use crate::waiting::{KEPT, Waiting};
+use crate::waiting::{KEPT, QueuedPush};
 
 /// What is given next: copy `copy` of the push at `place`, if that is due at `number`.
 #[derive(Clone, Copy, Debug, Drop)]
@@ -17,13 +17,13 @@ pub struct Cursor {
 
 /// Moves the cursor to the next copy with a due number below `limit`, or to the limit where there is none. At most `KEPT`
 /// places are looked at for each number.
-pub fn seek(cursor: &mut Cursor, rooms: &[Waiting], pushes: u64, limit: u64) -> bool
+pub fn seek(cursor: &mut Cursor, rooms: &[QueuedPush], pushes: u64, limit: u64) -> bool
     requires count { length rooms.now ≡ KEPT }
     requires fits { pushes ≤ MOST_PUSHES }
     requires far { limit ≤ pushes + 8 }
     requires within { InWindow pushes limit (map push_of rooms.now) cursor.old }
     ensures within { InWindow pushes limit (map push_of rooms.now) cursor.new }
-    ensures found { IsTrue result → (cursor.new.number < limit) × (cursor.new.place < pushes) × (cursor.new.copy < copies_at (map push_of rooms.now) cursor.new) }
+    ensures found { IsTrue result → (cursor.new.number < limit) × (cursor.new.place < pushes) × (cursor.new.copy < times_heard_at (map push_of rooms.now) cursor.new) }
     ensures none { result ≡ false → cursor.new.number ≡ limit }
     ensures fewer { left_at limit cursor.new ≤ left_at limit cursor.old }
     ensures same { (due times : ℕ → ℕ) → Waits due times pushes (map push_of rooms.now) →

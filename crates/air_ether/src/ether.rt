@@ -4,12 +4,12 @@
 
 ghost use Rattle.std.specs.Prelude.{◌≡◌, ℕ, ◌+◌, ◌-◌, ◌<◌, ◌≤◌, List, [], ◌∷◌, ◌++◌, true, false, length, IfOk, Some, Contains, IfSome, MatchOption, slice_get};
 ghost use Rattle.air_base.specs.declared.limits.TheConstants.{MOST_SHARE};
-ghost use Rattle.air_ether.specs.HeardSoFar.{Follows, IsQuiet, due_of, left_of, limit_of};
+ghost use Rattle.air_ether.specs.HeardSoFar.{IsEtherAfter, IsQuiet, due_of, left_of, limit_of};
 ghost use Rattle.air_ether.specs.declared.ether.TheConstants.{MOST_BYTES, MOST_DUE, MOST_PUSHES};
 
 use crate::cursor::{Cursor, seek};
 use crate::odds::Odds;
-use crate::waiting::{KEPT, Waiting, rooms};
+use crate::waiting::{KEPT, QueuedPush, rooms};
 use air_base::NoMemory;
 use air_base::limits::MOST_DATAGRAM_BYTES;
 use rand_pcg::Lcg64Xsh32;
@@ -43,7 +43,7 @@ pub struct Ether {
     pushes: u64,
     ended: bool,
     cursor: Cursor,
-    rooms: Vec<Waiting>,
+    rooms: Vec<QueuedPush>,
 }
 
 impl Model for Ether {
@@ -51,9 +51,9 @@ impl Model for Ether {
 
     ghost Value = { Ether };
 
-    ghost use Rattle.air_ether.specs.EtherView.{IsEther, ether_of};
+    ghost use Rattle.air_ether.specs.EtherView.{IsEther, ether_in};
 
-    ghost view = { ether_of };
+    ghost view = { ether_in };
 
     ghost invariant = { IsEther };
 }
@@ -79,7 +79,7 @@ impl Ether {
         ensures room { IfOk result (λ e. e.most ≡ most) }
         ensures odds { IfOk result (λ e. e.odds ≡ record { loss = loss; again = again; late = late }) }
         ensures open { IfOk result (λ e. (e.ended ≡ false) × (e.pushes ≡ 0) × IsQuiet e) }
-        ensures follows { IfOk result (λ e. Follows seed number [] 0 e) }
+        ensures follows { IfOk result (λ e. IsEtherAfter seed number [] 0 e) }
     {
         Ok(Ether {
             odds: Odds { loss, again, late },
@@ -107,8 +107,8 @@ impl Ether {
         ensures open { self.new.ended ≡ false }
         ensures pushes { self.new.pushes ≡ self.old.pushes + 1 }
         ensures few { left_of self.new ≤ MOST_DUE }
-        ensures follows { (seed number given : ℕ) (pushed : List (List ℕ)) → Follows seed number pushed given self.old →
-            Follows seed number (pushed ++ bytes.now ∷ []) given self.new }
+        ensures follows { (seed number given : ℕ) (pushed : List (List ℕ)) → IsEtherAfter seed number pushed given self.old →
+            IsEtherAfter seed number (pushed ++ bytes.now ∷ []) given self.new }
     {
         let hearing = self.odds.draw(&mut self.generator, self.pushes);
         let room = &mut self.rooms[(self.pushes % KEPT) as usize];
@@ -118,9 +118,9 @@ impl Ether {
 
     /// The next heard bucket, or none where no further one is due.
     pub fn next(&mut self) -> Option<&[u8]>
-        ensures pushed { (seed number given : ℕ) (pushed : List (List ℕ)) → Follows seed number pushed given self.old →
+        ensures pushed { (seed number given : ℕ) (pushed : List (List ℕ)) → IsEtherAfter seed number pushed given self.old →
             IfSome result (λ b. Contains pushed b.now) }
-        ensures given { (seed number given : ℕ) (pushed : List (List ℕ)) → Follows seed number pushed given self.old →
+        ensures given { (seed number given : ℕ) (pushed : List (List ℕ)) → IsEtherAfter seed number pushed given self.old →
             MatchOption result (given ≡ length (due_of seed number self.old.odds pushed self.old.ended))
             (λ b. slice_get (due_of seed number self.old.odds pushed self.old.ended) given ≡ Some b.now) }
         ensures* after { sem 𝓛 (Gives self.entry result) }
@@ -142,8 +142,8 @@ impl Ether {
         ensures ended { self.new.ended ≡ true }
         ensures pushes { self.new.pushes ≡ self.old.pushes }
         ensures few { left_of self.new ≤ MOST_DUE }
-        ensures follows { (seed number given : ℕ) (pushed : List (List ℕ)) → Follows seed number pushed given self.old →
-            Follows seed number pushed given self.new }
+        ensures follows { (seed number given : ℕ) (pushed : List (List ℕ)) → IsEtherAfter seed number pushed given self.old →
+            IsEtherAfter seed number pushed given self.new }
     {
         self.ended = true;
     }

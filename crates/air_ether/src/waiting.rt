@@ -8,7 +8,7 @@ use air_base::NoMemory;
 use std::alloc::Global;
 
 /// Puts the bytes to the front of the room.
-fn put_front(room: &mut [u8], bytes: &[u8])
+fn put_at_start(room: &mut [u8], bytes: &[u8])
     requires { length bytes.now ≤ length room.old }
     ensures { room.new ≡ bytes.now ++ drop (length bytes.now) room.old }
 {
@@ -20,19 +20,19 @@ pub const KEPT: u64 = 9;
 
 /// The room for one push: its due number, how often it is heard, and its bytes at the front of `room`.
 #[derive(Drop)]
-pub struct Waiting {
+pub struct QueuedPush {
     pub due: u64,
     pub times: u32,
     pub len: usize,
     pub room: Vec<u8>,
 }
 
-impl Waiting {
+impl QueuedPush {
     /// Room for `most` bytes, with nothing in it.
-    fn blank(alloc: Global, most: usize) -> Result<Waiting, NoMemory>
+    fn blank(alloc: Global, most: usize) -> Result<QueuedPush, NoMemory>
         ensures { IfOk result (λ w. (length w.room.items ≡ most) × (w.len ≡ 0) × (w.times ≡ 0)) }
     {
-        Ok(Waiting {
+        Ok(QueuedPush {
             due: 0,
             times: 0,
             len: 0,
@@ -57,7 +57,7 @@ impl Waiting {
         self.due = hearing.due;
         self.times = hearing.times;
         self.len = bytes.len();
-        put_front(&mut self.room, bytes);
+        put_at_start(&mut self.room, bytes);
     }
 
     /// Its bytes.
@@ -70,14 +70,14 @@ impl Waiting {
 }
 
 /// `KEPT` rooms for `most` bytes.
-pub fn rooms(alloc: Global, most: usize) -> Result<Vec<Waiting>, NoMemory>
+pub fn rooms(alloc: Global, most: usize) -> Result<Vec<QueuedPush>, NoMemory>
     ensures count { IfOk result (λ v. length v.items ≡ KEPT) }
     ensures sized { IfOk result (λ v. All (λ w. length w.room.items ≡ most) v.items) }
     ensures blank { IfOk result (λ v. All (λ w. (w.len ≡ 0) × (w.times ≡ 0)) v.items) }
 {
     let mut rooms = Vec::new(alloc);
     for _ in 0..KEPT {
-        rooms.push(Waiting::blank(alloc, most)?)?;
+        rooms.push(QueuedPush::blank(alloc, most)?)?;
     }
     Ok(rooms)
 }

@@ -13,7 +13,7 @@ use Rattle.air_history.specs.Columns.{Scheme, scheme_of, column_entry, vector_en
 use Rattle.air_history.specs.Reads.{ReadAt, stale, same_origin}
 use Rattle.air_history.specs.Consistency.{consistent}
 use Rattle.air_history.specs.Clashes.{least, named_clash, clash_by_history, Heard, read_at, entry_of, entry_in, newest_heard, clash_by_entries}
-use Rattle.air_history.specs.ClashLaws.{IsHeard, IsAllowed}
+use Rattle.air_history.specs.ClashLaws.{HasAiredEntries, IsAllowed}
 use Rattle.air_history.proofs.StaleLemmas.{pair_test, stale_is, origin_told}
 use Rattle.air_history.proofs.NamedLemmas.{clash_heard}
 use Rattle.std.proofs.lemmas.List.FromFn.{get_or-map-range_with_len}
@@ -55,25 +55,25 @@ never_later S y order k d l =
 
 -- ---- entries that are the history's
 
-column_is : (n : ℕ) (H : List Event) (x : Heard) → IsHeard (scheme_of FMatrix) n H x → (i : ℕ) → i < n → entry_of x i ≡ column_entry (front H x.cycle) x.item i
+column_is : (n : ℕ) (H : List Event) (x : Heard) → HasAiredEntries (scheme_of FMatrix) n H x → (i : ℕ) → i < n → entry_of x i ≡ column_entry (front H x.cycle) x.item i
 column_is n H x heard i l = ap (λ es. get_or es i 0) heard.entries ∙ get_or-map-range_with_len (column_entry (front H x.cycle) x.item) 0 n i i 0 l (omega arith)
 
 vector_of : (n : ℕ) (H : List Event) (x : Heard) (c : ℕ) → x.entries ≡ Rattle.air_history.specs.Columns.vector n (front H c) → (i : ℕ) → i < n → entry_of x i ≡ vector_entry (front H c) i
 vector_of n H x c heard i l = ap (λ es. get_or es i 0) heard ∙ get_or-map-range_with_len (vector_entry (front H c)) 0 n i i 0 l (omega arith)
 
 -- The entry that came with the first held read of a cycle is the vector's at that cycle.
-entry_in_is : (n : ℕ) (H : List Event) (i m : ℕ) → i < n → (R : List Heard) → All (IsHeard (scheme_of Datacycle) n H) R →
+entry_in_is : (n : ℕ) (H : List Event) (i m : ℕ) → i < n → (R : List Heard) → All (HasAiredEntries (scheme_of Datacycle) n H) R →
     (All (λ r. (r.cycle == m) ≡ false) R → ⊥) → entry_in R m i ≡ vector_entry (front H m) i
 entry_in_is n H i m l [] h there = absurd (there (λ k d l. absurd (omega arith)))
-entry_in_is n H i m l (r ∷ R) h there = by (r.cycle == m) refl (entry_in_is n H i m l R (All-tail (IsHeard (scheme_of Datacycle) n H) r R h))
+entry_in_is n H i m l (r ∷ R) h there = by (r.cycle == m) refl (entry_in_is n H i m l R (All-tail (HasAiredEntries (scheme_of Datacycle) n H) r R h))
   where
     by : (b : Bool) → (r.cycle == m) ≡ b → ((All (λ r. (r.cycle == m) ≡ false) R → ⊥) → entry_in R m i ≡ vector_entry (front H m) i) → cond b (entry_of r i) (entry_in R m i) ≡ vector_entry (front H m) i
-    by true e rest = vector_of n H r r.cycle (All-head (IsHeard (scheme_of Datacycle) n H) r R h).entries i l ∙ ap (λ c. vector_entry (front H c) i) (eqb-true r.cycle m e)
+    by true e rest = vector_of n H r r.cycle (All-head (HasAiredEntries (scheme_of Datacycle) n H) r R h).entries i l ∙ ap (λ c. vector_entry (front H c) i) (eqb-true r.cycle m e)
     by false e rest = rest (λ all. there (All-cons (λ r. (r.cycle == m) ≡ false) r R e all))
 
 -- ---- each policy
 
-f_matrix : (n : ℕ) (H : List Event) (R : List Heard) (x : Heard) → All (IsHeard (scheme_of FMatrix) n H) R → IsHeard (scheme_of FMatrix) n H x →
+f_matrix : (n : ℕ) (H : List Event) (R : List Heard) (x : Heard) → All (HasAiredEntries (scheme_of FMatrix) n H) R → HasAiredEntries (scheme_of FMatrix) n H x →
     clash_by_history FMatrix H (map read_at R) (read_at x) ≡ clash_by_entries FMatrix R x
 unfolding clash_by_history clash_by_entries
 f_matrix n H R x held new = clash_heard (λ s. not (consistent H (s ∷ read_at x ∷ []))) (λ s. nat_le s.cycle (entry_of x s.item) || nat_le x.cycle (entry_of s x.item)) R (λ k d l.
@@ -95,7 +95,7 @@ turned true false z e = refl
 turned false true z e = refl
 turned false false z e = cc
 
-datacycle : (n : ℕ) (H : List Event) (R : List Heard) (x : Heard) → All (IsHeard (scheme_of Datacycle) n H) R → IsHeard (scheme_of Datacycle) n H x →
+datacycle : (n : ℕ) (H : List Event) (R : List Heard) (x : Heard) → All (HasAiredEntries (scheme_of Datacycle) n H) R → HasAiredEntries (scheme_of Datacycle) n H x →
     clash_by_history Datacycle H (map read_at R) (read_at x) ≡ clash_by_entries Datacycle R x
 unfolding clash_by_history clash_by_entries
 datacycle n H R x held new = cond_same (nat_le (newest_heard R) x.cycle) _ _ _ _
@@ -117,7 +117,7 @@ r_matrix_of_none : (H : List Event) (x : Heard) → clash_by_history RMatrix H [
 unfolding clash_by_history clash_by_entries least
 r_matrix_of_none H x = cond_none (same_origin H x.item x.cycle 0) None ∙ sym (cond_none (nat_le 0 (entry_of x x.item)) None)
 
-r_matrix : (n : ℕ) (H : List Event) (R : List Heard) (x : Heard) → All (IsHeard (scheme_of RMatrix) n H) R → IsHeard (scheme_of RMatrix) n H x →
+r_matrix : (n : ℕ) (H : List Event) (R : List Heard) (x : Heard) → All (HasAiredEntries (scheme_of RMatrix) n H) R → HasAiredEntries (scheme_of RMatrix) n H x →
     AllPairs (λ r s. r.cycle ≤ s.cycle) (map read_at R ++ read_at x ∷ []) →
     clash_by_history RMatrix H (map read_at R) (read_at x) ≡ clash_by_entries RMatrix R x
 unfolding clash_by_history clash_by_entries
@@ -126,7 +126,7 @@ r_matrix n H (r ∷ R) x held new order =
     let in_time = never_later (map read_at (r ∷ R)) (read_at x) order in
     let first : r.cycle ≤ x.cycle = All-head (λ (s : ReadAt). s.cycle ≤ x.cycle) (read_at r) (map read_at R) in_time in
     turned (same_origin H x.item x.cycle r.cycle) _ (named_clash (λ s. stale H s x.cycle) (map read_at (r ∷ R)))
-    (origin_told H x.item r.cycle x.cycle (All-head (IsHeard (scheme_of RMatrix) n H) r R held).cycle first
+    (origin_told H x.item r.cycle x.cycle (All-head (HasAiredEntries (scheme_of RMatrix) n H) r R held).cycle first
     ∙ ap (nat_le r.cycle) (sym (vector_of n H x x.cycle new.entries x.item new.within)))
     ∙ ap (λ o. cond (nat_le r.cycle (entry_of x x.item)) o None)
     (clash_heard (λ s. stale H s x.cycle) (λ s. nat_le s.cycle (entry_of x s.item)) (r ∷ R) (λ k d l.
@@ -135,13 +135,13 @@ r_matrix n H (r ∷ R) x held new order =
     stale_told n H (get_or (r ∷ R) k d) x new.entries (held k d l).cycle (subst (λ (s : ReadAt). s.cycle ≤ x.cycle) at le) (held k d l).within))
 
 by_policy : (policy : Policy) (n : ℕ) (H : List Event) (R : List Heard) (x : Heard) →
-    All (IsHeard (scheme_of policy) n H) R → IsHeard (scheme_of policy) n H x → IsAllowed policy (map read_at R ++ read_at x ∷ []) →
+    All (HasAiredEntries (scheme_of policy) n H) R → HasAiredEntries (scheme_of policy) n H x → IsAllowed policy (map read_at R ++ read_at x ∷ []) →
     clash_by_history policy H (map read_at R) (read_at x) ≡ clash_by_entries policy R x
 by_policy FMatrix n H R x held new order = f_matrix n H R x held new
 by_policy Datacycle n H R x held new order = datacycle n H R x held new
 by_policy RMatrix n H R x held new order = r_matrix n H R x held new order
 
 pub clash : (scheme : Scheme) (n : ℕ) (H : List Event) (R : List Heard) (x : Heard) →
-    All (IsHeard scheme n H) R → IsHeard scheme n H x → IsAllowed scheme.policy (map read_at R ++ read_at x ∷ []) →
+    All (HasAiredEntries scheme n H) R → HasAiredEntries scheme n H x → IsAllowed scheme.policy (map read_at R ++ read_at x ∷ []) →
     clash_by_history scheme.policy H (map read_at R) (read_at x) ≡ clash_by_entries scheme.policy R x
 clash scheme n H R x held new order = by_policy scheme.policy n H R x held new order

@@ -4,8 +4,8 @@ pub mod ScanLemmas
 pub mod OriginLemmas
 pub mod ClosureLemmas
 pub mod MarkLemmas
-pub mod RuleLemmas
-pub mod RuleFacts
+pub mod RepeatedItemLemmas
+pub mod UpdateRuleLemmas
 pub mod ColumnLemmas
 pub mod TableLemmas
 pub mod WriteLemmas

@@ -19,7 +19,7 @@ use Rattle.air_history.specs.Reads.{ReadAt, IsRead, origin, stale}
 use Rattle.air_history.specs.Consistency.{descends_from, runs_alone, last_alone, consistent, IsConsistent}
 use Rattle.air_history.specs.ConsistencyLaws.{SharesCycle}
 use Rattle.air_history.specs.Clashes.{least, is_late, clash_by_history, IsCurrent, Takes}
-use Rattle.air_history.specs.ClashLaws.{IsHeard, IsAllowed, passes, Accepts, current_cycle, SharesItsCycle, IsSound}
+use Rattle.air_history.specs.ClashLaws.{HasAiredEntries, IsAllowed, passes, Accepts, current_cycle, SharesItsCycle, IsSound}
 use Rattle.air_history.proofs.HistoryExamples.{add_to, commit, chain_history}
 use Rattle.air_history.proofs.ClashExamples.{at, apart, one_written}
 
@@ -196,9 +196,9 @@ held = record {
 
 pub record Accepted : Type 0 where
   -- under F-Matrix the column of item 1 comes with it
-  heard_column : IsHeard (scheme_of FMatrix) 2 apart (record { item = 1; cycle = 2; entries = 0 ∷ 1 ∷ [] })
+  heard_column : HasAiredEntries (scheme_of FMatrix) 2 apart (record { item = 1; cycle = 2; entries = 0 ∷ 1 ∷ [] })
   -- under R-Matrix the write vector does
-  heard_vector : IsHeard (scheme_of RMatrix) 2 apart (record { item = 1; cycle = 2; entries = 1 ∷ 1 ∷ [] })
+  heard_vector : HasAiredEntries (scheme_of RMatrix) 2 apart (record { item = 1; cycle = 2; entries = 1 ∷ 1 ∷ [] })
   -- under F-Matrix cycles may fall
   any_order : IsAllowed FMatrix (at 0 2 ∷ at 1 1 ∷ [])
   -- under R-Matrix they may rise

@@ -9,8 +9,8 @@ use Rattle.std.proofs.lemmas.List.Folds.{list_any_at}
 use Rattle.air_base.specs.declared.limits.TheConstants.{MOST_READS, MOST_WRITES}
 use Rattle.air_history.specs.declared.updates.Write.{Write}
 use Rattle.air_history.specs.UpdateLists.{UpdateLists}
-use Rattle.air_history.specs.UpdateRules.{has_repeat, item_of, within_limits, base_is_read, base_holds, update_fault, KeepsRules}
-use Rattle.air_history.proofs.RuleFacts.{rules_kept, few_reads, some_write, few_writes, each_passes, base_read}
+use Rattle.air_history.specs.UpdateRules.{has_repeat, written_item, within_limits, base_is_read, base_holds, update_fault, KeepsRules}
+use Rattle.air_history.proofs.UpdateRuleLemmas.{rules_kept, few_reads, some_write, few_writes, each_passes, base_read}
 
 -- None of the list is x.
 none_is : (x : ℕ) (xs : List ℕ) → list_any (λ y. y == x) xs ≡ false → All (λ y. x ≢ y) xs
@@ -54,25 +54,25 @@ all_hold f (w ∷ ws) h = ap (λ b. b && list_all f ws) (All-head (λ w. f w ≡
 
 pub rules : (u : UpdateLists) → KeepsRules u ↔
     ((length u.reads ≤ MOST_READS) × (1 ≤ length u.writes) × (length u.writes ≤ MOST_WRITES)
-    × AllPairs (λ a b. a ≢ b) u.reads × AllPairs (λ a b. a ≢ b) (map item_of u.writes)
+    × AllPairs (λ a b. a ≢ b) u.reads × AllPairs (λ a b. a ≢ b) (map written_item u.writes)
     × All (λ w. IfSome w.base (Contains u.reads)) u.writes × All (λ w. w.base ≡ None → w.minus ≡ false) u.writes)
 unfolding update_fault
 rules u = (
   λ kept. let k = rules_kept u.reads u.writes kept in
-      let both = or_parts (has_repeat u.reads) (has_repeat (map item_of u.writes)) k.apart in (
+      let both = or_parts (has_repeat u.reads) (has_repeat (map written_item u.writes)) k.apart in (
         few_reads u kept,
         some_write u kept,
         few_writes u kept,
         apart_from u.reads both.0,
-        apart_from (map item_of u.writes) both.1,
+        apart_from (map written_item u.writes) both.1,
         λ i d l. base_read u.reads (get_or u.writes i d).minus (get_or u.writes i d).base (each_passes (base_is_read u.reads) u.writes k.based i d l),
         λ i d l. minus_holds u.reads (get_or u.writes i d).minus (get_or u.writes i d).base (each_passes (base_is_read u.reads) u.writes k.based i d l),
       ),
   λ (few_reads, some_write, few_writes, reads_apart, writes_apart, bases_read, minus_based). no_fault
       (ap (λ a. a && (nat_le 1 (length u.writes) && nat_le (length u.writes) MOST_WRITES)) (le-leb _ _ few_reads) ∙ ap (λ a. a && nat_le (length u.writes) MOST_WRITES) (le-leb _ _ some_write) ∙ le-leb _ _ few_writes)
-      (or_from _ _ (from_apart u.reads reads_apart) (from_apart (map item_of u.writes) writes_apart))
+      (or_from _ _ (from_apart u.reads reads_apart) (from_apart (map written_item u.writes) writes_apart))
       (all_hold (base_is_read u.reads) u.writes (λ i d l. holds_from u.reads (get_or u.writes i d).minus (get_or u.writes i d).base (bases_read i d l) (minus_based i d l))),
 )
   where
-    no_fault : within_limits u.reads u.writes ≡ true → (has_repeat u.reads || has_repeat (map item_of u.writes)) ≡ false → list_all (base_is_read u.reads) u.writes ≡ true → update_fault u.reads u.writes ≡ None
+    no_fault : within_limits u.reads u.writes ≡ true → (has_repeat u.reads || has_repeat (map written_item u.writes)) ≡ false → list_all (base_is_read u.reads) u.writes ≡ true → update_fault u.reads u.writes ≡ None
     no_fault a b c = rw (a, b, c) refl

@@ -2,7 +2,7 @@
 use Rattle.std.specs.Prelude.{ℕ, ◌+◌, ◌%◌, ◌^◌, List, length, map, sum, take}
 use Rattle.std.specs.List.{range_with_len}
 use Rattle.air_history.specs.declared.histories.Event.{Event}
-use Rattle.air_history.specs.UpdateRules.{item_of}
+use Rattle.air_history.specs.UpdateRules.{written_item}
 use Rattle.air_history.specs.Histories.{reads, writes_of, event_at, starts, cycle_at}
 use Rattle.air_history.specs.Columns.{column, vector}
 use Rattle.air_history.specs.Tables.{table, values_of, table_list}
@@ -20,7 +20,7 @@ reply_of values H p = record {
   number = p;
   cycle = cycle_at H p;
   read = map (table (values_of values) (take p H)) (reads (event_at H p));
-  written = map (table (values_of values) (take (p + 1) H)) (map item_of (writes_of (event_at H p)));
+  written = map (table (values_of values) (take (p + 1) H)) (map written_item (writes_of (event_at H p)));
 }
 
 -- The control columns of all n items.

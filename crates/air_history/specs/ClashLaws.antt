@@ -14,7 +14,7 @@ use Rattle.air_history.specs.ConsistencyLaws.{SharesCycle}
 use Rattle.air_history.specs.Clashes.{Heard, is_late, clash_by_history}
 
 -- The read has the entries that H airs by the scheme with its item in its cycle, over n items.
-pub record IsHeard (scheme : Scheme) (n : ℕ) (H : List Event) (r : Heard) : Type 0 where
+pub record HasAiredEntries (scheme : Scheme) (n : ℕ) (H : List Event) (r : Heard) : Type 0 where
   pub cycle : 1 ≤ r.cycle
   pub within : r.item < n
   pub entries : r.entries ≡ aired_entries scheme n H r.cycle r.item

@@ -13,8 +13,8 @@ has_repeat [] = false
 has_repeat (x ∷ xs) = list_any (λ y. y == x) xs || has_repeat xs
 
 -- The item that a write changes.
-abbrev pub item_of : Write → ℕ
-item_of w = w.item
+abbrev pub written_item : Write → ℕ
+written_item w = w.item
 
 -- Reads and writes are within their limits, and there is a write.
 abbrev pub within_limits : List ℕ → List Write → Bool
@@ -34,7 +34,7 @@ base_is_read reads w = base_holds reads w.minus w.base
 unfoldable pub update_fault : List ℕ → List Write → Option UpdateFault
 update_fault reads writes =
     cond (not (within_limits reads writes)) (Some Limit)
-    (cond (has_repeat reads || has_repeat (map item_of writes)) (Some Repeated)
+    (cond (has_repeat reads || has_repeat (map written_item writes)) (Some Repeated)
     (cond (not (list_all (base_is_read reads) writes)) (Some BaseNotRead) None))
 
 -- The update keeps the rules of its type.

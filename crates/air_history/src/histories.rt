@@ -74,11 +74,11 @@ impl Event {
     }
 
     /// Hands a rule of its update's type to a caller's proof, that each base is read; it does nothing.
-    pub fn keeps_rules(&self)
+    pub fn shows_rules_kept(&self)
         ensures { BasesRead self.now }
     {
         match self {
-            Event::Commit { update, .. } => update.keeps_rules(),
+            Event::Commit { update, .. } => update.shows_rules_kept(),
             Event::Start => {}
         }
     }

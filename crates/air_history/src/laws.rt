@@ -9,7 +9,7 @@ ghost use Rattle.air_base.specs.declared.verdicts.Policy.{Policy};
 ghost use Rattle.air_base.specs.declared.verdicts.Policy.TheVariants.{FMatrix, Datacycle, RMatrix};
 ghost use Rattle.air_history.specs.declared.histories.Event.{Event};
 ghost use Rattle.air_history.specs.UpdateLists.{UpdateLists};
-ghost use Rattle.air_history.specs.UpdateRules.{item_of, KeepsRules};
+ghost use Rattle.air_history.specs.UpdateRules.{written_item, KeepsRules};
 ghost use Rattle.air_history.specs.Places.{greatest_of};
 ghost use Rattle.air_history.specs.Histories.{writes, reads, cycle_at};
 ghost use Rattle.air_history.specs.Descents.{descends};
@@ -20,14 +20,14 @@ ghost use Rattle.air_history.specs.Reads.{ReadAt, IsRead, read_value};
 ghost use Rattle.air_history.specs.Consistency.{alone, IsConsistent};
 ghost use Rattle.air_history.specs.ConsistencyLaws.{SharesCycle};
 ghost use Rattle.air_history.specs.Clashes.{Heard, read_at, is_late, clash_by_history, clash_by_entries, IsCurrent, Takes};
-ghost use Rattle.air_history.specs.ClashLaws.{IsHeard, IsAllowed, Accepts, IsSound};
+ghost use Rattle.air_history.specs.ClashLaws.{HasAiredEntries, IsAllowed, Accepts, IsSound};
 
 /// Two lists break no rule exactly if each rule holds: reads and writes within their limits, one write at least, no item twice
 /// among either, each base read, a minus only with a base.
 pub fn rules_law()
     ensures { (u : UpdateLists) → KeepsRules u ↔
         ((length u.reads ≤ MOST_READS) × (1 ≤ length u.writes) × (length u.writes ≤ MOST_WRITES)
-        × AllPairs (λ a b. a ≢ b) u.reads × AllPairs (λ a b. a ≢ b) (map item_of u.writes)
+        × AllPairs (λ a b. a ≢ b) u.reads × AllPairs (λ a b. a ≢ b) (map written_item u.writes)
         × All (λ w. IfSome w.base (Contains u.reads)) u.writes
         × All (λ w. w.base ≡ None → w.minus ≡ false) u.writes) }
 {}
@@ -93,7 +93,7 @@ pub fn one_cycle_law()
 /// Wherever the entries are the history's, the clash by the entries is the clash by the history.
 pub fn clash_law()
     ensures { (scheme : Scheme) (n : ℕ) (H : List Event) (R : List Heard) (x : Heard) →
-        All (IsHeard scheme n H) R → IsHeard scheme n H x →
+        All (HasAiredEntries scheme n H) R → HasAiredEntries scheme n H x →
         IsAllowed scheme.policy (map read_at R ++ read_at x ∷ []) →
         clash_by_history scheme.policy H (map read_at R) (read_at x) ≡ clash_by_entries scheme.policy R x }
 {}

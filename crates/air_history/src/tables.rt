@@ -37,7 +37,7 @@ fn run_update(update: &Update, values: &mut [u64])
     requires { UpdateFits (length values.old) update.now }
     ensures { (i : ℕ) → slice_index_or values.new i 0 ≡ value_after_write (values_of values.old) i (find (λ w. w.item == i) update.now.writes) }
 {
-    update.keeps_rules();
+    update.shows_rules_kept();
     let fresh = written_values(values, update.writes());
     write_values(values, update.writes(), &fresh);
 }

@@ -5,7 +5,7 @@
 
 ghost use Rattle.std.specs.Prelude.{◌≡◌, ◌↔◌, ◌≤◌, length, map, MatchResult, IfOk, IsTrue, All, ◌⊎◌, ◌==◌, Some, None};
 ghost use Rattle.std.specs.List.{list_any, list_all};
-ghost use Rattle.air_history.specs.UpdateRules.{has_repeat, item_of, base_is_read, update_fault, KeepsRules, UpdateFits};
+ghost use Rattle.air_history.specs.UpdateRules.{has_repeat, written_item, base_is_read, update_fault, KeepsRules, UpdateFits};
 
 use air_base::NoMemory;
 use air_base::limits::{MOST_READS, MOST_WRITES};
@@ -103,7 +103,7 @@ impl Update {
         })
     }
 
-    /// An update of lists that keep the rules: these are asked of the caller, and not looked through again. `keeps_rules` tells it of
+    /// An update of lists that keep the rules: these are asked of the caller, and not looked through again. `shows_rules_kept` tells it of
     /// the lists of any update; of other lists it is known where a caller has found no fault in them, and else `new` finds out.
     #[inline(always)]
     pub fn of_lists(alloc: Global, reads: &[u16], writes: &[Write]) -> Result<Update, NoMemory>
@@ -148,7 +148,7 @@ impl Update {
     }
 
     /// Hands the rules of its type to a caller's proof; it does nothing.
-    pub fn keeps_rules(&self)
+    pub fn shows_rules_kept(&self)
         ensures { KeepsRules self.now }
     {
         let _reads = &self.reads;
@@ -181,7 +181,7 @@ pub fn writes_item(writes: &[Write], item: u16) -> bool
 }
 
 /// Whether a number stands twice.
-#[tactic(auto, using(crate::proofs::RuleLemmas::repeats_none, crate::proofs::RuleLemmas::repeats_here, crate::proofs::RuleLemmas::repeats_more, crate::proofs::RuleLemmas::repeats_all))]
+#[tactic(auto, using(crate::proofs::RepeatedItemLemmas::repeats_none, crate::proofs::RepeatedItemLemmas::repeats_here, crate::proofs::RepeatedItemLemmas::repeats_more, crate::proofs::RepeatedItemLemmas::repeats_all))]
 fn has_number_twice(numbers: &[u16]) -> bool
     ensures { result ≡ has_repeat numbers.now }
 {
@@ -194,9 +194,9 @@ fn has_number_twice(numbers: &[u16]) -> bool
 }
 
 /// Whether two writes are of one item.
-#[tactic(auto, using(crate::proofs::RuleLemmas::items_none, crate::proofs::RuleLemmas::items_here, crate::proofs::RuleLemmas::items_more, crate::proofs::RuleLemmas::items_all))]
+#[tactic(auto, using(crate::proofs::RepeatedItemLemmas::items_none, crate::proofs::RepeatedItemLemmas::items_here, crate::proofs::RepeatedItemLemmas::items_more, crate::proofs::RepeatedItemLemmas::items_all))]
 fn has_item_twice(writes: &[Write]) -> bool
-    ensures { result ≡ has_repeat (map item_of writes.now) }
+    ensures { result ≡ has_repeat (map written_item writes.now) }
 {
     for (i, write) in writes.iter().enumerate() {
         if writes_item(&writes[i + 1..], write.item) {

@@ -17,5 +17,5 @@ pub record IsFirstNotBelow (column held : List ℕ) (place : ℕ) : Type 0 where
   pub before : (k : ℕ) → k < place → slice_index column k < slice_index held k
 
 -- The answer is the first place at which the column isn't below what is held, and None exactly if there is none.
-abbrev pub IsAnswer : List ℕ → List ℕ → Option ℕ → Type 0
-IsAnswer column held answer = MatchOption answer (EachIndex column (λ k. slice_index column k < slice_index held k)) (IsFirstNotBelow column held)
+abbrev pub IsSearchAnswer : List ℕ → List ℕ → Option ℕ → Type 0
+IsSearchAnswer column held answer = MatchOption answer (EachIndex column (λ k. slice_index column k < slice_index held k)) (IsFirstNotBelow column held)

@@ -4,7 +4,7 @@
 //! after the last whole block. `held_reads` names a clash by it.
 
 ghost use Rattle.std.specs.Prelude.{◌≡◌, ◌≤◌, ◌<◌, ◌+◌, ℕ, length, slice_index};
-ghost use Rattle.air_lanes.specs.Kernels.{IsAnswer};
+ghost use Rattle.air_lanes.specs.Kernels.{IsSearchAnswer};
 
 use std::simd::prelude::*;
 use std::simd::{u32x8, u32x32};
@@ -38,7 +38,7 @@ fn first_in_block(column: &[u32], held: &[u32], at: usize) -> u32
 fn first_in_rest(column: &[u32], held: &[u32], from: usize) -> Option<usize>
     requires same { length held.now ≡ length column.now }
     requires below { (k : ℕ) → k < from → slice_index column.now k < slice_index held.now k }
-    ensures { IsAnswer column.now held.now result }
+    ensures { IsSearchAnswer column.now held.now result }
 {
     for place in from..column.len() {
         if column[place] >= held[place] {
@@ -53,7 +53,7 @@ fn first_from(column: &[u32], held: &[u32], from: usize) -> Option<usize>
     requires same { length held.now ≡ length column.now }
     requires within { from ≤ length column.now }
     requires below { (k : ℕ) → k < from → slice_index column.now k < slice_index held.now k }
-    ensures { IsAnswer column.now held.now result }
+    ensures { IsSearchAnswer column.now held.now result }
 {
     let blocks = (column.len() - from) / 8;
     for block in 0..blocks {
@@ -68,7 +68,7 @@ fn first_from(column: &[u32], held: &[u32], from: usize) -> Option<usize>
 /// The first place at which the column isn't below what is held; None exactly if there is none.
 pub fn first_not_below(column: &[u32], held: &[u32]) -> Option<usize>
     requires { length held.now ≡ length column.now }
-    ensures { IsAnswer column.now held.now result }
+    ensures { IsSearchAnswer column.now held.now result }
 {
     let groups = column.len() / 32;
     for group in 0..groups {

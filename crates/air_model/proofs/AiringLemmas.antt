@@ -7,7 +7,7 @@ use Rattle.air_history.specs.Histories.{starts}
 use Rattle.air_model.specs.Buckets.{Bucket}
 use Rattle.air_model.specs.Aired.{Air, bucket_of, buckets_of}
 use Rattle.air_model.proofs.LaterLemmas.{later}
-use Rattle.air_model.proofs.StartFacts.{starts_append}
+use Rattle.air_model.proofs.StartLemmas.{starts_append}
 
 range_append : (a m n : ℕ) → range_with_len a (m + n) ≡ range_with_len a m ++ range_with_len (a + m) n
 range_append a zero n =

@@ -12,7 +12,7 @@ use Rattle.air_model.specs.Closings.{GoesOnWithout}
 use Rattle.air_model.specs.Decks.{Deck, values_in}
 use Rattle.air_model.specs.Batches.{AirsByBatches, EndsWithStart, aired_by, events_in, last_buckets}
 use Rattle.air_model.proofs.AiringLemmas.{buckets_behind, same_buckets}
-use Rattle.air_model.proofs.StartFacts.{starts_append, starts_none, starts_one}
+use Rattle.air_model.proofs.StartLemmas.{starts_append, starts_none, starts_one}
 
 -- A batch has one start.
 batch_starts : (b : List Event) → EndsWithStart b → starts b ≡ 1

@@ -13,7 +13,7 @@ use Rattle.air_model.specs.Decks.{Deck, IsLegal, IsWhole, count_made, is_by, upd
 use Rattle.air_model.specs.DeckLaws.{commits_from, made_by}
 use Rattle.air_model.proofs.LegalLemmas.{legal, whole}
 use Rattle.air_model.proofs.ClosingLemmas.{length_commits}
-use Rattle.air_model.proofs.StartFacts.{starts_append, starts_none, starts_start}
+use Rattle.air_model.proofs.StartLemmas.{starts_append, starts_none, starts_start}
 
 -- ---- commits of one updater
 

@@ -16,7 +16,7 @@ use Rattle.air_model.specs.DeckLaws.{commits_from, made_by}
 use Rattle.air_model.proofs.LegalLemmas.{legal, whole}
 use Rattle.air_model.specs.Closings.{GoesOnWithout}
 use Rattle.air_model.specs.RunClosings.{HaveMadeAll, HaveMadeSome, IsClosing}
-use Rattle.air_model.proofs.ListFacts.{same_left, same_count}
+use Rattle.air_model.proofs.ListLemmas.{same_left, same_count}
 
 -- ---- the station's own words
 

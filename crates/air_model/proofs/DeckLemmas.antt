@@ -19,7 +19,7 @@ use Rattle.air_model.specs.Decks.{Deck, IsDeck, IsLegal, IsQuery, IsUpdate, disk
 use Rattle.air_model.specs.Aired.{SlotsFit, air_of}
 use Rattle.air_model.specs.SessionLaws.{QueriesFilled}
 use Rattle.air_model.specs.Sessions.{reader_of}
-use Rattle.air_history.proofs.RuleFacts.{bases_read}
+use Rattle.air_history.proofs.UpdateRuleLemmas.{bases_read}
 
 -- What holds of all lists of a list of lists holds of the list at each place, also past the end.
 all_at : {X : Type 0} (P : X → Type 0) (xss : List (List X)) → All (All P) xss → (n : ℕ) → All P (get_or xss n [])

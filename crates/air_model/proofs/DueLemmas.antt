@@ -5,7 +5,7 @@ use Rattle.std.proofs.lemmas.Bool.{ne_eqb}
 use Rattle.std.proofs.lemmas.Grind.{flat_map-append}
 use Rattle.std.proofs.lemmas.List.{append-nil}
 use Rattle.air_model.specs.Ethers.{Odds, due_at, due_number, places_due, times_heard}
-use Rattle.air_model.proofs.EtherFacts.{due_low, flat_none, of_push, range_join}
+use Rattle.air_model.proofs.EtherLemmas.{due_low, flat_none, of_push, range_join}
 
 -- Lists over a range that agree at each number are one.
 flat_same : (f g : ℕ → List ℕ) (a n : ℕ) → ((k : ℕ) → a ≤ k → k < a + n → f k ≡ g k) → flat_map f (range_with_len a n) ≡ flat_map g (range_with_len a n)

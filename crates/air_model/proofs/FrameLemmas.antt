@@ -9,8 +9,8 @@ use Rattle.air_history.specs.Tables.{table, table_list, value_after, values_of, 
 use Rattle.air_history.specs.Boards.{frame_of}
 use Rattle.air_model.specs.Reports.{total_at}
 use Rattle.air_model.specs.declared.reports.LookLine.{LookLine}
-use Rattle.air_model.proofs.StartFacts.{starts_append, starts_commit, starts_none, starts_one, starts_start}
-use Rattle.air_model.specs.Fronts.{EndsAtStart, IsSeen}
+use Rattle.air_model.proofs.StartLemmas.{starts_append, starts_commit, starts_none, starts_one, starts_start}
+use Rattle.air_model.specs.MonitorSights.{EndsAtStart, IsSeen}
 use Rattle.air_model.proofs.AiringLemmas.{map_same}
 
 -- The front of the cycle that a start begins is what stands before it

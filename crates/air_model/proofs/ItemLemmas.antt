@@ -20,7 +20,7 @@ use Rattle.air_model.specs.Decks.{Deck, IsDeck, Item, disks_in, rates_in, values
 use Rattle.air_model.specs.Disks.{Disk, all_items, order}
 use Rattle.air_model.specs.Sessions.{read_in}
 use Rattle.air_model.proofs.AiredLemmas.{own_from}
-use Rattle.air_model.proofs.AiringFacts.{item_airings}
+use Rattle.air_model.proofs.ProgramLemmas.{item_airings}
 use Rattle.air_model.proofs.ItemOrder.{cut_airable, cut_items, length-order, order_only}
 use Rattle.air_model.specs.AiredItems.{AirsItems, carries_in}
 

@@ -20,7 +20,7 @@ use Rattle.air_history.specs.Columns.{aired_entries}
 use Rattle.air_history.specs.Tables.{values_of}
 use Rattle.air_history.specs.Reads.{ReadAt, read_value, last_cycle}
 use Rattle.air_history.specs.Clashes.{read_at, is_late, clash_by_history, clash_by_entries}
-use Rattle.air_history.specs.ClashLaws.{IsHeard, IsAllowed}
+use Rattle.air_history.specs.ClashLaws.{HasAiredEntries, IsAllowed}
 use Rattle.air_history.proofs.ClashLemmas.{clash, cond_same}
 use Rattle.air_model.specs.Buckets.{Bucket}
 use Rattle.air_model.specs.Reads.{Read}
@@ -87,7 +87,7 @@ module _ (V : List ℕ) (air : Air) (H : List Event) (reader : Reader) (filled :
   abbrev ok : State → Type 0
   ok = Good reader (IsReadOf V air H) K (λ l. Unit {0})
 
-  told : (x : Read) → IsReadOf V air H x → IsHeard air.scheme air.items H (heard_of x)
+  told : (x : Read) → IsReadOf V air H x → HasAiredEntries air.scheme air.items H (heard_of x)
   told x r = record { cycle = r.from_one; within = r.within; entries = r.entries }
 
   clash_is : (R : List Read) (x : Read) → K 0 0 R → IsReadOf V air H x → is_late air.scheme.policy (map place_of R) (place_of x) ≡ false →
@@ -97,7 +97,7 @@ module _ (V : List ℕ) (air : Air) (H : List Event) (reader : Reader) (filled :
       let same : map read_at (map heard_of R) ≡ map place_of R = map-map read_at heard_of R in
       subst (λ S. clash_by_history air.scheme.policy H S (place_of x) ≡ clash_by_entries air.scheme.policy (map heard_of R) (heard_of x)) same
       (clash air.scheme air.items H (map heard_of R) (heard_of x)
-      (All-map (IsHeard air.scheme air.items H) heard_of R (λ i d l. told (get_or R i d) (k.0 i d l))) (told x r)
+      (All-map (HasAiredEntries air.scheme air.items H) heard_of R (λ i d l. told (get_or R i d) (k.0 i d l))) (told x r)
       (subst (λ S. IsAllowed air.scheme.policy (S ++ place_of x ∷ [])) (sym same) (allowed_more air.scheme.policy (map place_of R) (place_of x) k.1 late)))
 
   rules : Keeps (by_history air.scheme V H) air reader (IsReadOf V air H) K (λ l. Unit {0})

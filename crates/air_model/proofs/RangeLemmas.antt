@@ -25,7 +25,7 @@ use Rattle.air_model.specs.Buckets.{Body, Bucket, IsInRange, bucket_in, count_of
 use Rattle.air_model.specs.Decks.{Deck, IsDeck, IsLegal, values_in}
 use Rattle.air_model.specs.Aired.{air_of, aired_as, body_of, bucket_of, buckets_of, IsAired}
 use Rattle.air_model.specs.AiredLaws.{CanAir}
-use Rattle.air_model.proofs.BucketFacts.{ok_from_whole, whole_from_bucket}
+use Rattle.air_model.proofs.BucketLemmas.{ok_from_whole, whole_from_bucket}
 use Rattle.air_model.proofs.DeckLemmas.{air, update_is}
 use Rattle.air_model.proofs.AiredLemmas.{aired, entries_long, own_from}
 

@@ -15,7 +15,7 @@ use Rattle.air_model.specs.ReceiverLaws.{IsTrueSession, session_of}
 use Rattle.air_model.specs.Outputs.{ether_of, odds_in, sessions_over, true_sessions}
 use Rattle.air_model.specs.AiredLaws.{CanAir}
 use Rattle.air_model.proofs.DeckLemmas.{air}
-use Rattle.air_model.proofs.EtherFacts.{heard_was_pushed}
+use Rattle.air_model.proofs.EtherLemmas.{heard_was_pushed}
 use Rattle.air_model.proofs.JudgeLemmas.{judges}
 use Rattle.air_model.proofs.NameLemmas.{names}
 use Rattle.air_model.proofs.RangeLemmas.{bytes_aired}

@@ -11,13 +11,13 @@ use Rattle.air_history.specs.Tables.{table}
 use Rattle.air_history.specs.UpdateLists.{UpdateLists}
 use Rattle.air_history.specs.UpdateRules.{has_repeat, update_fault}
 use Rattle.air_model.specs.DeckLaws.{HasNumbers, commits_from, made_by}
-use Rattle.air_model.specs.Decks.{Deck, IsDeck, IsNext, IsQuery, IsUpdate, IsWhole, ScriptFits, count_made, event_of, is_by, script_history, updates_by, values_in}
+use Rattle.air_model.specs.Decks.{Deck, IsDeck, IsNextCommit, IsQuery, IsUpdate, IsWhole, ScriptFits, count_made, event_of, is_by, script_history, updates_by, values_in}
 use Rattle.air_model.specs.Disks.{Disk, all_items, cut, order, order_with, is_hotter}
 use Rattle.air_model.specs.Programs.{chunk, chunk_len, least_common_multiple, minor_cycle, num_chunks, num_minors, program}
 use Rattle.air_model.specs.ProgramLaws.{IsAirable, IsOrder}
 use Rattle.air_model.specs.Airings.{ComesEvery, IsNextWake, slot_item}
 use Rattle.air_model.specs.Buckets.{AreBytes, Bucket, Column, IsBucket, IsInRange, count_of, entries_of, item_of, kind_of, spelling, value_of}
-use Rattle.air_model.specs.Tapes.{IsCut, IsTape, ends_inside, record_bytes, tape_of}
+use Rattle.air_model.specs.Tapes.{IsCutTape, IsTape, ends_inside, record_bytes, tape_of}
 use Rattle.air_model.specs.Aired.{IsAired, IsAiredBucket, SlotsFit, air_of, body_fits, body_of, bucket_of, fits}
 use Rattle.air_model.specs.AiredLaws.{CanAir}
 use Rattle.air_model.specs.Copies.{HaveOwnItems}
@@ -97,11 +97,11 @@ is_update = record {
   amounts = All-from_recursion (λ w. w.amount < 2 ^ 64) second_update.writes (omega arith, tt);
 }
 
-next : IsNext turned_deck (take 2 (script_history turned_deck)) 0 1 second_update
+next : IsNextCommit turned_deck (take 2 (script_history turned_deck)) 0 1 second_update
 unfolding script_history event_of is_by
 next = record { number = refl; given = refl }
 
-not_at_once : IsNext turned_deck [] 0 1 second_update → ⊥
+not_at_once : IsNextCommit turned_deck [] 0 1 second_update → ⊥
 unfolding is_by
 not_at_once h = absurd (let one : 1 ≡ 0 = h.number in omega arith)
 
@@ -209,7 +209,7 @@ no_byte h = let low : 256 < 256 = h 0 0 (omega arith) in omega arith
 pub whole_tape : IsTape (tape_of both) both
 whole_tape = (All-from_recursion (λ r. length r < 2 ^ 32) both (omega arith, (omega arith, tt)), refl)
 
-pub cut_tape : IsCut (take 60 (tape_of both)) (first_bytes ∷ []) 36
+pub cut_tape : IsCutTape (take 60 (tape_of both)) (first_bytes ∷ []) 36
 unfolding tape_of record_bytes ends_inside
 cut_tape = record { before = (All-from_recursion (λ r. length r < 2 ^ 32) (first_bytes ∷ []) (omega arith, tt), refl); cut = refl }
 

@@ -16,7 +16,7 @@ use Rattle.air_model.specs.declared.reports.LookLine.{LookLine}
 use Rattle.air_model.proofs.SessionExamples.{pair, set_to, update}
 use Rattle.air_model.specs.Batches.{AirsByBatches, EndsWithStart}
 use Rattle.air_model.specs.RunClosings.{HaveMadeAll, HaveMadeSome, IsClosing}
-use Rattle.air_model.specs.Fronts.{AreGlances, AreLooks, EndsAtStart, IsSeen}
+use Rattle.air_model.specs.MonitorSights.{AreGlances, AreLooks, EndsAtStart, IsSeen}
 
 -- Updater 0 puts 11 into item 0, updater 1 puts 21 into item 1; there are two cycles and a monitor.
 abbrev two : Deck

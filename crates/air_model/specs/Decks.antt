@@ -58,13 +58,13 @@ count_made by H = count_by (is_by by) H
 
 -- A commit is its updater's next after the events before it: its number is that of the updater's commits there, and
 -- its update is the deck's of that number.
-pub record IsNext (deck : Deck) (before : List Event) (by seq : ℕ) (update : UpdateLists) : Type 0 where
+pub record IsNextCommit (deck : Deck) (before : List Event) (by seq : ℕ) (update : UpdateLists) : Type 0 where
   pub number : seq ≡ count_made by before
   pub given : slice_get (updates_by deck by) seq ≡ Some update
 
 -- A history is legal for the deck where each of its commits is its updater's next.
 abbrev pub IsLegal : Deck → List Event → Type 0
-IsLegal deck H = (p by seq : ℕ) (update : UpdateLists) → slice_get H p ≡ Some (Commit by seq update) → IsNext deck (take p H) by seq update
+IsLegal deck H = (p by seq : ℕ) (update : UpdateLists) → slice_get H p ≡ Some (Commit by seq update) → IsNextCommit deck (take p H) by seq update
 
 -- A history is whole for the deck where it is legal and has all of the deck's updates and cycles.
 pub record IsWhole (deck : Deck) (H : List Event) : Type 0 where

@@ -25,5 +25,5 @@ pub mod Outputs
 pub mod AiredItems
 pub mod Batches
 pub mod RunClosings
-pub mod Fronts
+pub mod MonitorSights
 pub mod Runs

@@ -4,7 +4,7 @@ use Rattle.air_history.specs.declared.histories.Event.{Event}
 use Rattle.air_model.specs.Decks.{Deck, IsWhole}
 use Rattle.air_model.specs.declared.reports.LookLine.{LookLine}
 use Rattle.air_model.specs.Batches.{AirsByBatches}
-use Rattle.air_model.specs.Fronts.{AreGlances, AreLooks}
+use Rattle.air_model.specs.MonitorSights.{AreGlances, AreLooks}
 
 -- A run has a history; the batches that were published, as the publisher's note at the end tells them; and what monitors saw: glances
 -- beside the run, and looks at its end.

@@ -1,5 +1,5 @@
 -- The tape: records, each with its length before it, and the byte at which a tape is cut.
--- `IsTape` and `IsCut` are the relations, `tape_read` the function; that they agree are the laws of `tape`.
+-- `IsTape` and `IsCutTape` are the relations, `tape_read` the function; that they agree are the laws of `tape`.
 use Rattle.std.specs.Prelude.{◌≡◌, ℕ, zero, suc, ◌<◌, ◌+◌, ◌^◌, Bool, ◌&&◌, ◌||◌, ◌==◌, nat_lt, if◌then◌else◌, List, [], ◌∷◌, ◌++◌, length, take, drop, flat_map, All, IsTrue, Option, Some, None}
 use Rattle.byteorder.specs.Endian.{big_bytes, big_number}
 
@@ -20,7 +20,7 @@ unfoldable pub ends_inside : List ℕ → Bool
 ends_inside rest = nat_lt 0 (length rest) && (nat_lt (length rest) 4 || nat_lt (length rest) (4 + big_number 4 rest))
 
 -- The tape is cut at a byte: these whole records stand before it, and the tape ends inside the record that begins there.
-pub record IsCut (bytes : List ℕ) (records : List (List ℕ)) (at : ℕ) : Type 0 where
+pub record IsCutTape (bytes : List ℕ) (records : List (List ℕ)) (at : ℕ) : Type 0 where
   pub before : IsTape (take at bytes) records
   pub cut : IsTrue (ends_inside (drop at bytes))
 

@@ -6,7 +6,7 @@ ghost use Rattle.std.specs.Prelude.{◌≡◌, ℕ, ◌+◌, ◌<◌, ◌≤◌,
 ghost use Rattle.air_model.specs.Ethers.{Odds, due_number, heard_list, heard_places, places_due, times_heard};
 
 /// Where nothing is lost, heard again or late, the pushed list is heard.
-pub fn clear_ether_law()
+pub fn perfect_ether_law()
     ensures { (words : List ℕ) (pushed : List (List ℕ)) →
         heard_list (record { loss = 0; again = 0; late = 0 }) words pushed ≡ pushed }
 {}

@@ -13,7 +13,7 @@ ghost use Rattle.air_model.specs.declared.reports.LookLine.{LookLine};
 ghost use Rattle.air_model.specs.AiredItems.{AirsItems};
 ghost use Rattle.air_model.specs.Batches.{AirsByBatches, EndsWithStart, events_in};
 ghost use Rattle.air_model.specs.RunClosings.{HaveMadeAll, HaveMadeSome, IsClosing};
-ghost use Rattle.air_model.specs.Fronts.{EndsAtStart, IsSeen};
+ghost use Rattle.air_model.specs.MonitorSights.{EndsAtStart, IsSeen};
 
 /// Where each pass made a beginning of its updates, the history of the closed station is legal; and it has the conductor's starts.
 pub fn legal_closing_law()

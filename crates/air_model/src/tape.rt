@@ -4,7 +4,7 @@
 
 ghost use Rattle.std.specs.Prelude.{◌≡◌, ◌↔◌, ℕ, List, Some, None};
 ghost use Rattle.air_model.specs.Buckets.{AreBytes};
-ghost use Rattle.air_model.specs.Tapes.{IsCut, IsTape, tape_read};
+ghost use Rattle.air_model.specs.Tapes.{IsCutTape, IsTape, tape_read};
 
 /// Bytes are the tape of these records exactly if they are read and nothing is cut. So a tape has one list of records.
 pub fn whole_tape_law()
@@ -16,5 +16,5 @@ pub fn whole_tape_law()
 /// list of whole records.
 pub fn cut_tape_law()
     ensures { (bytes : List ℕ) (records : List (List ℕ)) (at : ℕ) → AreBytes bytes →
-        IsCut bytes records at ↔ (tape_read bytes ≡ record { records = records; cut = Some at }) }
+        IsCutTape bytes records at ↔ (tape_read bytes ≡ record { records = records; cut = Some at }) }
 {}

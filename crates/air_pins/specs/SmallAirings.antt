@@ -2,7 +2,7 @@
 use Rattle.std.specs.Prelude.{ℕ, List, [], ◌∷◌, None, map}
 use Rattle.air_history.specs.Boards.{Board}
 use Rattle.air_model.specs.Buckets.{Bucket, Body, Idle, Column, spelling}
-use Rattle.air_devices.specs.Masts.{Sent}
+use Rattle.air_devices.specs.Masts.{SentBuckets}
 
 -- A board of two items in cycle 2, of which item 1 was written in cycle 1 from item 0.
 abbrev pub pair : Board
@@ -23,5 +23,5 @@ four_buckets = map spelling
     (bucket 0 (Column 0 11 (1 ∷ 0 ∷ [])) ∷ bucket 1 (Column 1 12 (1 ∷ 1 ∷ [])) ∷ bucket 2 (Column 0 11 (1 ∷ 0 ∷ [])) ∷ bucket 3 (Idle 2) ∷ [])
 
 -- These were sent, and no end.
-abbrev pub sent : List (List ℕ) → Sent
+abbrev pub sent : List (List ℕ) → SentBuckets
 sent buckets = record { buckets = buckets; ended = None }

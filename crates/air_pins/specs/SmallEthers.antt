@@ -4,7 +4,7 @@
 -- two pushes are due at 1 and 2.
 use Rattle.std.specs.Prelude.{◌≡◌, ℕ, Bool, List, [], ◌∷◌, codes}
 use Rattle.air_model.specs.Ethers.{Odds}
-use Rattle.air_ether.specs.HeardSoFar.{Ether, Follows}
+use Rattle.air_ether.specs.HeardSoFar.{Ether, IsEtherAfter}
 
 -- Of a hundred pushes these numbers are lost, heard again, and late.
 abbrev pub odds : ℕ → ℕ → ℕ → Odds
@@ -13,7 +13,7 @@ odds loss again late = record { loss = loss; again = again; late = late }
 -- The ether of this seed and these odds was given these buckets, it gave this number of them, and the end was told or not.
 pub record Gave (seed : ℕ) (odds : Odds) (pushed : List (List ℕ)) (given : ℕ) (ended : Bool) (e : Ether) : Type 0 where
   pub odds_are : e.odds ≡ odds
-  pub follows : Follows seed 0 pushed given e
+  pub follows : IsEtherAfter seed 0 pushed given e
   pub told : e.ended ≡ ended
 
 -- Nine buckets. With seed 1910 and all late the first is due at 8, and the others later.

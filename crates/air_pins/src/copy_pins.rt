@@ -1,6 +1,6 @@
 //! These pins of `pix_cache` say what a reader keeps of two or three items: which copy is kept, which one goes, and what is
 //! lent. The copy of least PIX number goes first.
-#![tactic(auto, unfolding(air_model::specs::Copies::keep, air_model::specs::Copies::with_copy, air_model::specs::Copies::without_item, pix_cache::specs::Caches::copy_of))]
+#![tactic(auto, unfolding(air_model::specs::Copies::keep, air_model::specs::Copies::with_copy, air_model::specs::Copies::without_item, pix_cache::specs::Caches::copy_among))]
 
 ghost use Rattle.std.specs.Prelude.{◌≡◌, [], ◌∷◌, Some, MatchOption};
 ghost use Rattle.pix_cache.specs.Caches.{copy};

@@ -6,7 +6,7 @@
 ghost use Rattle.std.specs.Prelude.{◌≡◌, ◌<◌, ◌≤◌, [], ◌∷◌, codes, length, take, Some, None, IsErr, IfErr, OnOk};
 ghost use Rattle.air_devices.specs.Masts.{fresh_mast};
 ghost use Rattle.air_sender.specs.AirFaults.{failed_slot};
-ghost use Rattle.air_sender.specs.TapeMasts.{masted_of};
+ghost use Rattle.air_sender.specs.TapeMasts.{tape_mast_state};
 ghost use Rattle.air_pins.specs.SmallPrograms.{idle_slot};
 ghost use Rattle.air_pins.specs.SmallAirings.{pair, four_buckets, sent};
 
@@ -27,9 +27,9 @@ pub fn column_of_another_item(
 ) -> Result<(), AirFault>
     requires program { program.now ≡ idle_slot }
     requires board { board.now ≡ pair }
-    requires mast { masted_of mast.old ≡ fresh_mast }
+    requires mast { tape_mast_state mast.old ≡ fresh_mast }
     requires room { 32 ≤ length buf.old }
-    ensures { OnOk result (masted_of mast.new ≡ record { told = Some (sent four_buckets); faults = 0; port = None }) }
+    ensures { OnOk result (tape_mast_state mast.new ≡ record { told = Some (sent four_buckets); faults = 0; port = None }) }
 {
     air_cycle(program, board, Policy::FMatrix, mast, buf)
 }

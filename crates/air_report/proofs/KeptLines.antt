@@ -5,20 +5,20 @@ use Rattle.std.proofs.lemmas.List.{append-nil}
 use Rattle.std.proofs.lemmas.List.Elements.{All-cons, All-head, All-nil, All-tail}
 use Rattle.air_model.specs.Decks.{Deck}
 use Rattle.item_catalog.specs.RecordKinds.{first_of}
-use Rattle.item_catalog.proofs.KindFacts.{none_first}
+use Rattle.item_catalog.proofs.KindLemmas.{none_first}
 use Rattle.item_catalog.proofs.RecordPlaces.{along}
-use Rattle.air_report.specs.Kinds.{code_of}
-use Rattle.air_report.specs.LineTexts.{line_of}
-use Rattle.air_report.specs.ReportFaults.{comes_late, comes_next, is_begun, is_filled, is_known, is_next, kinds_after, kinds_at, lines_of, tests_of}
+use Rattle.air_report.specs.Kinds.{report_kind_number}
+use Rattle.air_report.specs.LineTexts.{spelled_line}
+use Rattle.air_report.specs.ReportFaults.{comes_after_later_section, comes_next, is_begun, is_filled, is_known, is_next, line_kinds_after, line_kinds_at, line_tests, spelled_lines}
 use Rattle.air_report.specs.ReportGrammar.{RowsSpellLines}
 use Rattle.air_report.specs.ReportLines.{ReportLines, sections_of, starts_in}
-use Rattle.air_report.specs.Steps.RecordAnswers.{with_line}
+use Rattle.air_report.specs.Private.RecordAnswers.{with_one_line}
 use Rattle.air_report.specs.declared.reading.kinds.FaultKind.{FaultKind}
 use Rattle.air_report.specs.declared.reading.kinds.FaultKind.TheVariants as fault
 use Rattle.air_report.specs.declared.reading.lines.EventLine.{EventLine}
 use Rattle.air_report.specs.declared.reading.lines.Line.{Line}
 use Rattle.air_report.specs.declared.reading.lines.Line.TheVariants as l
-use Rattle.air_report.proofs.PlaceFacts.{judge, lines_more, sections_more}
+use Rattle.air_report.proofs.PlaceLemmas.{judge, lines_more, sections_more}
 use Rattle.air_report.specs.ReportRules.{EachNext, InGrammar, IsRight}
 
 all_more : {A : Type 0} (P : A → Type 0) (xs : List A) (x : A) → All P xs → P x → All P (xs ++ x ∷ [])
@@ -58,13 +58,13 @@ module _ (deck : Deck) where
   none_right : {L : Type 0} (starts : ℕ) (wrap : L → Line) (lines : List L) → is_filled lines ≡ false → AreRight starts wrap lines
   none_right starts wrap lines none = let P : List _ → Type 0 = AreRight starts wrap in subst P (sym (empty lines none)) (All-nil (λ line. IsRight deck starts (wrap line)))
 
-  facts : (r : ReportLines) (x : Line) → first_of (tests_of deck r x) ≡ None
-      → (comes_late r x ≡ false) × (comes_next deck r.events x ≡ true) × (is_known deck x ≡ true) × (is_begun (starts_in r.events) x ≡ true)
+  facts : (r : ReportLines) (x : Line) → first_of (line_tests deck r x) ≡ None
+      → (comes_after_later_section r x ≡ false) × (comes_next deck r.events x ≡ true) × (is_known deck x ≡ true) × (is_begun (starts_in r.events) x ≡ true)
   facts r x none =
-      let t = four fault.Order fault.Update fault.Deck fault.Cycle (comes_late r x) (not (comes_next deck r.events x)) (not (is_known deck x)) (not (is_begun (starts_in r.events) x)) none in
+      let t = four fault.Order fault.Update fault.Deck fault.Cycle (comes_after_later_section r x) (not (comes_next deck r.events x)) (not (is_known deck x)) (not (is_begun (starts_in r.events) x)) none in
       (t.0, not_false (comes_next deck r.events x) t.1, not_false (is_known deck x) t.2, not_false (is_begun (starts_in r.events) x) t.3)
 
-  kept_more : (r : ReportLines) (x : Line) → InGrammar deck r → first_of (tests_of deck r x) ≡ None → InGrammar deck (with_line r x)
+  kept_more : (r : ReportLines) (x : Line) → InGrammar deck r → first_of (line_tests deck r x) ≡ None → InGrammar deck (with_one_line r x)
   kept_more r (l.Event line) k none =
       let t = facts r (l.Event line) none in
       let late = none_of (is_filled r.verdicts) (is_filled r.counts) (is_filled r.glances) (is_filled r.looks) t.0 in
@@ -96,15 +96,15 @@ module _ (deck : Deck) where
   kept_none : InGrammar deck (sections_of [])
   kept_none = record { events = tt; verdicts = All-nil _; counts = All-nil _; glances = All-nil _; looks = All-nil _ }
 
-  kept_row : (rows : List (List (List ℕ))) (row : List (List ℕ)) → kinds_after deck (sections_of (lines_of rows)) (line_of row) ≡ [] → InGrammar deck (sections_of (lines_of rows)) → InGrammar deck (sections_of (lines_of (rows ++ row ∷ [])))
-  kept_row rows row none k = by (line_of row) refl none
+  kept_row : (rows : List (List (List ℕ))) (row : List (List ℕ)) → line_kinds_after deck (sections_of (spelled_lines rows)) (spelled_line row) ≡ [] → InGrammar deck (sections_of (spelled_lines rows)) → InGrammar deck (sections_of (spelled_lines (rows ++ row ∷ [])))
+  kept_row rows row none k = by (spelled_line row) refl none
     where
-      by : (r : Result Line FaultKind) → line_of row ≡ r → kinds_after deck (sections_of (lines_of rows)) r ≡ [] → InGrammar deck (sections_of (lines_of (rows ++ row ∷ [])))
+      by : (r : Result Line FaultKind) → spelled_line row ≡ r → line_kinds_after deck (sections_of (spelled_lines rows)) r ≡ [] → InGrammar deck (sections_of (spelled_lines (rows ++ row ∷ [])))
       by (Err kind) e h = cc h
-      by (Ok x) e h = rw (lines_more rows row x e, sections_more (lines_of rows) x) (kept_more (sections_of (lines_of rows)) x k (none_first code_of (tests_of deck (sections_of (lines_of rows)) x) h))
+      by (Ok x) e h = rw (lines_more rows row x e, sections_more (spelled_lines rows) x) (kept_more (sections_of (spelled_lines rows)) x k (none_first report_kind_number (line_tests deck (sections_of (spelled_lines rows)) x) h))
 
   pub spelled_kept : (rows : List (List (List ℕ))) (lines : ReportLines) → RowsSpellLines deck rows lines → InGrammar deck lines
-  unfolding kinds_at
+  unfolding line_kinds_at
   spelled_kept rows lines s =
       let P : ReportLines → Type 0 = InGrammar deck in
-      subst P (sym s.sections) (along (judge deck) (λ rows. InGrammar deck (sections_of (lines_of rows))) kept_none (λ rows row none k. kept_row rows row none k) rows s.faultless)
+      subst P (sym s.sections) (along (judge deck) (λ rows. InGrammar deck (sections_of (spelled_lines rows))) kept_none (λ rows row none k. kept_row rows row none k) rows s.faultless)

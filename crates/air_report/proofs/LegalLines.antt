@@ -9,7 +9,7 @@ use Rattle.std.proofs.lemmas.Option.{slice_get-get_or}
 use Rattle.air_history.specs.UpdateLists.{UpdateLists}
 use Rattle.air_history.specs.declared.histories.Event.{Event}
 use Rattle.air_history.specs.declared.histories.Event.TheVariants as e
-use Rattle.air_model.specs.Decks.{Deck, IsLegal, IsNext, count_made, is_by, updates_by}
+use Rattle.air_model.specs.Decks.{Deck, IsLegal, IsNextCommit, count_made, is_by, updates_by}
 use Rattle.air_report.specs.ReportFaults.{is_next}
 use Rattle.air_report.specs.ReportLines.{commits_by, commits_of, event_in}
 use Rattle.air_report.specs.declared.reading.lines.EventLine.{EventLine}
@@ -30,7 +30,7 @@ module _ (deck : Deck) where
       one Start = refl
 
   next_is : (done : List EventLine) (x : EventLine) (by seq : ℕ) (update : UpdateLists) → is_next deck done x ≡ true → event_in deck x ≡ e.Commit by seq update
-      → IsNext deck (map (event_in deck) done) by seq update
+      → IsNextCommit deck (map (event_in deck) done) by seq update
   next_is done (Commit b s) by seq update next same =
       let both = and_parts (s == commits_by b done) (nat_lt s (length (updates_by deck b))) next in
       let less : s < length (updates_by deck b) = grind (arith, nat_tests, both.1) in
@@ -40,15 +40,15 @@ module _ (deck : Deck) where
   next_is done Start by seq update next same = cc same
 
   legal_from : (done todo : List EventLine) → EachNext deck done todo → (p by seq : ℕ) (update : UpdateLists)
-      → slice_get (map (event_in deck) todo) p ≡ Some (e.Commit by seq update) → IsNext deck (map (event_in deck) (done ++ take p todo)) by seq update
+      → slice_get (map (event_in deck) todo) p ≡ Some (e.Commit by seq update) → IsNextCommit deck (map (event_in deck) (done ++ take p todo)) by seq update
   legal_from done [] each zero by seq update h = cc h
   legal_from done [] each (suc p) by seq update h = cc h
   legal_from done (x ∷ xs) each zero by seq update h =
       let here : event_in deck x ≡ e.Commit by seq update = cc h in
-      let P : List EventLine → Type 0 = λ es. IsNext deck (map (event_in deck) es) by seq update in
+      let P : List EventLine → Type 0 = λ es. IsNextCommit deck (map (event_in deck) es) by seq update in
       subst P (sym (append-nil done)) (next_is done x by seq update each.0 here)
   legal_from done (x ∷ xs) each (suc p) by seq update h =
-      let P : List EventLine → Type 0 = λ es. IsNext deck (map (event_in deck) es) by seq update in
+      let P : List EventLine → Type 0 = λ es. IsNextCommit deck (map (event_in deck) es) by seq update in
       subst P (append_assoc done (x ∷ []) (take p xs)) (legal_from (done ++ x ∷ []) xs each.1 p by seq update h)
 
   take_same : (p : ℕ) (lines : List EventLine) → map (event_in deck) (take p lines) ≡ take p (map (event_in deck) lines)
@@ -58,5 +58,5 @@ module _ (deck : Deck) where
 
   pub legal : (lines : List EventLine) → EachNext deck [] lines → IsLegal deck (map (event_in deck) lines)
   legal lines each p by seq update h =
-      let P : List Event → Type 0 = λ before. IsNext deck before by seq update in
+      let P : List Event → Type 0 = λ before. IsNextCommit deck before by seq update in
       subst P (take_same p lines) (legal_from [] lines each p by seq update h)

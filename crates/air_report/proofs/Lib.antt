@@ -6,12 +6,12 @@ mod ReportExamples
 pub mod RowLemmas
 pub mod RowSteps
 mod LineLemmas
-pub mod RecordFacts
-pub mod ReadFacts
-pub mod LineFacts
-pub mod PlaceFacts
-pub mod ReadingFacts
-mod TextFacts
+pub mod RecordLemmas
+pub mod ReadLemmas
+pub mod LineRuleLemmas
+pub mod PlaceLemmas
+pub mod ReadingLemmas
+mod TextLemmas
 pub mod StandingLines
 pub mod KeptLines
 pub mod LegalLines

@@ -3,10 +3,10 @@ use Rattle.std.proofs.Common.{◌≡◌, ℕ, ◌+◌, ◌≤◌, Option, Some, 
 use Rattle.std.specs.List.{filter_map, cons_option}
 use Rattle.std.specs.Result.{result_ok}
 use Rattle.item_catalog.specs.Records.{records_of}
-use Rattle.item_catalog.proofs.RowFacts.{few_records}
+use Rattle.item_catalog.proofs.RowLemmas.{few_records}
 use Rattle.air_model.specs.Decks.{Deck}
-use Rattle.air_report.specs.ReportFaults.{lines_of}
-use Rattle.air_report.specs.LineTexts.{line_of}
+use Rattle.air_report.specs.ReportFaults.{spelled_lines}
+use Rattle.air_report.specs.LineTexts.{spelled_line}
 use Rattle.air_report.specs.ReportGrammar.{SpellsReport}
 use Rattle.air_report.specs.ReportLines.{ReportLines, sections_of}
 use Rattle.air_report.specs.declared.reading.lines.Line.{Line}
@@ -38,6 +38,6 @@ pub few_lines : (deck : Deck) (text : List ℕ) (lines : ReportLines) → Spells
 unfolding SpellsReport
 few_lines deck text lines spelled =
     let rows = records_of text in
-    let all : line_count lines ≡ length (lines_of rows) = ap line_count spelled.sections ∙ counted (lines_of rows) in
-    let kept : length (lines_of rows) ≤ length rows = kept_few (λ row. result_ok (line_of row)) rows in
+    let all : line_count lines ≡ length (spelled_lines rows) = ap line_count spelled.sections ∙ counted (spelled_lines rows) in
+    let kept : length (spelled_lines rows) ≤ length rows = kept_few (λ row. result_ok (spelled_line row)) rows in
     omega (arith, few_records text)

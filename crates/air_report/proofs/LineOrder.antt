@@ -3,20 +3,20 @@ use Rattle.std.proofs.Common.{◌≡◌, Bool, true, false, None, Result, Ok, Er
 use Rattle.std.specs.Prelude.{◌||◌, not}
 use Rattle.std.proofs.lemmas.List.{append-nil, map-append}
 use Rattle.item_catalog.specs.RecordKinds.{first_of}
-use Rattle.item_catalog.proofs.KindFacts.{none_first}
+use Rattle.item_catalog.proofs.KindLemmas.{none_first}
 use Rattle.item_catalog.proofs.RecordPlaces.{along}
 use Rattle.air_model.specs.Decks.{Deck}
-use Rattle.air_report.specs.Kinds.{code_of}
-use Rattle.air_report.specs.LineTexts.{line_of}
-use Rattle.air_report.specs.ReportFaults.{comes_late, comes_next, is_begun, is_filled, is_known, kinds_after, kinds_at, lines_of, tests_of}
+use Rattle.air_report.specs.Kinds.{report_kind_number}
+use Rattle.air_report.specs.LineTexts.{spelled_line}
+use Rattle.air_report.specs.ReportFaults.{comes_after_later_section, comes_next, is_begun, is_filled, is_known, line_kinds_after, line_kinds_at, line_tests, spelled_lines}
 use Rattle.air_report.specs.ReportGrammar.{RowsSpellLines}
 use Rattle.air_report.specs.ReportLines.{ReportLines, sections_of, starts_in}
-use Rattle.air_report.specs.Steps.RecordAnswers.{with_line}
+use Rattle.air_report.specs.Private.RecordAnswers.{with_one_line}
 use Rattle.air_report.specs.declared.reading.kinds.FaultKind.{FaultKind}
 use Rattle.air_report.specs.declared.reading.kinds.FaultKind.TheVariants as fault
 use Rattle.air_report.specs.declared.reading.lines.Line.{Line}
 use Rattle.air_report.specs.declared.reading.lines.Line.TheVariants as l
-use Rattle.air_report.proofs.PlaceFacts.{judge, lines_more, sections_more}
+use Rattle.air_report.proofs.PlaceLemmas.{judge, lines_more, sections_more}
 
 -- All lines of a report, section by section.
 abbrev pub together : ReportLines → List Line
@@ -51,7 +51,7 @@ module _ (C G K : List Line) (c : C ≡ []) (g : G ≡ []) (k : K ≡ []) where
   three_behind : (front : List Line) → front ++ C ++ G ++ K ≡ front
   three_behind front = two_behind (front ++ C) ∙ nothing_behind front C c
 
-one_more : (r : ReportLines) (x : Line) → comes_late r x ≡ false → together (with_line r x) ≡ together r ++ x ∷ []
+one_more : (r : ReportLines) (x : Line) → comes_after_later_section r x ≡ false → together (with_one_line r x) ≡ together r ++ x ∷ []
 one_more r (l.Event line) late =
     let a = either (is_filled r.verdicts || is_filled r.counts || is_filled r.glances) (is_filled r.looks) late in
     let b = either (is_filled r.verdicts || is_filled r.counts) (is_filled r.glances) a.0 in
@@ -82,26 +82,26 @@ one_more r (l.Look line) late =
 
 -- Rows without fault spell the lines of their sections, one after another.
 abbrev InOrder : List (List (List ℕ)) → Type 0
-InOrder rows = map line_of rows ≡ map Ok (together (sections_of (lines_of rows)))
+InOrder rows = map spelled_line rows ≡ map Ok (together (sections_of (spelled_lines rows)))
 
 module _ (deck : Deck) where
-  in_time : (r : ReportLines) (x : Line) → first_of (tests_of deck r x) ≡ None → comes_late r x ≡ false
-  in_time r x none = first_fails fault.Order (comes_late r x)
+  in_time : (r : ReportLines) (x : Line) → first_of (line_tests deck r x) ≡ None → comes_after_later_section r x ≡ false
+  in_time r x none = first_fails fault.Order (comes_after_later_section r x)
       ((fault.Update, not (comes_next deck r.events x)) ∷ (fault.Deck, not (is_known deck x)) ∷ (fault.Cycle, not (is_begun (starts_in r.events) x)) ∷ []) none
 
-  row_more : (rows : List (List (List ℕ))) (row : List (List ℕ)) → kinds_after deck (sections_of (lines_of rows)) (line_of row) ≡ [] → InOrder rows → InOrder (rows ++ row ∷ [])
-  row_more rows row none h = by (line_of row) refl none
+  row_more : (rows : List (List (List ℕ))) (row : List (List ℕ)) → line_kinds_after deck (sections_of (spelled_lines rows)) (spelled_line row) ≡ [] → InOrder rows → InOrder (rows ++ row ∷ [])
+  row_more rows row none h = by (spelled_line row) refl none
     where
-      by : (o : Result Line FaultKind) → line_of row ≡ o → kinds_after deck (sections_of (lines_of rows)) o ≡ [] → InOrder (rows ++ row ∷ [])
+      by : (o : Result Line FaultKind) → spelled_line row ≡ o → line_kinds_after deck (sections_of (spelled_lines rows)) o ≡ [] → InOrder (rows ++ row ∷ [])
       by (Err kind) e n = cc n
       by (Ok x) e n =
-          let r = sections_of (lines_of rows) in
-          let late = in_time r x (none_first code_of (tests_of deck r x) n) in
-          let whole : together (sections_of (lines_of (rows ++ row ∷ []))) ≡ together r ++ x ∷ [] =
-          ap together (ap sections_of (lines_more rows row x e) ∙ sections_more (lines_of rows) x) ∙ one_more r x late in
+          let r = sections_of (spelled_lines rows) in
+          let late = in_time r x (none_first report_kind_number (line_tests deck r x) n) in
+          let whole : together (sections_of (spelled_lines (rows ++ row ∷ []))) ≡ together r ++ x ∷ [] =
+          ap together (ap sections_of (lines_more rows row x e) ∙ sections_more (spelled_lines rows) x) ∙ one_more r x late in
           let ok : Line → Result Line FaultKind = λ m. Ok m in
-          rw (whole, map-append line_of rows (row ∷ []), map-append ok (together r) (x ∷ []), h, e) refl
+          rw (whole, map-append spelled_line rows (row ∷ []), map-append ok (together r) (x ∷ []), h, e) refl
 
-  pub in_order : (rows : List (List (List ℕ))) (lines : ReportLines) → RowsSpellLines deck rows lines → map line_of rows ≡ map Ok (together lines)
-  unfolding kinds_at
+  pub in_order : (rows : List (List (List ℕ))) (lines : ReportLines) → RowsSpellLines deck rows lines → map spelled_line rows ≡ map Ok (together lines)
+  unfolding line_kinds_at
   in_order rows lines s = along (judge deck) InOrder refl (λ rows row none h. row_more rows row none h) rows s.faultless ∙ ap (λ r. map Ok (together r)) (sym s.sections)

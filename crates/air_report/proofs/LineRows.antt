@@ -4,7 +4,7 @@ use Rattle.std.specs.List.{cons_option, enumerate_from, filter_map, range_with_l
 use Rattle.std.proofs.lemmas.List.{append-nil, length-map}
 use Rattle.item_catalog.specs.Records.{records_of}
 use Rattle.air_model.specs.Decks.{Deck}
-use Rattle.air_report.specs.LineTexts.{line_of}
+use Rattle.air_report.specs.LineTexts.{spelled_line}
 use Rattle.air_report.specs.ReportGrammar.{SpellsReport}
 use Rattle.air_report.specs.ReportLines.{ReportLines, its_glance, its_look, its_verdict}
 use Rattle.air_report.specs.declared.reading.kinds.FaultKind.{FaultKind}
@@ -14,14 +14,14 @@ use Rattle.air_report.specs.ReadReports.{row_in, rows_of}
 use Rattle.air_report.proofs.LineOrder.{in_order, together}
 
 -- What is told of records hangs on what they spell.
-by_lines : {X : Type 0} (f : ℕ → Result Line FaultKind → Option X) (n : ℕ) (rows : List (List (List ℕ))) (lines : List Line) → map line_of rows ≡ map Ok lines →
-    filter_map (λ p. f p.0 (line_of p.1)) (enumerate_from n rows) ≡ filter_map (λ p. f p.0 (Ok p.1)) (enumerate_from n lines)
+by_lines : {X : Type 0} (f : ℕ → Result Line FaultKind → Option X) (n : ℕ) (rows : List (List (List ℕ))) (lines : List Line) → map spelled_line rows ≡ map Ok lines →
+    filter_map (λ p. f p.0 (spelled_line p.1)) (enumerate_from n rows) ≡ filter_map (λ p. f p.0 (Ok p.1)) (enumerate_from n lines)
 by_lines f n [] [] e = refl
 by_lines f n [] (line ∷ lines) e = cc e
 by_lines f n (row ∷ rows) [] e = cc e
 by_lines f n (row ∷ rows) (line ∷ lines) e =
-    let here : line_of row ≡ Ok line = cc e in
-    let more : map line_of rows ≡ map Ok lines = cc e in
+    let here : spelled_line row ≡ Ok line = cc e in
+    let more : map spelled_line rows ≡ map Ok lines = cc e in
     rw (here, by_lines f (n + 1) rows lines more) refl
 
 module _ {X : Type 0} (f : ℕ → Line → Option X) where
@@ -72,7 +72,7 @@ module _ {X : Type 0} (f : ℕ → Line → Option X) where
 
 -- What is told of the records of a text that spells lines is told of these lines, in their order.
 pub by_records : {X : Type 0} (f : ℕ → Result Line FaultKind → Option X) (deck : Deck) (text : List ℕ) (lines : ReportLines) → SpellsReport deck text lines →
-    filter_map (λ p. f p.0 (line_of p.1)) (enumerate_from 1 (records_of text)) ≡ all_of (λ row line. f row (Ok line)) 1 (together lines)
+    filter_map (λ p. f p.0 (spelled_line p.1)) (enumerate_from 1 (records_of text)) ≡ all_of (λ row line. f row (Ok line)) 1 (together lines)
 unfolding SpellsReport
 by_records f deck text lines spelled = by_lines f 1 (records_of text) (together lines) (in_order deck (records_of text) lines spelled)
 

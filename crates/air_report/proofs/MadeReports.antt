@@ -19,7 +19,7 @@ use Rattle.air_report.proofs.LegalLines.{legal}
 use Rattle.air_report.specs.declared.reading.ReadReport.{ReadReport}
 use Rattle.air_report.specs.ReadReports.{IsReportOf}
 use Rattle.air_report.specs.KeptReports.{KeepsGrammar}
-use Rattle.air_report.specs.Steps.ReportsOfLines.{IsMadeOf, NamesUpdate}
+use Rattle.air_report.specs.Private.ReportsOfLines.{IsMadeOf, NamesUpdate}
 use Rattle.air_report.proofs.LineCounts.{few_lines, line_count}
 use Rattle.air_report.proofs.LineRows as rows
 

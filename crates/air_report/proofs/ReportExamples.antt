@@ -3,7 +3,7 @@ use Rattle.std.proofs.Common.{◌≡◌, ℕ, List, [], ◌∷◌, refl}
 use Rattle.std.specs.Prelude.{codes}
 use Rattle.air_base.specs.Numbers.{number_of}
 use Rattle.air_base.specs.NumberLists.{all_some}
-use Rattle.air_report.specs.LineTexts.{item_of, place_of, read_of, short_of}
+use Rattle.air_report.specs.LineTexts.{short_of, spelled_item, spelled_place, spelled_read}
 use Rattle.air_report.specs.ReportLines.{its_glance, its_look, its_verdict}
 use Rattle.air_report.specs.ReadReports.{rows_of}
 
@@ -28,13 +28,13 @@ abbrev report : List Row
 report = start ∷ accept0 ∷ accept0 ∷ counts0 ∷ seen (codes "glance") ∷ seen (codes "look") ∷ seen (codes "look") ∷ []
 
 verdicts : rows_of its_verdict report ≡ 2 ∷ 3 ∷ []
-unfolding read_of place_of item_of short_of number_of all_some
+unfolding spelled_read spelled_place spelled_item short_of number_of all_some
 verdicts = refl
 
 glances : rows_of its_glance report ≡ 5 ∷ []
-unfolding read_of place_of item_of short_of number_of all_some
+unfolding spelled_read spelled_place spelled_item short_of number_of all_some
 glances = refl
 
 looks : rows_of its_look report ≡ 6 ∷ 7 ∷ []
-unfolding read_of place_of item_of short_of number_of all_some
+unfolding spelled_read spelled_place spelled_item short_of number_of all_some
 looks = refl

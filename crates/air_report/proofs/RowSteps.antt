@@ -7,7 +7,7 @@ use Rattle.csv.specs.declared.writer.Writer.{Writer}
 use Rattle.csv.specs.Writing.{field_text, fields_written, has_written, is_blank, next_sep, row_body, writer_setup}
 use Rattle.csv.proofs.WriteFacts.{blank-more, row-more}
 use Rattle.air_model.specs.Rows.{row_writer}
-use Rattle.air_report.specs.RowWriters.{IsReady, written_text}
+use Rattle.air_report.specs.RowWriters.{IsRowWriter, written_text}
 use Rattle.air_report.specs.BegunRows.{IsBegun}
 
 -- Reports have no style that looks at numbers.
@@ -37,7 +37,7 @@ one_more before fields field old now few begun text same count wrote stays =
     }
 
 -- Between two rows a row of no fields is begun.
-pub none_yet : (wtr : Writer (Vec ℕ Global)) → IsReady wtr → IsBegun (written_text wtr) [] wtr
+pub none_yet : (wtr : Writer (Vec ℕ Global)) → IsRowWriter wtr → IsBegun (written_text wtr) [] wtr
 unfolding is_blank
 none_yet wtr ready = record {
   setup = ready.setup;

@@ -8,7 +8,7 @@ use Rattle.std.proofs.lemmas.Option.{get_or_from_slice_get, slice_get_within}
 use Rattle.air_history.specs.UpdateLists.{UpdateLists}
 use Rattle.air_history.specs.declared.histories.Event.{Event}
 use Rattle.air_history.specs.declared.histories.Event.TheVariants as e
-use Rattle.air_model.specs.Decks.{Deck, IsLegal, IsNext, count_made, is_by, updates_by}
+use Rattle.air_model.specs.Decks.{Deck, IsLegal, IsNextCommit, count_made, is_by, updates_by}
 use Rattle.air_model.specs.Reports.{Report, report_text}
 use Rattle.air_report.specs.ReportFaults.{is_next}
 use Rattle.air_report.specs.ReportGrammar.{SpellsReport}
@@ -32,16 +32,16 @@ its_line_same by (x ∷ H) =
 module _ (deck : Deck) where
   -- Each commit of events that are left is its updater's next, behind those done and those before it.
   abbrev AllNext : List Event → List Event → Type 0
-  AllNext done left = (p by seq : ℕ) (update : UpdateLists) → slice_get left p ≡ Some (e.Commit by seq update) → IsNext deck (done ++ take p left) by seq update
+  AllNext done left = (p by seq : ℕ) (update : UpdateLists) → slice_get left p ≡ Some (e.Commit by seq update) → IsNextCommit deck (done ++ take p left) by seq update
 
   later : (done : List Event) (x : Event) (left : List Event) → AllNext done (x ∷ left) → AllNext (done ++ x ∷ []) left
   later done x left next p by seq update h =
-      let P : List Event → Type 0 = λ before. IsNext deck before by seq update in
+      let P : List Event → Type 0 = λ before. IsNextCommit deck before by seq update in
       subst P (sym (append_assoc done (x ∷ []) (take p left))) (next (suc p) by seq update h)
 
-  here : (done : List Event) (by seq : ℕ) (update : UpdateLists) (left : List Event) → AllNext done (e.Commit by seq update ∷ left) → IsNext deck done by seq update
+  here : (done : List Event) (by seq : ℕ) (update : UpdateLists) (left : List Event) → AllNext done (e.Commit by seq update ∷ left) → IsNextCommit deck done by seq update
   here done by seq update left next =
-      let P : List Event → Type 0 = λ before. IsNext deck before by seq update in
+      let P : List Event → Type 0 = λ before. IsNextCommit deck before by seq update in
       subst P (append-nil done) (next zero by seq update refl)
 
   line_next : (done : List Event) (x : Event) (left : List Event) → AllNext done (x ∷ left) → is_next deck (map its_line done) (its_line x) ≡ true

@@ -14,18 +14,18 @@ use Rattle.air_model.specs.declared.reports.LookLine.{LookLine}
 use Rattle.air_model.specs.declared.reports.VerdictLine.{VerdictLine}
 use Rattle.item_catalog.specs.FirstFaults.{NoneBefore}
 use Rattle.item_catalog.specs.RecordKinds.{first_of}
-use Rattle.air_report.specs.LineTexts.{line_of}
-use Rattle.air_report.specs.ReportFaults.{kinds_at, lines_of, tests_of}
+use Rattle.air_report.specs.LineTexts.{spelled_line}
+use Rattle.air_report.specs.ReportFaults.{line_kinds_at, line_tests, spelled_lines}
 use Rattle.air_report.specs.ReportGrammar.{RowsSpellLines, SpellsReport}
 use Rattle.air_report.specs.ReportLines.{ReportLines, its_line, lines_in, sections_of, starts_in}
-use Rattle.air_report.specs.Steps.RecordAnswers.{record_kind, with_line}
+use Rattle.air_report.specs.Private.RecordAnswers.{line_record_kind, with_one_line}
 use Rattle.air_report.specs.declared.reading.lines.EventLine.{EventLine}
 use Rattle.air_report.specs.declared.reading.lines.Line.{Line}
 use Rattle.air_report.specs.declared.reading.lines.Line.TheVariants as l
-use Rattle.air_report.proofs.PlaceFacts.{lines_more, none_added, sections_more}
+use Rattle.air_report.proofs.PlaceLemmas.{lines_more, none_added, sections_more}
 use Rattle.air_report.specs.ReportRules.{CountsWide, EachNext, EventWide, HasWidths, InGrammar, IsRight, LookWide, VerdictWide}
 use Rattle.item_catalog.proofs.WrittenRows.{EachPlain, Plain, plain_map, plain_more, written_rows}
-use Rattle.air_report.proofs.TextFacts.{counts_spelled, event_spelled, glance_spelled, look_spelled, verdict_spelled}
+use Rattle.air_report.proofs.TextLemmas.{counts_spelled, event_spelled, glance_spelled, look_spelled, verdict_spelled}
 
 abbrev by_parts : List EventLine → List VerdictLine → List CountsLine → List LookLine → List LookLine → ReportLines
 by_parts es vs cs gs ls = record { events = es; verdicts = vs; counts = cs; glances = gs; looks = ls }
@@ -33,23 +33,23 @@ by_parts es vs cs gs ls = record { events = es; verdicts = vs; counts = cs; glan
 module _ (deck : Deck) where
   -- The rows are without fault, and spell these lines.
   pub record Stands (rows : List (List (List ℕ))) (r : ReportLines) : Type 0 where
-    pub faultless : NoneBefore (kinds_at deck rows) (length rows)
-    pub sections : sections_of (lines_of rows) ≡ r
+    pub faultless : NoneBefore (line_kinds_at deck rows) (length rows)
+    pub sections : sections_of (spelled_lines rows) ≡ r
 
   -- One row more.
-  step : (rows : List (List (List ℕ))) (r : ReportLines) (row : List (List ℕ)) (x : Line) → Stands rows r → line_of row ≡ Ok x → first_of (tests_of deck r x) ≡ None → Stands (rows ++ row ∷ []) (with_line r x)
+  step : (rows : List (List (List ℕ))) (r : ReportLines) (row : List (List ℕ)) (x : Line) → Stands rows r → spelled_line row ≡ Ok x → first_of (line_tests deck r x) ≡ None → Stands (rows ++ row ∷ []) (with_one_line r x)
   step rows r row x s spelled none =
-      let judge : record_kind deck (sections_of (lines_of rows)) (line_of row) ≡ None = ap (λ q. record_kind deck (sections_of (lines_of rows)) q) spelled ∙ ap (λ q. first_of (tests_of deck q x)) s.sections ∙ none in
+      let judge : line_record_kind deck (sections_of (spelled_lines rows)) (spelled_line row) ≡ None = ap (λ q. line_record_kind deck (sections_of (spelled_lines rows)) q) spelled ∙ ap (λ q. first_of (line_tests deck q x)) s.sections ∙ none in
       record {
         faultless = none_added deck rows row s.faultless judge;
-        sections = ap sections_of (lines_more rows row x spelled) ∙ sections_more (lines_of rows) x ∙ ap (λ q. with_line q x) s.sections;
+        sections = ap sections_of (lines_more rows row x spelled) ∙ sections_more (spelled_lines rows) x ∙ ap (λ q. with_one_line q x) s.sections;
       }
 
   -- Lines of a section, each fine after those before it.
-  module _ {L : Type 0} (at : List L → ReportLines) (wrap : L → Line) (row : L → List (List ℕ)) (put : (done : List L) (x : L) → with_line (at done) (wrap x) ≡ at (done ++ x ∷ [])) where
+  module _ {L : Type 0} (at : List L → ReportLines) (wrap : L → Line) (row : L → List (List ℕ)) (put : (done : List L) (x : L) → with_one_line (at done) (wrap x) ≡ at (done ++ x ∷ [])) where
     abbrev Fine : List L → List L → Type 0
     Fine done [] = Unit {0}
-    Fine done (x ∷ xs) = (line_of (row x) ≡ Ok (wrap x)) × (first_of (tests_of deck (at done) (wrap x)) ≡ None) × Fine (done ++ x ∷ []) xs
+    Fine done (x ∷ xs) = (spelled_line (row x) ≡ Ok (wrap x)) × (first_of (line_tests deck (at done) (wrap x)) ≡ None) × Fine (done ++ x ∷ []) xs
 
     grow : (xs : List L) (rows : List (List (List ℕ))) (done : List L) → Stands rows (at done) → Fine done xs → Stands (rows ++ map row xs) (at (done ++ xs))
     grow [] rows done s fine = rw (append-nil rows, append-nil done) s
@@ -57,7 +57,7 @@ module _ (deck : Deck) where
         let one = subst (λ r. Stands (rows ++ row x ∷ []) r) (put done x) (step rows (at done) (row x) (wrap x) s fine.0 fine.1) in
         rw (← append_assoc rows (row x ∷ []) (map row xs), ← append_assoc done (x ∷ []) xs) (grow xs (rows ++ row x ∷ []) (done ++ x ∷ []) one fine.2)
 
-    fine_each : (P Q : L → Type 0) → ((x : L) → P x → line_of (row x) ≡ Ok (wrap x)) → ((done : List L) (x : L) → Q x → first_of (tests_of deck (at done) (wrap x)) ≡ None)
+    fine_each : (P Q : L → Type 0) → ((x : L) → P x → spelled_line (row x) ≡ Ok (wrap x)) → ((done : List L) (x : L) → Q x → first_of (line_tests deck (at done) (wrap x)) ≡ None)
         → (done xs : List L) → All P xs → All Q xs → Fine done xs
     fine_each P Q spelled none done [] p q = tt
     fine_each P Q spelled none done (x ∷ xs) p q =
@@ -68,7 +68,7 @@ module _ (deck : Deck) where
   abbrev at_events : List Event → ReportLines
   at_events done = by_parts (map its_line done) [] [] [] []
 
-  put_event : (done : List Event) (x : Event) → with_line (at_events done) (l.Event (its_line x)) ≡ at_events (done ++ x ∷ [])
+  put_event : (done : List Event) (x : Event) → with_one_line (at_events done) (l.Event (its_line x)) ≡ at_events (done ++ x ∷ [])
   put_event done x = ap (λ es. by_parts es [] [] [] []) (sym (map-append its_line done (x ∷ [])))
 
   abbrev FineEvents : List Event → List Event → Type 0
@@ -85,16 +85,16 @@ module _ (deck : Deck) where
   -- ---- the other sections
 
   module _ (es : List EventLine) where
-    verdict_fine : (vs : List VerdictLine) (x : VerdictLine) → IsRight deck (starts_in es) (l.Verdict x) → first_of (tests_of deck (by_parts es vs [] [] []) (l.Verdict x)) ≡ None
+    verdict_fine : (vs : List VerdictLine) (x : VerdictLine) → IsRight deck (starts_in es) (l.Verdict x) → first_of (line_tests deck (by_parts es vs [] [] []) (l.Verdict x)) ≡ None
     verdict_fine vs x right = rw (right.known, right.begun) refl
 
-    counts_fine : (vs : List VerdictLine) (cs : List CountsLine) (x : CountsLine) → IsRight deck (starts_in es) (l.Counts x) → first_of (tests_of deck (by_parts es vs cs [] []) (l.Counts x)) ≡ None
+    counts_fine : (vs : List VerdictLine) (cs : List CountsLine) (x : CountsLine) → IsRight deck (starts_in es) (l.Counts x) → first_of (line_tests deck (by_parts es vs cs [] []) (l.Counts x)) ≡ None
     counts_fine vs cs x right = rw right.known refl
 
-    glance_fine : (vs : List VerdictLine) (cs : List CountsLine) (gs : List LookLine) (x : LookLine) → IsRight deck (starts_in es) (l.Glance x) → first_of (tests_of deck (by_parts es vs cs gs []) (l.Glance x)) ≡ None
+    glance_fine : (vs : List VerdictLine) (cs : List CountsLine) (gs : List LookLine) (x : LookLine) → IsRight deck (starts_in es) (l.Glance x) → first_of (line_tests deck (by_parts es vs cs gs []) (l.Glance x)) ≡ None
     glance_fine vs cs gs x right = rw (right.known, right.begun) refl
 
-    look_fine : (vs : List VerdictLine) (cs : List CountsLine) (gs ls : List LookLine) (x : LookLine) → IsRight deck (starts_in es) (l.Look x) → first_of (tests_of deck (by_parts es vs cs gs ls) (l.Look x)) ≡ None
+    look_fine : (vs : List VerdictLine) (cs : List CountsLine) (gs ls : List LookLine) (x : LookLine) → IsRight deck (starts_in es) (l.Look x) → first_of (line_tests deck (by_parts es vs cs gs ls) (l.Look x)) ≡ None
     look_fine vs cs gs ls x right = rw (right.known, right.begun) refl
 
   -- ---- the whole report

@@ -6,8 +6,8 @@ use Rattle.air_base.specs.NumberLists.{all_some}
 use Rattle.air_base.specs.declared.verdicts.Policy.TheVariants.{FMatrix}
 use Rattle.air_base.specs.declared.verdicts.VerdictKind.TheVariants as kind
 use Rattle.air_model.specs.Decks.{Deck}
-use Rattle.air_report.specs.LineTexts.{item_of, place_of, read_of, short_of}
-use Rattle.air_report.specs.ReportFaults.{kinds_at, lines_of}
+use Rattle.air_report.specs.LineTexts.{short_of, spelled_item, spelled_place, spelled_read}
+use Rattle.air_report.specs.ReportFaults.{line_kinds_at, spelled_lines}
 use Rattle.air_report.specs.ReportLines.{sections_of}
 use Rattle.air_report.specs.declared.reading.lines.EventLine.TheVariants.{Commit, Start}
 
@@ -27,16 +27,16 @@ deck = record {
   settings = record { policy = FMatrix; cycles = 1; seed = 0; loss = 0; again = 0; late = 0; monitors = 1; hears = 1 };
 }
 
-a_read : read_of (codes "3@2=15") ≡ Some (record { item = 3; cycle = 2; value = 15 })
-unfolding read_of place_of item_of short_of number_of
+a_read : spelled_read (codes "3@2=15") ≡ Some (record { item = 3; cycle = 2; value = 15 })
+unfolding spelled_read spelled_place spelled_item short_of number_of
 a_read = refl
 
-greatest_item : place_of (codes "65535@1") ≡ Some (65535, 1)
-unfolding place_of item_of short_of number_of
+greatest_item : spelled_place (codes "65535@1") ≡ Some (65535, 1)
+unfolding spelled_place spelled_item short_of number_of
 greatest_item = refl
 
-no_item : place_of (codes "65536@1") ≡ None
-unfolding place_of item_of short_of number_of
+no_item : spelled_place (codes "65536@1") ≡ None
+unfolding spelled_place spelled_item short_of number_of
 no_item = refl
 
 abbrev start : Row
@@ -54,7 +54,7 @@ abort0 = codes "abort" ∷ codes "0" ∷ codes "0" ∷ codes "1" ∷ codes "0@1=
 abbrev look0 : Row
 look0 = codes "look" ∷ codes "0" ∷ codes "1" ∷ codes "30" ∷ []
 
-whole : sections_of (lines_of (start ∷ commit0 ∷ accept0 ∷ look0 ∷ [])) ≡ record {
+whole : sections_of (spelled_lines (start ∷ commit0 ∷ accept0 ∷ look0 ∷ [])) ≡ record {
   events = Start ∷ Commit 0 0 ∷ [];
   verdicts = record {
     reader = 0;
@@ -65,25 +65,25 @@ whole : sections_of (lines_of (start ∷ commit0 ∷ accept0 ∷ look0 ∷ [])) 
   glances = [];
   looks = record { monitor = 0; cycle = 1; total = 30 } ∷ [];
 }
-unfolding read_of place_of item_of short_of number_of all_some
+unfolding spelled_read spelled_place spelled_item short_of number_of all_some
 whole = refl
 
-faultless : kinds_at deck (start ∷ commit0 ∷ accept0 ∷ look0 ∷ []) 3 ≡ []
-unfolding kinds_at read_of place_of item_of short_of number_of all_some
+faultless : line_kinds_at deck (start ∷ commit0 ∷ accept0 ∷ look0 ∷ []) 3 ≡ []
+unfolding line_kinds_at spelled_read spelled_place spelled_item short_of number_of all_some
 faultless = refl
 
-out_of_order : kinds_at deck (look0 ∷ start ∷ []) 1 ≡ 4 ∷ []
-unfolding kinds_at read_of place_of item_of short_of number_of all_some
+out_of_order : line_kinds_at deck (look0 ∷ start ∷ []) 1 ≡ 4 ∷ []
+unfolding line_kinds_at spelled_read spelled_place spelled_item short_of number_of all_some
 out_of_order = refl
 
-committed_twice : kinds_at deck (commit0 ∷ commit0 ∷ []) 1 ≡ 5 ∷ []
-unfolding kinds_at read_of place_of item_of short_of number_of all_some
+committed_twice : line_kinds_at deck (commit0 ∷ commit0 ∷ []) 1 ≡ 5 ∷ []
+unfolding line_kinds_at spelled_read spelled_place spelled_item short_of number_of all_some
 committed_twice = refl
 
-two_kinds : kinds_at deck (look0 ∷ accept0 ∷ []) 1 ≡ 4 ∷ 7 ∷ []
-unfolding kinds_at read_of place_of item_of short_of number_of all_some
+two_kinds : line_kinds_at deck (look0 ∷ accept0 ∷ []) 1 ≡ 4 ∷ 7 ∷ []
+unfolding line_kinds_at spelled_read spelled_place spelled_item short_of number_of all_some
 two_kinds = refl
 
-one_cycle_early : kinds_at deck (start ∷ abort0 ∷ []) 1 ≡ 7 ∷ []
-unfolding kinds_at read_of place_of item_of short_of number_of all_some
+one_cycle_early : line_kinds_at deck (start ∷ abort0 ∷ []) 1 ≡ 7 ∷ []
+unfolding line_kinds_at spelled_read spelled_place spelled_item short_of number_of all_some
 one_cycle_early = refl

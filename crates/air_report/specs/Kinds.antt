@@ -4,11 +4,11 @@ use Rattle.air_report.specs.declared.reading.kinds.FaultKind.{FaultKind}
 use Rattle.air_report.specs.declared.reading.kinds.FaultKind.TheVariants as fault
 
 -- The number of a kind.
-abbrev pub code_of : FaultKind → ℕ
-code_of fault.Fields = 1
-code_of fault.Form = 2
-code_of fault.Tag = 3
-code_of fault.Order = 4
-code_of fault.Update = 5
-code_of fault.Deck = 6
-code_of fault.Cycle = 7
+abbrev pub report_kind_number : FaultKind → ℕ
+report_kind_number fault.Fields = 1
+report_kind_number fault.Form = 2
+report_kind_number fault.Tag = 3
+report_kind_number fault.Order = 4
+report_kind_number fault.Update = 5
+report_kind_number fault.Deck = 6
+report_kind_number fault.Cycle = 7

@@ -1,6 +1,6 @@
 pub mod ReadReports
 pub mod KeptReports
-pub mod Steps
+pub mod Private
 pub mod RowWriters
 pub mod BegunRows
 pub mod Statuses

@@ -27,26 +27,26 @@ below bound None = None
 below bound (Some n) = if nat_lt n bound then Some n else None
 
 -- The item that a text spells: a number of 16 bits.
-unfoldable pub item_of : List ℕ → Option ℕ
-item_of text = below (2 ^ 16) (number_of text)
+unfoldable pub spelled_item : List ℕ → Option ℕ
+spelled_item text = below (2 ^ 16) (number_of text)
 
 -- The cycle that a text spells, or the number of an updater, an update, a reader, a query, an attempt or a monitor: one of 32 bits.
 unfoldable pub short_of : List ℕ → Option ℕ
 short_of text = below (2 ^ 32) (number_of text)
 
 -- A place on the air: `<item>@<cycle>`.
-unfoldable pub place_of : List ℕ → Option (ℕ × ℕ)
-place_of text = do
+unfoldable pub spelled_place : List ℕ → Option (ℕ × ℕ)
+spelled_place text = do
   sides ← two_of (cut_at 64 text)
-  item ← item_of sides.0
+  item ← spelled_item sides.0
   cycle ← short_of sides.1
   Some (item, cycle)
 
 -- A read: `<item>@<cycle>=<value>`.
-unfoldable pub read_of : List ℕ → Option ReadOf
-read_of text = do
+unfoldable pub spelled_read : List ℕ → Option ReadOf
+spelled_read text = do
   sides ← two_of (cut_at 61 text)
-  place ← place_of sides.0
+  place ← spelled_place sides.0
   value ← number_of sides.1
   Some (record { item = place.0; cycle = place.1; value = value })
 
@@ -56,15 +56,15 @@ verdict_by ended reader query attempt reads = do
   r ← short_of reader
   q ← short_of query
   a ← short_of attempt
-  rs ← list_of read_of reads
+  rs ← list_of spelled_read reads
   end ← ended
   Some (Verdict (record { reader = r; verdict = record { query = q; attempt = a; kind = end }; reads = rs }))
 
 -- The end of an attempt by an abort: the read that was refused, and the item of the held read with which it clashed.
 abbrev pub abort_of : List ℕ → List ℕ → Option VerdictKind
 abort_of place clash = do
-  p ← place_of place
-  c ← item_of clash
+  p ← spelled_place place
+  c ← spelled_item clash
   Some (kind.Abort p.0 p.1 c)
 
 -- `commit,<by>,<seq>`
@@ -116,8 +116,8 @@ seen_by (Some f) = or_fault fault.Form (do
   Some (record { monitor = monitor; cycle = cycle; total = total }))
 
 -- The tag of this name, if there is one.
-abbrev pub tag_of : List ℕ → Option Tag
-tag_of text =
+abbrev pub line_tag : List ℕ → Option Tag
+line_tag text =
     if text is codes "commit" then Some t.Commit
     else if text is codes "start" then Some t.Start
     else if text is codes "accept" then Some t.Accept
@@ -134,17 +134,17 @@ as_line f (Err kind) = Err kind
 as_line f (Ok x) = Ok (f x)
 
 -- What the fields after a tag spell.
-abbrev pub line_by : Option Tag → List (List ℕ) → Result Line FaultKind
-line_by (Some t.Commit) fields = commit_by (two_of fields)
-line_by (Some t.Start) fields = start_by fields
-line_by (Some t.Accept) fields = ended_by kind.Accept (four_of fields)
-line_by (Some t.Abort) fields = abort_by (six_of fields)
-line_by (Some t.Unfinished) fields = ended_by kind.Unfinished (four_of fields)
-line_by (Some t.Counts) fields = counts_by (seven_of fields)
-line_by (Some t.Glance) fields = as_line Glance (seen_by (three_of fields))
-line_by (Some t.Look) fields = as_line Look (seen_by (three_of fields))
-line_by None fields = Err fault.Tag
+abbrev pub spelled_line_by : Option Tag → List (List ℕ) → Result Line FaultKind
+spelled_line_by (Some t.Commit) fields = commit_by (two_of fields)
+spelled_line_by (Some t.Start) fields = start_by fields
+spelled_line_by (Some t.Accept) fields = ended_by kind.Accept (four_of fields)
+spelled_line_by (Some t.Abort) fields = abort_by (six_of fields)
+spelled_line_by (Some t.Unfinished) fields = ended_by kind.Unfinished (four_of fields)
+spelled_line_by (Some t.Counts) fields = counts_by (seven_of fields)
+spelled_line_by (Some t.Glance) fields = as_line Glance (seen_by (three_of fields))
+spelled_line_by (Some t.Look) fields = as_line Look (seen_by (three_of fields))
+spelled_line_by None fields = Err fault.Tag
 
 -- What a record spells, by its tag.
-abbrev pub line_of : List (List ℕ) → Result Line FaultKind
-line_of row = by_tag tag_of line_by row
+abbrev pub spelled_line : List (List ℕ) → Result Line FaultKind
+spelled_line row = by_tag line_tag spelled_line_by row

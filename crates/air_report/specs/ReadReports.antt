@@ -2,7 +2,7 @@
 use Rattle.std.specs.Prelude.{◌≡◌, ℕ, List, Option, None, option_map, Result, Ok, Err}
 use Rattle.std.specs.List.{enumerate_from, filter_map}
 use Rattle.air_model.specs.Decks.{Deck, IsLegal}
-use Rattle.air_report.specs.LineTexts.{line_of}
+use Rattle.air_report.specs.LineTexts.{spelled_line}
 use Rattle.air_report.specs.ReportGrammar.{SpellsReport}
 use Rattle.air_report.specs.ReportLines.{its_glance, its_look, its_verdict, lines_in}
 use Rattle.air_report.specs.declared.reading.kinds.FaultKind.{FaultKind}
@@ -17,7 +17,7 @@ row_in its row (Err kind) = None
 
 -- The rows of the records that spell the lines of a section, in order. Rows are counted from 1.
 abbrev pub rows_of : {L : Type 0} → (Line → Option L) → List (List (List ℕ)) → List ℕ
-rows_of its records = filter_map (λ p. row_in its p.0 (line_of p.1)) (enumerate_from 1 records)
+rows_of its records = filter_map (λ p. row_in its p.0 (spelled_line p.1)) (enumerate_from 1 records)
 
 -- The text spells the lines of the report against the deck, each of its commits has the deck's update, and the rows are those of the
 -- records that spell its verdicts, its glances and its looks.

@@ -12,8 +12,8 @@ use Rattle.air_base.specs.declared.verdicts.VerdictKind.TheVariants.{Accept, Abo
 use Rattle.air_model.specs.Decks.{Deck, updates_by}
 use Rattle.air_model.specs.declared.reports.VerdictLine.{VerdictLine}
 use Rattle.item_catalog.specs.RecordKinds.{spelled_kinds}
-use Rattle.air_report.specs.Kinds.{code_of}
-use Rattle.air_report.specs.LineTexts.{line_of}
+use Rattle.air_report.specs.Kinds.{report_kind_number}
+use Rattle.air_report.specs.LineTexts.{spelled_line}
 use Rattle.air_report.specs.ReportLines.{ReportLines, commits_by, sections_of, starts_in}
 use Rattle.air_report.specs.declared.reading.kinds.FaultKind.{FaultKind}
 use Rattle.air_report.specs.declared.reading.kinds.FaultKind.TheVariants as fault
@@ -29,12 +29,12 @@ abbrev pub is_filled : {A : Type 0} → List A → Bool
 is_filled lines = nat_lt 0 (length lines)
 
 -- A line of a later section stands among those before.
-abbrev pub comes_late : ReportLines → Line → Bool
-comes_late before (Event line) = is_filled before.verdicts || is_filled before.counts || is_filled before.glances || is_filled before.looks
-comes_late before (Verdict line) = is_filled before.counts || is_filled before.glances || is_filled before.looks
-comes_late before (Counts line) = is_filled before.glances || is_filled before.looks
-comes_late before (Glance line) = is_filled before.looks
-comes_late before (Look line) = false
+abbrev pub comes_after_later_section : ReportLines → Line → Bool
+comes_after_later_section before (Event line) = is_filled before.verdicts || is_filled before.counts || is_filled before.glances || is_filled before.looks
+comes_after_later_section before (Verdict line) = is_filled before.counts || is_filled before.glances || is_filled before.looks
+comes_after_later_section before (Counts line) = is_filled before.glances || is_filled before.looks
+comes_after_later_section before (Glance line) = is_filled before.looks
+comes_after_later_section before (Look line) = false
 
 -- ---- the history
 
@@ -57,8 +57,8 @@ leads (x ∷ xs) [] = false
 leads (x ∷ xs) (y ∷ ys) = (x == y) && leads xs ys
 
 -- The item of a read.
-abbrev pub its_item : ReadOf → ℕ
-its_item read = read.item
+abbrev pub read_item : ReadOf → ℕ
+read_item read = read.item
 
 -- The items of reads follow a query. For an accept they are all its items in order; else some of them are left: of an abort, the
 -- refused read is of the next one, and the clash is with an item that was read.
@@ -72,7 +72,7 @@ follow query items Unfinished = leads items query && nat_lt (length items) (leng
 abbrev pub is_tried : Deck → VerdictLine → Bool
 is_tried deck line =
     option_map_or (λ plan. nat_le 1 line.verdict.attempt && nat_le line.verdict.attempt plan.tries) (slice_get deck.readers line.reader) false
-    && option_map_or (λ query. follow query (map its_item line.reads) line.verdict.kind) (slice_get (get_or deck.queries line.reader []) line.verdict.query) false
+    && option_map_or (λ query. follow query (map read_item line.reads) line.verdict.kind) (slice_get (get_or deck.queries line.reader []) line.verdict.query) false
 
 -- What a line names, beside updates and cycles, is the deck's.
 abbrev pub is_known : Deck → Line → Bool
@@ -105,26 +105,26 @@ is_begun starts (Look line) = nat_le line.cycle starts
 -- ---- the kinds
 
 -- The kinds that a line may have after these lines, by rising kind, each with its test.
-abbrev pub tests_of : Deck → ReportLines → Line → List (FaultKind × Bool)
-tests_of deck before line =
-    (fault.Order, comes_late before line) ∷
+abbrev pub line_tests : Deck → ReportLines → Line → List (FaultKind × Bool)
+line_tests deck before line =
+    (fault.Order, comes_after_later_section before line) ∷
     (fault.Update, not (comes_next deck before.events line)) ∷
     (fault.Deck, not (is_known deck line)) ∷
     (fault.Cycle, not (is_begun (starts_in before.events) line)) ∷ []
 
 -- The numbers of the kinds that apply to what a record spells, after lines.
-abbrev pub kinds_after : Deck → ReportLines → Result Line FaultKind → List ℕ
-kinds_after deck before spelled = spelled_kinds code_of (tests_of deck before) spelled
+abbrev pub line_kinds_after : Deck → ReportLines → Result Line FaultKind → List ℕ
+line_kinds_after deck before spelled = spelled_kinds report_kind_number (line_tests deck before) spelled
 
 -- The lines that records spell; a record that spells none adds nothing.
-abbrev pub lines_of : List (List (List ℕ)) → List Line
-lines_of rows = filter_map (λ row. result_ok (line_of row)) rows
+abbrev pub spelled_lines : List (List (List ℕ)) → List Line
+spelled_lines rows = filter_map (λ row. result_ok (spelled_line row)) rows
 
 -- At the end no kind applies.
-abbrev pub place_kinds : Deck → ReportLines → Option (List (List ℕ)) → List ℕ
-place_kinds deck before (Some row) = kinds_after deck before (line_of row)
-place_kinds deck before None = []
+abbrev pub line_place_kinds : Deck → ReportLines → Option (List (List ℕ)) → List ℕ
+line_place_kinds deck before (Some row) = line_kinds_after deck before (spelled_line row)
+line_place_kinds deck before None = []
 
 -- The numbers of the kinds that apply to the record at a place, counted from 0, after all records before it.
-unfoldable pub kinds_at : Deck → List (List (List ℕ)) → ℕ → List ℕ
-kinds_at deck rows place = place_kinds deck (sections_of (lines_of (take place rows))) (slice_get rows place)
+unfoldable pub line_kinds_at : Deck → List (List (List ℕ)) → ℕ → List ℕ
+line_kinds_at deck rows place = line_place_kinds deck (sections_of (spelled_lines (take place rows))) (slice_get rows place)

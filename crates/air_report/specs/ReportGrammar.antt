@@ -6,15 +6,15 @@ use Rattle.std.specs.Prelude.{◌≡◌, ◌+◌, ℕ, List, length, ⊤}
 use Rattle.air_model.specs.Decks.{Deck}
 use Rattle.item_catalog.specs.FirstFaults.{IsFirstFault, NoneBefore}
 use Rattle.item_catalog.specs.Records.{records_of}
-use Rattle.air_report.specs.ReportFaults.{kinds_at, lines_of}
+use Rattle.air_report.specs.ReportFaults.{line_kinds_at, spelled_lines}
 use Rattle.air_report.specs.ReportLines.{ReportLines, sections_of}
 use Rattle.air_report.specs.declared.reading.faults.ReportError.{ReportError}
 use Rattle.air_report.specs.declared.reading.faults.ReportError.TheVariants as error
 
 -- The records spell the lines: no kind applies to a record, and these are the lines that they spell, by their sections.
 pub record RowsSpellLines (deck : Deck) (rows : List (List (List ℕ))) (lines : ReportLines) : Type 0 where
-  pub faultless : NoneBefore (kinds_at deck rows) (length rows)
-  pub sections : lines ≡ sections_of (lines_of rows)
+  pub faultless : NoneBefore (line_kinds_at deck rows) (length rows)
+  pub sections : lines ≡ sections_of (spelled_lines rows)
 
 -- The text spells the lines, as a report of the deck.
 unfoldable pub SpellsReport : Deck → List ℕ → ReportLines → Type 0
@@ -22,7 +22,7 @@ SpellsReport deck text lines = RowsSpellLines deck (records_of text) lines
 
 -- The first faulty record of the text, counted from 1, is this row, and this the least kind that applies there.
 unfoldable pub HasReportFault : Deck → List ℕ → ℕ → ℕ → Type 0
-HasReportFault deck text row kind = (place : ℕ) × (row ≡ place + 1) × IsFirstFault (length (records_of text)) (kinds_at deck (records_of text)) place kind
+HasReportFault deck text row kind = (place : ℕ) × (row ≡ place + 1) × IsFirstFault (length (records_of text)) (line_kinds_at deck (records_of text)) place kind
 
 -- A fault that is answered is the text's; no memory has no cause.
 abbrev pub IsReportAnswer : Deck → List ℕ → ReportError → Type 0

@@ -7,7 +7,7 @@ use Rattle.csv.specs.Writing.{fields_written, has_written, writer_pending, write
 use Rattle.air_model.specs.Rows.{row_writer}
 
 -- A writer over a text writes rows as reports have them, and stands between two rows.
-pub record IsReady (wtr : Writer (Vec ℕ Global)) : Type 0 where
+pub record IsRowWriter (wtr : Writer (Vec ℕ Global)) : Type 0 where
   pub setup : writer_setup wtr ≡ row_writer
   pub no_field : fields_written wtr ≡ 0
   pub no_byte : has_written wtr ≡ false

@@ -6,21 +6,21 @@ use Rattle.air_report.specs.declared.status.Status.{Status}
 use Rattle.air_report.specs.declared.status.Status.TheVariants as status
 
 -- The number of a status.
-abbrev pub code_of : Status → ℕ
-code_of status.Ok = 0
-code_of status.Words = 1
-code_of (status.Deck row kind) = 2
-code_of status.ReadFault = 3
-code_of status.WriteFault = 4
-code_of status.NoMemory = 5
-code_of (status.TapeCut at) = 6
-code_of (status.TooLarge limit) = 7
-code_of (status.Report row kind) = 8
-code_of status.Differs = 9
-code_of (status.AirFault at) = 10
-code_of (status.TooMuch product) = 11
-code_of (status.TooLong bytes) = 12
-code_of (status.PlanTooLong slots) = 13
+abbrev pub status_number : Status → ℕ
+status_number status.Ok = 0
+status_number status.Words = 1
+status_number (status.Deck row kind) = 2
+status_number status.ReadFault = 3
+status_number status.WriteFault = 4
+status_number status.NoMemory = 5
+status_number (status.TapeCut at) = 6
+status_number (status.TooLarge limit) = 7
+status_number (status.Report row kind) = 8
+status_number status.Differs = 9
+status_number (status.AirFault at) = 10
+status_number (status.TooMuch product) = 11
+status_number (status.TooLong bytes) = 12
+status_number (status.PlanTooLong slots) = 13
 
 -- The fault that a status tells; a command that ran to its end, was out of memory, or could not write tells none.
 abbrev pub fault_told : Status → Option fault.Fault
@@ -45,5 +45,5 @@ line_or_none None = []
 line_or_none (Some told) = fault_line told
 
 -- The line that a status prints; empty where it tells no fault.
-abbrev pub line_of : Status → List ℕ
-line_of status = line_or_none (fault_told status)
+abbrev pub status_line : Status → List ℕ
+status_line status = line_or_none (fault_told status)

@@ -6,7 +6,7 @@ ghost use Rattle.air_report.specs.declared.reading.limits.TheConstants.{MOST_REP
 ghost use Rattle.air_report.specs.ReportGrammar.{IsReportAnswer, SpellsReport};
 ghost use Rattle.air_report.specs.ReadReports.{IsReportOf};
 ghost use Rattle.air_report.specs.KeptReports.{KeepsGrammar};
-ghost use Rattle.air_report.specs.Steps.ReportsOfLines.{IsMadeOf};
+ghost use Rattle.air_report.specs.Private.ReportsOfLines.{IsMadeOf};
 
 pub(crate) mod draft;
 pub(crate) mod events;

@@ -1,7 +1,7 @@
 //! How a command ended, and the number with which the program then ends.
 
 ghost use Rattle.std.specs.Prelude.{◌≡◌};
-ghost use Rattle.air_report.specs.Statuses.{code_of};
+ghost use Rattle.air_report.specs.Statuses.{status_number};
 
 pub(crate) mod refusal;
 
@@ -54,7 +54,7 @@ impl From<NoMemory> for Status {
 impl Status {
     /// The number of the status, with which the program ends.
     pub fn code(&self) -> u8
-        ensures { result ≡ code_of self.now }
+        ensures { result ≡ status_number self.now }
     {
         match self {
             Status::Ok => 0,

@@ -23,7 +23,7 @@ use Rattle.air_model.specs.Disks.{Disk, all_items, order}
 use Rattle.air_model.specs.Programs.{program}
 use Rattle.air_sender.specs.BoardBuckets.{cycle_buckets, cycle_bytes}
 use Rattle.air_sender.proofs.StartedBoards.{OwnCycleLaw}
-use Rattle.air_devices.specs.Masts.{Sent}
+use Rattle.air_devices.specs.Masts.{SentBuckets}
 use Rattle.air_sender.specs.AiredBytes.{aired_bytes}
 use Rattle.air_model.proofs.DeckLemmas.{air}
 use Rattle.air_model.proofs.ItemOrder.{cut_items, length-order}
@@ -106,7 +106,7 @@ items_aired deck is =
     ap length (cut_items (order rates) deck.disks (is.sizes ∙ sym all)) ∙ all
 
 -- What is told twice alike is alike.
-pub told_alike : {s t : Sent} → Some s ≡ Some t → s ≡ t
+pub told_alike : {s t : SentBuckets} → Some s ≡ Some t → s ≡ t
 told_alike e = cc
 
 -- A board has a value for each item.

@@ -1,8 +1,8 @@
-pub mod RangeFacts
-pub mod SendFacts
+pub mod RangeLemmas
+pub mod SendLemmas
 pub mod StartedBoards
 pub mod TapeLengths
-pub mod GrowFacts
+pub mod GrowLemmas
 pub mod AiredLemmas
 pub mod RunLoops
 pub mod TapeLemmas

@@ -19,8 +19,8 @@ use Rattle.air_model.specs.Decks.{Deck, IsDeck, script_history, values_in}
 use Rattle.air_model.specs.Tapes.{tape_of, tape_read}
 use Rattle.air_model.proofs.AiredLemmas.{entries_long}
 use Rattle.air_model.proofs.ScriptLemmas.{script}
-use Rattle.air_model.proofs.TapeFacts.{length_record, whole_read}
-use Rattle.air_sender.proofs.RangeFacts.{spelling_within}
+use Rattle.air_model.proofs.TapeLemmas.{length_record, whole_read}
+use Rattle.air_sender.proofs.RangeLemmas.{spelling_within}
 use Rattle.air_sender.specs.AiredBytes.{aired_bytes}
 use Rattle.air_sender.proofs.RunLoops.{script_length}
 

@@ -14,8 +14,8 @@ use Rattle.air_model.specs.Buckets.{entries_of, spelling}
 use Rattle.air_model.specs.Tapes.{record_bytes, tape_of}
 use Rattle.air_model.specs.Aired.{Air, aired_as, body_of, bucket_of, buckets_of, history_tape}
 use Rattle.air_model.proofs.AiredLemmas.{entries_long}
-use Rattle.bucket_codec.proofs.EncodingFacts.{length_spelling}
-use Rattle.bucket_codec.proofs.TapeReadFacts.{record_size as record_long}
+use Rattle.bucket_codec.proofs.EncodingLemmas.{length_spelling}
+use Rattle.bucket_codec.proofs.TapeReadLemmas.{record_size as record_long}
 use Rattle.air_sender.specs.TapeSizes.{cycle_size, record_size}
 
 -- ---- one record

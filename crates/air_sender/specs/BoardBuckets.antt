@@ -39,12 +39,12 @@ pub record EntriesBelow (board : Board) : Type 0 where
   pub vector : All (λ e. e < board.cycle) board.vector
 
 -- The buckets of the last cycle that a history starts, slot by slot.
-abbrev pub last_cycle : List ℕ → Air → List Event → List Bucket
-last_cycle values air H = map (bucket_of values air H (starts H)) (range_with_len 0 (length air.slots))
+abbrev pub last_cycle_buckets : List ℕ → Air → List Event → List Bucket
+last_cycle_buckets values air H = map (bucket_of values air H (starts H)) (range_with_len 0 (length air.slots))
 
 -- Their bytes, where the history ends with a start.
 abbrev pub last_bytes : List ℕ → Air → List Event → List (List ℕ)
-last_bytes values air G = map spelling (last_cycle values air (G ++ Start ∷ []))
+last_bytes values air G = map spelling (last_cycle_buckets values air (G ++ Start ∷ []))
 
 -- The board is that of a history which ends with a start, from these values, and airs with this policy and these slots.
 pub record IsLastBoard (values : List ℕ) (air : Air) (G : List Event) (by : Policy) (program : List (Option ℕ)) (b : Board) : Type 0 where

@@ -57,7 +57,7 @@ pub fn air_cycle<M: Mast>(
     ensures port { (M.state mast.new).port ≡ (M.state mast.old).port }
     ensures buffer { length buf.new ≡ length buf.old }
 {
-    program.well_made();
+    program.shows_well_made();
     for slot in 0..program.slots() {
         if air_slot(program, board, policy, slot, mast, buf).is_err() {
             return Err(AirFault::Mast { slot });
@@ -97,7 +97,7 @@ pub fn tape_bytes(program: &Program, n: u16, cycles: u32) -> u64
     requires { n ≡ length (all_items program.now) }
     ensures { result ≡ cycles * cycle_size n (slots_of program.now) }
 {
-    program.well_made();
+    program.shows_well_made();
     u64::from(cycles) * cycle_len(program, n)
 }
 

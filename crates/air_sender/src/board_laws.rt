@@ -9,7 +9,7 @@ ghost use Rattle.air_history.specs.declared.histories.Event.TheVariants.{Start};
 ghost use Rattle.air_history.specs.Histories.{is_start, starts};
 ghost use Rattle.air_history.specs.Boards.{board_of};
 ghost use Rattle.air_model.specs.Aired.{Air, SlotsFit, bucket_of, buckets_of, history_tape};
-ghost use Rattle.air_sender.specs.BoardBuckets.{EntriesBelow, cycle_buckets, last_cycle};
+ghost use Rattle.air_sender.specs.BoardBuckets.{EntriesBelow, cycle_buckets, last_cycle_buckets};
 ghost use Rattle.air_sender.specs.TapeSizes.{cycle_size};
 
 /// The board of a history that ends with a start airs the history's buckets of that cycle.
@@ -27,7 +27,7 @@ pub fn below_law()
 /// One more event airs the buckets of the cycle that it starts, where it is a start, and else nothing.
 pub fn grow_law()
     ensures { (values : List ℕ) (air : Air) (G : List Event) (e : Event) →
-        buckets_of values air (G ++ e ∷ []) ≡ buckets_of values air G ++ cond (is_start e) (last_cycle values air (G ++ e ∷ [])) [] }
+        buckets_of values air (G ++ e ∷ []) ≡ buckets_of values air G ++ cond (is_start e) (last_cycle_buckets values air (G ++ e ∷ [])) [] }
 {}
 
 /// The tape of a history has the bytes of a cycle's records for each cycle.

@@ -13,7 +13,7 @@ use bucket_codec::{Body, Bucket};
 use control_matrix::Board;
 
 /// The bucket of a slot that has this item, or is idle.
-#[tactic(auto, using(crate::proofs::RangeFacts::spelling_long), unfolding(crate::specs::BoardBuckets::body_on, bucket_codec::specs::BucketsToAir::body_to_air))]
+#[tactic(auto, using(crate::proofs::RangeLemmas::spelling_long), unfolding(crate::specs::BoardBuckets::body_on, bucket_codec::specs::BucketsToAir::body_to_air))]
 pub fn slot_bucket<'a>(board: &'a Board, policy: Policy, slot: u32, item: Option<u16>) -> Bucket<'a>
     requires within { IfSome item (λ i. i < length board.now.values) }
     requires slot { slot < 2 ^ 16 }

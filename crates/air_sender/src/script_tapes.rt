@@ -13,6 +13,6 @@ pub fn tape_len(deck: &Deck, program: &Program) -> u64
     requires { program.now ≡ disks_in deck.now }
     ensures { result ≡ length (script_tape deck.now) }
 {
-    deck.well_made();
+    deck.shows_well_made();
     tape_bytes(program, deck.items(), deck.script_starts())
 }

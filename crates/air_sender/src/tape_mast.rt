@@ -7,7 +7,7 @@ ghost use Rattle.air_model.specs.Tapes.{tape_of};
 ghost use Rattle.air_devices.specs.Counts.{HasCause};
 ghost use Rattle.air_devices.specs.Masts.{Changes, fresh_mast, with_buckets, with_end};
 ghost use Rattle.air_devices.specs.Recordings.{no_records, overflows_record};
-ghost use Rattle.air_sender.specs.TapeMasts.{masted_of, told_by};
+ghost use Rattle.air_sender.specs.TapeMasts.{tape_mast_state, told_by_tape};
 
 use air_base::NoMemory;
 use air_devices::{Failed, Mast, TapeRoom};
@@ -25,7 +25,7 @@ pub struct TapeMast {
 impl TapeMast {
     /// Nothing sent yet, with room for a tape of so many bytes.
     pub fn new(alloc: Global, bytes: u64) -> Result<TapeMast, NoMemory>
-        ensures fresh { IfOk result (λ t. masted_of t ≡ fresh_mast) }
+        ensures fresh { IfOk result (λ t. tape_mast_state t ≡ fresh_mast) }
         ensures room { IfOk result (λ t. t.tape.room ≡ bytes) }
     {
         let tape = TapeRoom::new(alloc, bytes as usize)?;
@@ -39,7 +39,7 @@ impl TapeMast {
 
     /// The tape of what was sent.
     pub fn tape(&self) -> &[u8]
-        ensures { result.now ≡ tape_of (told_by self.now).buckets }
+        ensures { result.now ≡ tape_of (told_by_tape self.now).buckets }
     {
         self.tape.as_slice()
     }
@@ -54,7 +54,7 @@ impl TapeMast {
 }
 
 impl Mast for TapeMast {
-    ghost state = { masted_of };
+    ghost state = { tape_mast_state };
 
     fn aim(&mut self, port: u16) -> Result<(), Failed>
         ensures done { IsOk result }
@@ -69,8 +69,8 @@ impl Mast for TapeMast {
         requires { length bytes.now < 2 ^ 32 }
         ensures fails { IsErr result ↔ IsTrue (overflows_record self.old.tape bytes.now) }
         ensures room { self.new.tape.room ≡ self.old.tape.room }
-        ensures added { OnOk result (Changes (with_buckets (bytes.now ∷ [])) (Some (told_by self.old)) (Some (told_by self.new))) }
-        ensures refused { OnErr result (told_by self.new ≡ told_by self.old) }
+        ensures added { OnOk result (Changes (with_buckets (bytes.now ∷ [])) (Some (told_by_tape self.old)) (Some (told_by_tape self.new))) }
+        ensures refused { OnErr result (told_by_tape self.new ≡ told_by_tape self.old) }
         ensures port { self.new.port ≡ self.old.port }
         ensures cause { HasCause self.old.faults self.new.faults result }
     {
@@ -83,7 +83,7 @@ impl Mast for TapeMast {
 
     fn finish(&mut self) -> Result<(), Failed>
         ensures done { IsOk result }
-        ensures ended { told_by self.new ≡ with_end (told_by self.old) }
+        ensures ended { told_by_tape self.new ≡ with_end (told_by_tape self.old) }
         ensures rest { self.new ≡ record self.old { ended = self.new.ended } }
         ensures cause { HasCause self.old.faults self.new.faults result }
     {

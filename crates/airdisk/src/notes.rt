@@ -9,7 +9,7 @@ use air_base::limits::{MOST_DECK_BYTES, MOST_SLOTS, MOST_TAPE_BYTES};
 use air_devices::{FileShelf, NetFailure};
 use air_report::Status;
 use air_report::reading::limits::MOST_REPORT_BYTES;
-use fault_notes::{Shown, air_note, deck_note, report_note};
+use fault_notes::{ShownText, air_note, deck_note, report_note};
 use item_catalog::DeckFault;
 use live_replay::audit_report;
 use live_replay::limits::MOST_REPLAYED;
@@ -32,7 +32,7 @@ fn failure_note<R: Files + Print + Drop>(
     match shelf.last_failure() {
         Some(failure) => {
             let said = format!(in alloc; "{failure}")?;
-            let said = Shown::whole(said.as_str());
+            let said = ShownText::whole(said.as_str());
             Ok(Some(format!(in alloc; "airdisk: {said}")?))
         }
         None => Ok(None),
@@ -65,7 +65,7 @@ fn fault_note<R: Files + Print + Drop>(
     match read_again(rt, alloc, shelf, name, MOST_DECK_BYTES) {
         Some(bytes) => Ok(Some(deck_note(alloc, name, &bytes, fault)?)),
         None => {
-            let name = Shown::whole(name);
+            let name = ShownText::whole(name);
             Ok(Some(format!(in alloc; "{name}: {fault}")?))
         }
     }
@@ -82,7 +82,7 @@ fn cut_note<R: Files + Print + Drop>(
     match tape_again(rt, alloc, shelf, name) {
         Some(tape) => Ok(Some(tape.note(alloc, name, at)?)),
         None => {
-            let name = Shown::whole(name);
+            let name = ShownText::whole(name);
             Ok(Some(format!(in alloc; "{name}: the record that begins at byte {at} is cut")?))
         }
     }
@@ -103,7 +103,7 @@ fn size_note<R: Files>(
         (word(words, 2), "tape")
     };
     let size = plain_size(rt, name);
-    let name = Shown::whole(name);
+    let name = ShownText::whole(name);
     match size {
         Some(size) => Ok(Some(format!(in alloc;
             "{name}: it has {size} bytes, and a {what} may have {limit}"
@@ -164,7 +164,7 @@ fn difference_note<R: Files + Print + Drop>(
 ) -> Result<Option<String>, NoMemory> {
     let report = word(words, 2);
     let count = count_differing(rt, alloc, shelf, word(words, 1), report);
-    let name = Shown::whole(report);
+    let name = ShownText::whole(report);
     let said = match count {
         Some(1) => format!(in alloc; "{name}: 1 line differs from its replay")?,
         Some(count) => format!(in alloc; "{name}: {count} lines differ from their replays")?,
@@ -185,7 +185,7 @@ fn audit_note<R: Files + Print + Drop>(
         Status::Report { row, kind } => { refused_report_note(rt, alloc, words, shelf, row, kind) }
         Status::Differs => difference_note(rt, alloc, shelf, words),
         Status::TooMuch { product } => {
-            let report = Shown::whole(word(words, 2));
+            let report = ShownText::whole(word(words, 2));
             Ok(Some(format!(in alloc;
                 "{report}: its audit would take {product} steps, which are its commits times its verdict, glance and look lines, and an audit may take {MOST_REPLAYED}"
             )?))
@@ -203,7 +203,7 @@ fn text_of<R: Files + Print + Drop>(
     air: Option<&NetFailure>,
     status: Status,
 ) -> Result<Option<String>, NoMemory> {
-    let deck = Shown::whole(word(words, 1));
+    let deck = ShownText::whole(word(words, 1));
     match status {
         Status::Deck { row, kind } => {
             fault_note(rt, alloc, shelf, word(words, 1), DeckFault { row, kind })

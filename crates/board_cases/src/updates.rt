@@ -52,7 +52,7 @@ pub fn tell_update(alloc: Global, about: &[u8], came: &mut Vec<u8>) -> Result<()
         Ok(made) => made,
         Err(fault) => return tell_fault(alloc, &fault, came),
     };
-    update.keeps_rules();
+    update.shows_rules_kept();
     let again = Update::of_lists(alloc, update.reads(), update.writes())?;
     let copy = update.copy(alloc)?;
     add_lists(b"update", &update, came)?;

@@ -1,6 +1,6 @@
-pub mod WriteFacts
-pub mod EncodingFacts
-pub mod EntryFacts
-pub mod FaultFacts
-pub mod ViewFacts
-pub mod TapeReadFacts
+pub mod WriteLemmas
+pub mod EncodingLemmas
+pub mod EntryLemmas
+pub mod FaultLemmas
+pub mod ViewLemmas
+pub mod TapeReadLemmas

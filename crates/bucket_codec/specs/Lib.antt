@@ -1,4 +1,4 @@
 pub mod BucketsToAir
 pub mod DatagramKinds
 pub mod Readers
-pub mod Steps
+pub mod Private

@@ -7,7 +7,7 @@ ghost use Rattle.std.specs.Prelude.{◌≡◌, ◌≤◌, ◌<◌, ◌+◌, ◌*
 ghost use Rattle.std.specs.List.{flat_map};
 ghost use Rattle.byteorder.specs.Endian.{big_bytes};
 ghost use Rattle.air_model.specs.Buckets.{IsInRange, entries_of, reading, spelling};
-ghost use Rattle.bucket_codec.specs.Steps.Heads.{head_bytes, head_of};
+ghost use Rattle.bucket_codec.specs.Private.Heads.{head_bytes, head_of};
 ghost use Rattle.bucket_codec.specs.BucketsToAir.{bucket_to_air};
 
 use crate::offsets::{COUNT, CYCLE, EDITION, ENTRY_BYTES, HEAD_BYTES, ITEM, KIND, SLOT, VALUE};
@@ -72,7 +72,7 @@ fn entries<'a>(bucket: &Bucket<'a>) -> &'a [u32]
 }
 
 /// The head of a bucket.
-#[tactic(auto, unfolding(crate::specs::Steps::Heads::head_of, crate::specs::BucketsToAir::body_to_air, air_model::specs::Buckets::kind_of, air_model::specs::Buckets::count_of, air_model::specs::Buckets::item_of, air_model::specs::Buckets::value_of))]
+#[tactic(auto, unfolding(crate::specs::Private::Heads::head_of, crate::specs::BucketsToAir::body_to_air, air_model::specs::Buckets::kind_of, air_model::specs::Buckets::count_of, air_model::specs::Buckets::item_of, air_model::specs::Buckets::value_of))]
 fn head_numbers(bucket: &Bucket<'_>) -> Head
     requires { IsInRange (bucket_to_air bucket.now) }
     ensures { result ≡ head_of (bucket_to_air bucket.now) }

@@ -4,6 +4,6 @@ pub mod PlaceSteps
 pub mod CutLemmas
 pub mod Numbers
 pub mod Copies
-pub mod ChunkFacts
-pub mod HomeFacts
-pub mod ProgramFacts
+pub mod ChunkLemmas
+pub mod HomeLemmas
+pub mod ProgramLemmas

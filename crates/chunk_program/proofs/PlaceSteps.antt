@@ -11,7 +11,7 @@ use Rattle.std.proofs.lemmas.List.Sums.{position_or_len_is}
 use Rattle.std.proofs.lemmas.Option.{get_or_from_slice_get, same_Some, slice_get-get_or, slice_get_read, slice_get_within}
 use Rattle.air_model.specs.Disks.{Disk, all_items}
 use Rattle.air_model.specs.ProgramLaws.{IsAirable}
-use Rattle.air_model.proofs.AiringFacts.{disk_is}
+use Rattle.air_model.proofs.ProgramLemmas.{disk_is}
 use Rattle.air_model.proofs.Elements.{Distinct, all_at, at_all, Distinct-left, Distinct-right, has_contains, pairs_at}
 use Rattle.air_model.proofs.SlotPlaces.{item_of_disk}
 use Rattle.chunk_program.specs.declared.cuts.Place.{Place}

@@ -20,7 +20,7 @@ use Rattle.std.proofs.lemmas.Map.Keys.{IsDistinct-IsPermutation, apart_from_dist
 use Rattle.air_model.specs.Disks.{is_hotter, order}
 use Rattle.air_model.proofs.Elements.{all_at, at_pairs}
 use Rattle.air_model.proofs.ItemOrder.{order_only}
-use Rattle.chunk_program.specs.Steps.Ranks.{rank_of, ranks}
+use Rattle.chunk_program.specs.Private.Ranks.{rank_of, ranks}
 
 -- The order by which the ranks are sorted.
 abbrev pub rank_cmp : Reverse ℕ × ℕ → Reverse ℕ × ℕ → Ordering

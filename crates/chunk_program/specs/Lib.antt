@@ -5,4 +5,4 @@ pub mod CutConditions
 pub mod CutView
 pub mod Homes
 pub mod Plans
-pub mod Steps
+pub mod Private

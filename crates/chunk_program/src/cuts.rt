@@ -10,7 +10,7 @@ ghost use Rattle.air_model.specs.Airings.{disk_number};
 ghost use Rattle.chunk_program.specs.CutConditions.{AreDeckDisks, IsCuttable};
 ghost use Rattle.chunk_program.specs.Places.{place_number};
 ghost use Rattle.chunk_program.specs.PlaceTables.{HasPlaces, IsPlace};
-ghost use Rattle.chunk_program.specs.Steps.Ranks.{ranks};
+ghost use Rattle.chunk_program.specs.Private.Ranks.{ranks};
 
 use crate::disks::{Disk, DiskSpec, cut_items};
 use std::alloc::{AllocError, Global};

@@ -37,7 +37,7 @@ fn specs(alloc: Global, deck: &Deck) -> Result<Vec<DiskSpec>, AllocError>
 pub fn cut(alloc: Global, deck: &Deck) -> Result<Cut, NoMemory>
     ensures { IfOk result (λ c. c ≡ disks_in deck.now) }
 {
-    deck.well_made();
+    deck.shows_well_made();
     let rates = rates(alloc, deck)?;
     let specs = specs(alloc, deck)?;
     let cut = Cut::new(alloc, &rates, &specs)?;

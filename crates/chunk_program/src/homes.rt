@@ -13,7 +13,7 @@ ghost use Rattle.chunk_program.specs.CutConditions.{AreDeckDisks};
 
 use crate::cuts::Cut;
 use crate::disks::Disk;
-use crate::layout::front_len;
+use crate::layout::len_before;
 use std::alloc::{AllocError, Global};
 
 /// How often a cycle airs an item, how far apart and in which slot first, and the number of its disk's chunks.
@@ -56,7 +56,7 @@ fn home_of(cut: &Cut, minors: u64, minor_slots: u64, item: u16) -> Home
     let number = cut.disk_of(item) as usize;
     let place = cut.place_of(item);
     let disks = cut.disks();
-    let front = front_len(disks, minors, number);
+    let front = len_before(disks, minors, number);
     home_at(&disks[number], minors, minor_slots, front, place)
 }
 

@@ -47,7 +47,7 @@ pub fn num_minors(disks: &[Disk]) -> u64
 pub const MOST_MINOR_LEN: u64 = MOST_DISKS as u64 * MOST_SIZE;
 
 /// The number of slots of a minor cycle before those of disk `n`.
-pub fn front_len(disks: &[Disk], minors: u64, n: usize) -> u64
+pub fn len_before(disks: &[Disk], minors: u64, n: usize) -> u64
     requires limits { AreDeckDisks disks.now }
     requires minors { minors ≡ num_minors disks.now }
     requires within { n ≤ length disks.now }

@@ -17,7 +17,7 @@ ghost use Rattle.chunk_program.specs.Plans.{IsPlanAnswer};
 use crate::cuts::Cut;
 use crate::disks::{Disk, copies};
 use crate::homes::{Home, homes};
-use crate::layout::{front_len, num_minors, slots_of};
+use crate::layout::{len_before, num_minors, slots_of};
 use air_base::limits;
 use item_catalog::Deck;
 use std::alloc::{AllocError, Global};
@@ -90,7 +90,7 @@ impl Program {
         ensures short { IfOk result (λ p. length (program p) ≤ MOST_SLOTS) }
         ensures too_long { IfErr result (IsPlanAnswer (disks_in deck.now)) }
     {
-        deck.well_made();
+        deck.shows_well_made();
         Program::of_cut(alloc, cut)
     }
 
@@ -103,7 +103,7 @@ impl Program {
     {
         let disks = cut.disks();
         let minors = num_minors(disks);
-        let minor_len = front_len(disks, minors, disks.len());
+        let minor_len = len_before(disks, minors, disks.len());
         let slots = minors * minor_len;
         if slots > MOST_SLOTS {
             return Err(PlanFault::TooLong { slots });
@@ -122,7 +122,7 @@ impl Program {
 
     /// The disks of a program can be aired, they hold items numbered from 0, at most `MOST_ITEMS` and at least one, and its slots carry no
     /// others.
-    pub fn well_made(&self)
+    pub fn shows_well_made(&self)
         ensures airable { IsAirable self.now }
         ensures some { 1 ≤ length (all_items self.now) }
         ensures few { length (all_items self.now) ≤ MOST_ITEMS }

@@ -8,10 +8,10 @@ use Rattle.air_base.specs.declared.verdicts.Policy.TheVariants.{FMatrix}
 use Rattle.air_history.specs.Clashes.{Heard, heard_clash, clash_by_entries}
 use Rattle.held_reads.specs.Searches.{has_since, is_reached}
 use Rattle.held_reads.specs.HeldCycles.{held_cycle, AreHeldOnce}
-use Rattle.held_reads.proofs.LeastFacts.{IsLeastOf}
+use Rattle.held_reads.proofs.LeastLemmas.{IsLeastOf}
 use Rattle.held_reads.proofs.ReachedLemmas.{NamesLeastOf, search_names, names_one}
 use Rattle.column_check.specs.Searches.{disagree}
-use Rattle.column_check.specs.Steps.LesserOfTwo.{lesser_of_both}
+use Rattle.column_check.specs.Private.LesserOfTwo.{lesser_of_both}
 use Rattle.column_check.proofs.HeldLemmas.{least_is}
 
 or_left : (a b : Bool) → a ≡ true → (a || b) ≡ true

@@ -1,4 +1,4 @@
 pub mod HeldLemmas
 pub mod NewLemmas
-pub mod LeastFacts
+pub mod LeastLemmas
 pub mod BothLemmas

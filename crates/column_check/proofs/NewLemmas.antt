@@ -11,7 +11,7 @@ use Rattle.air_history.specs.Columns.{column_entry, column, scheme_of}
 use Rattle.air_history.proofs.PlaceLemmas.{greatest_below}
 use Rattle.air_history.proofs.HistoryLemmas.{front_cycle, front_cycle_same}
 use Rattle.air_base.specs.declared.verdicts.Policy.TheVariants.{FMatrix}
-use Rattle.air_history.specs.ClashLaws.{IsHeard}
+use Rattle.air_history.specs.ClashLaws.{HasAiredEntries}
 use Rattle.air_history.specs.Clashes.{Heard}
 use Rattle.air_history.specs.HeldReads.{HeldReads, IsNew}
 
@@ -26,7 +26,7 @@ pub column_before : (n : ℕ) (H : List Event) (c j : ℕ) → 1 ≤ c → All (
 column_before n H c j pos = All-map (λ entry. entry < c) (column_entry (front H c) j) (range_with_len 0 n) (λ k d l. entry_before H c j _ pos)
 
 pub aired_is_new : (held : HeldReads) (H : List Event) (x : Heard) →
-    IsHeard (scheme_of FMatrix) held.n H x → All (λ r. r.item ≢ x.item) held.reads → IsNew held x
+    HasAiredEntries (scheme_of FMatrix) held.n H x → All (λ r. r.item ≢ x.item) held.reads → IsNew held x
 aired_is_new held H x heard free = record {
   within = heard.within;
   free = free;

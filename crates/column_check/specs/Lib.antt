@@ -1,2 +1,2 @@
 pub mod Searches
-pub mod Steps
+pub mod Private

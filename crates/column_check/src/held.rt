@@ -9,12 +9,12 @@ ghost use Rattle.air_history.specs.declared.histories.Event.{Event};
 ghost use Rattle.air_history.specs.Reads.{last_cycle};
 ghost use Rattle.air_history.specs.Consistency.{IsConsistent};
 ghost use Rattle.air_history.specs.Clashes.{read_at, clash_by_history, clash_by_entries};
-ghost use Rattle.air_history.specs.ClashLaws.{IsHeard};
+ghost use Rattle.air_history.specs.ClashLaws.{HasAiredEntries};
 ghost use Rattle.air_history.specs.Columns.{scheme_of};
 ghost use Rattle.held_reads.specs.HeardReads.{heard_read};
 ghost use Rattle.air_history.specs.HeldReads.{IsNew};
 ghost use Rattle.held_reads.specs.HeldCycles.{cycles_of};
-ghost use Rattle.column_check.specs.Steps.LesserOfTwo.{lesser_of_both};
+ghost use Rattle.column_check.specs.Private.LesserOfTwo.{lesser_of_both};
 
 use air_base::{Clash, NoMemory};
 use held_reads::{HeldEntries, ROOM, lesser_clash};
@@ -77,10 +77,10 @@ impl Held {
 
         // By each history that has these columns at their cycles.
         ensures history { let x = heard_read item cycle column.now in (H : List Event) →
-            All (IsHeard (scheme_of FMatrix) self.now.n H) self.now.reads → IsHeard (scheme_of FMatrix) self.now.n H x →
+            All (HasAiredEntries (scheme_of FMatrix) self.now.n H) self.now.reads → HasAiredEntries (scheme_of FMatrix) self.now.n H x →
             result ≡ clash_by_history FMatrix H (map read_at self.now.reads) (read_at x) }
         ensures consistent { let x = heard_read item cycle column.now in (H : List Event) →
-            All (IsHeard (scheme_of FMatrix) self.now.n H) self.now.reads → IsHeard (scheme_of FMatrix) self.now.n H x →
+            All (HasAiredEntries (scheme_of FMatrix) self.now.n H) self.now.reads → HasAiredEntries (scheme_of FMatrix) self.now.n H x →
             IsConsistent H (map read_at self.now.reads) →
             (result ≡ None) ↔ IsConsistent H (map read_at self.now.reads ++ read_at x ∷ []) }
     {
@@ -93,7 +93,7 @@ impl Held {
         requires { IsNew self.now (heard_read item cycle column.now) }
         ensures { result ≡ clash_by_entries FMatrix self.now.reads (heard_read item cycle column.now) }
     {
-        self.held.held_once();
+        self.held.shows_held_once();
         let clash = self.held.least_reached(column);
         lesser_of_two(clash, self.held.least_having(item, cycle))
     }

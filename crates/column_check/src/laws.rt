@@ -4,7 +4,7 @@ ghost use Rattle.std.specs.Prelude.{◌≡◌, ◌≢◌, false, List, All, Matc
 ghost use Rattle.air_base.specs.declared.verdicts.Policy.TheVariants.{FMatrix};
 ghost use Rattle.air_history.specs.declared.histories.Event.{Event};
 ghost use Rattle.air_history.specs.Clashes.{Heard, clash_by_entries};
-ghost use Rattle.air_history.specs.ClashLaws.{IsHeard};
+ghost use Rattle.air_history.specs.ClashLaws.{HasAiredEntries};
 ghost use Rattle.air_history.specs.Columns.{scheme_of};
 ghost use Rattle.air_history.specs.HeldReads.{HeldReads, IsNew};
 ghost use Rattle.column_check.specs.Searches.{disagree, IsLeastClash};
@@ -18,5 +18,5 @@ pub fn names_least_law()
 /// A read of an item that isn't held, with the column of a history at its cycle, is a new one: it may be tried.
 pub fn aired_is_new_law()
     ensures { (held : HeldReads) (H : List Event) (x : Heard) →
-        IsHeard (scheme_of FMatrix) held.n H x → All (λ r. r.item ≢ x.item) held.reads → IsNew held x }
+        HasAiredEntries (scheme_of FMatrix) held.n H x → All (λ r. r.item ≢ x.item) held.reads → IsNew held x }
 {}

@@ -1,2 +1,2 @@
-mod DrillFacts
-mod RowFacts
+mod DrillLemmas
+mod RowLemmas

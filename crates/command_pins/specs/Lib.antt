@@ -1,1 +1,1 @@
-pub mod SmallGiven
+pub mod SmallReportsAndTapes

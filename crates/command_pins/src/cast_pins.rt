@@ -4,7 +4,7 @@
 ghost use Rattle.std.specs.Prelude.{◌≡◌, ◌≤◌, ◌+◌, ℕ, [], ◌∷◌, length, Err, None, Some, IsSome, OnErr, OnOk};
 ghost use Rattle.air_model.specs.Decks.{disks_in};
 ghost use Rattle.air_devices.specs.Masts.{nothing_sent};
-ghost use Rattle.air_devices.specs.MemoryMasts.{told_by};
+ghost use Rattle.air_devices.specs.MemoryMasts.{told_by_mast};
 
 use air_cli::{HearFault, ear_sessions};
 use air_devices::{Gate, MemEar, MemMast};
@@ -29,12 +29,12 @@ pub fn cast_to_another_port<R: Threads + Wait + Sync, G: Gate + Sync>(
 ) -> Result<Run, RunFault>
     requires planned { program.now ≡ disks_in deck.now }
     requires unaimed { mast.old.port ≡ None }
-    requires unsent { told_by mast.old ≡ nothing_sent }
+    requires unsent { told_by_mast mast.old ≡ nothing_sent }
     requires faults { mast.old.calls.faults ≡ 0 }
     ensures port { mast.new.port ≡ Some 4001 }
-    ensures ended { OnOk result ((told_by mast.new).ended ≡ Some (length (told_by mast.new).buckets)) }
-    ensures unended { OnErr result ((told_by mast.new).ended ≡ None) }
-    ensures sent { (sent : ℕ) → result ≡ Err (RunFault.Mast sent) → length (told_by mast.new).buckets ≡ sent }
+    ensures ended { OnOk result ((told_by_mast mast.new).ended ≡ Some (length (told_by_mast mast.new).buckets)) }
+    ensures unended { OnErr result ((told_by_mast mast.new).ended ≡ None) }
+    ensures sent { (sent : ℕ) → result ≡ Err (RunFault.Mast sent) → length (told_by_mast mast.new).buckets ≡ sent }
     ensures cause { (sent : ℕ) → result ≡ Err (RunFault.Mast sent) → 1 ≤ mast.new.calls.faults }
 {
     cast_run(rt, alloc, deck, program, mast, gate, 4001)

@@ -10,7 +10,7 @@ use std::thread::Threads;
 
 /// The drill of seed 0 and size 1 has this line: 18 items, ten commits, four cycles of 28 slots and a tape of 11,200 bytes; eight queries
 /// are accepted, and 21 buckets are opened and 863 slept through.
-#[tactic(auto, using(crate::proofs::DrillFacts::line_of_drill))]
+#[tactic(auto, using(crate::proofs::DrillLemmas::line_of_drill))]
 pub fn line_of_another_drill<T: Threads + Sync>(
     threads: &T,
     alloc: Global,

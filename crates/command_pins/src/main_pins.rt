@@ -7,8 +7,8 @@ ghost use Rattle.air_model.specs.Decks.{Deck};
 ghost use Rattle.air_model.specs.Outputs.{plan_output, script_tape};
 ghost use Rattle.air_devices.specs.Masts.{nothing_sent};
 ghost use Rattle.air_devices.specs.Memory.{file_bytes, file_named, told_by};
-ghost use Rattle.air_devices.specs.MemoryEars.{eared_of};
-ghost use Rattle.air_devices.specs.MemoryMasts.{masted_of, told_by as sent_by};
+ghost use Rattle.air_devices.specs.MemoryEars.{memory_ear_state};
+ghost use Rattle.air_devices.specs.MemoryMasts.{memory_mast_state, told_by_mast as sent_by};
 ghost use Rattle.scripts.specs.DrillLines.{drill_output};
 ghost use Rattle.live_replay.specs.FindingTexts.{findings_text, some_differ};
 ghost use Rattle.item_catalog.specs.Grammar.{Spells};
@@ -39,8 +39,8 @@ pub fn deck_left_to_read<R: Threads + Wait + Sync, G: Gate + Sync>(
     ensures read { result ≡ Status.Ok → (told_by shelf.new).left (codes "d") ≡ Some [] }
     ensures refused { (row kind : ℕ) → result ≡ Status.Deck row kind → (told_by shelf.new).left (codes "d") ≡ Some [] }
     ensures calm { result ≡ Status.Ok → shelf.new.calls.faults ≡ shelf.old.calls.faults }
-    ensures mast { masted_of mast.new ≡ masted_of mast.old }
-    ensures ear { eared_of ear.new ≡ eared_of ear.old }
+    ensures mast { memory_mast_state mast.new ≡ memory_mast_state mast.old }
+    ensures ear { memory_ear_state ear.new ≡ memory_ear_state ear.old }
 {
     air_main(rt, alloc, words, shelf, mast, ear, gate)
 }
@@ -164,7 +164,7 @@ pub fn always_an_air_fault<R: Threads + Wait + Sync, G: Gate + Sync>(
     requires untuned { ear.old.port ≡ None }
     requires faults { mast.old.calls.faults ≡ 0 }
     ensures cause { (at : ℕ) → result ≡ Status.AirFault at → 1 ≤ mast.new.calls.faults }
-    ensures refused { (row kind : ℕ) → result ≡ Status.Deck row kind → masted_of mast.new ≡ masted_of mast.old }
+    ensures refused { (row kind : ℕ) → result ≡ Status.Deck row kind → memory_mast_state mast.new ≡ memory_mast_state mast.old }
 {
     air_main(rt, alloc, words, shelf, mast, ear, gate)
 }

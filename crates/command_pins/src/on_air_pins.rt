@@ -10,7 +10,7 @@ ghost use Rattle.air_model.specs.declared.reports.LookLine.{LookLine};
 ghost use Rattle.air_sender.specs.TapeSizes.{cycle_size};
 ghost use Rattle.air_model.specs.Runs.{Run};
 
-use air_cli::{Given, run_on_air};
+use air_cli::{ReportAndTape, run_on_air};
 use air_devices::Gate;
 use air_report::Status;
 use chunk_program::Program;
@@ -29,7 +29,7 @@ pub fn always_a_read_fault<R: Threads + Wait + Sync, G: Gate + Sync>(
     deck: &Deck,
     program: &Program,
     gate: &G,
-) -> Result<Given, Status>
+) -> Result<ReportAndTape, Status>
     requires planned { program.now ≡ disks_in deck.now }
     requires monitors { deck.now.settings.monitors ≡ 2 }
     ensures gives { IfOk result (λ given. (run : Run) × IsWhole deck.now run.history

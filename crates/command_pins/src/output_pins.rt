@@ -4,9 +4,9 @@
 
 ghost use Rattle.std.specs.Prelude.{◌≡◌, ◌≢◌, ◌≤◌, [], ◌∷◌, None, Some, codes, option_map};
 ghost use Rattle.air_devices.specs.Memory.{told_by};
-ghost use Rattle.command_pins.specs.SmallGiven.{small_given};
+ghost use Rattle.command_pins.specs.SmallReportsAndTapes.{small_report_and_tape};
 
-use air_cli::{Given, deliver, refuse};
+use air_cli::{ReportAndTape, deliver, refuse};
 use air_devices::MemShelf;
 use air_report::Status;
 use std::alloc::Global;
@@ -14,9 +14,13 @@ use std::alloc::Global;
 /// What differs is told as that, and then the named output holds just the tape, and the text was printed after what was printed before.
 /// No other output changes. It also refuses that an output that was begun keeps what it held, a tape that is let go or written twice, that
 /// an output without a name is written, and that the two statuses are exchanged.
-pub fn begun_output_kept(shelf: &mut MemShelf, output: Option<&str>, given: &Given) -> Status
+pub fn begun_output_kept(
+    shelf: &mut MemShelf,
+    output: Option<&str>,
+    given: &ReportAndTape,
+) -> Status
     requires output { option_map (λ name. name.now) output ≡ Some (codes "t") }
-    requires given { given.now ≡ small_given }
+    requires given { given.now ≡ small_report_and_tape }
     requires printed { (told_by shelf.old).printed ≡ Some (5 ∷ []) }
     ensures written { result ≡ Status.Differs → (told_by shelf.new).output (codes "t") ≡ Some (7 ∷ []) }
     ensures printed { result ≡ Status.Differs → (told_by shelf.new).printed ≡ Some (5 ∷ 1 ∷ 2 ∷ []) }
@@ -27,9 +31,13 @@ pub fn begun_output_kept(shelf: &mut MemShelf, output: Option<&str>, given: &Giv
 }
 
 /// Where no output is named, writing fails only where a print failed.
-pub fn always_a_write_fault(shelf: &mut MemShelf, output: Option<&str>, given: &Given) -> Status
+pub fn always_a_write_fault(
+    shelf: &mut MemShelf,
+    output: Option<&str>,
+    given: &ReportAndTape,
+) -> Status
     requires output { option_map (λ name. name.now) output ≡ None }
-    requires given { given.now ≡ small_given }
+    requires given { given.now ≡ small_report_and_tape }
     requires faults { shelf.old.calls.faults ≡ 0 }
     ensures { result ≡ Status.WriteFault → 1 ≤ shelf.new.calls.faults }
 {

@@ -16,7 +16,7 @@ use Rattle.air_history.proofs.VectorLemmas.{vector_step}
 use Rattle.air_history.proofs.ScanLemmas.{cycle_all, start_writes_nothing}
 use Rattle.air_history.proofs.TableLemmas.{table_nil, table_push}
 use Rattle.air_history.proofs.AloneLemmas.{not_written, written_same}
-use Rattle.control_matrix.specs.Columns.{entry_in, written_entry, next_column, next_columns}
+use Rattle.control_matrix.specs.Columns.{entry_in_columns, written_entry, next_column, next_columns}
 use Rattle.control_matrix.specs.BoardSteps.{next_vector, step_board}
 use Rattle.control_matrix.proofs.EntryLemmas.{greatest_of_within, reads_fit}
 
@@ -65,7 +65,7 @@ values_push values G e fits bases =
 -- ---- the columns
 
 -- The entries of the columns of G.
-entry_is : (n : ℕ) (G : List Event) (j i : ℕ) → j < n → i < n → entry_in (columns n G) j i ≡ column_entry G j i
+entry_is : (n : ℕ) (G : List Event) (j i : ℕ) → j < n → i < n → entry_in_columns (columns n G) j i ≡ column_entry G j i
 entry_is n G j i lj li =
     ap (λ xs. get_or xs i 0) (get_or-map-range_with_len (column n G) 0 n j j [] lj (omega arith))
     ∙ get_or-map-range_with_len (column_entry G j) 0 n i i 0 li (omega arith)
@@ -74,7 +74,7 @@ written_push : (n : ℕ) (G : List Event) (e : Event) (j i : ℕ) → ItemsFit n
 written_push n G e j i fits hit l = sym (
     step G e j i ∙ cond-true (writes e j) _ _ hit
     ∙ ap (λ c. cond (writes e i) c (greatest_of (λ r. column_entry G r i) (reads e))) (cycle_all G (length G) (omega arith))
-    ∙ ap (λ m. cond (writes e i) (starts G) m) (greatest_of_within n (λ r. column_entry G r i) (λ r. entry_in (columns n G) r i) (reads e) (reads_fit n e fits) (λ r lr. sym (entry_is n G r i lr l))))
+    ∙ ap (λ m. cond (writes e i) (starts G) m) (greatest_of_within n (λ r. column_entry G r i) (λ r. entry_in_columns (columns n G) r i) (reads e) (reads_fit n e fits) (λ r lr. sym (entry_is n G r i lr l))))
 
 kept_push : (n : ℕ) (G : List Event) (e : Event) (j : ℕ) → writes e j ≡ false → column n G j ≡ column n (G ++ e ∷ []) j
 kept_push n G e j miss = fill_by_all (column_entry (G ++ e ∷ []) j) (column n G j) n 0 (length-map-range_with_len (column_entry G j) 0 n)

@@ -10,7 +10,7 @@ use Rattle.air_history.specs.Places.{greatest_of}
 use Rattle.air_history.specs.Histories.{writes, writes_of, reads, ItemsFit}
 use Rattle.air_lanes.specs.Kernels.{stamp_each}
 use Rattle.air_lanes.proofs.PlaceLemmas.{stamp_each_at}
-use Rattle.control_matrix.specs.Columns.{column_in, columns_in, entry_in, written_entry, next_column, next_columns}
+use Rattle.control_matrix.specs.Columns.{column_in, columns_in, entry_in_columns, written_entry, next_column, next_columns}
 
 greatest_of_push : {X : Type 0} (f : X → ℕ) (xs : List X) (x : X) → greatest_of f (xs ++ x ∷ []) ≡ max (greatest_of f xs) (f x)
 unfolding greatest_of
@@ -55,7 +55,7 @@ spare_is : (n cycle : ℕ) (old spare : List ℕ) (e : Event) → ItemsFit n e �
     spare ≡ map (written_entry cycle (columns_in n old) e) (range_with_len 0 n)
 spare_is n cycle old spare e fits sized merged = fill_by_all (written_entry cycle (columns_in n old) e) spare n 0 sized
     (λ i l. merged i l ∙ ap (λ m. cond (writes e i) cycle m)
-    (greatest_of_within n (λ r. get_or (column_in n old r) i 0) (λ r. entry_in (columns_in n old) r i) (reads e) (reads_fit n e fits) (λ r lr. ap (λ xs. get_or xs i 0) (sym (column_at n old r lr)))))
+    (greatest_of_within n (λ r. get_or (column_in n old r) i 0) (λ r. entry_in_columns (columns_in n old) r i) (reads e) (reads_fit n e fits) (λ r lr. ap (λ xs. get_or xs i 0) (sym (column_at n old r lr)))))
 
 -- The written column put at each item that is written gives the next columns.
 pub columns_stepped : (n cycle : ℕ) (old new spare : List ℕ) (e : Event) → ItemsFit n e → length spare ≡ n →

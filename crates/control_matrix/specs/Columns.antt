@@ -14,13 +14,13 @@ abbrev pub columns_in : ℕ → List ℕ → List (List ℕ)
 columns_in n entries = map (column_in n entries) (range_with_len 0 n)
 
 -- Entry i of the column of item j, and 0 where there is none.
-abbrev pub entry_in : List (List ℕ) → ℕ → ℕ → ℕ
-entry_in columns j i = get_or (get_or columns j []) i 0
+abbrev pub entry_in_columns : List (List ℕ) → ℕ → ℕ → ℕ
+entry_in_columns columns j i = get_or (get_or columns j []) i 0
 
 -- Entry i of the column that an event in a cycle writes: the cycle where it writes item i, else the greatest
 -- entry of i in a column that it reads.
 abbrev pub written_entry : ℕ → List (List ℕ) → Event → ℕ → ℕ
-written_entry cycle columns e i = cond (writes e i) cycle (greatest_of (λ r. entry_in columns r i) (reads e))
+written_entry cycle columns e i = cond (writes e i) cycle (greatest_of (λ r. entry_in_columns columns r i) (reads e))
 
 -- The column of item j after the event: the one that it writes where it writes j, else what it was.
 abbrev pub next_column : ℕ → ℕ → List (List ℕ) → Event → ℕ → List ℕ

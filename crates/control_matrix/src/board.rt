@@ -77,7 +77,7 @@ impl Board {
         ensures followed { (values : List ℕ) (G : List Event) → self.old ≡ board_of values G →
             self.new ≡ board_of values (G ++ event.now ∷ []) }
     {
-        event.keeps_rules();
+        event.shows_rules_kept();
         if event.is_start() {
             self.cycle += 1;
             return;

@@ -7,7 +7,7 @@ ghost use Rattle.std.specs.Prelude.{◌≡◌, ◌↔◌, [], ◌∷◌, List, A
 ghost use Rattle.air_base.specs.declared.verdicts.Policy.TheVariants.{Datacycle};
 ghost use Rattle.air_history.specs.declared.histories.Event.{Event};
 ghost use Rattle.air_history.specs.Clashes.{IsCurrent, read_at};
-ghost use Rattle.air_history.specs.ClashLaws.{IsHeard};
+ghost use Rattle.air_history.specs.ClashLaws.{HasAiredEntries};
 ghost use Rattle.air_history.specs.Columns.{scheme_of};
 ghost use Rattle.core_pins.specs.SmallReads.{heard, two};
 
@@ -56,7 +56,7 @@ pub fn second_condition_forgotten(held: &RHeld, vector: &[u32]) -> Option<Clash>
 pub fn taken_though_a_read_is_stale(held: &DataHeld, vector: &[u32]) -> Option<Clash>
     requires held { held.now ≡ record { n = 3; reads = heard 0 2 0 0 0 ∷ [] } }
     requires vector { vector.now ≡ 3 ∷ 0 ∷ 0 ∷ [] }
-    ensures { (H : List Event) → All (IsHeard (scheme_of Datacycle) 3 H) (heard 0 2 0 0 0 ∷ []) → IsHeard (scheme_of Datacycle) 3 H (heard 2 5 3 0 0) →
+    ensures { (H : List Event) → All (HasAiredEntries (scheme_of Datacycle) 3 H) (heard 0 2 0 0 0 ∷ []) → HasAiredEntries (scheme_of Datacycle) 3 H (heard 2 5 3 0 0) →
         IsCurrent H (read_at (heard 0 2 0 0 0) ∷ []) →
         (result ≡ None) ↔ IsCurrent H (read_at (heard 0 2 0 0 0) ∷ read_at (heard 2 5 3 0 0) ∷ []) }
 {

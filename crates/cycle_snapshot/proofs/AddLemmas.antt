@@ -6,7 +6,7 @@ use mathlib.Core.List.{IsPrefix}
 use prog.Atomic.{either}
 use Rattle.logbook.specs.Pages.{Cell, cell, keeps, no_nib, step, Moves, Goes}
 use Rattle.cycle_snapshot.specs.declared.batches.Batch.{Batch}
-use Rattle.cycle_snapshot.specs.BookRule.{IsCounted, Adds}
+use Rattle.cycle_snapshot.specs.BookRule.{IsCounted, AddsToBook}
 use Rattle.cycle_snapshot.proofs.PrefixLemmas.{prefix_whole}
 
 -- What the book shows: nothing.
@@ -18,7 +18,7 @@ abbrev pub AnyMove : List Batch → List Batch → ℕ → Type 0
 AnyMove xs ys n = Unit {0}
 
 adds_goes : (log v : List Batch) (e : Batch) (old : ℕ) → length v ≡ old → IsPrefix v log → (b : Bool) → (length log == old) ≡ b
-    → Goes IsCounted nothing_shown AnyMove 0 (v, (no_nib, None)) (λ n. either (n == old) (old + 1) n) (Adds (step 0 old (old + 1) e) (v, (no_nib, None))) ((length log, true) ∷ (0, true) ∷ []) log
+    → Goes IsCounted nothing_shown AnyMove 0 (v, (no_nib, None)) (λ n. either (n == old) (old + 1) n) (AddsToBook (step 0 old (old + 1) e) (v, (no_nib, None))) ((length log, true) ∷ (0, true) ∷ []) log
 adds_goes log v e old len pre true is =
     let here : length log ≡ old = grind (arith, nat_tests) in
     let same : v ≡ log = prefix_whole v log pre (omega arith) in
@@ -31,7 +31,7 @@ adds_goes log v e old len pre false is =
 
 -- Whatever the book has, the exchange adds the batch to all that was seen, or finds that the list is longer.
 pub adds_moves : (v : List Batch) (e : Batch) (old : ℕ) → length v ≡ old
-    → Moves IsCounted nothing_shown AnyMove 0 (v, (no_nib, None)) (λ n. either (n == old) (old + 1) n) (Adds (step 0 old (old + 1) e) (v, (no_nib, None)))
+    → Moves IsCounted nothing_shown AnyMove 0 (v, (no_nib, None)) (λ n. either (n == old) (old + 1) n) (AddsToBook (step 0 old (old + 1) e) (v, (no_nib, None)))
 adds_moves v e old len cs log kept pre away =
-    let P : List Cell → Type 0 = λ c. (0 < length c) × ((cell c 0).1 ≡ true) × Goes IsCounted nothing_shown AnyMove 0 (v, (no_nib, None)) (λ n. either (n == old) (old + 1) n) (Adds (step 0 old (old + 1) e) (v, (no_nib, None))) c log in
+    let P : List Cell → Type 0 = λ c. (0 < length c) × ((cell c 0).1 ≡ true) × Goes IsCounted nothing_shown AnyMove 0 (v, (no_nib, None)) (λ n. either (n == old) (old + 1) n) (AddsToBook (step 0 old (old + 1) e) (v, (no_nib, None))) c log in
     subst P (sym kept) (omega arith, refl, adds_goes log v e old len pre (length log == old) refl)

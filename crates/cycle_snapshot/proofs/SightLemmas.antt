@@ -7,21 +7,21 @@ use Rattle.left_right.specs.Register.{TurnsAt, Admits, Forks, Merges}
 use Rattle.atomic_table.proofs.Lists.{at_set, at_snoc}
 use Rattle.air_history.specs.declared.histories.Event.{Event}
 use Rattle.air_history.specs.Boards.{board_of}
-use Rattle.cycle_snapshot.specs.declared.copies.Published.{Published}
-use Rattle.cycle_snapshot.specs.declared.copies.News.{News}
-use Rattle.cycle_snapshot.specs.Batches.{IsBatch, events_in}
+use Rattle.cycle_snapshot.specs.declared.board_sides.BoardSide.{BoardSide}
+use Rattle.cycle_snapshot.specs.declared.board_sides.News.{News}
+use Rattle.cycle_snapshot.specs.Batches.{IsBatch, batch_events}
 use Rattle.cycle_snapshot.specs.Beginnings.{Beginning}
-use Rattle.cycle_snapshot.specs.Steps.BoardRuns.{after_news, step_all}
-use Rattle.cycle_snapshot.specs.CopyRule.{IsPublished, Follows, Agrees, Keeps, Sees, IsNext}
+use Rattle.cycle_snapshot.specs.Private.BoardRuns.{after_news, step_all}
+use Rattle.cycle_snapshot.specs.SideRule.{IsPublished, Follows, Agrees, Keeps, Sees, IsNextNews}
 use Rattle.cycle_snapshot.proofs.PrefixLemmas.{prefix_self, prefix_trans}
 use Rattle.cycle_snapshot.proofs.BatchLemmas.{events_more, starts_events, board_values, board_all, batch_taken}
 
 -- ---- what goes on from what
 
-pub follows_self : (x : Published) → Follows x x
+pub follows_self : (x : BoardSide) → Follows x x
 follows_self x = record { values = refl; most = refl; publisher = refl; batches = prefix_self x.list.batches }
 
-follows_on : (w x y : Published) → Follows w x → Follows x y → Follows w y
+follows_on : (w x y : BoardSide) → Follows w x → Follows x y → Follows w y
 follows_on w x y a f = record {
   values = f.values ∙ a.values;
   most = f.most ∙ a.most;
@@ -29,12 +29,12 @@ follows_on w x y a f = record {
   batches = prefix_trans w.list.batches x.list.batches y.list.batches a.batches f.batches;
 }
 
-agrees_on : (v : Option Published) (x y : Published) → Agrees v x → Follows x y → Agrees v y
+agrees_on : (v : Option BoardSide) (x y : BoardSide) → Agrees v x → Follows x y → Agrees v y
 agrees_on None x y a f = tt
 agrees_on (Some w) x y a f = follows_on w x y a f
 
 -- A step from a copy to one that follows it keeps the rule, and its seat sees the later copy.
-pub sees : (seat : ℕ) (v : Option Published) (x y : Published) → Follows x y → (IsPublished x → IsPublished y) → TurnsAt Keeps seat v x y Sees
+pub sees : (seat : ℕ) (v : Option BoardSide) (x y : BoardSide) → Follows x y → (IsPublished x → IsPublished y) → TurnsAt Keeps seat v x y Sees
 sees seat v x y f is views h at = (
   Some y,
   (is h.0, λ j u e. ⊎_elim (λ (t : (j ≡ seat) × (Some y ≡ u)). subst (λ z. Agrees z y) t.1 (follows_self y)) (λ (t : (j ≢ seat) × (get_elem? views j ≡ some u)). agrees_on u x y (h.1 j u t.1) f) (at_set views seat j (Some y) u e)),
@@ -47,34 +47,34 @@ sees seat v x y f is views h at = (
 pub admits : Admits Keeps None
 admits x views h = (h.0, λ j u e. ⊎_elim (h.1 j u) (λ (t : None ≡ u). subst (λ z. Agrees z x) t tt) (at_snoc views None u j e))
 
-agree_set : (x : Published) (views : List (Option Published)) (seat : ℕ) (w : Option Published) → ((j : ℕ) (v : Option Published) → get_elem? views j ≡ some v → Agrees v x) → Agrees w x → (j : ℕ) (v : Option Published) → get_elem? (set views seat w) j ≡ some v → Agrees v x
+agree_set : (x : BoardSide) (views : List (Option BoardSide)) (seat : ℕ) (w : Option BoardSide) → ((j : ℕ) (v : Option BoardSide) → get_elem? views j ≡ some v → Agrees v x) → Agrees w x → (j : ℕ) (v : Option BoardSide) → get_elem? (set views seat w) j ≡ some v → Agrees v x
 agree_set x views seat w h a j u e = ⊎_elim (λ (t : (j ≡ seat) × (w ≡ u)). subst (λ z. Agrees z x) t.1 a) (λ (t : (j ≢ seat) × (get_elem? views j ≡ some u)). h j u t.1) (at_set views seat j w u e)
 
 -- A note of what a seat saw.
-pub forks : (seat : ℕ) (v : Option Published) → Forks Keeps seat v v v
+pub forks : (seat : ℕ) (v : Option BoardSide) → Forks Keeps seat v v v
 forks seat v x views h at = let a = h.1 seat v at in (h.0, λ j u e. ⊎_elim (agree_set x views seat v h.1 a j u) (λ (t : v ≡ u). subst (λ z. Agrees z x) t a) (at_snoc (set views seat v) v u j e))
 
 -- A seat that takes over a note.
-pub merges : (seat : ℕ) (v : Option Published) (other : ℕ) (w : Option Published) → Merges Keeps seat v other w w None
+pub merges : (seat : ℕ) (v : Option BoardSide) (other : ℕ) (w : Option BoardSide) → Merges Keeps seat v other w w None
 merges seat v other w x views h at apart there = let a = ⊎_elim (λ (t : (other ≡ seat) × (w ≡ w)). absurd (apart t.0)) (λ (t : (other ≢ seat) × (get_elem? views other ≡ some w)). h.1 other w t.1) (at_set views seat other w w there) in
     (h.0, agree_set x (set views seat w) other None (agree_set x views seat w h.1 a) tt)
 
-only_none : (x : Published) (j : ℕ) (v : Option Published) → get_elem? (None ∷ []) j ≡ some v → Agrees v x
+only_none : (x : BoardSide) (j : ℕ) (v : Option BoardSide) → get_elem? (None ∷ []) j ≡ some v → Agrees v x
 only_none x zero v e = subst (λ z. Agrees z x) (some-injective None v e) tt
 only_none x (suc j) v e = absurd (some-ne-none v (sym e))
 
 -- The rule holds of a first copy.
-pub opens_rule : (x : Published) → IsPublished x → Keeps x (None ∷ [])
+pub opens_rule : (x : BoardSide) → IsPublished x → Keeps x (None ∷ [])
 opens_rule x h = (h, only_none x)
 
 -- ---- copies
 
 -- The board of a copy has as many values as it started from.
-pub shown_values : (x : Published) → IsPublished x → length x.board.values ≡ length x.values
-shown_values x h = ap (λ b. length b.values) h.board ∙ board_values x.values (events_in x.list.batches)
+pub shown_values : (x : BoardSide) → IsPublished x → length x.board.values ≡ length x.values
+shown_values x h = ap (λ b. length b.values) h.board ∙ board_values x.values (batch_events x.list.batches)
 
 -- The copy that took in news that are next follows, and is as it must be.
-pub news_follow : (x next : Published) (n : News) → next ≡ after_news x n → IsNext x n → Follows x next × (IsPublished x → IsPublished next)
+pub news_follow : (x next : BoardSide) (n : News) → next ≡ after_news x n → IsNextNews x n → Follows x next × (IsPublished x → IsPublished next)
 news_follow x next n is k =
     let log : next.list.batches ≡ x.list.batches ++ n.batch ∷ [] = ap (λ y. y.list.batches) is ∙ ap (λ l. l.batches) k.list in
     let values = ap (λ y. y.values) is in
@@ -85,14 +85,14 @@ news_follow x next n is k =
           let width : n.items ≡ length x.board.values = k.items ∙ sym (shown_values x h) in
           let small = h.most in
           let room = k.room in
-          let board : next.board ≡ board_of x.values (events_in (x.list.batches ++ n.batch ∷ [])) =
+          let board : next.board ≡ board_of x.values (batch_events (x.list.batches ++ n.batch ∷ [])) =
           ap (λ y. y.board) is
           ∙ batch_taken x.board n.items n.batch width (omega arith)
           ∙ ap (λ b. step_all b n.batch) h.board
-          ∙ board_all x.values (events_in x.list.batches) n.batch k.batch.fits k.bases
+          ∙ board_all x.values (batch_events x.list.batches) n.batch k.batch.fits k.bases
           ∙ ap (board_of x.values) (sym (events_more x.list.batches n.batch)) in
           record {
-            board = board ∙ (λ i. board_of (sym values i) (events_in (sym log i)));
+            board = board ∙ (λ i. board_of (sym values i) (batch_events (sym log i)));
             few = let a = ap length log ∙ length-append x.list.batches (n.batch ∷ []) in omega arith;
             most = omega arith;
             batches = subst (λ v. All (IsBatch (length v)) next.list.batches) (sym values) (subst (All (IsBatch (length x.values))) (sym log) (All-push (IsBatch (length x.values)) x.list.batches n.batch h.batches k.batch));
@@ -104,9 +104,9 @@ none_good n [] e = λ k d l. absurd (omega arith)
 none_good n (b ∷ bs) e = absurd (cc (e))
 
 -- The copy of the empty list is as it must be.
-pub first_is : (x : Published) (values : List ℕ) (most : ℕ) (list : Beginning) → x ≡ record { board = board_of values []; values = values; most = most; list = list } → list.batches ≡ [] → most < 4294967295 → IsPublished x
+pub first_is : (x : BoardSide) (values : List ℕ) (most : ℕ) (list : Beginning) → x ≡ record { board = board_of values []; values = values; most = most; list = list } → list.batches ≡ [] → most < 4294967295 → IsPublished x
 first_is x values most list e none small = subst IsPublished (sym e) record {
-  board = ap (board_of values) (ap events_in (sym none));
+  board = ap (board_of values) (ap batch_events (sym none));
   few = let h = ap length none in omega arith;
   most = small;
   batches = none_good (length values) list.batches none;

@@ -11,5 +11,5 @@ pub record IsBatch (n : ℕ) (batch : List Event) : Type 0 where
   pub ends : (commits : List Event) × (batch ≡ commits ++ Start ∷ []) × (starts commits ≡ 0)
 
 -- The events of batches, in order.
-abbrev pub events_in : List (List Event) → List Event
-events_in batches = flat_map (λ batch. batch) batches
+abbrev pub batch_events : List (List Event) → List Event
+batch_events batches = flat_map (λ batch. batch) batches

@@ -8,9 +8,9 @@ abbrev pub IsCounted : List Cell → List Batch → Type 0
 IsCounted cells log = cells ≡ (length log, true) ∷ (0, true) ∷ []
 
 -- The word that counts the batches of a book.
-abbrev pub head_of : Book → Named
-head_of book = record { tracked = true; key = 0; book = book }
+abbrev pub batch_counter : Book → Named
+batch_counter book = record { tracked = true; key = 0; book = book }
 
 -- Where the word was found as it was seen, the batch was added to all that had been seen; else the list is longer.
-abbrev pub Adds : Step Batch → View Batch ℕ → ℕ → View Batch ℕ → Type 0
-Adds step before found after = MatchBool (found == step.old) (after.0 ≡ before.0 ++ step.ask ∷ []) (Unit {0})
+abbrev pub AddsToBook : Step Batch → View Batch ℕ → ℕ → View Batch ℕ → Type 0
+AddsToBook step before found after = MatchBool (found == step.old) (after.0 ≡ before.0 ++ step.ask ∷ []) (Unit {0})

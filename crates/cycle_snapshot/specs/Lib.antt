@@ -1,8 +1,8 @@
 pub mod Batches
 pub mod Beginnings
 pub mod BookRule
-pub mod CopyRule
+pub mod SideRule
 pub mod SnapshotStates
 pub mod PublisherFields
 pub mod MonitorFields
-pub mod Steps
+pub mod Private

@@ -2,29 +2,29 @@
 use Rattle.std.specs.Prelude.{◌≡◌, ℕ, List, [], length, Option, Some, None}
 use mathlib.Core.List.{IsPrefix}
 use Rattle.left_right.specs.Sides.{view}
-use Rattle.cycle_snapshot.specs.declared.copies.Published.{Published}
+use Rattle.cycle_snapshot.specs.declared.board_sides.BoardSide.{BoardSide}
 use Rattle.cycle_snapshot.specs.declared.monitors.Monitor.TheInside.{Inside}
 use Rattle.cycle_snapshot.specs.SnapshotStates.{MonitorState}
 
 -- The starting values of a copy, if there is one.
-abbrev pub values_in : Option Published → List ℕ
-values_in None = []
-values_in (Some x) = x.values
+abbrev pub starting_values : Option BoardSide → List ℕ
+starting_values None = []
+starting_values (Some x) = x.values
 
 -- The most batches of a copy, if there is one.
-abbrev pub most_in : Option Published → ℕ
+abbrev pub most_in : Option BoardSide → ℕ
 most_in None = 0
 most_in (Some x) = x.most
 
 -- The copy that the reader saw last.
-abbrev pub last_view : Inside → Option Published
-last_view m = elim m.reader as (λ _. Option Published) [ None ↦ None | Some r ↦ view r.place ]
+abbrev pub last_view : Inside → Option BoardSide
+last_view m = elim m.reader as (λ _. Option BoardSide) [ None ↦ None | Some r ↦ view r.place ]
 
 -- The monitor that the fields hold.
 abbrev pub monitor_in : Inside → MonitorState
 monitor_in m = record {
   publisher = m.told.publisher;
-  values = values_in (last_view m);
+  values = starting_values (last_view m);
   most = most_in (last_view m);
   seen = m.seen.batches;
   told = m.told.batches;
@@ -35,7 +35,7 @@ monitor_in m = record {
 -- It has a reader that saw a copy, whose list goes on from what the monitor saw; both notes are of that copy's publisher, and the kept frame
 -- has as many values.
 pub record IsMonitor (m : Inside) : Type 0 where
-  pub copy : Published
+  pub copy : BoardSide
   pub is : last_view m ≡ Some copy
   pub seen_of : m.seen.publisher ≡ copy.list.publisher
   pub seen_begins : IsPrefix m.seen.batches copy.list.batches

@@ -3,7 +3,7 @@ use Rattle.std.specs.Prelude.{◌≡◌, ℕ, ◌≤◌, ◌+◌, ◌-◌, ◌^�
 use mathlib.Core.List.{IsPrefix}
 use Rattle.air_history.specs.declared.histories.Event.{Event}
 use Rattle.air_history.specs.Boards.{Frame, frame_of}
-use Rattle.cycle_snapshot.specs.Batches.{IsBatch, events_in}
+use Rattle.cycle_snapshot.specs.Batches.{IsBatch, batch_events}
 use Rattle.cycle_snapshot.specs.Beginnings.{PublisherId, Beginning}
 
 -- Which publisher it is, the values that its history starts from, the most batches that it publishes, and those that it has.
@@ -22,8 +22,8 @@ abbrev pub with_batch : PublisherState → List Event → PublisherState
 with_batch p batch = record p { batches = p.batches ++ batch ∷ [] }
 
 -- The publisher's whole list.
-abbrev pub list_of : PublisherState → Beginning
-list_of p = record { publisher = p.id; batches = p.batches }
+abbrev pub published_list : PublisherState → Beginning
+published_list p = record { publisher = p.id; batches = p.batches }
 
 -- A monitor's publisher, with its starting values and its most batches; the beginning of its list that was seen last, and the longest
 -- that was told; the frame that the monitor keeps, and the number of its looks.
@@ -50,11 +50,11 @@ new_monitor p = record {
 
 -- A monitor m looked and is then n: it has seen whole batches, no more than the most, that go on from all that it saw or was told, and
 -- keeps their frame; the number of looks is raised, up to its last value; nothing else changed.
-pub record Looked (m n : MonitorState) : Type 0 where
+pub record HasLooked (m n : MonitorState) : Type 0 where
   pub seen : IsPrefix m.seen n.seen
   pub told : IsPrefix m.told n.seen
   pub batches : All (IsBatch (length m.values)) n.seen
   pub few : length n.seen ≤ m.most
-  pub kept : n.kept ≡ frame_of m.values (events_in n.seen)
+  pub kept : n.kept ≡ frame_of m.values (batch_events n.seen)
   pub looks : n.looks ≡ min (m.looks + 1) (2 ^ 64 - 1)
   pub same : n ≡ record m { seen = n.seen; kept = n.kept; looks = n.looks }

@@ -2,7 +2,7 @@
 ghost use Rattle.std.specs.Prelude.{◌≡◌, ◌+◌, ◌<◌, ◌^◌, length, All};
 ghost use Rattle.air_history.specs.Histories.{starts, ItemsFit};
 ghost use Rattle.air_history.specs.Tables.{BasesRead};
-ghost use Rattle.cycle_snapshot.specs.Steps.BoardRuns.{step_all};
+ghost use Rattle.cycle_snapshot.specs.Private.BoardRuns.{step_all};
 
 use air_history::Event;
 use control_matrix::Board;
@@ -24,11 +24,11 @@ impl Model for Batch {
 }
 
 /// Hands a rule of all updates to a caller's proof, that each base is read; it does nothing.
-fn keep_rules(events: &[Event])
+fn shows_all_rules_kept(events: &[Event])
     ensures { All BasesRead events.now }
 {
     for event in events {
-        event.keeps_rules();
+        event.shows_rules_kept();
     }
 }
 
@@ -38,7 +38,7 @@ impl Batch {
         ensures list { result ≡ events.items }
         ensures bases { All BasesRead result }
     {
-        keep_rules(&events);
+        shows_all_rules_kept(&events);
         Batch { events }
     }
 

@@ -19,7 +19,7 @@ pub struct KeptFrame {
 
 impl Model for KeptFrame {
     ghost use Rattle.air_history.specs.Boards.{Frame};
-    ghost use Rattle.cycle_snapshot.specs.Steps.FrameFields.{frame_in, IsFrame};
+    ghost use Rattle.cycle_snapshot.specs.Private.FrameFields.{frame_in, IsFrame};
 
     ghost Value = { Frame };
 

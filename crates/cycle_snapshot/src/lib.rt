@@ -4,13 +4,13 @@
 //! beginning of it (`monitors`): always of whole batches, and never of fewer than they saw or were told. A look waits for
 //! nobody and takes no memory. Both are made together (`opening`).
 //!
-//! Below them: `told` is a beginning of the list, `batches` a cycle's events, `frames` what a monitor keeps, `copies` what each
+//! Below them: `told` is a beginning of the list, `batches` a cycle's events, `frames` what a monitor keeps, `board_sides` what each
 //! of the two copies of `left_right` holds, `rule` the rule that they keep between any two atomic steps, and `sides` makes
 //! the writer and its readers.
 #![tactic(auto)]
 
 mod batches;
-mod copies;
+mod board_sides;
 mod frames;
 mod monitors;
 mod opening;

@@ -2,22 +2,22 @@
 ghost use Rattle.std.specs.Prelude.{◌≡◌, ◌<◌, [], length, get_or, Some, MatchResult, MatchOption};
 ghost use mathlib.Core.List.{IsPrefix};
 ghost use Rattle.left_right.specs.Sides.{view};
-ghost use Rattle.cycle_snapshot.specs.declared.copies.Published.{Published};
-ghost use Rattle.cycle_snapshot.specs.CopyRule.{Follows, Copied};
-ghost use Rattle.cycle_snapshot.specs.SnapshotStates.{Looked};
+ghost use Rattle.cycle_snapshot.specs.declared.board_sides.BoardSide.{BoardSide};
+ghost use Rattle.cycle_snapshot.specs.SideRule.{Follows, HasCopied};
+ghost use Rattle.cycle_snapshot.specs.SnapshotStates.{HasLooked};
 
-use crate::copies::Published;
+use crate::board_sides::BoardSide;
 use crate::frames::KeptFrame;
-use crate::rule::{CopyReader, Sight};
+use crate::rule::{SideReader, Sight};
 use crate::told::Told;
 use air_base::NoMemory;
 use std::marker::Model;
 
 /// Copies the shown frame into the kept one, and gives its list, if that goes on from what was told.
-fn take_frame(reader: CopyReader, kept: &mut KeptFrame, told: &Told) -> (CopyReader, Option<Told>)
-    requires seen { (x : Published) × (view reader.place ≡ Some x) × (told.now.publisher ≡ x.list.publisher) × (length kept.old.values ≡ length x.values) }
-    ensures looked { (x : Published) → view reader.place ≡ Some x →
-        (y : Published) × (view result.0.place ≡ Some y) × Follows x y × MatchOption result.1 (kept.new ≡ kept.old) (Copied y told.now kept.new) }
+fn take_frame(reader: SideReader, kept: &mut KeptFrame, told: &Told) -> (SideReader, Option<Told>)
+    requires seen { (x : BoardSide) × (view reader.place ≡ Some x) × (told.now.publisher ≡ x.list.publisher) × (length kept.old.values ≡ length x.values) }
+    ensures looked { (x : BoardSide) → view reader.place ≡ Some x →
+        (y : BoardSide) × (view result.0.place ≡ Some y) × Follows x y × MatchOption result.1 (kept.new ≡ kept.old) (HasCopied y told.now kept.new) }
 {
     let reading = match reader.enter_as::<Sight>() {
         Ok(reading) => reading,
@@ -25,11 +25,11 @@ fn take_frame(reader: CopyReader, kept: &mut KeptFrame, told: &Told) -> (CopyRea
             return (reader, None);
         }
     };
-    let shown: &Published = reading.get();
+    let shown: &BoardSide = reading.get();
     if shown.list.len() < told.len() {
         return (reading.leave(), None);
     }
-    told.begins(&shown.list);
+    told.shows_prefix(&shown.list);
     kept.copy(&shown.board);
     let list = shown.list.again();
     (reading.leave(), Some(list))
@@ -38,7 +38,7 @@ fn take_frame(reader: CopyReader, kept: &mut KeptFrame, told: &Told) -> (CopyRea
 /// It looks at one publisher's list.
 #[derive(Drop)]
 pub struct Monitor {
-    pub(crate) reader: Option<CopyReader>,
+    pub(crate) reader: Option<SideReader>,
     pub(crate) seen: Told,
     pub(crate) told: Told,
     pub(crate) kept: KeptFrame,
@@ -60,7 +60,7 @@ impl Monitor {
     /// Copies the frame of a beginning of the published list into the one that it keeps. It waits for nobody and takes no memory: `NoMemory`
     /// is where `left_right` refuses the look, or shows less than was told, and then the monitor is as before.
     pub fn look(&mut self) -> Result<(), NoMemory>
-        ensures { MatchResult result (λ _. Looked self.old self.new) (λ _. self.new ≡ self.old) }
+        ensures { MatchResult result (λ _. HasLooked self.old self.new) (λ _. self.new ≡ self.old) }
     {
         let Some(reader) = self.reader.take() else {
             unreachable!()
@@ -84,10 +84,10 @@ impl Monitor {
         ensures same { self.new ≡ record self.old { told = self.new.told } }
     {
         if self.told.len() <= told.len() {
-            self.told.begins(&told);
+            self.told.shows_prefix(&told);
             self.told = told;
         } else {
-            told.begins(&self.told);
+            told.shows_prefix(&self.told);
         }
     }
 

@@ -4,7 +4,7 @@ ghost use Rattle.air_base.specs.declared.limits.TheConstants.{MOST_MONITORS, MOS
 ghost use Rattle.air_history.specs.Boards.{board_of};
 ghost use Rattle.cycle_snapshot.specs.SnapshotStates.{MonitorState, new_publisher, new_monitor};
 
-use crate::copies::Published;
+use crate::board_sides::BoardSide;
 use crate::frames::KeptFrame;
 use crate::monitors::Monitor;
 use crate::publishers::Publisher;
@@ -16,13 +16,13 @@ use std::alloc::Global;
 use std::sync::Wait;
 
 /// A copy of the empty list.
-fn first_copy(alloc: Global, values: &[u64], most: u32, list: &Told) -> Result<Published, NoMemory>
+fn first_copy(alloc: Global, values: &[u64], most: u32, list: &Told) -> Result<BoardSide, NoMemory>
     requires values { (1 ≤ length values.now) × (length values.now ≤ MOST_VALUES) }
     ensures { IfOk result (λ x. x ≡ record { board = board_of values.now []; values = values.now; most = most; list = list.now }) }
 {
     let board = Board::new(alloc, values)?;
     let values = Values::from_vec(values.to_vec(alloc)?);
-    Ok(Published {
+    Ok(BoardSide {
         board,
         values,
         most,

@@ -1,15 +1,15 @@
 //! The publisher: it adds batches to a list, of which each look takes a beginning.
 ghost use Rattle.std.specs.Prelude.{◌≡◌, ◌<◌, ◌∷◌, [], length, drop, Some, MatchResult, IsOk};
 ghost use Rattle.left_right.specs.Sides.{view};
-ghost use Rattle.cycle_snapshot.specs.declared.copies.News.{News};
+ghost use Rattle.cycle_snapshot.specs.declared.board_sides.News.{News};
 ghost use Rattle.cycle_snapshot.specs.Batches.{IsBatch};
-ghost use Rattle.cycle_snapshot.specs.CopyRule.{IsPublished, IsNext};
-ghost use Rattle.cycle_snapshot.specs.Steps.BoardRuns.{after_news};
-ghost use Rattle.cycle_snapshot.specs.SnapshotStates.{with_batch, list_of};
+ghost use Rattle.cycle_snapshot.specs.SideRule.{IsPublished, IsNextNews};
+ghost use Rattle.cycle_snapshot.specs.Private.BoardRuns.{after_news};
+ghost use Rattle.cycle_snapshot.specs.SnapshotStates.{with_batch, published_list};
 
 use crate::batches::Batch;
-use crate::copies::News;
-use crate::rule::{CopyWriter, Sight};
+use crate::board_sides::News;
+use crate::rule::{SideWriter, Sight};
 use crate::told::{Head, Told};
 use air_base::NoMemory;
 use air_history::Event;
@@ -19,9 +19,9 @@ use std::marker::Model;
 use std::sync::Wait;
 
 /// One step of the two copies, by the one news that is pending.
-fn publish_step<R: Wait>(writer: CopyWriter, wait: &R) -> (CopyWriter, Result<(), AllocError>)
+fn publish_step<R: Wait>(writer: SideWriter, wait: &R) -> (SideWriter, Result<(), AllocError>)
     requires seen { view writer.desk.place ≡ Some writer.desk.shown.value }
-    requires news { (n : News) × (drop writer.behind writer.log.items ≡ n ∷ []) × IsNext writer.desk.shown.value n }
+    requires news { (n : News) × (drop writer.behind writer.log.items ≡ n ∷ []) × IsNextNews writer.desk.shown.value n }
     requires shown { IsPublished writer.desk.shown.value }
     ensures done { IsOk result.1 }
     ensures seen { view result.0.desk.place ≡ Some result.0.desk.shown.value }
@@ -34,7 +34,7 @@ fn publish_step<R: Wait>(writer: CopyWriter, wait: &R) -> (CopyWriter, Result<()
 
 /// It publishes batches. It can't be dropped: `close` ends it.
 pub struct Publisher {
-    pub(crate) writer: CopyWriter,
+    pub(crate) writer: SideWriter,
     pub(crate) head: Head,
     pub(crate) list: Told,
 }
@@ -87,7 +87,7 @@ impl Publisher {
 
     /// A note of the published list, as often as it is asked.
     pub fn tell(&self) -> Told
-        ensures { result ≡ list_of self.now }
+        ensures { result ≡ published_list self.now }
     {
         self.list.again()
     }

@@ -1,16 +1,16 @@
 //! The rule of the two copies, and the steps of the writer and of readers. A view is the copy that was seen last.
-use crate::copies::{News, Published};
+use crate::board_sides::{BoardSide, News};
 use atomic_table::{Join, Split};
 use crossbeam_utils::rule::{Outcome, Protocol};
 use left_right::reader::Reader;
 use left_right::writer::Writer;
 
 /// The rule: the shown copy is the board of its list, which goes on from what each seat saw.
-pub struct CopyRule;
+pub struct SideRule;
 
-impl Protocol<Published, Option<Published>> for CopyRule {
+impl Protocol<BoardSide, Option<BoardSide>> for SideRule {
     ghost use Rattle.std.specs.Prelude.{None};
-    ghost use Rattle.cycle_snapshot.specs.CopyRule.{Keeps};
+    ghost use Rattle.cycle_snapshot.specs.SideRule.{Keeps};
 
     ghost holds = { Keeps };
 
@@ -20,8 +20,8 @@ impl Protocol<Published, Option<Published>> for CopyRule {
 /// The step that sees the shown copy: a look, or a batch published.
 pub struct Sight;
 
-impl Outcome<Published, Option<Published>> for Sight {
-    ghost use Rattle.cycle_snapshot.specs.CopyRule.{Sees};
+impl Outcome<BoardSide, Option<BoardSide>> for Sight {
+    ghost use Rattle.cycle_snapshot.specs.SideRule.{Sees};
 
     ghost then = { Sees };
 }
@@ -29,13 +29,13 @@ impl Outcome<Published, Option<Published>> for Sight {
 /// The step by which a new reader sees what the writer saw.
 pub struct Notes;
 
-impl Split<Option<Published>> for Notes {
+impl Split<Option<BoardSide>> for Notes {
     ghost left = { λ v. v };
 
     ghost right = { λ v. v };
 }
 
-impl Join<Option<Published>> for Notes {
+impl Join<Option<BoardSide>> for Notes {
     ghost use Rattle.std.specs.Prelude.{None};
 
     ghost both = { λ v w. w };
@@ -44,7 +44,7 @@ impl Join<Option<Published>> for Notes {
 }
 
 /// A reader of the shown copy.
-pub type CopyReader = Reader<Published, Option<Published>, CopyRule>;
+pub type SideReader = Reader<BoardSide, Option<BoardSide>, SideRule>;
 
 /// The writer of both copies.
-pub type CopyWriter = Writer<Published, News, Option<Published>, CopyRule>;
+pub type SideWriter = Writer<BoardSide, News, Option<BoardSide>, SideRule>;

@@ -1,10 +1,10 @@
 //! The writer of the two copies, and its readers: how they are made.
 ghost use Rattle.std.specs.Prelude.{◌≡◌, ◌<◌, ◌^◌, [], drop, Some, IfOk};
 ghost use Rattle.left_right.specs.Sides.{view};
-ghost use Rattle.cycle_snapshot.specs.CopyRule.{IsPublished};
+ghost use Rattle.cycle_snapshot.specs.SideRule.{IsPublished};
 
-use crate::copies::Published;
-use crate::rule::{CopyReader, CopyWriter, Notes, Sight};
+use crate::board_sides::BoardSide;
+use crate::rule::{Notes, SideReader, SideWriter, Sight};
 use air_base::NoMemory;
 use std::alloc::Global;
 use std::sync::Wait;
@@ -13,16 +13,16 @@ use std::sync::Wait;
 pub fn open_writer<R: Wait>(
     wait: &R,
     alloc: Global,
-    first: Published,
-    second: Published,
+    first: BoardSide,
+    second: BoardSide,
     readers: usize,
-) -> Result<CopyWriter, NoMemory>
+) -> Result<SideWriter, NoMemory>
     requires readers { (0 < readers) × (readers < 2 ^ 32) }
     requires alike { first ≡ second }
     requires shown { IsPublished first }
     ensures { IfOk result (λ w. (view w.desk.place ≡ Some w.desk.shown.value) × (w.desk.shown.value ≡ first) × (drop w.behind w.log.items ≡ [])) }
 {
-    let writer = CopyWriter::new(alloc, first, second, readers)?;
+    let writer = SideWriter::new(alloc, first, second, readers)?;
     let (writer, done) = writer.publish_as::<Sight, R>(wait);
     match done {
         Ok(()) => Ok(writer),
@@ -31,7 +31,7 @@ pub fn open_writer<R: Wait>(
 }
 
 /// A reader that saw what the writer saw.
-pub fn open_reader(writer: &mut CopyWriter) -> Result<CopyReader, NoMemory>
+pub fn open_reader(writer: &mut SideWriter) -> Result<SideReader, NoMemory>
     ensures writer { (view writer.new.desk.place ≡ view writer.old.desk.place) × (writer.new.desk.shown ≡ writer.old.desk.shown) × (drop writer.new.behind writer.new.log.items ≡ drop writer.old.behind writer.old.log.items) }
     ensures reader { IfOk result (λ r. view r.place ≡ view writer.old.desk.place) }
 {

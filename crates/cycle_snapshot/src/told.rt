@@ -1,7 +1,7 @@
 //! A beginning of the list of batches. The list only grows; it exists for the proofs alone, but for its length.
 ghost use Rattle.std.specs.Prelude.{◌≡◌, ◌<◌, ◌≤◌, ◌^◌, ◌++◌, ◌∷◌, [], length, MatchBool};
 ghost use mathlib.Core.List.{IsPrefix};
-ghost use Rattle.cycle_snapshot.specs.BookRule.{head_of};
+ghost use Rattle.cycle_snapshot.specs.BookRule.{batch_counter};
 ghost use Rattle.cycle_snapshot.specs.Beginnings.{Beginning};
 
 use crate::batches::Batch;
@@ -42,9 +42,9 @@ impl Gain<Batch, u64> for Nothing {
 pub struct Add;
 
 impl Play<Batch, u64> for Add {
-    ghost use Rattle.cycle_snapshot.specs.BookRule.{Adds};
+    ghost use Rattle.cycle_snapshot.specs.BookRule.{AddsToBook};
 
-    ghost then = { Adds };
+    ghost then = { AddsToBook };
 }
 
 impl Plain<Batch, Batch, u64> for Add {
@@ -79,7 +79,7 @@ impl Model for Told {
 impl Told {
     /// The beginning of a new list, which is empty, with the word that counts it.
     pub(crate) fn open() -> (Told, Head)
-        ensures { (result.0.batches ≡ []) × (result.1 ≡ head_of result.0.publisher) }
+        ensures { (result.0.batches ≡ []) × (result.1 ≡ batch_counter result.0.publisher) }
     {
         let (seen, mut first, _second) = Seen::open(Start::alone(), 0, 0);
         (Told { count: 0, seen }, Word::tracked(0, &mut first))
@@ -103,7 +103,7 @@ impl Told {
     }
 
     /// Hands to a caller's proof that of two beginnings of one list the shorter begins the longer; it does nothing.
-    pub(crate) fn begins(&self, longer: &Told)
+    pub(crate) fn shows_prefix(&self, longer: &Told)
         requires own { longer.now.publisher ≡ self.now.publisher }
         requires shorter { length self.now.batches ≤ length longer.now.batches }
         ensures { IsPrefix self.now.batches longer.now.batches }
@@ -114,7 +114,7 @@ impl Told {
 
     /// Adds a batch, and says whether it did. It did not where the list is longer.
     pub(crate) fn add(&mut self, head: &Head, batch: &Batch) -> bool
-        requires head { head.now ≡ head_of self.old.publisher }
+        requires head { head.now ≡ batch_counter self.old.publisher }
         requires room { length self.old.batches < 2 ^ 62 }
         ensures added { MatchBool result
             (self.new ≡ record self.old { batches = self.old.batches ++ batch.now ∷ [] })

@@ -1,1 +1,1 @@
-mod BatchFacts
+mod BatchLemmas

@@ -11,7 +11,7 @@ use item_catalog::Deck;
 pub fn ask(deck: &Deck, word: &[u8], about: &[u8], came: &mut Vec<u8>) -> Result<(), NoMemory> {
     let (first, second) = first_word(about);
     let (first, second) = (number(first), number(second));
-    deck.well_made();
+    deck.shows_well_made();
     match word {
         b"counts" => add_counts(deck, came),
         b"item" if first < u64::from(deck.items()) => add_item(deck, first as u16, came),

@@ -9,7 +9,7 @@ use Rattle.air_model.specs.Aired.{air_of, bucket_of, buckets_of}
 use Rattle.air_model.specs.Buckets.{spelling}
 use Rattle.air_model.specs.Decks.{Deck, IsWhole, values_in}
 use Rattle.air_devices.specs.Counts.{Rose}
-use Rattle.air_devices.specs.Masts.{Changes, Masted, Sent, nothing_sent, with_buckets, with_end}
+use Rattle.air_devices.specs.Masts.{Changes, MastState, SentBuckets, nothing_sent, with_buckets, with_end}
 use Rattle.air_devices.specs.Told.{WhereTold}
 use Rattle.deck_runs.specs.DeckBytes.{deck_bytes}
 use Rattle.deck_runs.specs.RunAnswers.{IsRunAnswer}
@@ -17,36 +17,36 @@ use Rattle.deck_runs.specs.declared.threads.RunFault.{RunFault}
 use Rattle.deck_runs.specs.declared.threads.RunFault.TheVariants as fault
 use Rattle.deck_runs.proofs.SentLemmas.{sends_nothing}
 use Rattle.deck_runs.specs.Casts.{IsCastAnswer, IsCastPart, all_sent, first_sent}
-use Rattle.deck_runs.specs.Steps.CastSteps.{bucket_count}
+use Rattle.deck_runs.specs.Private.CastSteps.{bucket_count}
 
 -- It had sent nothing, where that is told.
-abbrev pub Unsent : Option Sent → Type 0
+abbrev pub Unsent : Option SentBuckets → Type 0
 Unsent before = WhereTold before (λ s. s ≡ nothing_sent)
 
 -- ---- what was sent after the aim
 
 -- The first of these buckets, behind nothing.
-first_behind : (n : ℕ) (B : List (List ℕ)) (before mid now : Option Sent) → Unsent before → mid ≡ before → Changes (with_buckets (take n B)) mid now → Changes (λ _. first_sent n B) before now
+first_behind : (n : ℕ) (B : List (List ℕ)) (before mid now : Option SentBuckets) → Unsent before → mid ≡ before → Changes (with_buckets (take n B)) mid now → Changes (λ _. first_sent n B) before now
 first_behind n B None mid now unsent same h = tt
 first_behind n B (Some s) mid now unsent same h =
     let a : now ≡ Some (with_buckets (take n B) s) = subst (λ o. Changes (with_buckets (take n B)) o now) same h in
     a ∙ ap (λ x. Some (with_buckets (take n B) x)) unsent
 
 -- None of them.
-nothing_more : (B : List (List ℕ)) (told : Option Sent) → Changes (with_buckets (take 0 B)) told told
+nothing_more : (B : List (List ℕ)) (told : Option SentBuckets) → Changes (with_buckets (take 0 B)) told told
 nothing_more B None = tt
-nothing_more B (Some s) = ap (λ l. let t : Sent = record s { buckets = l } in Some t) (sym (append-nil s.buckets))
+nothing_more B (Some s) = ap (λ l. let t : SentBuckets = record s { buckets = l } in Some t) (sym (append-nil s.buckets))
 
 -- All of them, before an end that failed.
-all_behind : (n : ℕ) (B : List (List ℕ)) (before mid now last : Option Sent) → n ≡ length B → Unsent before → mid ≡ before → Changes (with_buckets B) mid now → last ≡ now
+all_behind : (n : ℕ) (B : List (List ℕ)) (before mid now last : Option SentBuckets) → n ≡ length B → Unsent before → mid ≡ before → Changes (with_buckets B) mid now → last ≡ now
     → Changes (λ _. first_sent n B) before last
 all_behind n B None mid now last e unsent same h kept = tt
 all_behind n B (Some s) mid now last e unsent same h kept =
     let a : now ≡ Some (with_buckets B s) = subst (λ o. Changes (with_buckets B) o now) same h in
-    kept ∙ a ∙ ap (λ x. Some (with_buckets B x)) unsent ∙ ap (λ l. let t : Sent = record { buckets = l; ended = None } in Some t) (sym (take_all n B (omega arith)))
+    kept ∙ a ∙ ap (λ x. Some (with_buckets B x)) unsent ∙ ap (λ l. let t : SentBuckets = record { buckets = l; ended = None } in Some t) (sym (take_all n B (omega arith)))
 
 -- All of them, and then the end.
-pub end_behind : (B : List (List ℕ)) (before mid now last : Option Sent) → Unsent before → mid ≡ before → Changes (with_buckets B) mid now → Changes with_end now last
+pub end_behind : (B : List (List ℕ)) (before mid now last : Option SentBuckets) → Unsent before → mid ≡ before → Changes (with_buckets B) mid now → Changes with_end now last
     → Changes (λ _. all_sent B) before last
 end_behind B None mid now last unsent same h ended = tt
 end_behind B (Some s) mid now last unsent same h ended =
@@ -78,14 +78,14 @@ bytes_count deck H whole =
 -- ---- what a fault says
 
 -- Before all buckets.
-pub none_cast : {M : Type 0} (state : M → Masted) (deck : Deck) (before now : M) → Unsent (state before).told → (state now).told ≡ (state before).told → IsCastPart deck 0 (state before).told (state now).told
+pub none_cast : {M : Type 0} (state : M → MastState) (deck : Deck) (before now : M) → Unsent (state before).told → (state now).told ≡ (state before).told → IsCastPart deck 0 (state before).told (state now).told
 none_cast state deck before now unsent same =
     let h = sends_nothing state deck now in
     let first = nothing_more (deck_bytes deck h.history) (state now).told in
     record { history = h.history; whole = h.whole; within = omega arith; sent = first_behind 0 (deck_bytes deck h.history) (state before).told (state now).told (state now).told unsent same first }
 
 -- What the threads didn't do isn't cast.
-pub run_cast : {M : Type 0} (state : M → Masted) (deck : Deck) (before mid now : M) (e : RunFault) → Unsent (state before).told → (state mid).told ≡ (state before).told → (state mid).faults ≡ (state before).faults
+pub run_cast : {M : Type 0} (state : M → MastState) (deck : Deck) (before mid now : M) (e : RunFault) → Unsent (state before).told → (state mid).told ≡ (state before).told → (state mid).faults ≡ (state before).faults
     → IsRunAnswer state deck mid now e → IsCastAnswer deck (state before) (state now) e
 run_cast state deck before mid now (fault.Mast sent) unsent same calm h =
     let f = h.failed in
@@ -113,7 +113,7 @@ run_cast state deck before mid now fault.NoMemory unsent same calm h = (
 )
 
 -- After all buckets.
-pub all_cast : (deck : Deck) (H : List Event) (n : ℕ) (before mid now last : Option Sent) → IsWhole deck H → n ≡ bucket_count deck → Unsent before → mid ≡ before
+pub all_cast : (deck : Deck) (H : List Event) (n : ℕ) (before mid now last : Option SentBuckets) → IsWhole deck H → n ≡ bucket_count deck → Unsent before → mid ≡ before
     → Changes (with_buckets (deck_bytes deck H)) mid now → last ≡ now → IsCastPart deck n before last
 all_cast deck H n before mid now last whole is unsent same sent kept =
     let count : n ≡ length (deck_bytes deck H) = is ∙ sym (bytes_count deck H whole) in

@@ -9,12 +9,12 @@ use Rattle.air_model.specs.Decks.{Deck, IsDeck, count_made, updates_by, values_i
 use Rattle.air_model.specs.DeckLaws.{commits_from, made_by}
 use Rattle.item_catalog.specs.DeckLimits.{WithinLimits}
 use Rattle.station.specs.PassStates.{PassState, new_pass}
-use Rattle.turnstile.specs.Passes.{GateId}
+use Rattle.turnstile.specs.Passes.{TurnstileId}
 use Rattle.std.specs.Prelude.{Some, slice_get}
 use Rattle.std.proofs.lemmas.Option.{slice_get-get_or}
 use Rattle.std.proofs.lemmas.List.{get_or-map, length-map}
 use Rattle.deck_runs.specs.declared.jobs.crews.UpdaterRun.{UpdaterRun}
-use Rattle.deck_runs.specs.Crews.{IsReady, passes_of}
+use Rattle.deck_runs.specs.Crews.{HasNewPass, passes_of}
 use Rattle.deck_runs.specs.Commits.{Makes, MakesSome}
 
 part_of_sum : {A : Type 0} (xss : List (List A)) (k : ℕ) → length (get_or xss k []) ≤ sum_by length xss
@@ -50,9 +50,9 @@ pub makes_some_from : (us vs : List UpdateLists) (p q : PassState) → p.seen �
 makes_some_from us vs p q new is m = (m.0, subst (λ l. m.0 < length l) is m.1, makes_from (take m.0 us) (take m.0 vs) p q new (ap (take m.0) is) m.2)
 
 -- New passes, in the order of their numbers, make ready updaters.
-pub ready_all : (station : GateId) (deck : Deck) (runs : List UpdaterRun) (ps : List PassState) → passes_of runs ≡ ps → length ps ≡ length deck.updates → ((by : ℕ) (p : PassState) → slice_get ps by ≡ Some p → p ≡ new_pass station deck by)
-    → All (IsReady station deck) runs
-unfolding IsReady
+pub ready_all : (station : TurnstileId) (deck : Deck) (runs : List UpdaterRun) (ps : List PassState) → passes_of runs ≡ ps → length ps ≡ length deck.updates → ((by : ℕ) (p : PassState) → slice_get ps by ≡ Some p → p ≡ new_pass station deck by)
+    → All (HasNewPass station deck) runs
+unfolding HasNewPass
 ready_all station deck runs ps same count each k d l =
     let pass : UpdaterRun → PassState = λ run. run.pass in
     let r = get_or runs k d in

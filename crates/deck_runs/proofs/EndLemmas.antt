@@ -3,7 +3,7 @@ use Rattle.std.proofs.Common.{◌≡◌, ℕ, zero, suc, ◌<◌, ◌≤◌, Boo
 use Rattle.std.specs.Prelude.{slice_get, IsTrue, MatchBool}
 use Rattle.std.proofs.lemmas.Option.{get_or_from_slice_get, slice_get_within}
 use Rattle.std.proofs.lemmas.List.{get_or-map, length-map, take_all}
-use Rattle.turnstile.specs.Passes.{GateId}
+use Rattle.turnstile.specs.Passes.{TurnstileId}
 use Rattle.air_history.specs.declared.histories.Event.{Event}
 use Rattle.air_history.specs.Histories.{is_start, starts, EventFits}
 use Rattle.air_model.specs.Closings.{GoesOnWithout}
@@ -15,7 +15,7 @@ use Rattle.deck_runs.specs.Crews.{passes_of}
 use Rattle.air_model.specs.RunClosings.{HaveMadeAll, HaveMadeSome, IsClosing}
 use Rattle.air_model.proofs.ClosingLemmas.{closing_starts, legal_closing, whole_closing}
 use Rattle.air_model.proofs.BeyondLemmas.{whole_beyond}
-use Rattle.deck_runs.specs.Steps.StageSteps.{BeginsWhole, HaveEnded, IsEnd}
+use Rattle.deck_runs.specs.Private.StageSteps.{BeginsWhole, HaveEnded, IsEnd}
 
 -- What the updaters' passes have seen.
 abbrev seen_by : List UpdaterRun → List (List Event)
@@ -41,7 +41,7 @@ all_made : (deck : Deck) (by : ℕ) (seen : List Event) (done : Bool) → IsTrue
 all_made deck by seen true t all = all
 all_made deck by seen false t some = cc
 
-module _ (station : GateId) (deck : Deck) (runs : List UpdaterRun) (ended : HaveEnded station deck runs) where
+module _ (station : TurnstileId) (deck : Deck) (runs : List UpdaterRun) (ended : HaveEnded station deck runs) where
   made_some : HaveMadeSome deck (seen_by runs)
   made_some by seen e =
       let (run, at, same) = run_of runs by seen e in

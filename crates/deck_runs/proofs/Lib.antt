@@ -9,4 +9,4 @@ pub mod EndLemmas
 pub mod SentLemmas
 pub mod SightLemmas
 pub mod CastLemmas
-pub mod AiredRunLemmas
+pub mod HeardRunLemmas

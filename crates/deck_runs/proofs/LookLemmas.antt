@@ -3,17 +3,17 @@ use Rattle.std.proofs.Common.{◌≡◌, ℕ, ◌+◌, ◌<◌, ◌≤◌, List,
 use Rattle.std.proofs.lemmas.List.{append-nil}
 use Rattle.std.proofs.lemmas.List.Elements.{All-head, All-tail}
 use mathlib.Core.List.{IsPrefix}
-use Rattle.cycle_snapshot.specs.SnapshotStates.{Looked, MonitorState}
+use Rattle.cycle_snapshot.specs.SnapshotStates.{HasLooked, MonitorState}
 use Rattle.cycle_snapshot.proofs.PrefixLemmas.{prefix_self, prefix_trans, prefix_whole}
 use Rattle.cycle_snapshot.proofs.BatchLemmas.{starts_append}
 use Rattle.air_history.specs.declared.histories.Event.TheVariants.{Start}
 use Rattle.air_history.specs.Histories.{starts}
 use Rattle.air_model.specs.declared.reports.LookLine.{LookLine}
-use Rattle.air_model.specs.Fronts.{EndsAtStart}
-use Rattle.deck_runs.specs.Published.{IsUpTo}
+use Rattle.air_model.specs.MonitorSights.{EndsAtStart}
+use Rattle.deck_runs.specs.PublishedBatches.{IsUpTo}
 use Rattle.air_history.specs.Boards.{frame_of}
 use Rattle.air_history.specs.declared.histories.Event.{Event}
-use Rattle.cycle_snapshot.specs.Batches.{IsBatch, events_in}
+use Rattle.cycle_snapshot.specs.Batches.{IsBatch, batch_events}
 use Rattle.deck_runs.specs.Looks.{IsLineOf, LookedTimes, ShowsFront}
 
 pub looked_none : (m : MonitorState) → m.looks < 18446744073709551616 → LookedTimes 0 m m
@@ -27,7 +27,7 @@ looked_none m l = record {
   same = refl;
 }
 
-pub looked_more : (m n o : MonitorState) (k : ℕ) → LookedTimes k m n → Looked n o → LookedTimes (k + 1) m o
+pub looked_more : (m n o : MonitorState) (k : ℕ) → LookedTimes k m n → HasLooked n o → LookedTimes (k + 1) m o
 looked_more m n o k t l =
     let values : n.values ≡ m.values = ap (λ x. x.values) t.same in
     record {
@@ -35,21 +35,21 @@ looked_more m n o k t l =
       told = λ h. subst (λ (f : List (List Event)). IsPrefix f o.seen) (ap (λ x. x.told) t.same) l.told;
       batches = λ h. subst (λ (v : List ℕ). All (IsBatch (length v)) o.seen) values l.batches;
       few = λ h. let most = ap (λ x. x.most) t.same in let few = l.few in omega arith;
-      kept = λ h. l.kept ∙ ap (λ v. frame_of v (events_in o.seen)) values;
+      kept = λ h. l.kept ∙ ap (λ v. frame_of v (batch_events o.seen)) values;
       looks = let a = l.looks in let b = t.looks in let e : o.looks ≡ min (m.looks + (k + 1)) 18446744073709551615 = omega arith in e;
       same = l.same ∙ ap (λ (x : MonitorState). let y : MonitorState = record x { seen = o.seen; kept = o.kept; looks = o.looks } in y) t.same;
     }
 
 -- ---- what the looks show
 
-events_both : (bs cs : List (List Event)) → events_in (bs ++ cs) ≡ events_in bs ++ events_in cs
+events_both : (bs cs : List (List Event)) → batch_events (bs ++ cs) ≡ batch_events bs ++ batch_events cs
 events_both [] cs = refl
-events_both (b ∷ bs) cs = ap (λ l. b ++ l) (events_both bs cs) ∙ sym (append_assoc b (events_in bs) (events_in cs))
+events_both (b ∷ bs) cs = ap (λ l. b ++ l) (events_both bs cs) ∙ sym (append_assoc b (batch_events bs) (batch_events cs))
 
 -- Whole batches end at a start.
-batches_end : (n : ℕ) (bs : List (List Event)) → All (IsBatch n) bs → EndsAtStart (events_in bs)
+batches_end : (n : ℕ) (bs : List (List Event)) → All (IsBatch n) bs → EndsAtStart (batch_events bs)
 batches_end n [] all = inl refl
-batches_end n (b ∷ bs) all = step (events_in bs) (batches_end n bs (All-tail (IsBatch n) b bs all))
+batches_end n (b ∷ bs) all = step (batch_events bs) (batches_end n bs (All-tail (IsBatch n) b bs all))
   where
     is : IsBatch n b
     is = All-head (IsBatch n) b bs all
@@ -60,25 +60,25 @@ batches_end n (b ∷ bs) all = step (events_in bs) (batches_end n bs (All-tail (
 
 -- A frame of the first of all batches.
 front_shown : (values : List ℕ) (conductor : List Event) (all seen : List (List Event)) (n : MonitorState) (line : LookLine) → IsUpTo 0 conductor all → IsPrefix seen all → All (IsBatch (length values)) seen
-    → n.kept ≡ frame_of values (events_in seen) → IsLineOf n line → ShowsFront values conductor line
+    → n.kept ≡ frame_of values (batch_events seen) → IsLineOf n line → ShowsFront values conductor line
 front_shown values conductor all seen n line up pre batches kept is = record {
-  front = events_in seen;
-  later = events_in pre.0 ++ up.later;
-  begins = up.begins ∙ ap (λ l. l ++ up.later) (ap events_in (sym pre.1) ∙ events_both seen pre.0) ∙ append_assoc (events_in seen) (events_in pre.0) up.later;
+  front = batch_events seen;
+  later = batch_events pre.0 ++ up.later;
+  begins = up.begins ∙ ap (λ l. l ++ up.later) (ap batch_events (sym pre.1) ∙ events_both seen pre.0) ∙ append_assoc (batch_events seen) (batch_events pre.0) up.later;
   ends = batches_end (length values) seen batches;
   cycle = is.cycle ∙ ap (λ f. f.cycle) kept;
   total = is.total ∙ ap (λ f. f.total) kept;
 }
 
 pub shows : (conductor : List Event) (all told : List (List Event)) (times : ℕ) (m n o : MonitorState) (glance look : LookLine) → IsUpTo 0 conductor all → length all ≡ m.most → 1 ≤ times → LookedTimes times m n → IsLineOf n glance
-    → IsPrefix all told → Looked (record n { told = told }) o → IsLineOf o look → ShowsFront m.values conductor glance × ShowsFront m.values conductor look × (look.cycle ≡ starts conductor)
+    → IsPrefix all told → HasLooked (record n { told = told }) o → IsLineOf o look → ShowsFront m.values conductor glance × ShowsFront m.values conductor look × (look.cycle ≡ starts conductor)
 shows conductor all told times m n o glance look up full some t g pre l s =
     let values : n.values ≡ m.values = ap (λ x. x.values) t.same in
     let most : n.most ≡ m.most = ap (λ x. x.most) t.same in
     let whole : all ≡ o.seen = prefix_whole all o.seen (prefix_trans all told o.seen pre l.told) (let few = l.few in omega arith) in
-    let kept : o.kept ≡ frame_of m.values (events_in all) = l.kept ∙ (λ i. frame_of (values i) (events_in (sym whole i))) in
+    let kept : o.kept ≡ frame_of m.values (batch_events all) = l.kept ∙ (λ i. frame_of (values i) (batch_events (sym whole i))) in
     let batches : All (IsBatch (length m.values)) all = subst (All (IsBatch (length m.values))) (sym whole) (subst (λ (v : List ℕ). All (IsBatch (length v)) o.seen) values l.batches) in (
       front_shown m.values conductor all n.seen n glance up (subst (IsPrefix n.seen) (sym whole) l.seen) (t.batches (omega arith)) (t.kept (omega arith)) g,
       front_shown m.values conductor all all o look up (prefix_self all) batches kept s,
-      s.cycle ∙ ap (λ f. f.cycle) kept ∙ (let a = ap starts up.begins ∙ starts_append (events_in all) up.later in let z = up.rest in omega arith),
+      s.cycle ∙ ap (λ f. f.cycle) kept ∙ (let a = ap starts up.begins ∙ starts_append (batch_events all) up.later in let z = up.rest in omega arith),
     )

@@ -11,15 +11,15 @@ use Rattle.air_model.specs.Programs.{program as slots_of}
 use Rattle.air_model.specs.Decks.{Deck, IsDeck, disks_in, rates_in, values_in}
 use Rattle.air_model.specs.Aired.{Air, air_of, buckets_of}
 use Rattle.air_model.proofs.ItemOrder.{cut_items, length-order}
-use Rattle.air_devices.specs.Masts.{Changes, Masted, Sent, with_buckets}
+use Rattle.air_devices.specs.Masts.{Changes, MastState, SentBuckets, with_buckets}
 use Rattle.air_sender.specs.AirFaults.{FailedAt}
 use Rattle.station.specs.PassStates.{PassState}
-use Rattle.cycle_snapshot.specs.Batches.{IsBatch, events_in}
+use Rattle.cycle_snapshot.specs.Batches.{IsBatch, batch_events}
 use Rattle.cycle_snapshot.specs.SnapshotStates.{PublisherState}
 use Rattle.update_commit.proofs.EventLemmas.{starts_none}
 use Rattle.air_model.specs.Batches.{AirsByBatches, EndsWithStart}
 use Rattle.air_model.proofs.BatchLemmas.{airs_by_batches}
-use Rattle.deck_runs.specs.Published.{AreInStep, IsUpTo, PublishesOn}
+use Rattle.deck_runs.specs.PublishedBatches.{AreInStep, IsUpTo, PublishesOn}
 use Rattle.deck_runs.specs.Sendings.{FailsAfter, IsAirOf, SendsCycles, SendsPart, SendsUpTo, bytes_aired}
 use Rattle.deck_runs.specs.declared.jobs.conductors.ConductFault.{ConductFault}
 use Rattle.deck_runs.specs.declared.jobs.conductors.ConductFault.TheVariants as fault
@@ -41,12 +41,12 @@ new_in_step p f b values pv ps fv fb is = record {
   values = fv ∙ sym pv;
   published = record {
     later = [];
-    begins = ps ∙ ap (λ bs. events_in bs ++ []) (sym fb);
-    ends = inl (ap events_in fb);
+    begins = ps ∙ ap (λ bs. batch_events bs ++ []) (sym fb);
+    ends = inl (ap batch_events fb);
     rest = starts_none;
     count = let a = ap length fb in let b = ap starts ps ∙ starts_none in omega arith;
   };
-  board = is ∙ (λ i. board_of (sym pv i) (events_in (sym fb i)));
+  board = is ∙ (λ i. board_of (sym pv i) (batch_events (sym fb i)));
 }
 
 -- The deck's air is of its values, its policy and its slots.
@@ -66,10 +66,10 @@ module _ (values : List ℕ) (air : Air) (G H : List Event) (none : G ≡ []) wh
   more_is : (more : List (List ℕ)) → bytes_aired values air H ≡ bytes_aired values air G ++ more → more ≡ bytes_aired values air H
   more_is more e = sym (e ∙ ap (λ l. bytes_aired values air l ++ more) none ∙ ap (λ l. l ++ more) (none_aired values air))
 
-  pub all_sent : (n : ℕ) (o q : Option Sent) → SendsCycles values air n G H o q → Changes (with_buckets (bytes_aired values air H)) o q
+  pub all_sent : (n : ℕ) (o q : Option SentBuckets) → SendsCycles values air n G H o q → Changes (with_buckets (bytes_aired values air H)) o q
   all_sent n o q s = subst (λ l. Changes (with_buckets l) o q) (more_is s.more s.aired) s.sent
 
-  pub part_sent : {M : Type 0} (state : M → Masted) (n : ℕ) (o q : M) → FailsAfter state values air n G H o q → FailedAt state n (bytes_aired values air H) o q
+  pub part_sent : {M : Type 0} (state : M → MastState) (n : ℕ) (o q : M) → FailsAfter state values air n G H o q → FailedAt state n (bytes_aired values air H) o q
   part_sent state n o q s = subst (λ l. FailedAt state n l o q) (more_is s.more s.aired) s.failed
 
 -- ---- what a run says of its deck
@@ -96,11 +96,11 @@ pub run_few : (p q : PassState) (g : PublisherState) (b : Board) (n cycles : ℕ
 run_few p q g b n cycles (Ok x) new same h k = let none = ap starts new ∙ starts_none in let count = h.1 in omega arith
 run_few p q g b n cycles (Err e) new same h k = let none = ap starts new ∙ starts_none in let count = k in omega arith
 
-module _ {M : Type 0} (state : M → Masted) (deck : Deck) (p q : PassState) (f g : PublisherState) (n : ℕ) (before now : M) (values : p.values ≡ values_in deck) (new : p.seen ≡ []) (none : f.batches ≡ []) where
+module _ {M : Type 0} (state : M → MastState) (deck : Deck) (p q : PassState) (f g : PublisherState) (n : ℕ) (before now : M) (values : p.values ≡ values_in deck) (new : p.seen ≡ []) (none : f.batches ≡ []) where
   pub run_aired : (r : Result (Unit {0}) ConductFault)
       → MatchResult r (λ _. SendsCycles p.values (air_of deck) n p.seen q.seen (state before).told (state now).told) (SendsUpTo state p.values (air_of deck) n p q f g before now)
       → MatchResult r (λ _. Changes (with_buckets (bytes_aired (values_in deck) (air_of deck) q.seen)) (state before).told (state now).told) (SendsPart state deck q.seen g.batches before now)
   run_aired (Ok x) h = subst (λ v. Changes (with_buckets (bytes_aired v (air_of deck) q.seen)) (state before).told (state now).told) values (all_sent p.values (air_of deck) p.seen q.seen new n (state before).told (state now).told h)
   run_aired (Err (fault.Mast sent)) h = subst (λ v. FailedAt state sent (bytes_aired v (air_of deck) q.seen) before now) values (part_sent p.values (air_of deck) p.seen q.seen new state sent before now h)
-  run_aired (Err fault.NoMemory) h = subst (λ v. Changes (with_buckets (bytes_aired v (air_of deck) (events_in g.batches))) (state before).told (state now).told) values
-      (all_sent p.values (air_of deck) (events_in f.batches) (events_in g.batches) (ap events_in none) h.0 (state before).told (state now).told h.2)
+  run_aired (Err fault.NoMemory) h = subst (λ v. Changes (with_buckets (bytes_aired v (air_of deck) (batch_events g.batches))) (state before).told (state now).told) values
+      (all_sent p.values (air_of deck) (batch_events f.batches) (batch_events g.batches) (ap batch_events none) h.0 (state before).told (state now).told h.2)

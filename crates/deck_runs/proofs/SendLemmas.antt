@@ -8,25 +8,25 @@ use Rattle.air_history.specs.Histories.{is_start, starts}
 use Rattle.air_model.specs.Buckets.{spelling}
 use Rattle.air_model.specs.Aired.{Air, bucket_of, buckets_of}
 use Rattle.air_devices.specs.Counts.{Rose}
-use Rattle.air_devices.specs.Masts.{Changes, Masted, Sent, with_buckets}
+use Rattle.air_devices.specs.Masts.{Changes, MastState, SentBuckets, with_buckets}
 use Rattle.air_sender.specs.AirFaults.{FailedAt, IsAirAnswer, failed_slot}
 use Rattle.air_sender.specs.declared.airing.AirFault.{AirFault}
 use Rattle.air_sender.specs.declared.airing.AirFault.TheVariants as fault
-use Rattle.air_sender.specs.BoardBuckets.{last_bytes, last_cycle}
-use Rattle.air_sender.proofs.GrowFacts.{grow}
-use Rattle.air_sender.proofs.SendFacts.{sent_none}
-use Rattle.cycle_snapshot.specs.Batches.{IsBatch, events_in}
+use Rattle.air_sender.specs.BoardBuckets.{last_bytes, last_cycle_buckets}
+use Rattle.air_sender.proofs.GrowLemmas.{grow}
+use Rattle.air_sender.proofs.SendLemmas.{sent_none}
+use Rattle.cycle_snapshot.specs.Batches.{IsBatch, batch_events}
 use Rattle.cycle_snapshot.proofs.BatchLemmas.{events_more}
 use Rattle.air_base.specs.declared.verdicts.Policy.{Policy}
 use Rattle.air_history.specs.Boards.{Board, board_of}
 use Rattle.air_sender.specs.BoardBuckets.{IsLastBoard, cycle_bytes}
-use Rattle.air_sender.proofs.SendFacts.{length_cycle}
+use Rattle.air_sender.proofs.SendLemmas.{length_cycle}
 use Rattle.station.specs.PassStates.{PassState}
 use Rattle.cycle_snapshot.specs.SnapshotStates.{PublisherState}
 use Rattle.cycle_snapshot.proofs.BatchLemmas.{starts_append}
 use Rattle.deck_runs.proofs.CycleLemmas.{starts_head, starts_one}
-use Rattle.deck_runs.specs.Steps.CycleSteps.{AddsBatch}
-use Rattle.deck_runs.specs.Published.{AreInStep, GoesOn, IsUpTo}
+use Rattle.deck_runs.specs.Private.CycleSteps.{AddsBatch}
+use Rattle.deck_runs.specs.PublishedBatches.{AreInStep, GoesOn, IsUpTo}
 use Rattle.deck_runs.specs.Sendings.{FailsAfter, IsAirOf, SendsCycles, bytes_aired}
 
 -- ---- what a history airs
@@ -41,40 +41,40 @@ quiet_buckets values air F (Commit by seq u ∷ o) h =
     ap (buckets_of values air) (sym (append_assoc F (e ∷ []) o)) ∙ quiet_buckets values air (F ++ e ∷ []) o (let a = starts_head e o in omega arith)
     ∙ grow values air F e ∙ append-nil (buckets_of values air F)
 
-start_buckets : (values : List ℕ) (air : Air) (G : List Event) → buckets_of values air (G ++ Start ∷ []) ≡ buckets_of values air G ++ last_cycle values air (G ++ Start ∷ [])
+start_buckets : (values : List ℕ) (air : Air) (G : List Event) → buckets_of values air (G ++ Start ∷ []) ≡ buckets_of values air G ++ last_cycle_buckets values air (G ++ Start ∷ [])
 unfolding is_start
 start_buckets values air G = grow values air G Start
 
 -- The list before the start of a batch that comes behind the others.
 abbrev pub front_of : (n : ℕ) (bs : List (List Event)) (batch : List Event) → IsBatch n batch → List Event
-front_of n bs batch is = events_in bs ++ is.ends.0
+front_of n bs batch is = batch_events bs ++ is.ends.0
 
-pub front_starts : (n : ℕ) (bs : List (List Event)) (batch : List Event) (is : IsBatch n batch) → events_in (bs ++ batch ∷ []) ≡ front_of n bs batch is ++ Start ∷ []
-front_starts n bs batch is = events_more bs batch ∙ ap (λ l. events_in bs ++ l) is.ends.1 ∙ sym (append_assoc (events_in bs) is.ends.0 (Start ∷ []))
+pub front_starts : (n : ℕ) (bs : List (List Event)) (batch : List Event) (is : IsBatch n batch) → batch_events (bs ++ batch ∷ []) ≡ front_of n bs batch is ++ Start ∷ []
+front_starts n bs batch is = events_more bs batch ∙ ap (λ l. batch_events bs ++ l) is.ends.1 ∙ sym (append_assoc (batch_events bs) is.ends.0 (Start ∷ []))
 
 -- One batch more airs its cycle.
 pub batch_bytes : (values : List ℕ) (air : Air) (n : ℕ) (bs : List (List Event)) (batch : List Event) (is : IsBatch n batch) →
-    bytes_aired values air (events_in (bs ++ batch ∷ [])) ≡ bytes_aired values air (events_in bs) ++ last_bytes values air (front_of n bs batch is)
+    bytes_aired values air (batch_events (bs ++ batch ∷ [])) ≡ bytes_aired values air (batch_events bs) ++ last_bytes values air (front_of n bs batch is)
 batch_bytes values air n bs batch is =
     let G = front_of n bs batch is in
-    ap (bytes_aired values air) (front_starts n bs batch is) ∙ ap (map spelling) (start_buckets values air G ∙ ap (λ l. l ++ last_cycle values air (G ++ Start ∷ [])) (quiet_buckets values air (events_in bs) is.ends.0 is.ends.2))
-    ∙ map-append spelling (buckets_of values air (events_in bs)) (last_cycle values air (G ++ Start ∷ []))
+    ap (bytes_aired values air) (front_starts n bs batch is) ∙ ap (map spelling) (start_buckets values air G ∙ ap (λ l. l ++ last_cycle_buckets values air (G ++ Start ∷ [])) (quiet_buckets values air (batch_events bs) is.ends.0 is.ends.2))
+    ∙ map-append spelling (buckets_of values air (batch_events bs)) (last_cycle_buckets values air (G ++ Start ∷ []))
 
 pub length_last : (values : List ℕ) (air : Air) (G : List Event) → length (last_bytes values air G) ≡ length air.slots
 length_last values air G =
-    length-map (last_cycle values air (G ++ Start ∷ [])) spelling ∙ length-map-range_with_len (bucket_of values air (G ++ Start ∷ []) (starts (G ++ Start ∷ []))) 0 (length air.slots)
+    length-map (last_cycle_buckets values air (G ++ Start ∷ [])) spelling ∙ length-map-range_with_len (bucket_of values air (G ++ Start ∷ []) (starts (G ++ Start ∷ []))) 0 (length air.slots)
 
 -- What is published airs all that was seen, where no start is behind.
-pub seen_bytes : (values : List ℕ) (air : Air) (seen : List Event) (bs : List (List Event)) → IsUpTo 0 seen bs → bytes_aired values air seen ≡ bytes_aired values air (events_in bs)
-seen_bytes values air seen bs up = ap (bytes_aired values air) up.begins ∙ ap (map spelling) (quiet_buckets values air (events_in bs) up.later up.rest)
+pub seen_bytes : (values : List ℕ) (air : Air) (seen : List Event) (bs : List (List Event)) → IsUpTo 0 seen bs → bytes_aired values air seen ≡ bytes_aired values air (batch_events bs)
+seen_bytes values air seen bs up = ap (bytes_aired values air) up.begins ∙ ap (map spelling) (quiet_buckets values air (batch_events bs) up.later up.rest)
 
 -- ---- what a mast tells
 
-pub changes_more : (xs ys : List (List ℕ)) (o p q : Option Sent) → Changes (with_buckets xs) o p → Changes (with_buckets ys) p q → Changes (with_buckets (xs ++ ys)) o q
+pub changes_more : (xs ys : List (List ℕ)) (o p q : Option SentBuckets) → Changes (with_buckets xs) o p → Changes (with_buckets ys) p q → Changes (with_buckets (xs ++ ys)) o q
 changes_more xs ys None p q a b = tt
 changes_more xs ys (Some s) p q a b =
     let both : q ≡ Some (record { buckets = (s.buckets ++ xs) ++ ys; ended = s.ended }) = subst (λ p. Changes (with_buckets ys) p q) a b in
-    both ∙ ap (λ (l : List (List ℕ)). let t : Sent = record { buckets = l; ended = s.ended } in Some t) (append_assoc s.buckets xs ys)
+    both ∙ ap (λ (l : List (List ℕ)). let t : SentBuckets = record { buckets = l; ended = s.ended } in Some t) (append_assoc s.buckets xs ys)
 
 -- ---- how many
 
@@ -84,7 +84,7 @@ few_sent k s n a b c = let p : k * s ≤ 4294967296 * s = mul-le-mul_right s (om
 -- ---- cycles that were sent
 
 module _ (values : List ℕ) (air : Air) where
-  pub sends_none : (G H : List Event) (o q : Option Sent) → H ≡ G → q ≡ o → SendsCycles values air 0 G H o q
+  pub sends_none : (G H : List Event) (o q : Option SentBuckets) → H ≡ G → q ≡ o → SendsCycles values air 0 G H o q
   sends_none G H o q same is = record {
     more = [];
     aired = ap (bytes_aired values air) same ∙ sym (append-nil (bytes_aired values air G));
@@ -92,7 +92,7 @@ module _ (values : List ℕ) (air : Air) where
     sent = subst (λ q. Changes (with_buckets []) o q) (sym is) (sent_none o);
   }
 
-  pub sends_further : (m n : ℕ) (G H K : List Event) (o p q : Option Sent) → SendsCycles values air m G H o p → SendsCycles values air n H K p q → SendsCycles values air (m + n) G K o q
+  pub sends_further : (m n : ℕ) (G H K : List Event) (o p q : Option SentBuckets) → SendsCycles values air m G H o p → SendsCycles values air n H K p q → SendsCycles values air (m + n) G K o q
   sends_further m n G H K o p q a b = record {
     more = a.more ++ b.more;
     aired = b.aired ∙ ap (λ l. l ++ b.more) a.aired ∙ append_assoc (bytes_aired values air G) a.more b.more;
@@ -101,15 +101,15 @@ module _ (values : List ℕ) (air : Air) where
   }
 
   -- The lists may be told otherwise, where they air the same.
-  pub sends_as : (n : ℕ) (G H K L : List Event) (o q : Option Sent) → bytes_aired values air K ≡ bytes_aired values air G → bytes_aired values air L ≡ bytes_aired values air H → SendsCycles values air n G H o q → SendsCycles values air n K L o q
+  pub sends_as : (n : ℕ) (G H K L : List Event) (o q : Option SentBuckets) → bytes_aired values air K ≡ bytes_aired values air G → bytes_aired values air L ≡ bytes_aired values air H → SendsCycles values air n G H o q → SendsCycles values air n K L o q
   sends_as n G H K L o q same too s = record { more = s.more; aired = too ∙ s.aired ∙ ap (λ l. l ++ s.more) (sym same); count = s.count; sent = s.sent }
 
-  pub fails_as : {M : Type 0} (state : M → Masted) (n : ℕ) (G H K L : List Event) (o q : M) → bytes_aired values air K ≡ bytes_aired values air G → bytes_aired values air L ≡ bytes_aired values air H
+  pub fails_as : {M : Type 0} (state : M → MastState) (n : ℕ) (G H K L : List Event) (o q : M) → bytes_aired values air K ≡ bytes_aired values air G → bytes_aired values air L ≡ bytes_aired values air H
       → FailsAfter state values air n G H o q → FailsAfter state values air n K L o q
   fails_as state n G H K L o q same too s = record { more = s.more; aired = too ∙ s.aired ∙ ap (λ l. l ++ s.more) (sym same); failed = s.failed }
 
   -- After so many cycles the mast failed.
-  pub fails_further : {M : Type 0} (state : M → Masted) (k s : ℕ) (G H K : List Event) (o p q : M) → SendsCycles values air k G H (state o).told (state p).told → (state p).faults ≡ (state o).faults → (state p).port ≡ (state o).port
+  pub fails_further : {M : Type 0} (state : M → MastState) (k s : ℕ) (G H K : List Event) (o p q : M) → SendsCycles values air k G H (state o).told (state p).told → (state p).faults ≡ (state o).faults → (state p).port ≡ (state o).port
       → FailsAfter state values air s H K p q → FailsAfter state values air (k * length air.slots + s) G K o q
   fails_further state k s G H K o p q a calm port b =
       let f = b.failed in
@@ -143,11 +143,11 @@ module _ (p q : PassState) (f g : PublisherState) (b : Board) (on : GoesOn p q) 
   batches : g.batches ≡ f.batches ++ adds.0 ∷ []
   batches = ap (λ x. x.batches) adds.1
 
-  pub ends : events_in g.batches ≡ front ++ Start ∷ []
-  ends = ap events_in batches ∙ front_starts (length f.values) f.batches adds.0 adds.2
+  pub ends : batch_events g.batches ≡ front ++ Start ∷ []
+  ends = ap batch_events batches ∙ front_starts (length f.values) f.batches adds.0 adds.2
 
   pub last : b ≡ board_of p.values (front ++ Start ∷ [])
-  last = step.board ∙ ap (λ (x : PassState). board_of x.values (events_in g.batches)) on.same ∙ ap (board_of p.values) ends
+  last = step.board ∙ ap (λ (x : PassState). board_of x.values (batch_events g.batches)) on.same ∙ ap (board_of p.values) ends
 
   pub started : 1 ≤ b.cycle
   started = let c = ap (λ x. x.cycle) last in let a = starts_append front (Start ∷ []) in let one = starts_one in omega arith
@@ -156,16 +156,16 @@ module _ (p q : PassState) (f g : PublisherState) (b : Board) (on : GoesOn p q) 
     pub last_board : IsLastBoard p.values air front policy slots b
     last_board = record { board = last; items = is.items; policy = is.policy_is; slots = is.slots_are }
 
-    bytes : bytes_aired p.values air (events_in g.batches) ≡ bytes_aired p.values air (events_in f.batches) ++ last_bytes p.values air front
-    bytes = ap (λ bs. bytes_aired p.values air (events_in bs)) batches ∙ batch_bytes p.values air (length f.values) f.batches adds.0 adds.2
+    bytes : bytes_aired p.values air (batch_events g.batches) ≡ bytes_aired p.values air (batch_events f.batches) ++ last_bytes p.values air front
+    bytes = ap (λ bs. bytes_aired p.values air (batch_events bs)) batches ∙ batch_bytes p.values air (length f.values) f.batches adds.0 adds.2
 
     -- all of its buckets were sent
-    pub cycle_sent : (o q : Option Sent) → Changes (with_buckets (last_bytes p.values air front)) o q → SendsCycles p.values air 1 (events_in f.batches) (events_in g.batches) o q
+    pub cycle_sent : (o q : Option SentBuckets) → Changes (with_buckets (last_bytes p.values air front)) o q → SendsCycles p.values air 1 (batch_events f.batches) (batch_events g.batches) o q
     cycle_sent o q sent = record { more = last_bytes p.values air front; aired = bytes; count = length_last p.values air front ∙ sym (one-mul (length air.slots)); sent = sent }
 
     -- or those before the one at which the mast failed
-    pub cycle_failed : {M : Type 0} (state : M → Masted) (slot : ℕ) (before now : M) → Changes (with_buckets (take slot (last_bytes p.values air front))) (state before).told (state now).told
-        → FailedAt state slot (cycle_bytes policy slots b) before now → FailsAfter state p.values air slot (events_in f.batches) (events_in g.batches) before now
+    pub cycle_failed : {M : Type 0} (state : M → MastState) (slot : ℕ) (before now : M) → Changes (with_buckets (take slot (last_bytes p.values air front))) (state before).told (state now).told
+        → FailedAt state slot (cycle_bytes policy slots b) before now → FailsAfter state p.values air slot (batch_events f.batches) (batch_events g.batches) before now
     cycle_failed state slot before now sent failed = record {
       more = last_bytes p.values air front;
       aired = bytes;
@@ -180,13 +180,13 @@ module _ (p q : PassState) (f g : PublisherState) (b : Board) (on : GoesOn p q) 
       };
     }
 
-    pub cycle_failed_by : {M : Type 0} (state : M → Masted) (e : AirFault) (n : ℕ) (before now : M) → n ≡ failed_slot e → Changes (with_buckets (take (failed_slot e) (last_bytes p.values air front))) (state before).told (state now).told
-        → IsAirAnswer state (cycle_bytes policy slots b) before now e → FailsAfter state p.values air n (events_in f.batches) (events_in g.batches) before now
+    pub cycle_failed_by : {M : Type 0} (state : M → MastState) (e : AirFault) (n : ℕ) (before now : M) → n ≡ failed_slot e → Changes (with_buckets (take (failed_slot e) (last_bytes p.values air front))) (state before).told (state now).told
+        → IsAirAnswer state (cycle_bytes policy slots b) before now e → FailsAfter state p.values air n (batch_events f.batches) (batch_events g.batches) before now
     cycle_failed_by state (fault.Mast slot) n before now is sent failed =
-        subst (λ m. FailsAfter state p.values air m (events_in f.batches) (events_in g.batches) before now) (sym is) (cycle_failed state slot before now sent failed)
+        subst (λ m. FailsAfter state p.values air m (batch_events f.batches) (batch_events g.batches) before now) (sym is) (cycle_failed state slot before now sent failed)
 
-pub within_cycle : {M : Type 0} (state : M → Masted) (by : Policy) (slots : List (Option ℕ)) (b : Board) (e : AirFault) (n : ℕ) (before now : M) → n ≡ failed_slot e → IsAirAnswer state (cycle_bytes by slots b) before now e → n < length slots
+pub within_cycle : {M : Type 0} (state : M → MastState) (by : Policy) (slots : List (Option ℕ)) (b : Board) (e : AirFault) (n : ℕ) (before now : M) → n ≡ failed_slot e → IsAirAnswer state (cycle_bytes by slots b) before now e → n < length slots
 within_cycle state by slots b (fault.Mast slot) n before now is failed = let w = failed.within in let l = length_cycle by slots b in omega arith
 
-pub rose_by : {M : Type 0} (state : M → Masted) (bs : List (List ℕ)) (e : AirFault) (before now : M) → IsAirAnswer state bs before now e → Rose (state before).faults (state now).faults
+pub rose_by : {M : Type 0} (state : M → MastState) (bs : List (List ℕ)) (e : AirFault) (before now : M) → IsAirAnswer state bs before now e → Rose (state before).faults (state now).faults
 rose_by state bs (fault.Mast slot) before now failed = subst (λ n. Rose n (state now).faults) failed.calm failed.rose

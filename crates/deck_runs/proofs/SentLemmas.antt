@@ -8,19 +8,19 @@ use Rattle.air_model.specs.Aired.{air_of, buckets_of}
 use Rattle.air_model.specs.Buckets.{spelling}
 use Rattle.air_model.specs.Closings.{GoesOnWithout}
 use Rattle.air_model.specs.Decks.{Deck, IsLegal, IsWhole, values_in}
-use Rattle.air_devices.specs.Masts.{Changes, Masted, Sent, with_buckets}
+use Rattle.air_devices.specs.Masts.{Changes, MastState, SentBuckets, with_buckets}
 use Rattle.air_sender.specs.AirFaults.{FailedAt}
-use Rattle.cycle_snapshot.specs.Batches.{events_in}
-use Rattle.deck_runs.specs.Published.{IsPublishedUpTo, IsUpTo}
+use Rattle.cycle_snapshot.specs.Batches.{batch_events}
+use Rattle.deck_runs.specs.PublishedBatches.{IsPublishedUpTo, IsUpTo}
 use Rattle.deck_runs.specs.Sendings.{IsCause, SendsPart}
 use Rattle.deck_runs.specs.declared.jobs.conductors.ConductFault.{ConductFault}
 use Rattle.deck_runs.specs.declared.jobs.conductors.ConductFault.TheVariants as fault
 use Rattle.air_model.proofs.AiringLemmas.{more_buckets, same_buckets}
 use Rattle.air_model.proofs.BeyondLemmas.{whole_beyond}
-use Rattle.air_model.proofs.StartFacts.{starts_none}
+use Rattle.air_model.proofs.StartLemmas.{starts_none}
 use Rattle.deck_runs.specs.DeckBytes.{deck_bytes}
 use Rattle.deck_runs.specs.RunAnswers.{FailsInRun, IsRunAnswer, SendsFirst, run_fault}
-use Rattle.deck_runs.specs.Steps.StageSteps.{BeginsWhole, IsSeenAnswer, SendsFront}
+use Rattle.deck_runs.specs.Private.StageSteps.{BeginsWhole, IsSeenAnswer, SendsFront}
 
 -- ---- more of a history airs more bytes
 
@@ -43,11 +43,11 @@ same_bytes deck seen H (others, is, none) = ap (deck_bytes deck) is ∙ ap (map 
 
 -- ---- what the conductor's answer says
 
-module _ {M : Type 0} (state : M → Masted) (deck : Deck) (before now : M) where
+module _ {M : Type 0} (state : M → MastState) (deck : Deck) (before now : M) where
   -- Of what was published, or of nothing.
-  seen_part : (seen : List Event) (batches : List (List Event)) (behind : ℕ) → IsUpTo behind seen batches → Changes (with_buckets (deck_bytes deck (events_in batches))) (state before).told (state now).told
+  seen_part : (seen : List Event) (batches : List (List Event)) (behind : ℕ) → IsUpTo behind seen batches → Changes (with_buckets (deck_bytes deck (batch_events batches))) (state before).told (state now).told
       → (state now).faults ≡ (state before).faults → SendsFront state deck seen before now
-  seen_part seen batches behind up sent calm = record { front = events_in batches; later = up.later; begins = up.begins; sent = sent; calm = calm }
+  seen_part seen batches behind up sent calm = record { front = batch_events batches; later = up.later; begins = up.begins; sent = sent; calm = calm }
 
   pub seen_answer : (seen : List Event) (batches : List (List Event)) (e : ConductFault) → IsPublishedUpTo seen batches e → SendsPart state deck seen batches before now e → IsCause (state before).faults (state now).faults e
       → IsSeenAnswer state deck seen before now e
@@ -103,7 +103,7 @@ module _ {M : Type 0} (state : M → Masted) (deck : Deck) (before now : M) wher
   fault_answer seen fault.NoMemory begins f = sends_first seen begins f
 
 -- Where all was sent and no call failed.
-pub all_sent : {M : Type 0} (state : M → Masted) (deck : Deck) (before now : M) (seen : List Event) → Changes (with_buckets (deck_bytes deck seen)) (state before).told (state now).told → (state now).faults ≡ (state before).faults → SendsFront state deck seen before now
+pub all_sent : {M : Type 0} (state : M → MastState) (deck : Deck) (before now : M) (seen : List Event) → Changes (with_buckets (deck_bytes deck seen)) (state before).told (state now).told → (state now).faults ≡ (state before).faults → SendsFront state deck seen before now
 all_sent state deck before now seen sent calm = record { front = seen; later = []; begins = sym (append-nil seen); sent = sent; calm = calm }
 
 -- ---- before all events
@@ -111,11 +111,11 @@ all_sent state deck before now seen sent calm = record { front = seen; later = [
 legal_none : (deck : Deck) → IsLegal deck []
 legal_none deck p by seq update e = cc
 
-unchanged : (told : Option Sent) (l : List (List ℕ)) → l ≡ [] → Changes (with_buckets l) told told
+unchanged : (told : Option SentBuckets) (l : List (List ℕ)) → l ≡ [] → Changes (with_buckets l) told told
 unchanged None l e = tt
 unchanged (Some s) l e = ap (λ (b : List (List ℕ)). Some (record s { buckets = b })) (sym (ap (λ m. s.buckets ++ m) e ∙ append-nil s.buckets))
 
-pub sends_nothing : {M : Type 0} (state : M → Masted) (deck : Deck) (m : M) → SendsFirst state deck m m
+pub sends_nothing : {M : Type 0} (state : M → MastState) (deck : Deck) (m : M) → SendsFirst state deck m m
 sends_nothing state deck m =
     let more = whole_beyond deck [] (legal_none deck) (let none = starts_none in omega arith) in
     record {

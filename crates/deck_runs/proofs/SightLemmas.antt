@@ -15,12 +15,12 @@ use Rattle.deck_runs.specs.declared.jobs.crews.MonitorRun.{MonitorRun}
 use Rattle.deck_runs.specs.declared.jobs.TheConstants.{LOOKS}
 use Rattle.deck_runs.specs.Crews.{EachWatched, GivesLine, IsWatched, monitors_of}
 use Rattle.deck_runs.specs.Looks.{ShowsFront}
-use Rattle.deck_runs.specs.Published.{IsUpTo, PublishesOn}
+use Rattle.deck_runs.specs.PublishedBatches.{IsUpTo, PublishesOn}
 use Rattle.deck_runs.proofs.LookLemmas.{shows}
-use Rattle.air_model.specs.Fronts.{AreGlances, AreLooks, IsSeen}
+use Rattle.air_model.specs.MonitorSights.{AreGlances, AreLooks, IsSeen}
 use Rattle.air_model.proofs.ClosingLemmas.{own_starts}
 use Rattle.air_model.proofs.FrameLemmas.{frame}
-use Rattle.deck_runs.specs.Steps.SightSteps.{AreAllSights, AreSights}
+use Rattle.deck_runs.specs.Private.SightSteps.{AreAllSights, AreSights}
 
 -- A watcher's monitor stays its publisher's.
 same_publisher : (looks : ℕ) (m n : MonitorState) (line : Option LookLine) → GivesLine looks m n line → n.publisher ≡ m.publisher

@@ -4,7 +4,7 @@ use Rattle.std.specs.Prelude.{slice_get, Contains, MatchBool, vec_capacity}
 use Rattle.std.proofs.lemmas.Option.{slice_get-get_or, slice_get_cases, slice_get_within, get_or_from_slice_get}
 use Rattle.std.proofs.lemmas.List.{get_or-map, length-map}
 use Rattle.std.proofs.lemmas.List.Elements.{All-map}
-use Rattle.turnstile.specs.Passes.{GateId}
+use Rattle.turnstile.specs.Passes.{TurnstileId}
 use Rattle.air_history.specs.declared.histories.Event.{Event}
 use Rattle.air_history.specs.Boards.{board_of}
 use Rattle.air_model.specs.Decks.{Deck, updates_by, values_in}
@@ -12,12 +12,12 @@ use Rattle.air_model.specs.DeckLaws.{commits_from, made_by}
 use Rattle.bucket_codec.specs.declared.offsets.TheConstants.{ENTRY_BYTES, HEAD_BYTES}
 use Rattle.station.specs.PassStates.{PassState, new_pass, numbers_of, with_seen}
 use Rattle.deck_runs.specs.declared.jobs.crews.UpdaterRun.{UpdaterRun}
-use Rattle.deck_runs.specs.Crews.{EachDone, IsDone, IsReady, passes_of}
-use Rattle.deck_runs.specs.Steps.StageSteps.{AreNew, HasEnded, HaveEnded, IsStage}
+use Rattle.deck_runs.specs.Crews.{EachDone, HasMadeUpdates, HasNewPass, passes_of}
+use Rattle.deck_runs.specs.Private.StageSteps.{AreNewUpdaters, HasEndedUpdates, HaveEnded, IsStage}
 use Rattle.deck_runs.specs.declared.threads.stages.Stage.{Stage}
 
-pub all_ready : (station : GateId) (deck : Deck) (runs : List UpdaterRun) → AreNew station deck runs → All (IsReady station deck) runs
-unfolding IsReady
+pub all_ready : (station : TurnstileId) (deck : Deck) (runs : List UpdaterRun) → AreNewUpdaters station deck runs → All (HasNewPass station deck) runs
+unfolding HasNewPass
 all_ready station deck runs new k d l =
     let is = new.each k (get_or runs k d) (slice_get-get_or runs k d l) in
     let number : (get_or runs k d).pass.number ≡ k = ap (λ (p : PassState). p.number) is in
@@ -29,28 +29,28 @@ MadeBy deck done seen by = MatchBool done
     (made_by by seen ≡ commits_from by 0 (updates_by deck by))
     ((n : ℕ) × (n < length (updates_by deck by)) × (made_by by seen ≡ commits_from by 0 (take n (updates_by deck by))))
 
-has_ended : (station : GateId) (deck : Deck) (by : ℕ) (run now : UpdaterRun) → run.pass ≡ new_pass station deck by → IsDone deck run now → HasEnded station deck by now
-unfolding IsDone
+has_ended : (station : TurnstileId) (deck : Deck) (by : ℕ) (run now : UpdaterRun) → run.pass ≡ new_pass station deck by → HasMadeUpdates deck run now → HasEndedUpdates station deck by now
+unfolding HasMadeUpdates
 has_ended station deck by run now new done = record {
   pass = done.0 ∙ ap (λ p. with_seen p now.pass.seen) new;
   made = subst (MadeBy deck now.done now.pass.seen) (ap (λ (p : PassState). p.number) new) done.1;
 }
 
-pub have_ended : (station : GateId) (deck : Deck) (runs now : List UpdaterRun) → AreNew station deck runs → EachDone deck runs now → HaveEnded station deck now
+pub have_ended : (station : TurnstileId) (deck : Deck) (runs now : List UpdaterRun) → AreNewUpdaters station deck runs → EachDone deck runs now → HaveEnded station deck now
 have_ended station deck runs now new done = record {
   count = done.0 ∙ new.count;
   each = λ by run at.
       let within = slice_get_within now by run at in
       let l : by < length runs = let same = done.0 in omega arith in
       let was = get_or runs by run in
-      let d : IsDone deck was (get_or now by run) = done.1 by run l in
-      has_ended station deck by was run (new.each by was (slice_get-get_or runs by run l)) (subst (IsDone deck was) (get_or_from_slice_get now by run run at) d);
+      let d : HasMadeUpdates deck was (get_or now by run) = done.1 by run l in
+      has_ended station deck by was run (new.each by was (slice_get-get_or runs by run l)) (subst (HasMadeUpdates deck was) (get_or_from_slice_get now by run run at) d);
 }
 
 -- ---- their passes
 
-module _ (station : GateId) (deck : Deck) (runs : List UpdaterRun) (h : HaveEnded station deck runs) where
-  ended_at : (k : ℕ) (d : UpdaterRun) → k < length runs → HasEnded station deck k (get_or runs k d)
+module _ (station : TurnstileId) (deck : Deck) (runs : List UpdaterRun) (h : HaveEnded station deck runs) where
+  ended_at : (k : ℕ) (d : UpdaterRun) → k < length runs → HasEndedUpdates station deck k (get_or runs k d)
   ended_at k d l = h.each k (get_or runs k d) (slice_get-get_or runs k d l)
 
   -- Each pass is of the station, and its number is its place.
@@ -69,8 +69,8 @@ module _ (station : GateId) (deck : Deck) (runs : List UpdaterRun) (h : HaveEnde
   ]
 
 -- New passes, in the order of their numbers, make new updaters.
-pub new_updaters : (station : GateId) (deck : Deck) (runs : List UpdaterRun) (ps : List PassState) → passes_of runs ≡ ps → length ps ≡ length deck.updates → ((by : ℕ) (p : PassState) → slice_get ps by ≡ Some p → p ≡ new_pass station deck by)
-    → AreNew station deck runs
+pub new_updaters : (station : TurnstileId) (deck : Deck) (runs : List UpdaterRun) (ps : List PassState) → passes_of runs ≡ ps → length ps ≡ length deck.updates → ((by : ℕ) (p : PassState) → slice_get ps by ≡ Some p → p ≡ new_pass station deck by)
+    → AreNewUpdaters station deck runs
 new_updaters station deck runs ps same count each = record {
   count = sym (length-map runs pass) ∙ ap length same ∙ count;
   each = λ by run at.
@@ -84,11 +84,11 @@ new_updaters station deck runs ps same count each = record {
     pass run = run.pass
 
 -- A stage of such parts.
-pub stage_is : (deck : Deck) (s : Stage) (station : GateId) (pass : PassState) → s.station ≡ station → s.pass ≡ pass → pass ≡ new_pass station deck (length deck.updates) → AreNew station deck s.updaters.items
+pub stage_is : (deck : Deck) (s : Stage) (station : TurnstileId) (pass : PassState) → s.station ≡ station → s.pass ≡ pass → pass ≡ new_pass station deck (length deck.updates) → AreNewUpdaters station deck s.updaters.items
     → s.passes.items ≡ [] → length s.updaters.items ≤ vec_capacity s.passes → s.board ≡ board_of (values_in deck) [] → HEAD_BYTES + ENTRY_BYTES * length deck.items ≤ length s.buf.items → IsStage deck s
 stage_is deck s station pass at is new updaters none room board buffer = record {
   pass = is ∙ new ∙ ap (λ t. new_pass t deck (length deck.updates)) (sym at);
-  updaters = subst (λ t. AreNew t deck s.updaters.items) (sym at) updaters;
+  updaters = subst (λ t. AreNewUpdaters t deck s.updaters.items) (sym at) updaters;
   room = (none, room);
   board = board;
   buffer = buffer;

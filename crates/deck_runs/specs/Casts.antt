@@ -3,27 +3,27 @@ use Rattle.std.specs.Prelude.{◌≡◌, ◌≤◌, ℕ, List, length, take, Opt
 use Rattle.air_history.specs.declared.histories.Event.{Event}
 use Rattle.air_model.specs.Decks.{Deck, IsWhole}
 use Rattle.air_devices.specs.Counts.{Rose}
-use Rattle.air_devices.specs.Masts.{Changes, Masted, Sent}
+use Rattle.air_devices.specs.Masts.{Changes, MastState, SentBuckets}
 use Rattle.deck_runs.specs.DeckBytes.{deck_bytes}
 use Rattle.deck_runs.specs.declared.threads.RunFault.{RunFault}
 use Rattle.deck_runs.specs.declared.threads.RunFault.TheVariants as fault
 
 -- These buckets were sent and then the end, and nothing else.
-abbrev pub all_sent : List (List ℕ) → Sent
+abbrev pub all_sent : List (List ℕ) → SentBuckets
 all_sent buckets = record { buckets = buckets; ended = Some (length buckets) }
 
 -- The first of these buckets were sent, and no end.
-abbrev pub first_sent : ℕ → List (List ℕ) → Sent
+abbrev pub first_sent : ℕ → List (List ℕ) → SentBuckets
 first_sent count buckets = record { buckets = take count buckets; ended = None }
 
 -- So many buckets of a whole history were sent, and no end.
-pub record IsCastPart (deck : Deck) (count : ℕ) (before now : Option Sent) : Type 0 where
+pub record IsCastPart (deck : Deck) (count : ℕ) (before now : Option SentBuckets) : Type 0 where
   pub history : List Event
   pub whole : IsWhole deck history
   pub within : count ≤ length (deck_bytes deck history)
   pub sent : Changes (λ _. first_sent count (deck_bytes deck history)) before now
 
 -- What the fault of a cast says of the mast: it failed after so many buckets; without memory none of its calls failed.
-abbrev pub IsCastAnswer : Deck → Masted → Masted → RunFault → Type 0
+abbrev pub IsCastAnswer : Deck → MastState → MastState → RunFault → Type 0
 IsCastAnswer deck before now (fault.Mast sent) = Rose before.faults now.faults × IsCastPart deck sent before.told now.told
 IsCastAnswer deck before now fault.NoMemory = (now.faults ≡ before.faults) × ((count : ℕ) × IsCastPart deck count before.told now.told)

@@ -1,6 +1,6 @@
 -- Jobs before and after they ran side by side.
 use Rattle.std.specs.Prelude.{◌≡◌, ℕ, ◌<◌, List, length, map, take, get_or, MatchBool, Option, Some, None}
-use Rattle.turnstile.specs.Passes.{GateId}
+use Rattle.turnstile.specs.Passes.{TurnstileId}
 use Rattle.air_model.specs.Decks.{Deck, updates_by}
 use Rattle.air_model.specs.DeckLaws.{commits_from, made_by}
 use Rattle.air_model.specs.declared.reports.LookLine.{LookLine}
@@ -19,12 +19,12 @@ abbrev pub monitors_of : List MonitorRun → List MonitorState
 monitors_of watchers = map (λ run. run.monitor) watchers
 
 -- The pass is a new one of the station and the deck.
-unfoldable pub IsReady : GateId → Deck → UpdaterRun → Type 0
-IsReady station deck run = (run.pass ≡ new_pass station deck run.pass.number) × (run.pass.number < length deck.updates)
+unfoldable pub HasNewPass : TurnstileId → Deck → UpdaterRun → Type 0
+HasNewPass station deck run = (run.pass ≡ new_pass station deck run.pass.number) × (run.pass.number < length deck.updates)
 
 -- The pass, which is the same but for what it has seen, made all updates of its updater, or the first of them and not all.
-unfoldable pub IsDone : Deck → UpdaterRun → UpdaterRun → Type 0
-IsDone deck run now = (now.pass ≡ with_seen run.pass now.pass.seen) × MatchBool now.done
+unfoldable pub HasMadeUpdates : Deck → UpdaterRun → UpdaterRun → Type 0
+HasMadeUpdates deck run now = (now.pass ≡ with_seen run.pass now.pass.seen) × MatchBool now.done
     (made_by run.pass.number now.pass.seen ≡ commits_from run.pass.number 0 (updates_by deck run.pass.number))
     ((n : ℕ) × (n < length (updates_by deck run.pass.number)) × (made_by run.pass.number now.pass.seen ≡ commits_from run.pass.number 0 (take n (updates_by deck run.pass.number))))
 
@@ -39,7 +39,7 @@ IsWatched looks run now = GivesLine looks run.monitor now.monitor now.glance
 
 -- Each updater is done.
 abbrev pub EachDone : Deck → List UpdaterRun → List UpdaterRun → Type 0
-EachDone deck runs now = (length now ≡ length runs) × ((k : ℕ) (d : UpdaterRun) → k < length runs → IsDone deck (get_or runs k d) (get_or now k d))
+EachDone deck runs now = (length now ≡ length runs) × ((k : ℕ) (d : UpdaterRun) → k < length runs → HasMadeUpdates deck (get_or runs k d) (get_or now k d))
 
 -- Each monitor has watched.
 abbrev pub EachWatched : ℕ → List MonitorRun → List MonitorRun → Type 0

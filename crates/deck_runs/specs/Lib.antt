@@ -1,9 +1,9 @@
 pub mod Commits
-pub mod Published
+pub mod PublishedBatches
 pub mod Looks
 pub mod Crews
 pub mod Sendings
-pub mod Steps
+pub mod Private
 pub mod DeckBytes
 pub mod RunAnswers
 pub mod Casts

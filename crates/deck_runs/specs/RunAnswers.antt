@@ -2,7 +2,7 @@
 use Rattle.std.specs.Prelude.{◌≡◌, ℕ, ◌≤◌, List, length, take}
 use Rattle.air_history.specs.declared.histories.Event.{Event}
 use Rattle.air_model.specs.Decks.{Deck, IsWhole}
-use Rattle.air_devices.specs.Masts.{Changes, Masted, with_buckets}
+use Rattle.air_devices.specs.Masts.{Changes, MastState, with_buckets}
 use Rattle.air_sender.specs.AirFaults.{FailedAt}
 use Rattle.deck_runs.specs.declared.jobs.conductors.ConductFault.{ConductFault}
 use Rattle.deck_runs.specs.declared.jobs.conductors.ConductFault.TheVariants as conduct
@@ -16,13 +16,13 @@ run_fault (conduct.Mast sent) = fault.Mast sent
 run_fault conduct.NoMemory = fault.NoMemory
 
 -- After so many buckets of a whole history the mast failed.
-pub record FailsInRun {M : Type 0} (state : M → Masted) (deck : Deck) (sent : ℕ) (before now : M) : Type 0 where
+pub record FailsInRun {M : Type 0} (state : M → MastState) (deck : Deck) (sent : ℕ) (before now : M) : Type 0 where
   pub history : List Event
   pub whole : IsWhole deck history
   pub failed : FailedAt state sent (deck_bytes deck history) before now
 
 -- The first buckets of a whole history were sent, maybe none, and no call of the mast failed.
-pub record SendsFirst {M : Type 0} (state : M → Masted) (deck : Deck) (before now : M) : Type 0 where
+pub record SendsFirst {M : Type 0} (state : M → MastState) (deck : Deck) (before now : M) : Type 0 where
   pub history : List Event
   pub whole : IsWhole deck history
   pub count : ℕ
@@ -31,6 +31,6 @@ pub record SendsFirst {M : Type 0} (state : M → Masted) (deck : Deck) (before 
   pub calm : (state now).faults ≡ (state before).faults
 
 -- What the fault of a run says of the mast.
-abbrev pub IsRunAnswer : {M : Type 0} → (M → Masted) → Deck → M → M → RunFault → Type 0
+abbrev pub IsRunAnswer : {M : Type 0} → (M → MastState) → Deck → M → M → RunFault → Type 0
 IsRunAnswer state deck before now (fault.Mast sent) = FailsInRun state deck sent before now
 IsRunAnswer state deck before now fault.NoMemory = SendsFirst state deck before now

@@ -8,7 +8,7 @@ ghost use Rattle.air_devices.specs.Told.{WhereTold};
 ghost use Rattle.air_model.specs.Runs.{IsRun};
 ghost use Rattle.deck_runs.specs.DeckBytes.{deck_bytes};
 ghost use Rattle.deck_runs.specs.Casts.{IsCastAnswer, all_sent};
-ghost use Rattle.deck_runs.specs.Steps.CastSteps.{bucket_count};
+ghost use Rattle.deck_runs.specs.Private.CastSteps.{bucket_count};
 
 use crate::threads::{Run, RunFault, run_threads};
 use air_devices::{Gate, Mast};

@@ -9,9 +9,9 @@ ghost use Rattle.bucket_codec.specs.declared.offsets.TheConstants.{ENTRY_BYTES, 
 ghost use Rattle.station.specs.PassStates.{new_pass};
 ghost use Rattle.air_model.specs.Batches.{AirsByBatches};
 ghost use Rattle.cycle_snapshot.specs.SnapshotStates.{new_publisher};
-ghost use Rattle.deck_runs.specs.Published.{GoesOn, IsPublishedUpTo, IsUpTo, PublishesOn};
+ghost use Rattle.deck_runs.specs.PublishedBatches.{GoesOn, IsPublishedUpTo, IsUpTo, PublishesOn};
 ghost use Rattle.deck_runs.specs.Sendings.{IsCause, SendsPart, bytes_aired};
-ghost use Rattle.deck_runs.specs.Crews.{EachDone, EachWatched, IsReady};
+ghost use Rattle.deck_runs.specs.Crews.{EachDone, EachWatched, HasNewPass};
 ghost use Rattle.deck_runs.specs.declared.jobs.TheConstants.{LOOKS};
 
 pub(crate) mod conductors;
@@ -85,7 +85,7 @@ pub fn run_jobs<R: Threads + Wait + Sync, M: Mast + Send, G: Gate + Sync>(
     requires board { board.old ≡ board_of (values_in deck.now) [] }
     requires program { program.now ≡ disks_in deck.now }
     requires buffer { HEAD_BYTES + ENTRY_BYTES * length deck.now.items ≤ length buf.old }
-    requires ready { All (IsReady station.now deck.now) updaters.old }
+    requires ready { All (HasNewPass station.now deck.now) updaters.old }
     ensures pass { GoesOn pass.old pass.new }
     ensures publisher { PublishesOn publisher.old publisher.new }
     ensures whole { OnOk result (IsUpTo 0 pass.new.seen publisher.new.batches × (starts pass.new.seen ≡ deck.now.settings.cycles)) }
@@ -98,7 +98,7 @@ pub fn run_jobs<R: Threads + Wait + Sync, M: Mast + Send, G: Gate + Sync>(
     ensures updaters { EachDone deck.now updaters.old updaters.new }
     ensures monitors { EachWatched LOOKS monitors.old monitors.new }
 {
-    deck.well_made();
+    deck.shows_well_made();
     let means = means_of(rt, alloc, deck, program, station);
     run_beside(
         &means, deck, pass, publisher, board, mast, buf, updaters, monitors, gate,

@@ -17,6 +17,6 @@ pub use jobs::conductors::{ConductFault, conductor_job};
 pub use jobs::monitors::{last_look, monitor_job};
 pub use jobs::updaters::updater_job;
 pub use laws::true_run_law;
-pub use runs::{AiredRun, air_run};
+pub use runs::{HeardRun, air_run};
 pub use tapes::long_run;
 pub use threads::{Run, RunFault, run_threads};

@@ -6,7 +6,7 @@ ghost use Rattle.air_model.specs.Decks.{disks_in};
 ghost use Rattle.air_model.specs.Outputs.{run_tape, true_sessions};
 ghost use Rattle.air_model.specs.Reports.{counts_lines, verdict_lines};
 ghost use Rattle.air_model.specs.Tapes.{tape_of};
-ghost use Rattle.air_sender.specs.TapeMasts.{told_by};
+ghost use Rattle.air_sender.specs.TapeMasts.{told_by_tape};
 ghost use Rattle.air_model.specs.Runs.{IsRun};
 ghost use Rattle.deck_runs.specs.RunTapes.{run_tape_len};
 
@@ -24,7 +24,7 @@ use std::thread::Threads;
 
 /// What a run comes to on the air: its history with what monitors saw, what the sessions of the deck's readers tell, and the tape.
 #[derive(Drop)]
-pub(crate) struct AiredRun {
+pub(crate) struct HeardRun {
     pub run: Run,
     pub sessions: Sessions,
     pub tape: TapeMast,
@@ -37,22 +37,22 @@ pub(crate) fn air_run<R: Threads + Wait + Sync, G: Gate + Sync>(
     deck: &Deck,
     program: &Program,
     gate: &G,
-) -> Result<AiredRun, NoMemory>
+) -> Result<HeardRun, NoMemory>
     requires planned { program.now ≡ disks_in deck.now }
     requires few { run_tape_len deck.now ≤ MOST_TAPE_BYTES }
     ensures run { IfOk result (λ a. IsRun deck.now a.run) }
     ensures verdicts { IfOk result (λ a. a.sessions.verdicts.items ≡ verdict_lines (true_sessions deck.now a.run.history)) }
     ensures counts { IfOk result (λ a. a.sessions.counts.items ≡ counts_lines (true_sessions deck.now a.run.history)) }
-    ensures tape { IfOk result (λ a. tape_of (told_by a.tape).buckets ≡ run_tape deck.now a.run.history) }
+    ensures tape { IfOk result (λ a. tape_of (told_by_tape a.tape).buckets ≡ run_tape deck.now a.run.history) }
 {
-    deck.well_made();
+    deck.shows_well_made();
     let _slots = program.slots();
     let mut tape = TapeMast::new(alloc, run_bytes(deck, program))?;
     let Ok(run) = run_threads(rt, alloc, deck, program, &mut tape, gate) else {
         return Err(NoMemory);
     };
     let sessions = history_sessions(rt, alloc, deck, program, tape.tape())?;
-    Ok(AiredRun {
+    Ok(HeardRun {
         run,
         sessions,
         tape,

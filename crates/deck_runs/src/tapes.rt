@@ -15,7 +15,7 @@ pub(crate) fn run_bytes(deck: &Deck, program: &Program) -> u64
     requires { program.now ≡ disks_in deck.now }
     ensures { result ≡ run_tape_len deck.now }
 {
-    deck.well_made();
+    deck.shows_well_made();
     tape_bytes(program, deck.items(), deck.settings().cycles)
 }
 

@@ -110,7 +110,7 @@ pub fn run_threads<R: Threads + Wait + Sync, M: Mast + Send, G: Gate + Sync>(
     ensures fault { IfErr result (IsRunAnswer M.state deck.now mast.old mast.new) }
     ensures port { (M.state mast.new).port ≡ (M.state mast.old).port }
 {
-    deck.well_made();
+    deck.shows_well_made();
     let mut stage = open_stage(alloc, deck)?;
     let (mut source, mut watchers) = open_publisher(rt, alloc, deck)?;
     let conducted = stage.play(

@@ -12,9 +12,9 @@ use crate::decks::settings::setting_note;
 use crate::records::before::RecordsBefore;
 use crate::records::fields::{count_note, deck_field_note, tag_note};
 use crate::records::tags::{Line, Tag, deck_line};
-use crate::records::{Found, Kind, Record, find};
+use crate::records::{FoundRecord, Kind, Record, find};
 use crate::words::sentences::Sentence;
-use crate::words::texts::Shown;
+use crate::words::texts::ShownText;
 use air_base::{NoMemory, read_u64};
 use item_catalog::DeckFault;
 use std::alloc::Global;
@@ -35,8 +35,8 @@ fn subject_of<'a>(before: &RecordsBefore, record: &'a Record, line: Line) -> Sen
 }
 
 /// What is wrong with a record; none where that isn't found.
-fn sentence_of<'a>(found: &'a Found, line: Line, kind: u8) -> Option<Sentence<'a>> {
-    let Found { record, before, .. } = found;
+fn sentence_of<'a>(found: &'a FoundRecord, line: Line, kind: u8) -> Option<Sentence<'a>> {
+    let FoundRecord { record, before, .. } = found;
     match kind {
         1 => Some(count_note(record, line)),
         2 => deck_field_note(record, line.form),
@@ -52,8 +52,8 @@ fn sentence_of<'a>(found: &'a Found, line: Line, kind: u8) -> Option<Sentence<'a
 }
 
 /// Of whom a note tells, and what is wrong; none where that isn't found.
-fn note_parts<'a>(found: &'a Found, kind: u8) -> Option<(Sentence<'a>, Sentence<'a>)> {
-    let Found { record, before, .. } = found;
+fn note_parts<'a>(found: &'a FoundRecord, kind: u8) -> Option<(Sentence<'a>, Sentence<'a>)> {
+    let FoundRecord { record, before, .. } = found;
     let nobody = Sentence::numbers("", 0, 0, 0);
     match found.kind {
         Kind::Record => {}
@@ -83,7 +83,7 @@ pub fn deck_note(
     if let Some((subject, sentence)) = note_parts(&found, fault.kind) {
         return found.note(alloc, name, row, subject, sentence);
     }
-    let name = Shown::whole(name);
+    let name = ShownText::whole(name);
     let place = found.place();
     Ok(format!(in alloc; "{name}{place}{fault}")?)
 }

@@ -16,4 +16,4 @@ pub use decks::deck_note;
 pub use reports::report_note;
 pub use tapes::CutTape;
 pub use words::systems::air_note;
-pub use words::texts::Shown;
+pub use words::texts::ShownText;

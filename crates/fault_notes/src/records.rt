@@ -7,7 +7,7 @@ pub(crate) mod tags;
 
 use crate::records::before::RecordsBefore;
 use crate::words::sentences::Sentence;
-use crate::words::texts::Shown;
+use crate::words::texts::ShownText;
 use air_base::{NoMemory, read_u64};
 use csv::{ByteRecord, ReaderBuilder};
 use std::alloc::Global;
@@ -28,7 +28,7 @@ pub enum Kind {
 
 /// What stands at a row: where a record does, the line at which it begins, else 0; the record; and what those before it say.
 #[derive(Drop)]
-pub struct Found {
+pub struct FoundRecord {
     pub kind: Kind,
     pub line: u64,
     pub record: Record,
@@ -64,7 +64,7 @@ impl Record {
     }
 }
 
-impl Found {
+impl FoundRecord {
     /// A note on it: the file's name, where it stands, its row, of whom the note tells, and what is wrong.
     pub fn note(
         &self,
@@ -74,7 +74,7 @@ impl Found {
         subject: Sentence<'_>,
         sentence: Sentence<'_>,
     ) -> Result<String, NoMemory> {
-        let name = Shown::whole(name);
+        let name = ShownText::whole(name);
         let place = self.place();
         let row = row as u64;
         Ok(format!(in alloc; "{name}{place}record {row}: {subject}{sentence}")?)
@@ -113,7 +113,7 @@ fn line_at(bytes: &[u8], place: u64) -> u64 {
 }
 
 /// What stands at a row of a text.
-pub fn find(alloc: Global, bytes: &[u8], row: u32) -> Result<Found, NoMemory> {
+pub fn find(alloc: Global, bytes: &[u8], row: u32) -> Result<FoundRecord, NoMemory> {
     let mut records = ReaderBuilder::new()
         .has_headers(false)
         .flexible(true)
@@ -138,7 +138,7 @@ pub fn find(alloc: Global, bytes: &[u8], row: u32) -> Result<Found, NoMemory> {
         }
     }
     let record = Record::of(alloc, &record)?;
-    Ok(Found {
+    Ok(FoundRecord {
         kind,
         line,
         record,

@@ -6,7 +6,7 @@ use crate::records::before::RecordsBefore;
 use crate::records::fields::{count_note, report_field_note, tag_note};
 use crate::records::lists::{Test, first_failing};
 use crate::records::tags::{Line, Tag, report_line, section};
-use crate::records::{Found, Kind, Record, find};
+use crate::records::{FoundRecord, Kind, Record, find};
 use crate::reports::strangers::{commit_note, stranger_note};
 use crate::words::sentences::Sentence;
 use air_base::NoMemory;
@@ -76,11 +76,11 @@ fn cycle_note<'a>(starts: u64, record: &'a Record, tag: Tag) -> Sentence<'a> {
 /// What is wrong with a line of a report; none where that isn't found.
 fn sentence_of<'a>(
     deck: Option<&Deck>,
-    found: &'a Found,
+    found: &'a FoundRecord,
     line: Line,
     kind: u8,
 ) -> Option<Sentence<'a>> {
-    let Found { record, before, .. } = found;
+    let FoundRecord { record, before, .. } = found;
     match (kind, deck) {
         (1, _) => Some(count_note(record, line)),
         (2, _) => report_field_note(record, line.form),
@@ -93,7 +93,11 @@ fn sentence_of<'a>(
 }
 
 /// Of whom a note tells, and what is wrong.
-fn note_parts<'a>(deck: Option<&Deck>, found: &'a Found, kind: u8) -> (Sentence<'a>, Sentence<'a>) {
+fn note_parts<'a>(
+    deck: Option<&Deck>,
+    found: &'a FoundRecord,
+    kind: u8,
+) -> (Sentence<'a>, Sentence<'a>) {
     let nobody = Sentence::numbers("", 0, 0, 0);
     let record = &found.record;
     if !matches!(found.kind, Kind::Record) {

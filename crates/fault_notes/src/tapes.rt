@@ -3,7 +3,7 @@
 ghost use Rattle.std.specs.Prelude.{◌≤◌, length};
 
 use crate::words::sentences::Sentence;
-use crate::words::texts::Shown;
+use crate::words::texts::ShownText;
 use air_base::NoMemory;
 use bucket_codec::offsets::LENGTH_BYTES;
 use std::alloc::Global;
@@ -76,7 +76,7 @@ impl CutTape {
 
     /// Which record of the tape is cut, once all of it was fed: the one that begins at this byte.
     pub fn note(&self, alloc: Global, name: &str, at: u64) -> Result<String, NoMemory> {
-        let name = Shown::whole(name);
+        let name = ShownText::whole(name);
         let record = self.number;
         let part = self.part_note();
         Ok(format!(in alloc; "{name}: record {record}, which begins at byte {at}, is cut: {part}")?)

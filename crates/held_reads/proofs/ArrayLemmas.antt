@@ -8,7 +8,7 @@ use Rattle.std.proofs.lemmas.List.Elements.{All-head, All-tail, All-append, All-
 use Rattle.air_history.specs.Clashes.{Heard}
 use Rattle.held_reads.specs.declared.cycles.TheConstants.{NOT_HELD}
 use Rattle.held_reads.specs.declared.reads.HeldRead.{HeldRead}
-use Rattle.held_reads.specs.HeardReads.{heard_of}
+use Rattle.held_reads.specs.HeardReads.{heard_of_held}
 use Rattle.air_history.specs.HeldReads.{HeldReads}
 use Rattle.held_reads.specs.HeldCycles.{held_cycle, cycles_of}
 
@@ -70,8 +70,8 @@ cycles_put n R x cycles free within is =
     cycles_more n R x cycles (set cycles x.item x.cycle) free within is (length-set cycles x.item x.cycle ∙ long)
     (get_or-set_same cycles x.item x.cycle 0 (omega arith)) (λ k other. get_or-set_other cycles x.item k x.cycle 0 other)
 
-pub places_put : (places : List HeldRead) (len : ℕ) (p : HeldRead) → len < length places → map heard_of (take (len + 1) (set places len p)) ≡ map heard_of (take len places) ++ heard_of p ∷ []
-places_put places len p l = ap (map heard_of) (take_more_set places len p l) ∙ map-append heard_of (take len places) (p ∷ [])
+pub places_put : (places : List HeldRead) (len : ℕ) (p : HeldRead) → len < length places → map heard_of_held (take (len + 1) (set places len p)) ≡ map heard_of_held (take len places) ++ heard_of_held p ∷ []
+places_put places len p l = ap (map heard_of_held) (take_more_set places len p l) ∙ map-append heard_of_held (take len places) (p ∷ [])
 
 pub items_put : (n : ℕ) (places : List HeldRead) (len : ℕ) (p : HeldRead) → len < length places → p.item < n → All (λ r. r.item < n) (take len places) →
     All (λ r. r.item < n) (take (len + 1) (set places len p))

@@ -1,5 +1,5 @@
 pub mod SearchLemmas
-pub mod LeastFacts
+pub mod LeastLemmas
 pub mod ArrayLemmas
 pub mod ReachedLemmas
 pub mod HeldLemmas

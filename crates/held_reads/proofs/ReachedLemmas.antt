@@ -8,9 +8,9 @@ use Rattle.air_history.specs.Clashes.{Heard, heard_clash}
 use Rattle.air_history.specs.HeldReads.{HeldReads}
 use Rattle.held_reads.specs.Searches.{clash_of, is_reached}
 use Rattle.held_reads.specs.HeldCycles.{held_cycle, cycles_of, AreHeldOnce}
-use Rattle.held_reads.specs.Steps.FirstClash.{IsFirstClash}
+use Rattle.held_reads.specs.Private.FirstClash.{IsFirstClash}
 use Rattle.held_reads.specs.declared.cycles.TheConstants.{NOT_HELD}
-use Rattle.held_reads.proofs.LeastFacts.{none_passes, some_passes, IsLeastOf}
+use Rattle.held_reads.proofs.LeastLemmas.{none_passes, some_passes, IsLeastOf}
 use Rattle.held_reads.proofs.ArrayLemmas.{cycle_at, is_held}
 
 -- The clash of the least of the reads that pass, and None where none passes.

@@ -9,7 +9,7 @@ use Rattle.air_base.specs.declared.verdicts.Clash.{Clash}
 use Rattle.air_history.specs.Reads.{ReadAt}
 use Rattle.air_history.specs.Clashes.{lesser, least, Heard, read_at, heard_clash}
 use Rattle.held_reads.specs.declared.reads.HeldRead.{HeldRead}
-use Rattle.held_reads.specs.HeardReads.{heard_of}
+use Rattle.held_reads.specs.HeardReads.{heard_of_held}
 use Rattle.held_reads.specs.Searches.{clash_of, lesser_of}
 
 -- The clash with a read.
@@ -57,21 +57,21 @@ clash_push test R r = ap (λ S. least (map read_at S)) (filter-append test R (r 
 
 -- The places up to and with one that is read.
 taken_more : (places : List HeldRead) (i : ℕ) (p : HeldRead) → i < length places → p ≡ get_or places i p →
-    map heard_of (take (i + 1) places) ≡ map heard_of (take i places) ++ heard_of p ∷ []
-taken_more places i p l e = ap (map heard_of) (take_more places i p l) ∙ map-append heard_of (take i places) (get_or places i p ∷ []) ∙ ap (λ q. map heard_of (take i places) ++ heard_of q ∷ []) (sym e)
+    map heard_of_held (take (i + 1) places) ≡ map heard_of_held (take i places) ++ heard_of_held p ∷ []
+taken_more places i p l e = ap (map heard_of_held) (take_more places i p l) ∙ map-append heard_of_held (take i places) (get_or places i p ∷ []) ∙ ap (λ q. map heard_of_held (take i places) ++ heard_of_held q ∷ []) (sym e)
 
 pub search_hit : (test : Heard → Bool) (best : Option Clash) (places : List HeldRead) (i : ℕ) (p : HeldRead) → i < length places → p ≡ get_or places i p →
-    test (heard_of p) ≡ true → best ≡ heard_clash test (map heard_of (take i places)) →
-    Some (lesser_of best (clash_of (heard_of p))) ≡ heard_clash test (map heard_of (take (i + 1) places))
+    test (heard_of_held p) ≡ true → best ≡ heard_clash test (map heard_of_held (take i places)) →
+    Some (lesser_of best (clash_of (heard_of_held p))) ≡ heard_clash test (map heard_of_held (take (i + 1) places))
 search_hit test best places i p l e hit so_far =
-    ap (λ b. Some (lesser_of b (clash_of (heard_of p)))) so_far
-    ∙ sym (ap (heard_clash test) (taken_more places i p l e) ∙ clash_push test (map heard_of (take i places)) (heard_of p)
-    ∙ ap (λ b. cond b (Some (lesser_of (heard_clash test (map heard_of (take i places))) (clash_of (heard_of p)))) (heard_clash test (map heard_of (take i places)))) hit)
+    ap (λ b. Some (lesser_of b (clash_of (heard_of_held p)))) so_far
+    ∙ sym (ap (heard_clash test) (taken_more places i p l e) ∙ clash_push test (map heard_of_held (take i places)) (heard_of_held p)
+    ∙ ap (λ b. cond b (Some (lesser_of (heard_clash test (map heard_of_held (take i places))) (clash_of (heard_of_held p)))) (heard_clash test (map heard_of_held (take i places)))) hit)
 
 pub search_miss : (test : Heard → Bool) (best : Option Clash) (places : List HeldRead) (i : ℕ) (p : HeldRead) → i < length places → p ≡ get_or places i p →
-    test (heard_of p) ≡ false → best ≡ heard_clash test (map heard_of (take i places)) →
-    best ≡ heard_clash test (map heard_of (take (i + 1) places))
+    test (heard_of_held p) ≡ false → best ≡ heard_clash test (map heard_of_held (take i places)) →
+    best ≡ heard_clash test (map heard_of_held (take (i + 1) places))
 search_miss test best places i p l e miss so_far =
     so_far
-    ∙ sym (ap (heard_clash test) (taken_more places i p l e) ∙ clash_push test (map heard_of (take i places)) (heard_of p)
-    ∙ ap (λ b. cond b (Some (lesser_of (heard_clash test (map heard_of (take i places))) (clash_of (heard_of p)))) (heard_clash test (map heard_of (take i places)))) miss)
+    ∙ sym (ap (heard_clash test) (taken_more places i p l e) ∙ clash_push test (map heard_of_held (take i places)) (heard_of_held p)
+    ∙ ap (λ b. cond b (Some (lesser_of (heard_clash test (map heard_of_held (take i places))) (clash_of (heard_of_held p)))) (heard_clash test (map heard_of_held (take i places)))) miss)

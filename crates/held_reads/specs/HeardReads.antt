@@ -4,8 +4,8 @@ use Rattle.air_history.specs.Clashes.{Heard}
 use Rattle.held_reads.specs.declared.reads.HeldRead.{HeldRead}
 
 -- The read with its entries.
-abbrev pub heard_of : HeldRead → Heard
-heard_of r = record { item = r.item; cycle = r.cycle; entries = r.entries.items }
+abbrev pub heard_of_held : HeldRead → Heard
+heard_of_held r = record { item = r.item; cycle = r.cycle; entries = r.entries.items }
 
 -- The read of an item in a cycle, with the entries that were heard with it.
 abbrev pub heard_read : ℕ → ℕ → List ℕ → Heard

@@ -2,4 +2,4 @@ pub mod HeardReads
 pub mod Searches
 pub mod HeldView
 pub mod HeldCycles
-pub mod Steps
+pub mod Private

@@ -4,7 +4,7 @@
 //! a new read against all held reads at once.
 
 ghost use Rattle.std.specs.Prelude.{◌≡◌, length};
-ghost use Rattle.held_reads.specs.Steps.FirstClash.{IsFirstClash};
+ghost use Rattle.held_reads.specs.Private.FirstClash.{IsFirstClash};
 
 use air_base::Clash;
 use air_lanes::first_not_below;

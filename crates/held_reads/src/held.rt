@@ -105,7 +105,7 @@ impl HeldEntries {
     }
 
     /// Each held item is held in one cycle.
-    pub fn held_once(&self)
+    pub fn shows_held_once(&self)
         ensures { AreHeldOnce self.now.reads }
     {
         let _places = &self.places;

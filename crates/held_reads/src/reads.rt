@@ -4,7 +4,7 @@
 
 ghost use Rattle.std.specs.Prelude.{◌≡◌, ◌<◌, ◌==◌, length, map, All, IfOk};
 ghost use Rattle.air_history.specs.Clashes.{entry_in, newest_heard, heard_clash};
-ghost use Rattle.held_reads.specs.HeardReads.{heard_of};
+ghost use Rattle.held_reads.specs.HeardReads.{heard_of_held};
 ghost use Rattle.held_reads.specs.Searches.{clash_of, lesser_of, has_since};
 
 use air_base::{Clash, NoMemory};
@@ -32,7 +32,7 @@ impl HeldRead {
 
     /// The read without its entries.
     fn clash(&self) -> Clash
-        ensures { result ≡ clash_of (heard_of self.now) }
+        ensures { result ≡ clash_of (heard_of_held self.now) }
     {
         Clash {
             item: self.item,
@@ -53,7 +53,7 @@ pub fn lesser_clash(best: Option<Clash>, clash: Clash) -> Clash
 
 /// The newest cycle of the reads, 0 where there is none.
 pub fn newest_of(reads: &[HeldRead]) -> u32
-    ensures { result ≡ newest_heard (map heard_of reads.now) }
+    ensures { result ≡ newest_heard (map heard_of_held reads.now) }
 {
     let mut newest = 0;
     for read in reads {
@@ -65,7 +65,7 @@ pub fn newest_of(reads: &[HeldRead]) -> u32
 /// The entry of an item that was heard with the first read of the cycle, 0 where no read has it.
 pub fn first_entry(reads: &[HeldRead], cycle: u32, item: u16) -> u32
     requires { All (λ r. item < length r.entries.items) reads.now }
-    ensures { result ≡ entry_in (map heard_of reads.now) cycle item }
+    ensures { result ≡ entry_in (map heard_of_held reads.now) cycle item }
 {
     for read in reads {
         if read.cycle == cycle {
@@ -78,7 +78,7 @@ pub fn first_entry(reads: &[HeldRead], cycle: u32, item: u16) -> u32
 /// The read of least item number among those of the cycle.
 #[tactic(auto, using(crate::proofs::SearchLemmas::search_hit, crate::proofs::SearchLemmas::search_miss), unfolding(air_history::specs::Clashes::least))]
 pub fn least_of_cycle(reads: &[HeldRead], cycle: u32) -> Option<Clash>
-    ensures { result ≡ heard_clash (λ r. r.cycle == cycle) (map heard_of reads.now) }
+    ensures { result ≡ heard_clash (λ r. r.cycle == cycle) (map heard_of_held reads.now) }
 {
     let mut best = None;
     for read in reads {
@@ -93,7 +93,7 @@ pub fn least_of_cycle(reads: &[HeldRead], cycle: u32) -> Option<Clash>
 #[tactic(auto, using(crate::proofs::SearchLemmas::search_hit, crate::proofs::SearchLemmas::search_miss), unfolding(air_history::specs::Clashes::least))]
 pub fn least_having(reads: &[HeldRead], item: u16, cycle: u32) -> Option<Clash>
     requires { All (λ r. item < length r.entries.items) reads.now }
-    ensures { result ≡ heard_clash (has_since item cycle) (map heard_of reads.now) }
+    ensures { result ≡ heard_clash (has_since item cycle) (map heard_of_held reads.now) }
 {
     let mut best = None;
     for read in reads {

@@ -1,4 +1,4 @@
--- The draft of a deck's entries is that of its parts.
+-- The draft of a deck's declarations is that of its parts.
 use Rattle.std.proofs.Common.{◌≡◌, ◌<◌, ◌≤◌, ◌+◌, ◌-◌, ◌++◌, ◌∷◌, [], ℕ, zero, suc, List, Option, Some, refl, sym, ap, ◌∙◌, append_assoc, length, map, max, replicate, take, get_or, arith, length-append}
 use Rattle.std.specs.Prelude.{sum_by}
 use Rattle.std.specs.List.{enumerate_from}
@@ -10,10 +10,10 @@ use Rattle.air_model.specs.declared.deck.ReaderPlan.{ReaderPlan}
 use Rattle.air_model.specs.declared.deck.Settings.{Settings}
 use Rattle.air_model.specs.Disks.{DiskSpec}
 use Rattle.air_model.specs.Decks.{Deck, Item}
-use Rattle.item_catalog.specs.DeckEntries.{Entry}
-use Rattle.item_catalog.specs.DeckEntries as e
+use Rattle.item_catalog.specs.Declarations.{Declaration}
+use Rattle.item_catalog.specs.Declarations as e
 use Rattle.item_catalog.specs.Decks.{plain_item, with_freqs}
-use Rattle.item_catalog.specs.Steps.Drafts.{DraftValue, deck_from, draft_of, push_at, with_entry}
+use Rattle.item_catalog.specs.Private.Drafts.{DraftValue, deck_from, draft_of, push_at, with_entry}
 use Rattle.item_catalog.specs.declared.parts.ItemPart.{ItemPart}
 use Rattle.item_catalog.specs.declared.parts.DiskPart.{DiskPart}
 use Rattle.item_catalog.specs.declared.deck.draft.settings.Setting.{Setting}
@@ -36,7 +36,7 @@ draft_by items disks updates updaters count readers queries asked script set = r
 
 -- ---- one section more
 
-module _ {L P : Type 0} (mk : L → Entry) (part : L → P) (at : List P → DraftValue) (put : (done : List P) (x : L) → with_entry (at done) (mk x) ≡ at (done ++ part x ∷ [])) where
+module _ {L P : Type 0} (mk : L → Declaration) (part : L → P) (at : List P → DraftValue) (put : (done : List P) (x : L) → with_entry (at done) (mk x) ≡ at (done ++ part x ∷ [])) where
   pub added : (xs : List L) (done : List P) → with_all (at done) (map mk xs) ≡ at (done ++ map part xs)
   added [] done = ap at (sym (append-nil done))
   added (x ∷ xs) done = ap (λ d. with_all d (map mk xs)) (put done x) ∙ added xs (done ++ part x ∷ []) ∙ ap at (append_assoc done (part x ∷ []) (map part xs))
@@ -241,7 +241,7 @@ pub rest_added : (deck : Deck) → with_all (after_queries deck) (e.Script deck.
 rest_added deck = refl
 
 -- The sections behind each other.
-abbrev pub sections : Deck → List Entry
+abbrev pub sections : Deck → List Declaration
 sections deck = map disk_entry deck.disks ++ (update_entries 0 deck.updates ++ (map reader_entry deck.readers ++ (query_entries 0 deck.queries ++ (e.Script deck.script ∷ map e.Set (all_set deck.settings)))))
 
 pub deck_drafted : (deck : Deck) → length deck.updates ≤ MOST_UPDATERS → length deck.queries ≤ MOST_READERS → draft_of (deck_entries deck) ≡ whole_draft deck

@@ -1,4 +1,4 @@
--- No kind of fault applies to the entries of a deck that is well made and within the limits.
+-- No kind of fault applies to the declarations of a deck that is well made and within the limits.
 use Rattle.std.proofs.Common.{◌≡◌, ◌<◌, ◌≤◌, ◌+◌, ◌^◌, ◌++◌, ◌∷◌, [], ℕ, List, Some, None, true, false, not, refl, sym, ap, ◌∙◌, length, map, nat_le, nat_lt, subst, arith, length-append}
 use Rattle.std.specs.Prelude.{◌==◌, ◌||◌, All, sum_by}
 use Rattle.std.specs.List.{enumerate_from}
@@ -13,9 +13,9 @@ use Rattle.air_model.specs.Disks.{DiskSpec}
 use Rattle.air_model.specs.Decks.{Deck, IsDeck, IsQuery, Item}
 use Rattle.item_catalog.specs.ListTests.{reaches}
 use Rattle.item_catalog.specs.RecordKinds.{first_of}
-use Rattle.item_catalog.specs.DeckEntries as e
+use Rattle.item_catalog.specs.Declarations as e
 use Rattle.item_catalog.specs.DeckLimits.{DiskWithin, ReaderWithin, SettingsWithin, WithinLimits}
-use Rattle.item_catalog.specs.Steps.Drafts.{DraftValue, draft_of, with_entry}
+use Rattle.item_catalog.specs.Private.Drafts.{DraftValue, draft_of, with_entry}
 use Rattle.item_catalog.specs.Faults.{end_tests, query_tests}
 use Rattle.item_catalog.specs.Ranges.{outside}
 use Rattle.item_catalog.specs.declared.faults.FaultKind.TheVariants as fault
@@ -23,7 +23,7 @@ use Rattle.item_catalog.specs.declared.parts.DiskPart.{DiskPart}
 use Rattle.item_catalog.specs.DeckTexts.{all_set, deck_entries, disk_entry, item_entry, query_entries, reader_entry, update_entries}
 use Rattle.item_catalog.proofs.DraftSteps.{Passes, passes_both, with_all}
 use Rattle.item_catalog.proofs.DeckDrafts.{after_disks, after_items, after_queries, after_readers, after_updates, all_queries_added, all_updates_added, disk_part, disk_parts, disks_added, item_part, item_parts, items_added, more_updaters, readers_added}
-use Rattle.item_catalog.proofs.TestFacts.{all_reached, neither, none_one, none_three, none_two, not_less, not_outside, not_reached}
+use Rattle.item_catalog.proofs.TestLemmas.{all_reached, neither, none_one, none_three, none_two, not_less, not_outside, not_reached}
 use Rattle.item_catalog.proofs.UpdateTests.{updates_pass}
 use Rattle.item_catalog.proofs.ScriptTests.{committed, script_none, small_events}
 

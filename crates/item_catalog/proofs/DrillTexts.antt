@@ -8,7 +8,7 @@ use Rattle.air_model.specs.Decks.{count_parts, updates_by}
 use Rattle.air_model.specs.Draws.{draw_each, generator}
 use Rattle.air_model.specs.Drills.{dealt_to, draw_item, draw_update, drill_deck, drill_items, drill_script}
 use Rattle.item_catalog.specs.Grammar.{Spells}
-use Rattle.item_catalog.proofs.DrillFacts.{drill_made}
+use Rattle.item_catalog.proofs.DrillLemmas.{drill_made}
 use Rattle.item_catalog.specs.DeckTexts.{LastUpdates, deck_text}
 use Rattle.item_catalog.proofs.SpelledDecks.{deck_spelled}
 

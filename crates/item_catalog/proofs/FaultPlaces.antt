@@ -2,25 +2,25 @@
 use Rattle.std.proofs.Common.{◌≡◌, ◌≤◌, ℕ, zero, suc, List, [], ◌∷◌, ◌⊎◌, inl, inr, refl, sym, ap, ◌∙◌, arith}
 use Rattle.std.specs.Prelude.{All}
 use Rattle.std.proofs.lemmas.Bool.{cases_lt, cases_order}
-use Rattle.item_catalog.specs.FirstFaults.{IsFirstFault, IsLeast, NoneBefore}
+use Rattle.item_catalog.specs.FirstFaults.{IsFirstFault, IsLeastKind, NoneBefore}
 
 -- Some kinds have a least one.
-module _ (k kind : ℕ) (ks : List ℕ) (ih : IsLeast kind ks) where
-  least_front : k ≤ kind → IsLeast k (k ∷ ks)
+module _ (k kind : ℕ) (ks : List ℕ) (ih : IsLeastKind kind ks) where
+  least_front : k ≤ kind → IsLeastKind k (k ∷ ks)
   least_front less = record { one = (0, omega arith, refl); least = at }
     where
       at : All (λ other. k ≤ other) (k ∷ ks)
       at zero d below = omega arith
       at (suc i) d below = let more = ih.least i d (omega arith) in omega arith
 
-  least_behind : kind ≤ k → IsLeast kind (k ∷ ks)
+  least_behind : kind ≤ k → IsLeastKind kind (k ∷ ks)
   least_behind less = record { one = (suc ih.one.0, omega (arith, ih.one.1), ih.one.2); least = at }
     where
       at : All (λ other. kind ≤ other) (k ∷ ks)
       at zero d below = less
       at (suc i) d below = ih.least i d (omega arith)
 
-least_of : (k : ℕ) (ks : List ℕ) → (kind : ℕ) × IsLeast kind (k ∷ ks)
+least_of : (k : ℕ) (ks : List ℕ) → (kind : ℕ) × IsLeastKind kind (k ∷ ks)
 least_of k [] = (k, record { one = (0, omega arith, refl); least = at })
   where
     at : All (λ other. k ≤ other) (k ∷ [])
@@ -28,15 +28,15 @@ least_of k [] = (k, record { one = (0, omega arith, refl); least = at })
     at (suc i) d below = absurd (omega arith)
 least_of k (l ∷ ks) = by (least_of l ks)
   where
-    by : (kind : ℕ) × IsLeast kind (l ∷ ks) → (kind : ℕ) × IsLeast kind (k ∷ l ∷ ks)
+    by : (kind : ℕ) × IsLeastKind kind (l ∷ ks) → (kind : ℕ) × IsLeastKind kind (k ∷ l ∷ ks)
     by found = elim (cases_lt found.0 k) [ inl less ↦ (found.0, least_behind k found.0 (l ∷ ks) found.1 (omega arith)) | inr more ↦ (k, least_front k found.0 (l ∷ ks) found.1 more) ]
 
 -- A kind that is the least of none.
-least_none : (kind : ℕ) (kinds : List ℕ) → kinds ≡ [] → IsLeast kind kinds → ⊥
+least_none : (kind : ℕ) (kinds : List ℕ) → kinds ≡ [] → IsLeastKind kind kinds → ⊥
 least_none kind [] e least = omega (arith, least.one.1)
 least_none kind (k ∷ ks) e least = cc e
 
-least_same : (kinds : List ℕ) (a b : ℕ) → IsLeast a kinds → IsLeast b kinds → a ≡ b
+least_same : (kinds : List ℕ) (a b : ℕ) → IsLeastKind a kinds → IsLeastKind b kinds → a ≡ b
 least_same kinds a b first second =
     let below = first.least second.one.0 b second.one.1 in
     let above = second.least first.one.0 a first.one.1 in

@@ -6,8 +6,8 @@ use Rattle.air_base.specs.Numbers.{number_of}
 use Rattle.air_base.specs.NumberLists.{all_some}
 use Rattle.air_base.specs.declared.verdicts.Policy.TheVariants.{FMatrix}
 use Rattle.air_history.specs.UpdateRules.{has_repeat}
-use Rattle.item_catalog.specs.Fields.{event_of, freq_of}
-use Rattle.item_catalog.specs.Writes.{value_of, write_of}
+use Rattle.item_catalog.specs.Fields.{freq_of, spelled_event}
+use Rattle.item_catalog.specs.Writes.{spelled_value_write, spelled_write}
 use Rattle.item_catalog.specs.Decks.{deck_of}
 use Rattle.item_catalog.specs.Faults.{entries_in, kinds_at, some_below}
 use Rattle.item_catalog.specs.Grammar.{HasFault}
@@ -16,16 +16,16 @@ use Rattle.item_catalog.specs.Grammar.{HasFault}
 abbrev Row : Type 0
 Row = List (List ℕ)
 
-write_less : write_of (codes "3=4-5") ≡ Some (record { item = 3; base = Some 4; minus = true; amount = 5 })
-unfolding number_of value_of write_of
+write_less : spelled_write (codes "3=4-5") ≡ Some (record { item = 3; base = Some 4; minus = true; amount = 5 })
+unfolding number_of spelled_value_write spelled_write
 write_less = refl
 
-write_two_signs : write_of (codes "3=4+1-5") ≡ None
-unfolding number_of value_of write_of
+write_two_signs : spelled_write (codes "3=4+1-5") ≡ None
+unfolding number_of spelled_value_write spelled_write
 write_two_signs = refl
 
-write_no_amount : write_of (codes "3=") ≡ None
-unfolding number_of value_of write_of
+write_no_amount : spelled_write (codes "3=") ≡ None
+unfolding number_of spelled_value_write spelled_write
 write_no_amount = refl
 
 abbrev item0 : Row
@@ -65,16 +65,16 @@ whole_deck : deck_of (entries_in whole) ≡ record {
   script = None ∷ Some 0 ∷ None ∷ [];
   settings = record { policy = FMatrix; cycles = 10; seed = 0; loss = 0; again = 0; late = 0; monitors = 0; hears = 1000000 };
 }
-unfolding number_of value_of write_of event_of freq_of all_some
+unfolding number_of spelled_value_write spelled_write spelled_event freq_of all_some
 whole_deck = refl
 
 -- No kind applies to its script's record, nor at its end.
 whole_script : kinds_at whole 6 ≡ []
-unfolding kinds_at number_of value_of write_of event_of freq_of all_some some_below has_repeat
+unfolding kinds_at number_of spelled_value_write spelled_write spelled_event freq_of all_some some_below has_repeat
 whole_script = refl
 
 whole_end : kinds_at whole 8 ≡ []
-unfolding kinds_at number_of value_of write_of event_of freq_of all_some some_below has_repeat
+unfolding kinds_at number_of spelled_value_write spelled_write spelled_event freq_of all_some some_below has_repeat
 whole_end = refl
 
 -- Two disks without a number have frequencies that differ by delta.
@@ -95,7 +95,7 @@ unfolding kinds_at
 too_few_fields = refl
 
 no_event : kinds_at (item0 ∷ (codes "script" ∷ codes "s x" ∷ []) ∷ []) 1 ≡ 2 ∷ []
-unfolding kinds_at number_of event_of all_some
+unfolding kinds_at number_of spelled_event all_some
 no_event = refl
 
 gap : kinds_at (item1 ∷ []) 0 ≡ 3 ∷ []
@@ -104,7 +104,7 @@ gap = refl
 
 -- An update with every kind that an update can have besides its form.
 all_of_an_update : kinds_at (item0 ∷ (codes "update" ∷ codes "16" ∷ codes "0 0" ∷ codes "1=0 0=1+1" ∷ []) ∷ []) 1 ≡ 4 ∷ 5 ∷ 7 ∷ 8 ∷ []
-unfolding kinds_at number_of value_of write_of all_some has_repeat
+unfolding kinds_at number_of spelled_value_write spelled_write all_some has_repeat
 all_of_an_update = refl
 
 twice_asked : kinds_at (item0 ∷ reader0 ∷ (codes "query" ∷ codes "0" ∷ codes "0 0" ∷ []) ∷ []) 2 ≡ 5 ∷ []
@@ -130,7 +130,7 @@ set_form = refl
 
 -- One update, committed by each of two script records.
 committed_twice : kinds_at (item0 ∷ item1 ∷ update0 ∷ script0 ∷ script0 ∷ []) 4 ≡ 11 ∷ []
-unfolding kinds_at number_of value_of write_of event_of all_some some_below
+unfolding kinds_at number_of spelled_value_write spelled_write spelled_event all_some some_below
 committed_twice = refl
 
 -- By its bytes: an empty line is no record, a quote is csv's, and the end is the record after the last.

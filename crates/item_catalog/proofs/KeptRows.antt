@@ -8,25 +8,25 @@ use Rattle.air_history.specs.UpdateLists.{UpdateLists}
 use Rattle.air_model.specs.Decks.{Deck, IsDeck}
 use Rattle.item_catalog.specs.FirstFaults.{NoneBefore}
 use Rattle.item_catalog.specs.RecordKinds.{first_of}
-use Rattle.item_catalog.proofs.KindFacts.{none_first}
+use Rattle.item_catalog.proofs.KindLemmas.{none_first}
 use Rattle.item_catalog.proofs.RecordPlaces.{along, kinds_end}
 use Rattle.item_catalog.specs.DeckLimits.{WithinLimits}
 use Rattle.item_catalog.specs.Decks.{for_each}
-use Rattle.item_catalog.specs.Steps.Drafts.{draft_of, draft_tests}
-use Rattle.item_catalog.specs.DeckEntries.{Entry, entry_of}
+use Rattle.item_catalog.specs.Private.Drafts.{draft_of, draft_tests}
+use Rattle.item_catalog.specs.Declarations.{Declaration, spelled_declaration}
 use Rattle.item_catalog.specs.Faults.{end_tests, entries_in, kinds_after, kinds_at, tests_of}
 use Rattle.item_catalog.specs.Grammar.{RowsSpell}
-use Rattle.item_catalog.specs.Kinds.{code_of}
-use Rattle.item_catalog.specs.Parts.{disks_in, items_in}
+use Rattle.item_catalog.specs.Kinds.{deck_kind_number}
+use Rattle.item_catalog.specs.Parts.{disk_parts_in, items_in}
 use Rattle.item_catalog.specs.declared.faults.FaultKind.{FaultKind}
-use Rattle.item_catalog.proofs.DraftFacts.{draft_more, tests_same}
-use Rattle.item_catalog.proofs.KeptFacts.{Kept}
+use Rattle.item_catalog.proofs.DraftLemmas.{draft_more, tests_same}
+use Rattle.item_catalog.proofs.KeptLemmas.{Kept}
 use Rattle.item_catalog.proofs.KeptSteps.{kept_more}
-use Rattle.item_catalog.proofs.PlaceFacts.{entries_more, judge}
-use Rattle.item_catalog.proofs.SpeltFacts.{entry_spelt}
-use Rattle.item_catalog.proofs.WellMadeFacts.{deck_same, made, within}
+use Rattle.item_catalog.proofs.PlaceLemmas.{entries_more, judge}
+use Rattle.item_catalog.proofs.SpeltLemmas.{entry_spelt}
+use Rattle.item_catalog.proofs.WellMadeLemmas.{deck_same, made, within}
 
--- No entries.
+-- No declarations.
 abbrev no_list : {A : Type 0} → ℕ → List A
 no_list k = []
 
@@ -63,13 +63,13 @@ kept_none = record {
 }
 
 -- One more record at which no kind applies.
-kept_row : (rows : List (List (List ℕ))) (row : List (List ℕ)) → kinds_after (entries_in rows) (entry_of row) ≡ [] → Kept (draft_of (entries_in rows)) → Kept (draft_of (entries_in (rows ++ row ∷ [])))
-kept_row rows row none k = by (entry_of row) refl none
+kept_row : (rows : List (List (List ℕ))) (row : List (List ℕ)) → kinds_after (entries_in rows) (spelled_declaration row) ≡ [] → Kept (draft_of (entries_in rows)) → Kept (draft_of (entries_in (rows ++ row ∷ [])))
+kept_row rows row none k = by (spelled_declaration row) refl none
   where
-    by : (r : Result Entry FaultKind) → entry_of row ≡ r → kinds_after (entries_in rows) r ≡ [] → Kept (draft_of (entries_in (rows ++ row ∷ [])))
+    by : (r : Result Declaration FaultKind) → spelled_declaration row ≡ r → kinds_after (entries_in rows) r ≡ [] → Kept (draft_of (entries_in (rows ++ row ∷ [])))
     by (Err kind) e h = cc h
     by (Ok x) e h =
-        let first : first_of (draft_tests (draft_of (entries_in rows)) x) ≡ None = ap first_of (tests_same (entries_in rows) x) ∙ none_first code_of (tests_of (entries_in rows) x) h in
+        let first : first_of (draft_tests (draft_of (entries_in rows)) x) ≡ None = ap first_of (tests_same (entries_in rows) x) ∙ none_first deck_kind_number (tests_of (entries_in rows) x) h in
         rw (entries_more rows row x e, draft_more (entries_in rows) x) (kept_more (draft_of (entries_in rows)) x k (entry_spelt row x e) first)
 
 pub kept_all : (rows : List (List (List ℕ))) → NoneBefore (kinds_at rows) (length rows) → Kept (draft_of (entries_in rows))
@@ -81,7 +81,7 @@ pub spelled_made : (rows : List (List (List ℕ))) (deck : Deck) → RowsSpell r
 unfolding kinds_at
 spelled_made rows deck spelled =
     let k = kept_all rows (λ place below. spelled.faultless place (omega arith)) in
-    let end : first_of (end_tests (length (items_in (entries_in rows))) (disks_in (entries_in rows))) ≡ None
-    = none_first code_of (end_tests (length (items_in (entries_in rows))) (disks_in (entries_in rows))) (sym (kinds_end judge rows) ∙ spelled.faultless (length rows) (omega arith)) in
+    let end : first_of (end_tests (length (items_in (entries_in rows))) (disk_parts_in (entries_in rows))) ≡ None
+    = none_first deck_kind_number (end_tests (length (items_in (entries_in rows))) (disk_parts_in (entries_in rows))) (sym (kinds_end judge rows) ∙ spelled.faultless (length rows) (omega arith)) in
     let same = deck_same (entries_in rows) k ∙ sym spelled.parts in
     (subst IsDeck same (made (draft_of (entries_in rows)) k end), subst WithinLimits same (within (draft_of (entries_in rows)) k end))

@@ -1,4 +1,4 @@
--- What the parts keep that entries declare, with one more entry: tag by tag, and `kept_more` for all.
+-- What the parts keep that declarations declare, with one more declaration: tag by tag, and `kept_more` for all.
 use Rattle.std.proofs.Common.{◌≡◌, ◌≢◌, ◌<◌, ◌≤◌, ◌+◌, ◌^◌, ◌++◌, ◌∷◌, [], ℕ, List, Option, Some, None, true, false, not, cond, ◌∙◌, refl, ap, arith, get_or, length, nat_lt, nat_le, inl, inr, ◌⊎◌, length-append}
 use Rattle.std.specs.Prelude.{◌==◌, ◌||◌, All}
 use Rattle.std.specs.List.{list_all, list_any}
@@ -13,9 +13,9 @@ use Rattle.air_history.specs.UpdateLists.{UpdateLists}
 use Rattle.air_history.specs.UpdateRules.{has_repeat}
 use Rattle.air_model.specs.Decks.{IsUpdate, count_parts}
 use Rattle.air_model.specs.declared.deck.ReaderPlan.{ReaderPlan}
-use Rattle.item_catalog.specs.Steps.Drafts.{DraftValue, draft_tests, push_at, with_entry}
-use Rattle.item_catalog.specs.DeckEntries.{Entry}
-use Rattle.item_catalog.specs.DeckEntries as e
+use Rattle.item_catalog.specs.Private.Drafts.{DraftValue, draft_tests, push_at, with_entry}
+use Rattle.item_catalog.specs.Declarations.{Declaration}
+use Rattle.item_catalog.specs.Declarations as e
 use Rattle.item_catalog.specs.RecordKinds.{first_of}
 use Rattle.item_catalog.specs.Faults.{count_starts, script_passes, some_below}
 use Rattle.item_catalog.specs.ListTests.{option_any, reaches, write_reaches}
@@ -23,9 +23,9 @@ use Rattle.item_catalog.specs.Ranges.{outside}
 use Rattle.item_catalog.specs.declared.faults.FaultKind.TheVariants as fault
 use Rattle.item_catalog.specs.declared.parts.ItemPart.{ItemPart}
 use Rattle.item_catalog.specs.declared.deck.draft.settings.Setting.{Setting}
-use Rattle.item_catalog.proofs.EntryFacts.{is_signed, none_of_one, none_of_three, none_of_two, or_none, rules_kept, update_tested}
-use Rattle.item_catalog.proofs.ScriptFacts.{is_part_of, none_below, starts_all}
-use Rattle.item_catalog.proofs.KeptFacts.{DiskKept, InRange, Kept, QueryKept, ReaderKept, Spelt, all_push, none_all, sum_push}
+use Rattle.item_catalog.proofs.DeclarationLemmas.{is_signed, none_of_one, none_of_three, none_of_two, or_none, rules_kept, update_tested}
+use Rattle.item_catalog.proofs.ScriptLemmas.{is_part_of, none_below, starts_all}
+use Rattle.item_catalog.proofs.KeptLemmas.{DiskKept, InRange, Kept, QueryKept, ReaderKept, Spelt, all_push, none_all, sum_push}
 
 -- What is right for some items is right for one more.
 update_wider : (n : ℕ) (u : UpdateLists) → IsUpdate n u → IsUpdate (n + 1) u
@@ -264,8 +264,8 @@ module _ (d : DraftValue) (k : Kept d) where
     set = all_push InRange d.set s k.set range;
   }
 
--- One more entry.
-pub kept_more : (d : DraftValue) (x : Entry) → Kept d → Spelt x → first_of (draft_tests d x) ≡ None → Kept (with_entry d x)
+-- One more declaration.
+pub kept_more : (d : DraftValue) (x : Declaration) → Kept d → Spelt x → first_of (draft_tests d x) ≡ None → Kept (with_entry d x)
 kept_more d (e.Item id value rate) k spelt none = kept_item d k id value rate spelt none
 kept_more d (e.Disk size freq) k spelt none = kept_disk d k size freq none
 kept_more d (e.Update by reads writes) k spelt none = kept_update d k by reads writes spelt.0 spelt.1 none

@@ -1,42 +1,42 @@
-pub mod DiskFacts
+pub mod DiskLemmas
 pub mod EventFronts
-pub mod WriteFacts
-pub mod ScriptFacts
-pub mod EntryFacts
-pub mod DraftFacts
-pub mod PlaceFacts
-pub mod KeptFacts
+pub mod WriteLemmas
+pub mod ScriptLemmas
+pub mod DeclarationLemmas
+pub mod DraftLemmas
+pub mod PlaceLemmas
+pub mod KeptLemmas
 pub mod KeptSteps
-pub mod SpeltFacts
-pub mod WellMadeFacts
+pub mod SpeltLemmas
+pub mod WellMadeLemmas
 pub mod KeptRows
-pub mod ReadingFacts
-pub mod GrammarFacts
+pub mod ReadingLemmas
+pub mod GrammarLemmas
 pub mod GrammarExamples
-pub mod DealFacts
-pub mod DrillFacts
+pub mod DealLemmas
+pub mod DrillLemmas
 pub mod WriteFronts
 pub mod PartFronts
 pub mod WritePlaces
-pub mod RepeatFacts
-pub mod SeenFacts
-pub mod KeptOnceFacts
-pub mod FieldFacts
-pub mod ManyFieldFacts
-pub mod KindFacts
+pub mod RepeatLemmas
+pub mod SeenLemmas
+pub mod KeptOnceLemmas
+pub mod FieldLemmas
+pub mod ManyFieldLemmas
+pub mod KindLemmas
 pub mod FaultPlaces
 pub mod RecordPlaces
-pub mod RowFacts
-pub mod RecordsFacts
-pub mod TagFacts
-pub mod DrawFacts
-pub mod AroundFacts
-pub mod DrawnFacts
+pub mod RowLemmas
+pub mod RecordsLemmas
+pub mod TagLemmas
+pub mod DrawLemmas
+pub mod AroundLemmas
+pub mod DrawnLemmas
 pub mod WrittenRows
-mod EntryTexts
+mod DeclarationTexts
 mod DraftSteps
 mod DeckDrafts
-mod TestFacts
+mod TestLemmas
 mod UpdateTests
 mod ScriptTests
 mod DeckTests

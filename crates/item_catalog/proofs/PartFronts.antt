@@ -4,11 +4,11 @@ use Rattle.std.specs.Prelude.{◌==◌}
 use Rattle.std.specs.Char.{is_ascii_digit}
 use Rattle.std.specs.List.{list_all}
 use Rattle.air_base.specs.Numbers.{number_of}
-use Rattle.air_base.specs.Fronts.{after_digits, after_part, begins, digits_of, ends_part, first_part}
-use Rattle.air_base.proofs.FrontFacts.{front_all}
+use Rattle.air_base.specs.LeadingParts.{after_digits, after_part, begins, digits_of, ends_part, first_part}
+use Rattle.air_base.proofs.LeadingPartLemmas.{front_all}
 use Rattle.air_base.proofs.NumberFronts.{after_byte, after_ends, behind_byte, behind_digits, part_ends, part_with}
-use Rattle.item_catalog.specs.Writes.{constant, value_of, write_of, write_on_base}
-use Rattle.item_catalog.specs.Steps.WriteParts.{sign_of}
+use Rattle.item_catalog.specs.Writes.{constant, spelled_value_write, spelled_write, write_on_base}
+use Rattle.item_catalog.specs.Private.WriteParts.{sign_of}
 use Rattle.item_catalog.proofs.WriteFronts.{value_minus, value_number, value_other, value_no_item, value_plus, write_digits, write_equals, write_other}
 
 digits : (text : List ℕ) → list_all is_ascii_digit (digits_of text) ≡ true
@@ -29,59 +29,59 @@ no_amount (Some i) = refl
 -- What stands behind the digits is the end of the part, or a byte.
 module _ (text : List ℕ) where
   pub value_other_front : (item : Option ℕ) → begins 43 (after_digits text) ≡ false → begins 45 (after_digits text) ≡ false → ends_part (after_digits text) ≡ false
-      → value_of item (first_part text) ≡ None
+      → spelled_value_write item (first_part text) ≡ None
   value_other_front item plus minus ends = by (after_digits text) refl plus minus ends
     where
-      by : (rest : List ℕ) → after_digits text ≡ rest → begins 43 rest ≡ false → begins 45 rest ≡ false → ends_part rest ≡ false → value_of item (first_part text) ≡ None
+      by : (rest : List ℕ) → after_digits text ≡ rest → begins 43 rest ≡ false → begins 45 rest ≡ false → ends_part rest ≡ false → spelled_value_write item (first_part text) ≡ None
       by [] e plus minus ends = cc ends
       by (c ∷ more) e plus minus ends =
-          ap (value_of item) (part_with text c more e ends)
+          ap (spelled_value_write item) (part_with text c more e ends)
           ∙ value_other item (digits_of text) c (first_part more) (digits text) (behind_digits text c more e) (unlike c 43 plus) (unlike c 45 minus)
 
   pub value_plus_front : (item : Option ℕ) (more : List ℕ) → after_digits text ≡ 43 ∷ more
-      → value_of item (first_part text) ≡ write_on_base false item (number_of (digits_of text)) (number_of (first_part more))
-  value_plus_front item more e = ap (value_of item) (part_with text 43 more e refl) ∙ value_plus item (digits_of text) (first_part more) (digits text)
+      → spelled_value_write item (first_part text) ≡ write_on_base false item (number_of (digits_of text)) (number_of (first_part more))
+  value_plus_front item more e = ap (spelled_value_write item) (part_with text 43 more e refl) ∙ value_plus item (digits_of text) (first_part more) (digits text)
 
   pub value_minus_front : (item : Option ℕ) (more : List ℕ) → after_digits text ≡ 45 ∷ more
-      → value_of item (first_part text) ≡ write_on_base true item (number_of (digits_of text)) (number_of (first_part more))
-  value_minus_front item more e = ap (value_of item) (part_with text 45 more e refl) ∙ value_minus item (digits_of text) (first_part more) (digits text)
+      → spelled_value_write item (first_part text) ≡ write_on_base true item (number_of (digits_of text)) (number_of (first_part more))
+  value_minus_front item more e = ap (spelled_value_write item) (part_with text 45 more e refl) ∙ value_minus item (digits_of text) (first_part more) (digits text)
 
   pub value_signed_front : (minus : Bool) (item : Option ℕ) (more : List ℕ) → after_digits text ≡ sign_of minus ∷ more
-      → (value_of item (first_part text) ≡ write_on_base minus item (number_of (digits_of text)) (number_of (first_part more))) × (after_part more ≡ after_part text)
+      → (spelled_value_write item (first_part text) ≡ write_on_base minus item (number_of (digits_of text)) (number_of (first_part more))) × (after_part more ≡ after_part text)
   value_signed_front true item more e = (value_minus_front item more e, after_byte text 45 more e refl)
   value_signed_front false item more e = (value_plus_front item more e, after_byte text 43 more e refl)
 
-  pub value_number_front : (item : Option ℕ) → ends_part (after_digits text) ≡ true → value_of item (first_part text) ≡ constant item (number_of (digits_of text))
-  value_number_front item ends = ap (value_of item) (part_ends text ends) ∙ value_number item (digits_of text) (digits text)
+  pub value_number_front : (item : Option ℕ) → ends_part (after_digits text) ≡ true → spelled_value_write item (first_part text) ≡ constant item (number_of (digits_of text))
+  value_number_front item ends = ap (spelled_value_write item) (part_ends text ends) ∙ value_number item (digits_of text) (digits text)
 
-  pub value_no_number : (item : Option ℕ) → number_of (digits_of text) ≡ None → value_of item (first_part text) ≡ None
+  pub value_no_number : (item : Option ℕ) → number_of (digits_of text) ≡ None → spelled_value_write item (first_part text) ≡ None
   value_no_number item none = by (begins 43 (after_digits text)) (begins 45 (after_digits text)) (ends_part (after_digits text)) refl refl refl
     where
-      by : (p m t : Bool) → begins 43 (after_digits text) ≡ p → begins 45 (after_digits text) ≡ m → ends_part (after_digits text) ≡ t → value_of item (first_part text) ≡ None
+      by : (p m t : Bool) → begins 43 (after_digits text) ≡ p → begins 45 (after_digits text) ≡ m → ends_part (after_digits text) ≡ t → spelled_value_write item (first_part text) ≡ None
       by true m t p_is m_is t_is = let more = behind_byte text 43 p_is in value_plus_front item more.0 more.1 ∙ rw none (no_base false item _)
       by false true t p_is m_is t_is = let more = behind_byte text 45 m_is in value_minus_front item more.0 more.1 ∙ rw none (no_base true item _)
       by false false true p_is m_is t_is = value_number_front item t_is ∙ rw none (no_amount item)
       by false false false p_is m_is t_is = value_other_front item p_is m_is t_is
 
   -- A whole write.
-  pub write_value_front : (more : List ℕ) → after_digits text ≡ 61 ∷ more → write_of (first_part text) ≡ value_of (number_of (digits_of text)) (first_part more)
-  write_value_front more e = ap write_of (part_with text 61 more e refl) ∙ write_equals (digits_of text) (first_part more) (digits text)
+  pub write_value_front : (more : List ℕ) → after_digits text ≡ 61 ∷ more → spelled_write (first_part text) ≡ spelled_value_write (number_of (digits_of text)) (first_part more)
+  write_value_front more e = ap spelled_write (part_with text 61 more e refl) ∙ write_equals (digits_of text) (first_part more) (digits text)
 
-  pub write_other_front : begins 61 (after_digits text) ≡ false → write_of (first_part text) ≡ None
+  pub write_other_front : begins 61 (after_digits text) ≡ false → spelled_write (first_part text) ≡ None
   write_other_front other = by (ends_part (after_digits text)) refl (after_digits text) refl
     where
-      by : (t : Bool) → ends_part (after_digits text) ≡ t → (rest : List ℕ) → after_digits text ≡ rest → write_of (first_part text) ≡ None
-      by true ends rest e = ap write_of (part_ends text ends) ∙ write_digits (digits_of text) (digits text)
+      by : (t : Bool) → ends_part (after_digits text) ≡ t → (rest : List ℕ) → after_digits text ≡ rest → spelled_write (first_part text) ≡ None
+      by true ends rest e = ap spelled_write (part_ends text ends) ∙ write_digits (digits_of text) (digits text)
       by false ends [] e = cc (ap ends_part e, ends)
       by false ends (c ∷ more) e =
           let space : (c == 32) ≡ false = sym (ap ends_part e) ∙ ends in
           let differs : (c == 61) ≡ false = sym (ap (begins 61) e) ∙ other in
-          ap write_of (part_with text c more e space) ∙ write_other (digits_of text) c (first_part more) (digits text) (behind_digits text c more e) (unlike c 61 differs)
+          ap spelled_write (part_with text c more e space) ∙ write_other (digits_of text) c (first_part more) (digits text) (behind_digits text c more e) (unlike c 61 differs)
 
-  pub write_no_number : number_of (digits_of text) ≡ None → write_of (first_part text) ≡ None
+  pub write_no_number : number_of (digits_of text) ≡ None → spelled_write (first_part text) ≡ None
   write_no_number none = by (begins 61 (after_digits text)) refl
     where
-      by : (b : Bool) → begins 61 (after_digits text) ≡ b → write_of (first_part text) ≡ None
+      by : (b : Bool) → begins 61 (after_digits text) ≡ b → spelled_write (first_part text) ≡ None
       by true h = let more = behind_byte text 61 h in write_value_front more.0 more.1 ∙ rw none (value_no_item (first_part more.0))
       by false h = write_other_front h
 

@@ -4,7 +4,7 @@ use Rattle.std.specs.Prelude.{slice_get}
 use Rattle.std.proofs.lemmas.Bool.{cases_lt}
 use Rattle.std.proofs.lemmas.List.{take-append-le, take_all, take_more}
 use Rattle.std.proofs.lemmas.Option.{slice_get-get_or}
-use Rattle.item_catalog.specs.FirstFaults.{IsFirstFault, IsLeast, NoneBefore}
+use Rattle.item_catalog.specs.FirstFaults.{IsFirstFault, IsLeastKind, NoneBefore}
 
 get_before : {A : Type 0} (xs ys : List A) (i : ℕ) → i < length xs → slice_get (xs ++ ys) i ≡ slice_get xs i
 get_before [] ys i below = absurd (omega arith)
@@ -45,7 +45,7 @@ module _ {R : Type 0} (judge : List R → Option R → List ℕ) where
   ]
 
   -- And one to which some kind does, whatever stands behind it.
-  pub refused : (rows : List R) (row : R) (rest : List R) (places kind : ℕ) → length rows < places → NoneBefore (kinds_at rows) (length rows) → IsLeast kind (judge rows (Some row))
+  pub refused : (rows : List R) (row : R) (rest : List R) (places kind : ℕ) → length rows < places → NoneBefore (kinds_at rows) (length rows) → IsLeastKind kind (judge rows (Some row))
       → IsFirstFault places (kinds_at (rows ++ row ∷ rest)) (length rows) kind
   refused rows row rest places kind within before least = record {
     within = within;

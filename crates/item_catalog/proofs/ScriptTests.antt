@@ -15,8 +15,8 @@ use Rattle.item_catalog.specs.ListTests.{option_any}
 use Rattle.item_catalog.specs.RecordKinds.{first_of}
 use Rattle.item_catalog.specs.Faults.{count_starts, script_passes, script_tests, some_below}
 use Rattle.item_catalog.specs.declared.faults.FaultKind.TheVariants as fault
-use Rattle.item_catalog.proofs.EntryTexts.{SmallNumber}
-use Rattle.item_catalog.proofs.TestFacts.{neither, none_two, not_less, not_reached}
+use Rattle.item_catalog.proofs.DeclarationTexts.{SmallNumber}
+use Rattle.item_catalog.proofs.TestLemmas.{neither, none_two, not_less, not_reached}
 
 none_below : (n : ℕ) (test : ℕ → Bool) → ((k : ℕ) → test k ≡ false) → some_below n test ≡ false
 unfolding some_below

@@ -7,13 +7,13 @@ use Rattle.std.proofs.lemmas.List.FromFn.{get_or-map-range_with_len, length-map-
 use Rattle.air_history.specs.UpdateLists.{UpdateLists}
 use Rattle.air_model.specs.Decks.{Deck, IsDeck}
 use Rattle.air_model.specs.Rows.{rows_text}
-use Rattle.item_catalog.specs.DeckEntries.{Entry}
-use Rattle.item_catalog.specs.DeckEntries as e
+use Rattle.item_catalog.specs.Declarations.{Declaration}
+use Rattle.item_catalog.specs.Declarations as e
 use Rattle.item_catalog.specs.DeckLimits.{WithinLimits}
 use Rattle.item_catalog.specs.Decks.{deck_of}
 use Rattle.item_catalog.specs.Faults.{entries_in}
 use Rattle.item_catalog.specs.Grammar.{RowsSpell, Spells}
-use Rattle.item_catalog.specs.Parts.{greatest, its_update, its_updaters, updaters_in, updates_in}
+use Rattle.item_catalog.specs.Parts.{greatest_number, its_update, its_updaters, updaters_in, updates_in}
 use Rattle.item_catalog.specs.DeckTexts.{LastUpdates, deck_entries, deck_text, entry_row}
 use Rattle.item_catalog.proofs.DraftSteps.{entries_spell}
 use Rattle.item_catalog.proofs.DeckDrafts.{all_named, deck_back, deck_drafted, last_named, whole_draft}
@@ -37,31 +37,31 @@ deck_spelled deck made within last =
 
 -- ---- what a text spells
 
--- The last updater that entries name has an update.
+-- The last updater that declarations name has an update.
 module _ (last : ℕ) where
-  abbrev own_updates : List Entry → List UpdateLists
-  own_updates entries = filter_map (its_update last) entries
+  abbrev own_updates : List Declaration → List UpdateLists
+  own_updates declarations = filter_map (its_update last) declarations
 
-  last_updates : (entries : List Entry) → greatest (map its_updaters entries) ≡ last + 1 → 0 < length (own_updates entries)
+  last_updates : (declarations : List Declaration) → greatest_number (map its_updaters declarations) ≡ last + 1 → 0 < length (own_updates declarations)
   last_updates [] same = absurd (omega arith)
-  last_updates (e.Item id value rate ∷ entries) same = last_updates entries (omega arith)
-  last_updates (e.Disk size freq ∷ entries) same = last_updates entries (omega arith)
-  last_updates (e.Update by reads writes ∷ entries) same = at (by == last) refl (last_updates entries)
+  last_updates (e.Item id value rate ∷ declarations) same = last_updates declarations (omega arith)
+  last_updates (e.Disk size freq ∷ declarations) same = last_updates declarations (omega arith)
+  last_updates (e.Update by reads writes ∷ declarations) same = at (by == last) refl (last_updates declarations)
     where
-      at : (b : Bool) → (by == last) ≡ b → (greatest (map its_updaters entries) ≡ last + 1 → 0 < length (own_updates entries)) → 0 < length (own_updates (e.Update by reads writes ∷ entries))
+      at : (b : Bool) → (by == last) ≡ b → (greatest_number (map its_updaters declarations) ≡ last + 1 → 0 < length (own_updates declarations)) → 0 < length (own_updates (e.Update by reads writes ∷ declarations))
       at true h more = rw h (omega arith)
       at false h more = let other : by ≡ last → ⊥ = grind (arith, nat_tests) in rw h (more (omega (arith, other, same)))
-  last_updates (e.Reader room age tries ∷ entries) same = last_updates entries (omega arith)
-  last_updates (e.Query reader items ∷ entries) same = last_updates entries (omega arith)
-  last_updates (e.Script events ∷ entries) same = last_updates entries (omega arith)
-  last_updates (e.Set s ∷ entries) same = last_updates entries (omega arith)
+  last_updates (e.Reader room age tries ∷ declarations) same = last_updates declarations (omega arith)
+  last_updates (e.Query reader items ∷ declarations) same = last_updates declarations (omega arith)
+  last_updates (e.Script events ∷ declarations) same = last_updates declarations (omega arith)
+  last_updates (e.Set s ∷ declarations) same = last_updates declarations (omega arith)
 
-entries_last : (entries : List Entry) → LastUpdates (deck_of entries)
-entries_last entries last same =
-    let n = updaters_in entries in
-    let long : n ≡ last + 1 = sym (length-map-range_with_len (updates_in entries) 0 n) ∙ same in
-    let own = get_or-map-range_with_len (updates_in entries) 0 n last last [] (omega arith) (omega arith) in
-    omega (arith, ap length own, last_updates last entries long)
+entries_last : (declarations : List Declaration) → LastUpdates (deck_of declarations)
+entries_last declarations last same =
+    let n = updaters_in declarations in
+    let long : n ≡ last + 1 = sym (length-map-range_with_len (updates_in declarations) 0 n) ∙ same in
+    let own = get_or-map-range_with_len (updates_in declarations) 0 n last last [] (omega arith) (omega arith) in
+    omega (arith, ap length own, last_updates last declarations long)
 
 pub spelled_last : (rows : List (List (List ℕ))) (deck : Deck) → RowsSpell rows deck → LastUpdates deck
 spelled_last rows deck spelled = subst LastUpdates (sym spelled.parts) (entries_last (entries_in rows))

@@ -11,32 +11,32 @@ use Rattle.air_base.specs.declared.limits.TheConstants.{MOST_ITEMS, MOST_READS, 
 use Rattle.air_history.specs.declared.updates.Write.{Write}
 use Rattle.air_history.specs.declared.updates.UpdateFault.TheVariants.{Limit, Repeated, BaseNotRead}
 use Rattle.air_history.specs.UpdateLists.{UpdateLists}
-use Rattle.air_history.specs.UpdateRules.{base_holds, base_is_read, has_repeat, item_of, update_fault, within_limits}
+use Rattle.air_history.specs.UpdateRules.{base_holds, base_is_read, has_repeat, update_fault, within_limits, written_item}
 use Rattle.air_model.specs.Decks.{IsUpdate}
 use Rattle.item_catalog.specs.ListTests.{is_unread, option_any, reaches, write_reaches}
 use Rattle.item_catalog.specs.RecordKinds.{first_of}
-use Rattle.item_catalog.specs.Steps.Drafts.{DraftValue, with_entry}
+use Rattle.item_catalog.specs.Private.Drafts.{DraftValue, with_entry}
 use Rattle.item_catalog.specs.Faults.{update_tests}
 use Rattle.item_catalog.specs.Ranges.{outside}
 use Rattle.item_catalog.specs.declared.faults.FaultKind.TheVariants as fault
-use Rattle.item_catalog.proofs.KeptFacts.{every}
+use Rattle.item_catalog.proofs.KeptLemmas.{every}
 use Rattle.item_catalog.specs.DeckTexts.{update_entries, update_entry}
-use Rattle.item_catalog.proofs.EntryTexts.{BaseFits, Fits, WriteFits}
+use Rattle.item_catalog.proofs.DeclarationTexts.{BaseFits, Fits, WriteFits}
 use Rattle.item_catalog.proofs.DraftSteps.{Passes, passes_both, with_all}
-use Rattle.item_catalog.proofs.TestFacts.{all_reached, neither, none_four, not_less, not_outside, not_reached}
+use Rattle.item_catalog.proofs.TestLemmas.{all_reached, neither, none_four, not_less, not_outside, not_reached}
 
 -- What an update keeps by its rules.
 record RulesKept (u : UpdateLists) : Type 0 where
   few_reads : length u.reads ≤ MOST_READS
   some_write : 1 ≤ length u.writes
   few_writes : length u.writes ≤ MOST_WRITES
-  apart : (has_repeat u.reads || has_repeat (map item_of u.writes)) ≡ false
+  apart : (has_repeat u.reads || has_repeat (map written_item u.writes)) ≡ false
   bases : list_all (base_is_read u.reads) u.writes ≡ true
 
 rules_kept : (u : UpdateLists) → update_fault u.reads u.writes ≡ None → RulesKept u
 unfolding update_fault
 rules_kept u none =
-    let t = by (within_limits u.reads u.writes) (has_repeat u.reads || has_repeat (map item_of u.writes)) (list_all (base_is_read u.reads) u.writes) none in
+    let t = by (within_limits u.reads u.writes) (has_repeat u.reads || has_repeat (map written_item u.writes)) (list_all (base_is_read u.reads) u.writes) none in
     let reads = and_parts (nat_le (length u.reads) MOST_READS) (nat_le 1 (length u.writes) && nat_le (length u.writes) MOST_WRITES) t.0 in
     let writes = and_parts (nat_le 1 (length u.writes)) (nat_le (length u.writes) MOST_WRITES) reads.1 in
     record {
@@ -95,7 +95,7 @@ module _ (n : ℕ) (u : UpdateLists) (few : n ≤ MOST_ITEMS) (is : IsUpdate n u
   update_none by given low few_before =
       let reads = length u.reads in let writes = length u.writes in
       none_four fault.Undeclared fault.Twice fault.Limit fault.Unread
-      (reaches n u.reads || list_any (write_reaches n) u.writes) (has_repeat u.reads || has_repeat (map item_of u.writes))
+      (reaches n u.reads || list_any (write_reaches n) u.writes) (has_repeat u.reads || has_repeat (map written_item u.writes))
       (nat_le MOST_UPDATERS by || nat_lt MOST_READS reads || outside 1 MOST_WRITES writes || nat_le MOST_UPDATES given) (list_any (is_unread u.reads) u.writes)
       (neither (reaches n u.reads) (list_any (write_reaches n) u.writes) (all_reached n u.reads is.fits.reads) (list_any_none (write_reaches n) u.writes declared))
       kept.apart

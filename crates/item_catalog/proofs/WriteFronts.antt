@@ -11,12 +11,12 @@ use Rattle.std.proofs.lemmas.List.Folds.{list_all-append}
 use Rattle.std.proofs.lemmas.Bool.{and_parts}
 use Rattle.std.proofs.lemmas.Bool.Decides.{nat_tests}
 use Rattle.air_base.specs.Numbers.{number_of}
-use Rattle.air_base.specs.Fronts.{front, behind}
+use Rattle.air_base.specs.LeadingParts.{leading_part, behind}
 use Rattle.air_base.specs.Pieces.{cut_at, two_of}
 use Rattle.air_base.proofs.Cuts.{Two, cut_first, cut_none, cut_then, is_not, two_pieces}
-use Rattle.air_base.proofs.FrontFacts.{front_all, front_behind}
+use Rattle.air_base.proofs.LeadingPartLemmas.{front_all, front_behind}
 use Rattle.air_base.proofs.NumberFronts.{all_such, digits_then, no_number, spelled_digits}
-use Rattle.item_catalog.specs.Writes.{constant, value_of, write_by, write_from, write_of, write_on_base}
+use Rattle.item_catalog.specs.Writes.{constant, spelled_value_write, spelled_write, write_by, write_from, write_on_base}
 
 -- Texts that begin with digits and then another byte are alike in their digits, in that byte, and behind it.
 pub same_split : (a b : List ℕ) (x y : ℕ) (q r : List ℕ) → list_all is_ascii_digit a ≡ true → list_all is_ascii_digit b ≡ true
@@ -68,8 +68,8 @@ constant_none (Some i) = refl
 abbrev Never : ℕ → Bool → Option ℕ → List ℕ → Type 0
 Never s minus item v = (p q : List ℕ) → v ≡ p ++ s ∷ q → write_on_base minus item (number_of p) (number_of q) ≡ None
 
-value_none : (item : Option ℕ) (v : List ℕ) → Never 43 false item v → Never 45 true item v → number_of v ≡ None → value_of item v ≡ None
-unfolding value_of
+value_none : (item : Option ℕ) (v : List ℕ) → Never 43 false item v → Never 45 true item v → number_of v ≡ None → spelled_value_write item v ≡ None
+unfolding spelled_value_write
 value_none item v plus minus whole = by (two_of (cut_at 43 v)) (two_of (cut_at 45 v)) (two_pieces 43 v) (two_pieces 45 v)
   where
     by : (a b : Option (List ℕ × List ℕ)) → Two 43 v a → Two 45 v b → write_by item a b v ≡ None
@@ -96,39 +96,39 @@ module _ (item : Option ℕ) (a : List ℕ) (x : ℕ) (c : List ℕ) (digits : l
   whole_none : number_of (a ++ x ∷ c) ≡ None
   whole_none = no_number (a ++ x ∷ c) (digits_then a x c other)
 
-  pub value_other : x ≢ 43 → x ≢ 45 → value_of item (a ++ x ∷ c) ≡ None
+  pub value_other : x ≢ 43 → x ≢ 45 → spelled_value_write item (a ++ x ∷ c) ≡ None
   value_other plus minus = value_none item (a ++ x ∷ c) (never_else 43 false refl plus) (never_else 45 true refl minus) whole_none
 
-  value_bad : number_of c ≡ None → value_of item (a ++ x ∷ c) ≡ None
+  value_bad : number_of c ≡ None → spelled_value_write item (a ++ x ∷ c) ≡ None
   value_bad none = value_none item (a ++ x ∷ c) (never_here 43 false refl none) (never_here 45 true refl none) whole_none
 
-pub value_plus : (item : Option ℕ) (a c : List ℕ) → list_all is_ascii_digit a ≡ true → value_of item (a ++ 43 ∷ c) ≡ write_on_base false item (number_of a) (number_of c)
-unfolding value_of
+pub value_plus : (item : Option ℕ) (a c : List ℕ) → list_all is_ascii_digit a ≡ true → spelled_value_write item (a ++ 43 ∷ c) ≡ write_on_base false item (number_of a) (number_of c)
+unfolding spelled_value_write
 value_plus item a c digits = by (number_of c) refl
   where
-    by : (n : Option ℕ) → number_of c ≡ n → value_of item (a ++ 43 ∷ c) ≡ write_on_base false item (number_of a) (number_of c)
+    by : (n : Option ℕ) → number_of c ≡ n → spelled_value_write item (a ++ 43 ∷ c) ≡ write_on_base false item (number_of a) (number_of c)
     by None h = value_bad item a 43 c digits refl h ∙ rw h (sym (on_base_none false item (number_of a)))
     by (Some n) h = rw (cut_then 43 a c (digits_are_not 43 refl a digits), cut_none 43 c (digits_are_not 43 refl c (spelled_digits c n h))) refl
 
-pub value_minus : (item : Option ℕ) (a c : List ℕ) → list_all is_ascii_digit a ≡ true → value_of item (a ++ 45 ∷ c) ≡ write_on_base true item (number_of a) (number_of c)
-unfolding value_of
+pub value_minus : (item : Option ℕ) (a c : List ℕ) → list_all is_ascii_digit a ≡ true → spelled_value_write item (a ++ 45 ∷ c) ≡ write_on_base true item (number_of a) (number_of c)
+unfolding spelled_value_write
 value_minus item a c digits = by (number_of c) refl
   where
     no_plus : list_all is_ascii_digit c ≡ true → list_all (is_not 43) (a ++ 45 ∷ c) ≡ true
     no_plus more = list_all-append (is_not 43) a (45 ∷ c) ∙ rw (digits_are_not 43 refl a digits, digits_are_not 43 refl c more) refl
 
-    by : (n : Option ℕ) → number_of c ≡ n → value_of item (a ++ 45 ∷ c) ≡ write_on_base true item (number_of a) (number_of c)
+    by : (n : Option ℕ) → number_of c ≡ n → spelled_value_write item (a ++ 45 ∷ c) ≡ write_on_base true item (number_of a) (number_of c)
     by None h = value_bad item a 45 c digits refl h ∙ rw h (sym (on_base_none true item (number_of a)))
     by (Some n) h =
         let more = spelled_digits c n h in
         rw (cut_none 43 (a ++ 45 ∷ c) (no_plus more), cut_then 45 a c (digits_are_not 45 refl a digits), cut_none 45 c (digits_are_not 45 refl c more)) refl
 
-pub value_number : (item : Option ℕ) (a : List ℕ) → list_all is_ascii_digit a ≡ true → value_of item a ≡ constant item (number_of a)
-unfolding value_of
+pub value_number : (item : Option ℕ) (a : List ℕ) → list_all is_ascii_digit a ≡ true → spelled_value_write item a ≡ constant item (number_of a)
+unfolding spelled_value_write
 value_number item a digits = rw (cut_none 43 a (digits_are_not 43 refl a digits), cut_none 45 a (digits_are_not 45 refl a digits)) refl
 
 -- A value with another `=` has no write.
-value_again : (item : Option ℕ) (v : List ℕ) → list_all (is_not 61) v ≡ false → value_of item v ≡ None
+value_again : (item : Option ℕ) (v : List ℕ) → list_all (is_not 61) v ≡ false → spelled_value_write item v ≡ None
 value_again item v again = value_none item v (never 43 false refl refl) (never 45 true refl refl) (whole (number_of v) refl)
   where
     whole : (n : Option ℕ) → number_of v ≡ n → n ≡ None
@@ -147,30 +147,30 @@ value_again item v again = value_none item v (never 43 false refl refl) (never 4
             cc (all, again)
 
 -- A write by its digits and what stands behind them.
-pub write_equals : (a v : List ℕ) → list_all is_ascii_digit a ≡ true → write_of (a ++ 61 ∷ v) ≡ value_of (number_of a) v
-unfolding write_of
+pub write_equals : (a v : List ℕ) → list_all is_ascii_digit a ≡ true → spelled_write (a ++ 61 ∷ v) ≡ spelled_value_write (number_of a) v
+unfolding spelled_write
 write_equals a v digits = rw (cut_then 61 a v (digits_are_not 61 refl a digits)) (by (list_all (is_not 61) v) refl)
   where
     more : (y : ℕ) (ys : List ℕ) → behind (is_not 61) v ≡ y ∷ ys → write_from (two_of (a ∷ cut_at 61 v)) ≡ None
     more y ys e = rw (cut_first 61 v, e, cut_first 61 ys) refl
 
-    by : (b : Bool) → list_all (is_not 61) v ≡ b → write_from (two_of (a ∷ cut_at 61 v)) ≡ value_of (number_of a) v
+    by : (b : Bool) → list_all (is_not 61) v ≡ b → write_from (two_of (a ∷ cut_at 61 v)) ≡ spelled_value_write (number_of a) v
     by true all = rw (cut_none 61 v all) refl
     by false again = at (behind (is_not 61) v) refl ∙ sym (value_again (number_of a) v again)
       where
         at : (b : List ℕ) → behind (is_not 61) v ≡ b → write_from (two_of (a ∷ cut_at 61 v)) ≡ None
         at (y ∷ ys) e = more y ys e
         at [] e =
-            let end : front (is_not 61) v ++ behind (is_not 61) v ≡ front (is_not 61) v = rw e (append-nil (front (is_not 61) v)) in
+            let end : leading_part (is_not 61) v ++ behind (is_not 61) v ≡ leading_part (is_not 61) v = rw e (append-nil (leading_part (is_not 61) v)) in
             let all : list_all (is_not 61) v ≡ true = ap (list_all (is_not 61)) (front_behind (is_not 61) v ∙ end) ∙ front_all (is_not 61) v in
             cc (all, again)
 
-pub write_digits : (a : List ℕ) → list_all is_ascii_digit a ≡ true → write_of a ≡ None
-unfolding write_of
+pub write_digits : (a : List ℕ) → list_all is_ascii_digit a ≡ true → spelled_write a ≡ None
+unfolding spelled_write
 write_digits a digits = rw (cut_none 61 a (digits_are_not 61 refl a digits)) refl
 
-pub value_no_item : (v : List ℕ) → value_of None v ≡ None
-unfolding value_of
+pub value_no_item : (v : List ℕ) → spelled_value_write None v ≡ None
+unfolding spelled_value_write
 value_no_item v = by (two_of (cut_at 43 v)) (two_of (cut_at 45 v))
   where
     by : (a b : Option (List ℕ × List ℕ)) → write_by None a b v ≡ None
@@ -178,11 +178,11 @@ value_no_item v = by (two_of (cut_at 43 v)) (two_of (cut_at 45 v))
     by None (Some f) = refl
     by None None = refl
 
-pub write_other : (a : List ℕ) (x : ℕ) (c : List ℕ) → list_all is_ascii_digit a ≡ true → is_ascii_digit x ≡ false → x ≢ 61 → write_of (a ++ x ∷ c) ≡ None
-unfolding write_of
+pub write_other : (a : List ℕ) (x : ℕ) (c : List ℕ) → list_all is_ascii_digit a ≡ true → is_ascii_digit x ≡ false → x ≢ 61 → spelled_write (a ++ x ∷ c) ≡ None
+unfolding spelled_write
 write_other a x c digits other differs = by (two_of (cut_at 61 (a ++ x ∷ c))) (two_pieces 61 (a ++ x ∷ c))
   where
-    at : (p q : List ℕ) → a ++ x ∷ c ≡ p ++ 61 ∷ q → (n : Option ℕ) → number_of p ≡ n → value_of n q ≡ None
+    at : (p q : List ℕ) → a ++ x ∷ c ≡ p ++ 61 ∷ q → (n : Option ℕ) → number_of p ≡ n → spelled_value_write n q ≡ None
     at p q e None h = value_no_item q
     at p q e (Some n) h = absurd (differs (same_split a p x 61 c q digits (spelled_digits p n h) other refl e).1)
 

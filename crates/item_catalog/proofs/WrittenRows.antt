@@ -9,7 +9,7 @@ use Rattle.csv.specs.declared.parser.State.TheVariants as st
 use Rattle.csv.proofs.RoundTrip.{read-write}
 use Rattle.air_model.specs.Rows.{row_writer, rows_text}
 use Rattle.item_catalog.specs.Records.{records_of}
-use Rattle.item_catalog.proofs.RowFacts.{all_rows}
+use Rattle.item_catalog.proofs.RowLemmas.{all_rows}
 
 -- How reports and decks write a row is csv's own way.
 same_escaped : (field : List ℕ) → escaped row_writer field ≡ escaped default_writer field

@@ -1,6 +1,6 @@
 -- The text of a deck: one record for each of its parts.
 --
--- The records are those of the grammar (`DeckEntries`), each part's in the order in which the deck has them: the items, the disks,
+-- The records are those of the grammar (`Declarations`), each part's in the order in which the deck has them: the items, the disks,
 -- the updates of each updater, the readers, the queries of each reader, one record for the script, and one for each setting but
 -- delta, since each disk's frequency is said.
 use Rattle.std.specs.Prelude.{◌≡◌, ◌+◌, ◌<◌, ◌++◌, ℕ, List, [], ◌∷◌, Bool, true, false, Option, Some, None, length, map, codes}
@@ -16,8 +16,8 @@ use Rattle.air_model.specs.declared.deck.Settings.{Settings}
 use Rattle.air_model.specs.Disks.{DiskSpec}
 use Rattle.air_model.specs.Decks.{Deck, Item, updates_by}
 use Rattle.air_model.specs.Rows.{rows_text}
-use Rattle.item_catalog.specs.DeckEntries.{Entry}
-use Rattle.item_catalog.specs.DeckEntries as e
+use Rattle.item_catalog.specs.Declarations.{Declaration}
+use Rattle.item_catalog.specs.Declarations as e
 use Rattle.item_catalog.specs.declared.deck.draft.settings.Name.{Name}
 use Rattle.item_catalog.specs.declared.deck.draft.settings.Name.TheVariants as n
 use Rattle.item_catalog.specs.declared.deck.draft.settings.Setting.{Setting}
@@ -69,8 +69,8 @@ abbrev pub set_row : Setting → List (List ℕ)
 set_row (setting.Policy policy) = codes "set" ∷ codes "policy" ∷ policy_text policy ∷ []
 set_row (setting.Number name value) = codes "set" ∷ name_text name ∷ number_text value ∷ []
 
--- The record of an entry: its tag, and what it says.
-abbrev pub entry_row : Entry → List (List ℕ)
+-- The record of a declaration: its tag, and what it says.
+abbrev pub entry_row : Declaration → List (List ℕ)
 entry_row (e.Item id value rate) = codes "item" ∷ number_text id ∷ number_text value ∷ number_text rate ∷ []
 entry_row (e.Disk size freq) = codes "disk" ∷ number_text size ∷ freq_text freq ∷ []
 entry_row (e.Update by reads writes) = codes "update" ∷ number_text by ∷ list_text (map number_text reads) ∷ list_text (map write_text writes) ∷ []
@@ -79,30 +79,30 @@ entry_row (e.Query reader items) = codes "query" ∷ number_text reader ∷ list
 entry_row (e.Script events) = codes "script" ∷ list_text (map event_text events) ∷ []
 entry_row (e.Set s) = set_row s
 
--- ---- the entries of a deck
+-- ---- the declarations of a deck
 
 -- An item with its place.
-abbrev pub item_entry : ℕ × Item → Entry
+abbrev pub item_entry : ℕ × Item → Declaration
 item_entry item = e.Item item.0 item.1.value item.1.rate
 
 -- A disk with its frequency.
-abbrev pub disk_entry : DiskSpec → Entry
+abbrev pub disk_entry : DiskSpec → Declaration
 disk_entry disk = e.Disk disk.size (Some disk.freq)
 
 -- An update of an updater.
-abbrev pub update_entry : ℕ → UpdateLists → Entry
+abbrev pub update_entry : ℕ → UpdateLists → Declaration
 update_entry by update = e.Update by update.reads update.writes
 
 -- The updates of updaters, the first of which has this number.
-abbrev pub update_entries : ℕ → List (List UpdateLists) → List Entry
+abbrev pub update_entries : ℕ → List (List UpdateLists) → List Declaration
 update_entries from updates = flat_map (λ (own : ℕ × List UpdateLists). map (update_entry own.0) own.1) (enumerate_from from updates)
 
 -- A reader.
-abbrev pub reader_entry : ReaderPlan → Entry
+abbrev pub reader_entry : ReaderPlan → Declaration
 reader_entry reader = e.Reader reader.room reader.age reader.tries
 
 -- The queries of readers, the first of which has this number.
-abbrev pub query_entries : ℕ → List (List (List ℕ)) → List Entry
+abbrev pub query_entries : ℕ → List (List (List ℕ)) → List Declaration
 query_entries from queries = flat_map (λ (own : ℕ × List (List ℕ)). map (e.Query own.0) own.1) (enumerate_from from queries)
 
 -- All settings but delta.
@@ -112,7 +112,7 @@ all_set s =
     setting.Number n.Late s.late ∷ setting.Number n.Monitors s.monitors ∷ setting.Number n.Hears s.hears ∷ []
 
 -- What a deck declares.
-abbrev pub deck_entries : Deck → List Entry
+abbrev pub deck_entries : Deck → List Declaration
 deck_entries deck =
     map item_entry (enumerate_from 0 deck.items)
     ++ (map disk_entry deck.disks ++ (update_entries 0 deck.updates ++ (map reader_entry deck.readers ++ (query_entries 0 deck.queries ++ (e.Script deck.script ∷ map e.Set (all_set deck.settings))))))

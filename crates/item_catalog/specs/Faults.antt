@@ -1,24 +1,24 @@
 -- Which kinds of fault apply where: to a record after the records before it, and at the end.
 --
 -- For each tag there is a list of kinds with their tests, by rising number, and a kind applies where its test holds. A test
--- asks of what the entries before declare alone: how many items, how many updates of an updater, and so on. The end of the
+-- asks of what the declarations before declare alone: how many items, how many updates of an updater, and so on. The end of the
 -- deck is judged as one further record.
 use Rattle.std.specs.Prelude.{◌+◌, ◌==◌, ◌||◌, ◌++◌, ℕ, zero, suc, List, [], ◌∷◌, Bool, false, not, Option, Some, None, Result, length, take, nat_lt, nat_le, map, count_by, slice_get}
 use Rattle.std.specs.List.{list_any, filter_map, sum_by}
 use Rattle.std.specs.Result.{result_ok}
 use Rattle.air_base.specs.declared.limits.TheConstants.{MOST_AGE, MOST_ASKED, MOST_DISKS, MOST_EVENTS, MOST_FREQ, MOST_ITEMS, MOST_QUERIES, MOST_RATE, MOST_READERS, MOST_READS, MOST_ROOM, MOST_SIZE, MOST_STARTS, MOST_TRIES, MOST_UPDATERS, MOST_UPDATES, MOST_WRITES}
 use Rattle.air_history.specs.declared.updates.Write.{Write}
-use Rattle.air_history.specs.UpdateRules.{has_repeat, item_of}
+use Rattle.air_history.specs.UpdateRules.{has_repeat, written_item}
 use Rattle.air_model.specs.Decks.{count_parts}
 use Rattle.item_catalog.specs.ListTests.{is_unread, option_any, reaches, write_reaches}
 use Rattle.item_catalog.specs.RecordKinds.{kinds_of, spelled_kinds}
 use Rattle.item_catalog.specs.DeckLimits.{is_start_part}
 use Rattle.item_catalog.specs.Ranges.{outside}
-use Rattle.item_catalog.specs.DeckEntries.{Entry, entry_of}
-use Rattle.item_catalog.specs.DeckEntries as e
-use Rattle.item_catalog.specs.Parts.{items_in, disks_in, updates_in, count_updates, readers_in, count_queries, script_in, set_in}
+use Rattle.item_catalog.specs.Declarations.{Declaration, spelled_declaration}
+use Rattle.item_catalog.specs.Declarations as e
+use Rattle.item_catalog.specs.Parts.{items_in, disk_parts_in, updates_in, count_updates, readers_in, count_queries, script_in, set_in}
 use Rattle.item_catalog.specs.Settings.{same_setting}
-use Rattle.item_catalog.specs.Kinds.{code_of}
+use Rattle.item_catalog.specs.Kinds.{deck_kind_number}
 use Rattle.item_catalog.specs.declared.faults.FaultKind.{FaultKind}
 use Rattle.item_catalog.specs.declared.faults.FaultKind.TheVariants as fault
 use Rattle.item_catalog.specs.declared.parts.DiskPart.{DiskPart}
@@ -48,7 +48,7 @@ disk_tests disks size freq =
 abbrev pub update_tests : ℕ → ℕ → ℕ → List ℕ → List Write → List (FaultKind × Bool)
 update_tests items updates by reads writes =
     (fault.Undeclared, reaches items reads || list_any (write_reaches items) writes) ∷
-    (fault.Twice, has_repeat reads || has_repeat (map item_of writes)) ∷
+    (fault.Twice, has_repeat reads || has_repeat (map written_item writes)) ∷
     (fault.Limit, nat_le MOST_UPDATERS by || nat_lt MOST_READS (length reads) || outside 1 MOST_WRITES (length writes) || nat_le MOST_UPDATES updates) ∷
     (fault.Unread, list_any (is_unread reads) writes) ∷ []
 
@@ -82,10 +82,10 @@ abbrev pub set_tests : List Setting → Setting → List (FaultKind × Bool)
 set_tests set setting =
     (fault.Setting, list_any (same_setting setting) set) ∷ []
 
--- The kinds that an entry may have after entries, by rising kind, each with its test.
-abbrev pub tests_of : List Entry → Entry → List (FaultKind × Bool)
+-- The kinds that a declaration may have after declarations, by rising kind, each with its test.
+abbrev pub tests_of : List Declaration → Declaration → List (FaultKind × Bool)
 tests_of before (e.Item id value rate) = item_tests (length (items_in before)) id rate
-tests_of before (e.Disk size freq) = disk_tests (length (disks_in before)) size freq
+tests_of before (e.Disk size freq) = disk_tests (length (disk_parts_in before)) size freq
 tests_of before (e.Update by reads writes) = update_tests (length (items_in before)) (count_updates before) by reads writes
 tests_of before (e.Reader room age tries) = reader_tests (length (readers_in before)) room age tries
 tests_of before (e.Query reader items) = query_tests (length (items_in before)) (length (readers_in before)) (count_queries before) reader items
@@ -98,18 +98,18 @@ end_tests items disks =
     (fault.Sizes, not (sum_by (λ d. d.size) disks == items)) ∷
     (fault.Limit, items == 0 || length disks == 0) ∷ []
 
--- The numbers of the kinds that apply to what a record spells, after entries.
-abbrev pub kinds_after : List Entry → Result Entry FaultKind → List ℕ
-kinds_after before spelled = spelled_kinds code_of (tests_of before) spelled
+-- The numbers of the kinds that apply to what a record spells, after declarations.
+abbrev pub kinds_after : List Declaration → Result Declaration FaultKind → List ℕ
+kinds_after before spelled = spelled_kinds deck_kind_number (tests_of before) spelled
 
--- The entries that the records spell, without those that spell none.
-abbrev pub entries_in : List (List (List ℕ)) → List Entry
-entries_in rows = filter_map (λ row. result_ok (entry_of row)) rows
+-- The declarations that the records spell, without those that spell none.
+abbrev pub entries_in : List (List (List ℕ)) → List Declaration
+entries_in rows = filter_map (λ row. result_ok (spelled_declaration row)) rows
 
--- The numbers of the kinds that apply to a record after entries, and at the end, where there is no record.
-abbrev pub place_kinds : List Entry → Option (List (List ℕ)) → List ℕ
-place_kinds before (Some row) = kinds_after before (entry_of row)
-place_kinds before None = kinds_of code_of (end_tests (length (items_in before)) (disks_in before))
+-- The numbers of the kinds that apply to a record after declarations, and at the end, where there is no record.
+abbrev pub place_kinds : List Declaration → Option (List (List ℕ)) → List ℕ
+place_kinds before (Some row) = kinds_after before (spelled_declaration row)
+place_kinds before None = kinds_of deck_kind_number (end_tests (length (items_in before)) (disk_parts_in before))
 
 -- The numbers of the kinds that apply at a place, counted from 0: to the record there, after all records before it, or at the end.
 unfoldable pub kinds_at : List (List (List ℕ)) → ℕ → List ℕ

@@ -9,5 +9,5 @@ unfoldable pub freq_of : List ℕ → Option (Option ℕ)
 freq_of text = if text is codes "-" then Some None else option_map Some (number_of text)
 
 -- An event of the script: `s`, a start, or the number of an updater.
-unfoldable pub event_of : List ℕ → Option (Option ℕ)
-event_of text = if text is codes "s" then Some None else option_map Some (number_of text)
+unfoldable pub spelled_event : List ℕ → Option (Option ℕ)
+spelled_event text = if text is codes "s" then Some None else option_map Some (number_of text)

@@ -7,7 +7,7 @@ abbrev pub NoneBefore : (ℕ → List ℕ) → ℕ → Type 0
 NoneBefore kinds places = (place : ℕ) → place < places → kinds place ≡ []
 
 -- The kind is the least of these.
-pub record IsLeast (kind : ℕ) (kinds : List ℕ) : Type 0 where
+pub record IsLeastKind (kind : ℕ) (kinds : List ℕ) : Type 0 where
   pub one : Contains kinds kind
   pub least : All (λ other. kind ≤ other) kinds
 
@@ -15,4 +15,4 @@ pub record IsLeast (kind : ℕ) (kinds : List ℕ) : Type 0 where
 pub record IsFirstFault (places : ℕ) (kinds : ℕ → List ℕ) (place kind : ℕ) : Type 0 where
   pub within : place < places
   pub first : NoneBefore kinds place
-  pub least : IsLeast kind (kinds place)
+  pub least : IsLeastKind kind (kinds place)

@@ -30,6 +30,6 @@ unfoldable pub HasFault : List ℕ → ℕ → ℕ → Type 0
 HasFault text row kind = (place : ℕ) × (row ≡ place + 1) × RowsFail (records_of text) place kind
 
 -- A fault that is answered is the text's; no memory has no cause.
-abbrev pub IsAnswer : List ℕ → DeckError → Type 0
-IsAnswer text (error.Fault fault) = HasFault text fault.row fault.kind
-IsAnswer text error.NoMemory = ⊤
+abbrev pub IsErrorOf : List ℕ → DeckError → Type 0
+IsErrorOf text (error.Fault fault) = HasFault text fault.row fault.kind
+IsErrorOf text error.NoMemory = ⊤

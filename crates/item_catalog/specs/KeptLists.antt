@@ -6,7 +6,7 @@ use Rattle.std.specs.Prelude.{◌≡◌, ◌==◌, ◌||◌, ◌++◌, ◌<◌, 
 use Rattle.std.specs.List.{list_any}
 use Rattle.air_base.specs.declared.limits.TheConstants.{MOST_ITEMS}
 use Rattle.air_history.specs.declared.updates.Write.{Write}
-use Rattle.air_history.specs.UpdateRules.{has_repeat, item_of}
+use Rattle.air_history.specs.UpdateRules.{has_repeat, written_item}
 use Rattle.item_catalog.specs.ListTests.{is_unread, write_reaches}
 
 -- The items that are declared and distinct, in order; whether one wasn't declared, or stood twice.
@@ -50,7 +50,7 @@ no_writes = record { writes = []; undeclared = false; repeated = false; unread =
 abbrev pub see_write : ℕ → List ℕ → WritesSeen → Write → WritesSeen
 see_write n reads seen w =
     if write_reaches n w then record seen { undeclared = true }
-    else if among (map item_of seen.writes) w.item then record seen { repeated = true }
+    else if among (map written_item seen.writes) w.item then record seen { repeated = true }
     else record seen { writes = seen.writes ++ w ∷ []; unread = seen.unread || is_unread reads w }
 
 -- All of a list of writes.

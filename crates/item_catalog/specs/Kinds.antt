@@ -4,15 +4,15 @@ use Rattle.item_catalog.specs.declared.faults.FaultKind.{FaultKind}
 use Rattle.item_catalog.specs.declared.faults.FaultKind.TheVariants as fault
 
 -- The number of a kind.
-abbrev pub code_of : FaultKind → ℕ
-code_of fault.Fields = 1
-code_of fault.Form = 2
-code_of fault.Id = 3
-code_of fault.Undeclared = 4
-code_of fault.Twice = 5
-code_of fault.Sizes = 6
-code_of fault.Limit = 7
-code_of fault.Unread = 8
-code_of fault.Tag = 9
-code_of fault.Setting = 10
-code_of fault.Overdrawn = 11
+abbrev pub deck_kind_number : FaultKind → ℕ
+deck_kind_number fault.Fields = 1
+deck_kind_number fault.Form = 2
+deck_kind_number fault.Id = 3
+deck_kind_number fault.Undeclared = 4
+deck_kind_number fault.Twice = 5
+deck_kind_number fault.Sizes = 6
+deck_kind_number fault.Limit = 7
+deck_kind_number fault.Unread = 8
+deck_kind_number fault.Tag = 9
+deck_kind_number fault.Setting = 10
+deck_kind_number fault.Overdrawn = 11

@@ -2,14 +2,14 @@ pub mod Kinds
 pub mod Ranges
 pub mod Fields
 pub mod Settings
-pub mod DeckEntries
+pub mod Declarations
 pub mod Parts
 pub mod Decks
 pub mod DeckLimits
 pub mod DeckView
 pub mod Faults
 pub mod Grammar
-pub mod Steps
+pub mod Private
 pub mod Writes
 pub mod ListTests
 pub mod KeptLists

@@ -1,105 +1,105 @@
--- What entries declare, part by part; each part has its entries' order, whatever stands between them.
+-- What declarations declare, part by part; each part has its declarations' order, whatever stands between them.
 use Rattle.std.specs.Prelude.{◌+◌, ◌==◌, ℕ, List, [], ◌∷◌, Bool, true, false, Option, Some, None, map, max, count_by, if◌then◌else◌}
 use Rattle.std.specs.List.{filter_map, flat_map}
 use Rattle.air_history.specs.UpdateLists.{UpdateLists}
 use Rattle.air_model.specs.declared.deck.ReaderPlan.{ReaderPlan}
-use Rattle.item_catalog.specs.DeckEntries.{Entry}
-use Rattle.item_catalog.specs.DeckEntries as e
+use Rattle.item_catalog.specs.Declarations.{Declaration}
+use Rattle.item_catalog.specs.Declarations as e
 use Rattle.item_catalog.specs.declared.parts.ItemPart.{ItemPart}
 use Rattle.item_catalog.specs.declared.parts.DiskPart.{DiskPart}
 use Rattle.item_catalog.specs.declared.deck.draft.settings.Setting.{Setting}
 
--- The item that an entry declares, with its value and rate; its id is its place.
-abbrev pub its_item : Entry → Option ItemPart
+-- The item that a declaration declares, with its value and rate; its id is its place.
+abbrev pub its_item : Declaration → Option ItemPart
 its_item (e.Item id value rate) = Some (record { value = value; rate = rate })
-its_item entry = None
+its_item declaration = None
 
 -- All items, in order.
-abbrev pub items_in : List Entry → List ItemPart
-items_in entries = filter_map its_item entries
+abbrev pub items_in : List Declaration → List ItemPart
+items_in declarations = filter_map its_item declarations
 
--- The disk that an entry declares, with its frequency where a number is said.
-abbrev pub its_disk : Entry → Option DiskPart
+-- The disk that a declaration declares, with its frequency where a number is said.
+abbrev pub its_disk : Declaration → Option DiskPart
 its_disk (e.Disk size freq) = Some (record { size = size; freq = freq })
-its_disk entry = None
+its_disk declaration = None
 
 -- All disks, in order.
-abbrev pub disks_in : List Entry → List DiskPart
-disks_in entries = filter_map its_disk entries
+abbrev pub disk_parts_in : List Declaration → List DiskPart
+disk_parts_in declarations = filter_map its_disk declarations
 
--- The update that an entry gives the updater.
-abbrev pub its_update : ℕ → Entry → Option UpdateLists
+-- The update that a declaration gives the updater.
+abbrev pub its_update : ℕ → Declaration → Option UpdateLists
 its_update who (e.Update by reads writes) = if by == who then Some (record { reads = reads; writes = writes }) else None
-its_update who entry = None
+its_update who declaration = None
 
 -- All updates of the updater, in order.
-abbrev pub updates_in : List Entry → ℕ → List UpdateLists
-updates_in entries who = filter_map (its_update who) entries
+abbrev pub updates_in : List Declaration → ℕ → List UpdateLists
+updates_in declarations who = filter_map (its_update who) declarations
 
--- The entry is an update.
-abbrev pub is_update : Entry → Bool
+-- The declaration is an update.
+abbrev pub is_update : Declaration → Bool
 is_update (e.Update by reads writes) = true
-is_update entry = false
+is_update declaration = false
 
--- How many entries are updates, whoever makes them.
-abbrev pub count_updates : List Entry → ℕ
-count_updates entries = count_by is_update entries
+-- How many declarations are updates, whoever makes them.
+abbrev pub count_updates : List Declaration → ℕ
+count_updates declarations = count_by is_update declarations
 
 -- The greatest of some numbers, or 0.
-abbrev pub greatest : List ℕ → ℕ
-greatest [] = 0
-greatest (n ∷ ns) = max n (greatest ns)
+abbrev pub greatest_number : List ℕ → ℕ
+greatest_number [] = 0
+greatest_number (n ∷ ns) = max n (greatest_number ns)
 
--- How many updaters an entry asks for: one more than the one that it names, or 0.
-abbrev pub its_updaters : Entry → ℕ
+-- How many updaters a declaration asks for: one more than the one that it names, or 0.
+abbrev pub its_updaters : Declaration → ℕ
 its_updaters (e.Update by reads writes) = by + 1
-its_updaters entry = 0
+its_updaters declaration = 0
 
 -- How many updaters there are.
-abbrev pub updaters_in : List Entry → ℕ
-updaters_in entries = greatest (map its_updaters entries)
+abbrev pub updaters_in : List Declaration → ℕ
+updaters_in declarations = greatest_number (map its_updaters declarations)
 
--- The reader that an entry declares.
-abbrev pub its_reader : Entry → Option ReaderPlan
+-- The reader that a declaration declares.
+abbrev pub its_reader : Declaration → Option ReaderPlan
 its_reader (e.Reader room age tries) = Some (record { room = room; age = age; tries = tries })
-its_reader entry = None
+its_reader declaration = None
 
 -- All readers, in order.
-abbrev pub readers_in : List Entry → List ReaderPlan
-readers_in entries = filter_map its_reader entries
+abbrev pub readers_in : List Declaration → List ReaderPlan
+readers_in declarations = filter_map its_reader declarations
 
--- The query that an entry gives the reader.
-abbrev pub its_query : ℕ → Entry → Option (List ℕ)
+-- The query that a declaration gives the reader.
+abbrev pub its_query : ℕ → Declaration → Option (List ℕ)
 its_query who (e.Query reader items) = if reader == who then Some items else None
-its_query who entry = None
+its_query who declaration = None
 
 -- All queries of the reader, in order.
-abbrev pub queries_in : List Entry → ℕ → List (List ℕ)
-queries_in entries who = filter_map (its_query who) entries
+abbrev pub queries_in : List Declaration → ℕ → List (List ℕ)
+queries_in declarations who = filter_map (its_query who) declarations
 
--- The entry is a query.
-abbrev pub is_query : Entry → Bool
+-- The declaration is a query.
+abbrev pub is_query : Declaration → Bool
 is_query (e.Query reader items) = true
-is_query entry = false
+is_query declaration = false
 
--- How many entries are queries, whoever asks them.
-abbrev pub count_queries : List Entry → ℕ
-count_queries entries = count_by is_query entries
+-- How many declarations are queries, whoever asks them.
+abbrev pub count_queries : List Declaration → ℕ
+count_queries declarations = count_by is_query declarations
 
 -- The events of a script's record: a commit of the updater with the number, or a start where there is none.
-abbrev pub its_events : Entry → List (Option ℕ)
+abbrev pub its_events : Declaration → List (Option ℕ)
 its_events (e.Script events) = events
-its_events entry = []
+its_events declaration = []
 
 -- The whole script.
-abbrev pub script_in : List Entry → List (Option ℕ)
-script_in entries = flat_map its_events entries
+abbrev pub script_in : List Declaration → List (Option ℕ)
+script_in declarations = flat_map its_events declarations
 
--- The setting that an entry makes.
-abbrev pub its_setting : Entry → Option Setting
+-- The setting that a declaration makes.
+abbrev pub its_setting : Declaration → Option Setting
 its_setting (e.Set setting) = Some setting
-its_setting entry = None
+its_setting declaration = None
 
 -- All settings, in order.
-abbrev pub set_in : List Entry → List Setting
-set_in entries = filter_map its_setting entries
+abbrev pub set_in : List Declaration → List Setting
+set_in declarations = filter_map its_setting declarations

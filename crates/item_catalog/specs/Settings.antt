@@ -48,8 +48,8 @@ name_of text =
     else None
 
 -- The policy of this letter, if there is one.
-abbrev pub policy_of : List ℕ → Option Policy
-policy_of text =
+abbrev pub spelled_policy : List ℕ → Option Policy
+spelled_policy text =
     if text is codes "F" then Some FMatrix
     else if text is codes "D" then Some Datacycle
     else if text is codes "R" then Some RMatrix
@@ -63,7 +63,7 @@ number_set name n = None
 -- The setting that a name and a value spell, if they spell one.
 abbrev pub setting_of : List ℕ → List ℕ → Option Setting
 setting_of name value =
-    if name is codes "policy" then option_map setting.Policy (policy_of value) else number_set (name_of name) (number_of value)
+    if name is codes "policy" then option_map setting.Policy (spelled_policy value) else number_set (name_of name) (number_of value)
 
 -- The two names are the same.
 abbrev pub same_name : Name → Name → Bool

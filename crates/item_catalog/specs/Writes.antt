@@ -21,14 +21,14 @@ write_by item None (Some minus) value = write_on_base true item (number_of minus
 write_by item None None value = constant item (number_of value)
 
 -- The write of a value to an item.
-unfoldable pub value_of : Option ℕ → List ℕ → Option Write
-value_of item value = write_by item (two_of (cut_at 43 value)) (two_of (cut_at 45 value)) value
+unfoldable pub spelled_value_write : Option ℕ → List ℕ → Option Write
+spelled_value_write item value = write_by item (two_of (cut_at 43 value)) (two_of (cut_at 45 value)) value
 
 -- The write of the two sides of an `=`.
 abbrev pub write_from : Option (List ℕ × List ℕ) → Option Write
 write_from None = None
-write_from (Some sides) = value_of (number_of sides.0) sides.1
+write_from (Some sides) = spelled_value_write (number_of sides.0) sides.1
 
 -- A write: `<item>=<amount>`, `<item>=<base>+<amount>` or `<item>=<base>-<amount>`.
-unfoldable pub write_of : List ℕ → Option Write
-write_of text = write_from (two_of (cut_at 61 text))
+unfoldable pub spelled_write : List ℕ → Option Write
+spelled_write text = write_from (two_of (cut_at 61 text))

@@ -40,7 +40,7 @@ impl Model for Deck {
 
 impl Deck {
     /// A deck is well made, and keeps the limits of the grammar.
-    pub fn well_made(&self)
+    pub fn shows_well_made(&self)
         ensures made { IsDeck self.now }
         ensures limits { WithinLimits self.now }
     {

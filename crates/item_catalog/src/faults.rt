@@ -1,7 +1,7 @@
 //! Why a text is no deck: the kinds of fault, each with its number, and the fault that is told.
 
 ghost use Rattle.std.specs.Prelude.{◌≡◌};
-ghost use Rattle.item_catalog.specs.Kinds.{code_of};
+ghost use Rattle.item_catalog.specs.Kinds.{deck_kind_number};
 
 use air_base::NoMemory;
 use std::error::Error;
@@ -37,7 +37,7 @@ pub enum FaultKind {
 impl FaultKind {
     /// Its number.
     pub fn code(self) -> u8
-        ensures { result ≡ code_of self }
+        ensures { result ≡ deck_kind_number self }
     {
         match self {
             FaultKind::Fields => 1,
@@ -103,7 +103,7 @@ pub enum DeckError {
 impl DeckError {
     /// The fault of this kind at this record.
     pub(crate) fn at(row: u32, kind: FaultKind) -> DeckError
-        ensures { result ≡ DeckError.Fault (record { row = row; kind = code_of kind }) }
+        ensures { result ≡ DeckError.Fault (record { row = row; kind = deck_kind_number kind }) }
     {
         DeckError::Fault(DeckFault {
             row,

@@ -4,11 +4,11 @@ ghost use Rattle.std.specs.Prelude.{◌≡◌, ◌≤◌, drop, length, IfErr, I
 ghost use Rattle.csv.specs.Records.{fields_of};
 ghost use Rattle.air_base.specs.declared.limits.TheConstants.{MOST_DECK_BYTES};
 ghost use Rattle.item_catalog.specs.RecordKinds.{first_of};
-ghost use Rattle.item_catalog.specs.DeckEntries.{entry_by, entry_of, tag_of};
-ghost use Rattle.item_catalog.specs.Steps.Drafts.{deck_from};
-ghost use Rattle.item_catalog.specs.Steps.ReadEnds.{CanEnd, EndsBy};
+ghost use Rattle.item_catalog.specs.Declarations.{entry_by, spelled_declaration, tag_of};
+ghost use Rattle.item_catalog.specs.Private.Drafts.{deck_from};
+ghost use Rattle.item_catalog.specs.Private.ReadEnds.{CanEnd, EndsBy};
 ghost use Rattle.item_catalog.specs.Faults.{end_tests};
-ghost use Rattle.item_catalog.specs.Grammar.{IsAnswer, Spells};
+ghost use Rattle.item_catalog.specs.Grammar.{IsErrorOf, Spells};
 
 use crate::deck::Deck;
 use crate::deck::draft::Draft;
@@ -55,7 +55,7 @@ fn tag_of(text: &[u8]) -> Option<Tag>
 
 /// The tag of a record.
 pub(crate) fn read_tag(row: &ByteRecord) -> Option<Tag>
-    ensures { entry_of (fields_of row.now) ≡ entry_by result (drop 1 (fields_of row.now)) }
+    ensures { spelled_declaration (fields_of row.now) ≡ entry_by result (drop 1 (fields_of row.now)) }
 {
     match row.get(0) {
         Some(text) => tag_of(text),
@@ -79,7 +79,7 @@ fn finish(draft: Draft, row: u32) -> Result<Deck, DeckError>
 pub fn read_deck(alloc: Global, bytes: &[u8]) -> Result<Deck, DeckError>
     requires limit { length bytes.now ≤ MOST_DECK_BYTES }
     ensures deck { IfOk result (Spells bytes.now) }
-    ensures fault { IfErr result (IsAnswer bytes.now) }
+    ensures fault { IfErr result (IsErrorOf bytes.now) }
 {
     let mut draft = Draft::new(alloc)?;
     let mut records = Records::new(alloc, bytes);

@@ -4,16 +4,16 @@
 //! counted along, so that no record of the script is looked at again.
 
 ghost use Rattle.std.specs.Prelude.{◌≡◌, ◌<◌, ◌≤◌, ◌++◌, ◌∷◌, ◌||◌, [], IfOk, OnOk, Some, None, get_or, length, nat_lt, option_map, false};
-ghost use Rattle.air_base.specs.Fronts.{FrontIs};
+ghost use Rattle.air_base.specs.LeadingParts.{FrontIs};
 ghost use Rattle.air_base.specs.NumberLists.{list_of};
 ghost use Rattle.air_model.specs.Decks.{count_parts};
-ghost use Rattle.item_catalog.specs.Fields.{event_of};
+ghost use Rattle.item_catalog.specs.Fields.{spelled_event};
 ghost use Rattle.item_catalog.specs.Faults.{count_starts, script_passes, some_below};
-ghost use Rattle.item_catalog.specs.Steps.ScriptView.{EventsRead, begins_start};
+ghost use Rattle.item_catalog.specs.Private.ScriptView.{EventsRead, begins_start};
 
 use crate::parts::Updates;
 use air_base::limits::{MOST_EVENTS, MOST_STARTS, MOST_UPDATERS};
-use air_base::{ends_part, number_front};
+use air_base::{ends_part, read_leading_number};
 use std::alloc::{AllocFailed, Global};
 use std::marker::Model;
 
@@ -27,7 +27,7 @@ pub struct Script {
 
 impl Model for Script {
     ghost use Rattle.std.specs.Prelude.{List, Option, ℕ};
-    ghost use Rattle.item_catalog.specs.Steps.ScriptView.{ScriptKept};
+    ghost use Rattle.item_catalog.specs.Private.ScriptView.{ScriptKept};
 
     ghost Value = { List (Option ℕ) };
 
@@ -49,7 +49,7 @@ impl Script {
     }
 
     /// Hands the limits of its type to a caller's proof; it does nothing.
-    fn keeps_limits(&self)
+    fn shows_limits(&self)
         ensures events { length self.now ≤ MOST_EVENTS }
         ensures starts { count_starts self.now ≤ MOST_STARTS }
     {
@@ -117,16 +117,16 @@ impl Script {
 
     /// Reads further events, and adds them unless they pass a limit: whether they do, and none where the text spells no list.
     pub fn read(&mut self, text: &[u8]) -> Result<Option<bool>, AllocFailed<Option<u32>>>
-        ensures { IfOk result (λ read. EventsRead read (list_of event_of text.now) self.old self.new) }
+        ensures { IfOk result (λ read. EventsRead read (list_of spelled_event text.now) self.old self.new) }
     {
-        self.keeps_limits();
+        self.shows_limits();
         if text.is_empty() {
             return Ok(Some(false));
         }
         let mut passed = false;
         let mut rest = text;
         loop {
-            let Some((event, after)) = event_front(rest) else {
+            let Some((event, after)) = leading_event(rest) else {
                 return Ok(None);
             };
             passed = self.take(passed, event)?;
@@ -158,13 +158,13 @@ fn begins_start(text: &[u8]) -> bool
 
 /// The event that the first part spells: none is a start.
 #[tactic(auto, using(crate::proofs::EventFronts::event_start, crate::proofs::EventFronts::event_number, crate::proofs::EventFronts::start_after))]
-fn event_front(text: &[u8]) -> Option<(Option<u64>, &[u8])>
-    ensures { FrontIs event_of text.now (option_map (λ f. (f.0, f.1.now)) result) }
+fn leading_event(text: &[u8]) -> Option<(Option<u64>, &[u8])>
+    ensures { FrontIs spelled_event text.now (option_map (λ f. (f.0, f.1.now)) result) }
 {
     if begins_start(text) {
         return Some((None, &text[1..]));
     }
-    match number_front(text) {
+    match read_leading_number(text) {
         Some((by, rest)) => Some((Some(by), rest)),
         None => None,
     }

@@ -12,25 +12,25 @@ use Rattle.air_model.specs.Tapes.{tape_read}
 use Rattle.bucket_codec.specs.declared.offsets.TheConstants.{ENTRY_BYTES, HEAD_BYTES}
 use Rattle.listeners.specs.declared.ethers.TheConstants.{MOST_TAPE_RECORDS}
 use Rattle.listeners.specs.declared.apart.PieceReader.{PieceReader}
-use Rattle.listeners.specs.EtherListeners.{IsHearing}
+use Rattle.listeners.specs.EtherListeners.{IsEtherListener}
 use Rattle.listeners.specs.Hearings.{AreApart}
 use Rattle.listeners.specs.Listeners.{Listener, hears, listener_of}
-use Rattle.listeners.specs.Steps.ApartSteps.{EachEnded, EachHeardPiece, HasEnded, HasHeardPiece, IsOpenStill, IsReady}
+use Rattle.listeners.specs.Private.ApartSteps.{EachEnded, EachHeardPiece, HasHeardPiece, HasHeardToEnd, HasRoomForPiece, IsOpenStill}
 use Rattle.listeners.proofs.RunLemmas.{ethers_in, readers_over}
 
 -- One more reader joins those before it.
-pub one_more_hearing : (deck : Deck) (r : ℕ) (pushed : List (List ℕ)) (runs after : List PieceReader) (run : PieceReader) → length runs ≡ r → ((k : ℕ) (d : PieceReader) → k < r → IsHearing deck k pushed (get_or runs k d).reader)
-    → IsHearing deck r pushed run.reader → after ≡ runs ++ run ∷ [] → (k : ℕ) (d : PieceReader) → k < r + 1 → IsHearing deck k pushed (get_or after k d).reader
-one_more_hearing deck r pushed runs after run long so_far own grew k d below = elim (cases_lt k r) as (λ _. IsHearing deck k pushed (get_or after k d).reader) [
-  | inl less ↦ subst (λ (x : PieceReader). IsHearing deck k pushed x.reader) (sym (ap (λ l. get_or l k d) grew ∙ get_or_append_left runs (run ∷ []) d k (omega arith))) (so_far k d less)
+pub one_more_hearing : (deck : Deck) (r : ℕ) (pushed : List (List ℕ)) (runs after : List PieceReader) (run : PieceReader) → length runs ≡ r → ((k : ℕ) (d : PieceReader) → k < r → IsEtherListener deck k pushed (get_or runs k d).reader)
+    → IsEtherListener deck r pushed run.reader → after ≡ runs ++ run ∷ [] → (k : ℕ) (d : PieceReader) → k < r + 1 → IsEtherListener deck k pushed (get_or after k d).reader
+one_more_hearing deck r pushed runs after run long so_far own grew k d below = elim (cases_lt k r) as (λ _. IsEtherListener deck k pushed (get_or after k d).reader) [
+  | inl less ↦ subst (λ (x : PieceReader). IsEtherListener deck k pushed x.reader) (sym (ap (λ l. get_or l k d) grew ∙ get_or_append_left runs (run ∷ []) d k (omega arith))) (so_far k d less)
   | inr past ↦ let same : r ≡ k = omega arith in
-      subst (λ (x : PieceReader). IsHearing deck k pushed x.reader) (sym (ap (λ l. get_or l k d) grew ∙ get_or_push runs run d k (long ∙ same))) (subst (λ n. IsHearing deck n pushed run.reader) same own)
+      subst (λ (x : PieceReader). IsEtherListener deck k pushed x.reader) (sym (ap (λ l. get_or l k d) grew ∙ get_or_push runs run d k (long ∙ same))) (subst (λ n. IsEtherListener deck n pushed run.reader) same own)
 ]
 
 -- Each is ready for a piece whose records aren't longer than the deck's buckets.
 pub are_ready : (deck : Deck) (pushed : List (List ℕ)) (piece : List ℕ) (readers : List PieceReader) → AreApart deck pushed readers → (tape_read piece).cut ≡ None
-    → All (λ r. length r ≤ HEAD_BYTES + ENTRY_BYTES * length deck.items) (tape_read piece).records → length pushed + length (tape_read piece).records ≤ MOST_TAPE_RECORDS → All (IsReady piece) readers
-unfolding IsReady
+    → All (λ r. length r ≤ HEAD_BYTES + ENTRY_BYTES * length deck.items) (tape_read piece).records → length pushed + length (tape_read piece).records ≤ MOST_TAPE_RECORDS → All (HasRoomForPiece piece) readers
+unfolding HasRoomForPiece
 are_ready deck pushed piece readers h whole room few = λ k d below.
     let own = h.each k d (omega (arith, below, h.long)) in
     (whole, own.opened, subst (λ n. All (λ r. length r ≤ n) (tape_read piece).records) (sym own.room) room, omega (arith, own.pushes, few))
@@ -72,7 +72,7 @@ listener_in run = run.reader.listener
 -- After the end each has heard its ether of all records.
 pub have_ended : (deck : Deck) (pushed : List (List ℕ)) (before now : List PieceReader) → AreApart deck pushed before → EachEnded before now → All (λ run. run.done ≡ true) now
     → map (λ run. run.reader.listener) now ≡ readers_over deck (ethers_in deck pushed)
-unfolding HasEnded
+unfolding HasHeardToEnd
 have_ended deck pushed before now h each done =
     let n = length deck.readers in
     let size : length (map listener_in now) ≡ n = length-map now listener_in ∙ each.0 ∙ h.long in

@@ -11,7 +11,7 @@ use Rattle.air_model.specs.Sessions.{Line, Reader, State, end, end_query, next_q
 use Rattle.air_model.specs.SessionLaws.{after}
 use Rattle.air_model.proofs.LineLemmas.{lines}
 use Rattle.receiver_core.specs.Receivers.{IsSettled, Receiver}
-use Rattle.listeners.specs.Steps.Endings.{lines_and_counts}
+use Rattle.listeners.specs.Private.Endings.{lines_and_counts}
 use Rattle.listeners.proofs.SettlingLemmas.{after_given, judge_of, with_lines}
 
 -- The number of a reader's queries.

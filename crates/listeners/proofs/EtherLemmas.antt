@@ -3,7 +3,7 @@
 use Rattle.std.proofs.Common.{◌≡◌, ℕ, ◌+◌, Bool, true, false, Option, Some, List, [], ◌++◌, length, map, take, slice_get, refl, sym, ◌∙◌, ap, subst, arith}
 use Rattle.std.proofs.lemmas.List.{take-append-le, take_all}
 use Rattle.std.proofs.lemmas.Option.{get_or_from_slice_get, slice_get_within}
-use Rattle.air_ether.specs.HeardSoFar.{Ether, Follows, due_of}
+use Rattle.air_ether.specs.HeardSoFar.{Ether, IsEtherAfter, due_of}
 use Rattle.air_ether.proofs.EtherLemmas.{front_is, heard_is}
 use Rattle.air_model.specs.Buckets.{Bucket, bucket_in}
 use Rattle.air_model.specs.Ethers.{Odds, heard_by, places_due}
@@ -24,7 +24,7 @@ front_due seed number odds pushed later ended =
 module _ (seed number : ℕ) (first : Listener) where
   -- One more member of what is due is heard.
   pub heard_more_due : {pushed : List (List ℕ)} {given : ℕ} {e : Ether} {l : Listener} (after : Ether) (now : Listener) (o : Option Bucket) (bytes : List ℕ)
-      → HeardFrom seed number first pushed given e l → Follows seed number pushed (given + 1) after → after.odds ≡ e.odds → after.ended ≡ e.ended
+      → HeardFrom seed number first pushed given e l → IsEtherAfter seed number pushed (given + 1) after → after.odds ≡ e.odds → after.ended ≡ e.ended
       → slice_get (due_of seed number e.odds pushed e.ended) given ≡ Some bytes → o ≡ bucket_in bytes → now ≡ hears_one o l
       → HeardFrom seed number first pushed (given + 1) after now
   heard_more_due {pushed} {given} {e} {l} after now o bytes h follows odds ended at is heard =
@@ -37,14 +37,14 @@ module _ (seed number : ℕ) (first : Listener) where
       }
 
   -- No further one is due.
-  pub heard_all_due : {pushed : List (List ℕ)} {given : ℕ} {e : Ether} {l : Listener} (after : Ether) → HeardFrom seed number first pushed given e l → Follows seed number pushed given after
+  pub heard_all_due : {pushed : List (List ℕ)} {given : ℕ} {e : Ether} {l : Listener} (after : Ether) → HeardFrom seed number first pushed given e l → IsEtherAfter seed number pushed given after
       → after.odds ≡ e.odds → after.ended ≡ e.ended → given ≡ length (due_of seed number e.odds pushed e.ended) → HeardDue seed number first pushed after l
   heard_all_due {pushed} {given} {e} {l} after h follows odds ended all =
       let due : due_of seed number e.odds pushed e.ended ≡ due_of seed number after.odds pushed after.ended =
       ap (λ x. due_of seed number x pushed e.ended) (sym odds) ∙ ap (λ b. due_of seed number after.odds pushed b) (sym ended) in
       let given_all : given ≡ length (due_of seed number after.odds pushed after.ended) = all ∙ ap length due in
       record {
-        follows = subst (λ n. Follows seed number pushed n after) given_all follows;
+        follows = subst (λ n. IsEtherAfter seed number pushed n after) given_all follows;
         heard = h.heard ∙ ap (λ n. hears (map bucket_in (take n (due_of seed number e.odds pushed e.ended))) first) given_all
             ∙ ap (λ ds. hears (map bucket_in (take (length (due_of seed number after.odds pushed after.ended)) ds)) first) due;
       }
@@ -53,7 +53,7 @@ module _ (seed number : ℕ) (first : Listener) where
 
   -- After a push, or the end, as many members were heard as before: those at the front.
   pub goes_on : (pushed later all : List (List ℕ)) (e after : Ether) (l : Listener) → HeardDue seed number first pushed e l → e.ended ≡ false → all ≡ pushed ++ later
-      → Follows seed number all (length (due_of seed number e.odds pushed e.ended)) after → after.odds ≡ e.odds
+      → IsEtherAfter seed number all (length (due_of seed number e.odds pushed e.ended)) after → after.odds ≡ e.odds
       → HeardFrom seed number first all (length (due_of seed number e.odds pushed e.ended)) after l
   goes_on pushed later all e after l h unended is follows odds =
       let due = due_of seed number e.odds pushed e.ended in
@@ -80,11 +80,11 @@ none_due : (seed number : ℕ) (odds : Odds) → due_of seed number odds [] fals
 unfolding due_of places_due
 none_due seed number odds = refl
 
-pub none_heard : (seed number : ℕ) (first : Listener) (e : Ether) (l : Listener) → Follows seed number [] 0 e → e.ended ≡ false → l ≡ first → HeardDue seed number first [] e l
+pub none_heard : (seed number : ℕ) (first : Listener) (e : Ether) (l : Listener) → IsEtherAfter seed number [] 0 e → e.ended ≡ false → l ≡ first → HeardDue seed number first [] e l
 unfolding hears
 none_heard seed number first e l follows unended is =
     let due : due_of seed number e.odds [] e.ended ≡ [] = ap (due_of seed number e.odds []) unended ∙ none_due seed number e.odds in
     record {
-      follows = subst (λ n. Follows seed number [] n e) (sym (ap length due)) follows;
+      follows = subst (λ n. IsEtherAfter seed number [] n e) (sym (ap length due)) follows;
       heard = is ∙ ap (λ ds. hears (map bucket_in (take (length ds) ds)) first) (sym due);
     }

@@ -14,7 +14,7 @@ use Rattle.air_model.specs.Sessions.{Line, end, hear, hear_all, session, settle}
 use Rattle.air_model.specs.SessionLaws.{after}
 use Rattle.air_model.proofs.LineLemmas.{lines}
 use Rattle.receiver_core.specs.Receivers.{Receiver}
-use Rattle.listeners.specs.Steps.Endings.{lines_and_counts}
+use Rattle.listeners.specs.Private.Endings.{lines_and_counts}
 use Rattle.listeners.specs.Listeners.{ChangesNoAttempt, Listener, end_state, hears, hears_one, listener_of}
 use Rattle.listeners.specs.Listeners as listener
 use Rattle.listeners.proofs.CountLemmas.{heard_by, hear_counts, settle_counts}

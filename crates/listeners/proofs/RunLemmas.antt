@@ -1,4 +1,4 @@
--- A deck's readers, each of which has heard a list of its own: their numbers and sessions; and what a clear ether gives.
+-- A deck's readers, each of which has heard a list of its own: their numbers and sessions; and what a perfect ether gives.
 -- The calls of `apart`, `hearers` and `runs` cite these, and crates above.
 use Rattle.std.proofs.Common.{◌≡◌, ℕ, zero, suc, ◌+◌, ◌*◌, List, [], ◌∷◌, length, map, refl, sym, ◌∙◌, ap}
 use Rattle.std.specs.List.{range_with_len}
@@ -12,8 +12,8 @@ use Rattle.air_model.specs.Judges.{by_entries}
 use Rattle.air_model.specs.Outputs.{odds_in, sessions_over}
 use Rattle.air_model.specs.ReceiverLaws.{session_of}
 use Rattle.air_model.specs.Sessions.{State}
-use Rattle.air_model.proofs.EtherFacts.{clear_ether}
-use Rattle.listeners.specs.EtherListeners.{IsClear}
+use Rattle.air_model.proofs.EtherLemmas.{clear_ether}
+use Rattle.listeners.specs.EtherListeners.{IsPerfect}
 use Rattle.listeners.specs.Listeners.{AreNumbered, Listener, end_state, hears, listener_of}
 use Rattle.listeners.proofs.HearLemmas.{session_is}
 use Rattle.listeners.proofs.ReaderLemmas.{keeps_number}
@@ -60,13 +60,13 @@ abbrev clear_odds : Odds
 clear_odds = record { loss = 0; again = 0; late = 0 }
 
 -- Those of such a deck.
-odds_are_clear : (deck : Deck) → IsClear deck → odds_in deck ≡ clear_odds
+odds_are_clear : (deck : Deck) → IsPerfect deck → odds_in deck ≡ clear_odds
 odds_are_clear deck clear =
     ap (λ n. let o : Odds = record { loss = n; again = deck.settings.again; late = deck.settings.late } in o) clear.loss
     ∙ ap (λ n. let o : Odds = record { loss = 0; again = n; late = deck.settings.late } in o) clear.again ∙ ap (λ n. let o : Odds = record { loss = 0; again = 0; late = n } in o) clear.late
 
 -- Each of its readers hears all records.
-pub clear_heard : (deck : Deck) (records : List (List ℕ)) (r : ℕ) → IsClear deck → records ≡ ethers_in deck records r
+pub clear_heard : (deck : Deck) (records : List (List ℕ)) (r : ℕ) → IsPerfect deck → records ≡ ethers_in deck records r
 unfolding heard_by
 clear_heard deck records r clear =
     sym (ap (λ odds. heard_by deck.settings.seed r odds records) (odds_are_clear deck clear) ∙ clear_ether (words_of deck.settings.seed r (3 * length records)) records)

@@ -12,10 +12,10 @@ use Rattle.air_model.specs.Buckets.{Bucket, IsInRange, bucket_in}
 use Rattle.air_model.specs.Decks.{Deck}
 use Rattle.listeners.specs.declared.ethers.TheConstants.{MOST_TAPE_RECORDS}
 use Rattle.listeners.specs.declared.together.TogetherRun.{TogetherRun}
-use Rattle.listeners.specs.EtherListeners.{IsClear}
+use Rattle.listeners.specs.EtherListeners.{IsPerfect}
 use Rattle.listeners.specs.Hearings.{AreTogether}
 use Rattle.listeners.specs.Listeners.{Listener, hears, listener_of}
-use Rattle.listeners.specs.Steps.TogetherSteps.{CanHear, EachHeard, HasHeard, listeners_in}
+use Rattle.listeners.specs.Private.TogetherSteps.{CanHear, EachHeard, HasHeardMembers, listeners_in}
 use Rattle.listeners.proofs.HearLemmas.{counted_all, pieces}
 use Rattle.listeners.proofs.ReaderLemmas.{HasRoom, hears_none}
 use Rattle.listeners.proofs.RunLemmas.{clear_heard, ethers_in, readers_over}
@@ -27,7 +27,7 @@ listener_in run = run.listener
 
 -- What runs heard side by side, their listeners heard.
 pub each_heard : (members : List (Option Bucket)) (before now : List TogetherRun) → EachHeard members before now → All (λ run. run.done ≡ true) now → listeners_in now ≡ map (hears members) (listeners_in before)
-unfolding HasHeard
+unfolding HasHeardMembers
 each_heard members before now each done =
     let size : length (map listener_in now) ≡ length before = length-map now listener_in ∙ each.0 in
     let first : length (map (hears members) (map listener_in before)) ≡ length before = length-map (map listener_in before) (hears members) ∙ length-map before listener_in in
@@ -72,7 +72,7 @@ abbrev all_of : Deck → List Listener
 all_of deck = map (listener_of deck) (range_with_len 0 (length deck.readers))
 
 -- Nothing was heard.
-pub together_first : (deck : Deck) (listeners : List Listener) → IsClear deck → listeners ≡ map (listener_of deck) (range_with_len 0 (length deck.readers)) → AreTogether deck [] listeners
+pub together_first : (deck : Deck) (listeners : List Listener) → IsPerfect deck → listeners ≡ map (listener_of deck) (range_with_len 0 (length deck.readers)) → AreTogether deck [] listeners
 together_first deck listeners clear are = record { clear = clear; heard = are ∙ sym (hears_none (all_of deck)) }
 
 -- There is room to count a piece's records.

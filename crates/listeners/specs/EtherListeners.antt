@@ -1,7 +1,7 @@
 -- What contracts see of a listener that hears through its own ether, and what it has heard of a pushed list.
 use Rattle.std.specs.Prelude.{◌≡◌, ◌≤◌, ℕ, ◌+◌, ◌*◌, false, List, length, map, take}
 use Rattle.air_ether.specs.declared.ether.TheConstants.{MOST_DUE}
-use Rattle.air_ether.specs.HeardSoFar.{Ether, Follows, IsQuiet, due_of}
+use Rattle.air_ether.specs.HeardSoFar.{Ether, IsEtherAfter, IsQuiet, due_of}
 use Rattle.air_model.specs.Buckets.{bucket_in}
 use Rattle.air_model.specs.Decks.{Deck}
 use Rattle.air_model.specs.Outputs.{odds_in}
@@ -19,7 +19,7 @@ pub record IsOpen (x : EtherListener) : Type 0 where
 -- The ether of this seed and this number was given this pushed list, and of what is due of it so many members were heard: by
 -- this listener, which is so afterwards.
 pub record HeardFrom (seed number : ℕ) (first : Listener) (pushed : List (List ℕ)) (given : ℕ) (e : Ether) (l : Listener) : Type 0 where
-  pub follows : Follows seed number pushed given e
+  pub follows : IsEtherAfter seed number pushed given e
   pub heard : l ≡ hears (map bucket_in (take given (due_of seed number e.odds pushed e.ended))) first
 
 -- All that is due was heard.
@@ -28,7 +28,7 @@ HeardDue seed number first pushed e l = HeardFrom seed number first pushed (leng
 
 -- The deck's reader of a number has the ether of the deck's seed and odds and of its own number, with room for each of the deck's
 -- buckets; it was given these records, and heard what is due of them.
-pub record IsHearing (deck : Deck) (number : ℕ) (pushed : List (List ℕ)) (x : EtherListener) : Type 0 where
+pub record IsEtherListener (deck : Deck) (number : ℕ) (pushed : List (List ℕ)) (x : EtherListener) : Type 0 where
   pub opened : IsOpen x
   pub pushes : x.ether.pushes ≡ length pushed
   pub odds : x.ether.odds ≡ odds_in deck
@@ -36,7 +36,7 @@ pub record IsHearing (deck : Deck) (number : ℕ) (pushed : List (List ℕ)) (x 
   pub heard : HeardDue deck.settings.seed number (listener_of deck number) pushed x.ether x.listener
 
 -- Nothing of what is aired is lost, heard again or late.
-pub record IsClear (deck : Deck) : Type 0 where
+pub record IsPerfect (deck : Deck) : Type 0 where
   pub loss : deck.settings.loss ≡ 0
   pub again : deck.settings.again ≡ 0
   pub late : deck.settings.late ≡ 0

@@ -1,5 +1,5 @@
 pub mod Listeners
 pub mod EtherListeners
 pub mod Hearings
-pub mod Steps
+pub mod Private
 pub mod HistoryTapes

@@ -14,7 +14,7 @@ ghost use Rattle.bucket_codec.specs.declared.offsets.TheConstants.{ENTRY_BYTES, 
 ghost use Rattle.listeners.specs.declared.ethers.TheConstants.{MOST_TAPE_RECORDS};
 ghost use Rattle.listeners.specs.Hearings.{AreApart};
 ghost use Rattle.listeners.specs.Listeners.{hears, listener_of};
-ghost use Rattle.listeners.specs.Steps.ApartSteps.{EachEnded, EachHeardPiece, HasEnded, HasHeardPiece, IsOpenStill, IsReady};
+ghost use Rattle.listeners.specs.Private.ApartSteps.{EachEnded, EachHeardPiece, HasHeardPiece, HasHeardToEnd, HasRoomForPiece, IsOpenStill};
 
 use crate::ethers::EtherListener;
 use crate::listener::Listener;
@@ -35,19 +35,19 @@ pub(crate) struct PieceReader {
 
 impl PieceReader {
     /// Hears a piece, or until memory runs out.
-    #[tactic(auto, unfolding(crate::specs::Steps::ApartSteps::IsReady, crate::specs::Steps::ApartSteps::HasHeardPiece))]
+    #[tactic(auto, unfolding(crate::specs::Private::ApartSteps::HasRoomForPiece, crate::specs::Private::ApartSteps::HasHeardPiece))]
     fn work(&mut self, alloc: Global, piece: &[u8])
-        requires { IsReady piece.now self.old }
+        requires { HasRoomForPiece piece.now self.old }
         ensures { HasHeardPiece piece.now self.old self.new }
     {
         self.done = self.reader.hear(alloc, piece).is_ok();
     }
 
     /// Hears the rest of its ether, or until memory runs out.
-    #[tactic(auto, unfolding(crate::specs::Steps::ApartSteps::IsOpenStill, crate::specs::Steps::ApartSteps::HasEnded))]
+    #[tactic(auto, unfolding(crate::specs::Private::ApartSteps::IsOpenStill, crate::specs::Private::ApartSteps::HasHeardToEnd))]
     fn finish(&mut self, alloc: Global)
         requires { IsOpenStill self.old }
-        ensures { HasEnded self.old self.new }
+        ensures { HasHeardToEnd self.old self.new }
     {
         self.done = self.reader.end(alloc).is_ok();
     }
@@ -60,7 +60,7 @@ fn hear_side_by_side<T: Threads + Sync>(
     readers: &mut [PieceReader],
     piece: &[u8],
 )
-    requires { All (IsReady piece.now) readers.old }
+    requires { All (HasRoomForPiece piece.now) readers.old }
     ensures { EachHeardPiece piece.now readers.old readers.new }
 {
     thread::for_each_mut(

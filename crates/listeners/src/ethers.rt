@@ -12,8 +12,8 @@ ghost use Rattle.air_model.specs.Tapes.{tape_read};
 ghost use Rattle.receiver_core.specs.Receivers.{heard_count};
 ghost use Rattle.listeners.specs.declared.ethers.TheConstants.{MOST_TAPE_RECORDS};
 ghost use Rattle.listeners.specs.Listeners.{Listener, hears};
-ghost use Rattle.listeners.specs.EtherListeners.{HeardDue, HeardFrom, IsHearing, IsOpen};
-ghost use Rattle.listeners.specs.Steps.ApartSteps.{HearsPiece};
+ghost use Rattle.listeners.specs.EtherListeners.{HeardDue, HeardFrom, IsEtherListener, IsOpen};
+ghost use Rattle.listeners.specs.Private.ApartSteps.{HearsPiece};
 
 use crate::listener::Listener;
 use air_base::NoMemory;
@@ -62,9 +62,9 @@ impl EtherListener {
     ) -> Result<EtherListener, NoMemory>
         requires number { number < length deck.now.readers }
         requires planned { program.now ≡ disks_in deck.now }
-        ensures { IfOk result (IsHearing deck.now number []) }
+        ensures { IfOk result (IsEtherListener deck.now number []) }
     {
-        deck.well_made();
+        deck.shows_well_made();
         let set = deck.settings();
         let most = HEAD_BYTES + ENTRY_BYTES * deck.items() as usize;
         Ok(EtherListener {

@@ -13,7 +13,7 @@ ghost use Rattle.air_model.specs.Reports.{counts_lines, verdict_lines};
 ghost use Rattle.air_model.specs.Tapes.{tape_read};
 ghost use Rattle.bucket_codec.specs.declared.offsets.TheConstants.{ENTRY_BYTES, HEAD_BYTES};
 ghost use Rattle.listeners.specs.declared.ethers.TheConstants.{MOST_TAPE_RECORDS};
-ghost use Rattle.listeners.specs.EtherListeners.{IsClear};
+ghost use Rattle.listeners.specs.EtherListeners.{IsPerfect};
 ghost use Rattle.listeners.specs.Hearings.{AreHearing, AreTogether};
 
 use crate::apart::Apart;
@@ -40,7 +40,7 @@ impl Hearers {
         requires { program.now ≡ disks_in deck.now }
         ensures { IfOk result (AreHearing deck.now []) }
     {
-        if is_clear(deck) {
+        if is_perfect(deck) {
             return Ok(Hearers::Together(Together::new(alloc, deck, program)?));
         }
         Ok(Hearers::Apart(Apart::new(alloc, deck, program)?))
@@ -86,8 +86,8 @@ impl Hearers {
 }
 
 /// Whether nothing of what is aired is lost, heard again or late.
-fn is_clear(deck: &Deck) -> bool
-    ensures { IsTrue result ↔ IsClear deck.now }
+fn is_perfect(deck: &Deck) -> bool
+    ensures { IsTrue result ↔ IsPerfect deck.now }
 {
     let set = deck.settings();
     set.loss == 0 && set.again == 0 && set.late == 0

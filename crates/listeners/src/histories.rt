@@ -37,13 +37,13 @@ pub fn history_sessions<T: Threads + Sync>(
     ensures verdicts { (H : List Event) → HasTape deck.now H tape.now → IfOk result (λ s. s.verdicts.items ≡ verdict_lines (true_sessions deck.now H)) }
     ensures counts { (H : List Event) → HasTape deck.now H tape.now → IfOk result (λ s. s.counts.items ≡ counts_lines (true_sessions deck.now H)) }
 {
-    tape_is_whole(deck, tape);
+    shows_whole_tape(deck, tape);
     let sessions = ether_sessions(threads, alloc, deck, program, tape)?;
     Ok(sessions)
 }
 
 /// The tape of a history is whole, and it has few records, none of them longer than a bucket of the deck.
-fn tape_is_whole(deck: &Deck, tape: &[u8])
+fn shows_whole_tape(deck: &Deck, tape: &[u8])
     requires few { length tape.now ≤ MOST_TAPE_BYTES }
     requires aired { (H : List Event) × HasTape deck.now H tape.now }
     ensures whole { (tape_read tape.now).cut ≡ None }

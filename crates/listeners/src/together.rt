@@ -12,7 +12,7 @@ ghost use Rattle.air_model.specs.Reports.{counts_lines, verdict_lines};
 ghost use Rattle.air_model.specs.Tapes.{tape_read};
 ghost use Rattle.receiver_core.specs.Receivers.{heard_count};
 ghost use Rattle.listeners.specs.Listeners.{AreNumbered, end_state, hears, listener_of};
-ghost use Rattle.listeners.specs.Steps.TogetherSteps.{CanHear, EachHeard, HasHeard, listeners_in};
+ghost use Rattle.listeners.specs.Private.TogetherSteps.{CanHear, EachHeard, HasHeardMembers, listeners_in};
 
 use crate::listener::Listener;
 use crate::pieces::{hear_piece, next_piece};
@@ -36,10 +36,10 @@ pub(crate) struct TogetherRun {
 
 impl TogetherRun {
     /// Hears the members of a piece, or until memory runs out.
-    #[tactic(auto, unfolding(crate::specs::Steps::TogetherSteps::CanHear, crate::specs::Steps::TogetherSteps::HasHeard))]
+    #[tactic(auto, unfolding(crate::specs::Private::TogetherSteps::CanHear, crate::specs::Private::TogetherSteps::HasHeardMembers))]
     fn work(&mut self, alloc: Global, piece: &[Result<BucketView<'_>, BucketFault>])
         requires { CanHear piece.now self.old }
-        ensures { HasHeard (map result_ok piece.now) self.old self.new }
+        ensures { HasHeardMembers (map result_ok piece.now) self.old self.new }
     {
         self.done = hear_piece(alloc, &mut self.listener, piece).is_ok();
     }

@@ -8,7 +8,7 @@ ghost use Rattle.air_model.specs.Judges.{by_entries};
 ghost use Rattle.air_model.specs.SessionLaws.{after};
 ghost use Rattle.air_model.specs.Sessions.{end, settle};
 ghost use Rattle.receiver_core.specs.Receivers.{IsSettled};
-ghost use Rattle.listeners.specs.Steps.Endings.{lines_and_counts};
+ghost use Rattle.listeners.specs.Private.Endings.{lines_and_counts};
 
 use air_base::{NoMemory, Reads, Verdict};
 use receiver_core::{Receiver, Step};

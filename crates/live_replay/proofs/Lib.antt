@@ -1,17 +1,17 @@
 mod FindingExamples
 mod WholeExamples
-pub mod CountFacts
-pub mod WriteFacts
-pub mod LastFacts
-pub mod AloneFacts
-pub mod PassFacts
-pub mod RunFacts
-pub mod ReplayFacts
-pub mod PolicyFacts
-pub mod GrammarFacts
-pub mod FoundFacts
-pub mod FindingFacts
+pub mod CountLemmas
+pub mod WriteLemmas
+pub mod LastLemmas
+pub mod AloneLemmas
+pub mod PassLemmas
+pub mod RunLemmas
+pub mod ReplayLemmas
+pub mod PolicyLemmas
+pub mod GrammarLemmas
+pub mod FoundLemmas
+pub mod FindingLemmas
 pub mod RowFindings
 pub mod TrueReports
 pub mod FindingTexts
-pub mod AuditFacts
+pub mod AuditLemmas

@@ -4,7 +4,7 @@ use Rattle.std.specs.List.{enumerate_from, filter_map, range_with_len}
 use Rattle.std.proofs.lemmas.List.{append-nil}
 use Rattle.item_catalog.specs.Records.{records_of}
 use Rattle.air_model.specs.Decks.{Deck}
-use Rattle.air_report.specs.LineTexts.{line_of}
+use Rattle.air_report.specs.LineTexts.{spelled_line}
 use Rattle.air_report.specs.ReportLines.{ReportLines, lines_in}
 use Rattle.air_report.specs.declared.reading.lines.Line.{Line}
 use Rattle.air_report.specs.declared.reading.lines.Line.TheVariants as l
@@ -46,7 +46,7 @@ module _ (deck : Deck) (text : List ℕ) (read : ReadReport) (is : IsReportOf de
   section wrap cause rows n xs some here =
       each told wrap (λ row x. record { row = row; differs = cause x }) n xs some ∙ in_rows cause n xs ∙ ap (λ rs. found_in cause rs xs) (sym here)
 
-  pub by_rows : findings deck read ≡ filter_map (λ p. spelled_finding deck read.report.history p.0 (line_of p.1)) (enumerate_from 1 (records_of text))
+  pub by_rows : findings deck read ≡ filter_map (λ p. spelled_finding deck read.report.history p.0 (spelled_line p.1)) (enumerate_from 1 (records_of text))
   unfolding findings
   by_rows =
       let H = read.report.history in

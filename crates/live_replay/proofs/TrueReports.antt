@@ -19,7 +19,7 @@ use Rattle.live_replay.specs.Audits.{findings, found_in}
 use Rattle.live_replay.specs.Findings.{look_cause, verdict_cause}
 use Rattle.live_replay.specs.FindingLaws.{GivesLook, GivesVerdict}
 use Rattle.live_replay.specs.ReportFindings.{sessions_judged}
-use Rattle.live_replay.proofs.FindingFacts.{agrees, look_agrees, session_agrees}
+use Rattle.live_replay.proofs.FindingLemmas.{agrees, look_agrees, session_agrees}
 
 none_differs : {L : Type 0} (cause : L → Option Cause) (rows : List ℕ) (lines : List L) → All (λ l. cause l ≡ None) lines → All (λ f. f.differs ≡ None) (found_in cause rows lines)
 none_differs cause [] lines h = All-nil (λ (f : Finding). f.differs ≡ None)

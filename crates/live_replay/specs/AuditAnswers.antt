@@ -11,7 +11,7 @@ use Rattle.live_replay.specs.declared.findings.Finding.{Finding}
 use Rattle.live_replay.specs.declared.limits.TheConstants.{MOST_REPLAYED}
 use Rattle.live_replay.specs.FindingTexts.{findings_text, some_differ}
 use Rattle.live_replay.specs.TrueAudits.{IsTrueAudit}
-use Rattle.live_replay.specs.declared.audits.reports.Audited.{Audited}
+use Rattle.live_replay.specs.declared.audits.reports.AuditText.{AuditText}
 
 -- The bytes spell a report of the deck that isn't too much to replay.
 pub record CanBeAudited (deck : Deck) (bytes : List ℕ) : Type 0 where
@@ -35,7 +35,7 @@ pub record IsAudit (deck : Deck) (bytes : List ℕ) (found : List Finding) : Typ
   pub true_of : IsTrueAudit deck bytes read
 
 -- The answer is the text of the findings, and whether some differs.
-abbrev pub HasAudit : Deck → List ℕ → Audited → Type 0
+abbrev pub HasAudit : Deck → List ℕ → AuditText → Type 0
 HasAudit deck bytes audited =
     (found : List Finding) × (audited.text.items ≡ findings_text found) × (audited.differs ≡ some_differ found) × IsAudit deck bytes found
 

@@ -12,18 +12,18 @@ use Rattle.air_model.specs.Decks.{Deck, values_in}
 use Rattle.air_model.specs.Reports.{total_at}
 use Rattle.air_model.specs.declared.reports.LookLine.{LookLine}
 use Rattle.air_model.specs.declared.reports.VerdictLine.{VerdictLine}
-use Rattle.live_replay.specs.Findings.{place_of, places_of, read_of}
+use Rattle.live_replay.specs.Findings.{place_of_line, places_of, read_in_cycle}
 
 -- The named read of an abort comes in time, and it clashes with the held read of the named item.
 abbrev pub EndsSo : Policy → List Event → List ReadAt → VerdictKind → Type 0
 EndsSo policy H R Accept = ⊤
 EndsSo policy H R (Abort item cycle clash) =
-    (is_late policy R (read_of item cycle) ≡ false) × IsSomeAnd (clash_by_history policy H R (read_of item cycle)) (λ held. held.item ≡ clash)
+    (is_late policy R (read_in_cycle item cycle) ≡ false) × IsSomeAnd (clash_by_history policy H R (read_in_cycle item cycle)) (λ held. held.item ≡ clash)
 EndsSo policy H R Unfinished = ⊤
 
 -- The replay over a history gives the values of a line's reads, and its verdict.
 pub record GivesVerdict (deck : Deck) (H : List Event) (line : VerdictLine) : Type 0 where
-  pub values : All (λ r. r.value ≡ read_value (values_of (values_in deck)) H (place_of r)) line.reads
+  pub values : All (λ r. r.value ≡ read_value (values_of (values_in deck)) H (place_of_line r)) line.reads
   pub accepts : Accepts deck.settings.policy H (places_of line.reads)
   pub end : EndsSo deck.settings.policy H (places_of line.reads) line.verdict.kind
 

@@ -20,37 +20,37 @@ use Rattle.live_replay.specs.declared.findings.Cause.{Cause}
 use Rattle.live_replay.specs.declared.findings.Cause.TheVariants.{Value, Verdict, Clash, Total}
 
 -- The item and the cycle of a read.
-abbrev pub place_of : ReadOf → ReadAt
-place_of read = record { item = read.item; cycle = read.cycle }
+abbrev pub place_of_line : ReadOf → ReadAt
+place_of_line read = record { item = read.item; cycle = read.cycle }
 
 -- The items and cycles of reads.
 abbrev pub places_of : List ReadOf → List ReadAt
-places_of reads = map place_of reads
+places_of reads = map place_of_line reads
 
 -- A read of an item in a cycle.
-abbrev pub read_of : ℕ → ℕ → ReadAt
-read_of item cycle = record { item = item; cycle = cycle }
+abbrev pub read_in_cycle : ℕ → ℕ → ReadAt
+read_in_cycle item cycle = record { item = item; cycle = cycle }
 
 -- A read has its value: that of its item at its cycle's start.
 abbrev pub has_value : List ℕ → List Event → ReadOf → Bool
-has_value values H read = read.value == read_value (values_of values) H (place_of read)
+has_value values H read = read.value == read_value (values_of values) H (place_of_line read)
 
 -- Each read passes after those before it.
 unfoldable pub all_pass : Policy → List Event → List ReadAt → Bool
-all_pass policy H R = list_all (λ k. passes policy H (take k R) (get_or R k (read_of 0 0))) (range_with_len 0 (length R))
+all_pass policy H R = list_all (λ k. passes policy H (take k R) (get_or R k (read_in_cycle 0 0))) (range_with_len 0 (length R))
 
 -- The named read of an abort is refused: it comes in time, and clashes with a read before it. No other verdict names a read.
 unfoldable pub is_refused : Policy → List Event → List ReadAt → VerdictKind → Bool
 is_refused policy H R Accept = true
 is_refused policy H R (Abort item cycle clash) =
-    not (is_late policy R (read_of item cycle)) && is_some (clash_by_history policy H R (read_of item cycle))
+    not (is_late policy R (read_in_cycle item cycle)) && is_some (clash_by_history policy H R (read_in_cycle item cycle))
 is_refused policy H R Unfinished = true
 
 -- The named clash of an abort is the item of the read with which the named one clashes. No other verdict names one.
 unfoldable pub is_clash : Policy → List Event → List ReadAt → VerdictKind → Bool
 is_clash policy H R Accept = true
 is_clash policy H R (Abort item cycle clash) =
-    option_map_or (λ held. held.item == clash) (clash_by_history policy H R (read_of item cycle)) false
+    option_map_or (λ held. held.item == clash) (clash_by_history policy H R (read_in_cycle item cycle)) false
 is_clash policy H R Unfinished = true
 
 -- Why a verdict's line differs: the first of three causes that applies, in this order.

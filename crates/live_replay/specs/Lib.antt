@@ -2,7 +2,7 @@ pub mod Findings
 pub mod Audits
 pub mod FindingLaws
 pub mod ReportFindings
-pub mod Steps
+pub mod Private
 pub mod FindingTexts
 pub mod TrueAudits
 pub mod AuditAnswers

@@ -7,7 +7,7 @@ use Rattle.air_model.specs.Decks.{Deck}
 use Rattle.air_model.specs.Reports.{verdict_lines}
 use Rattle.air_model.specs.declared.reports.LookLine.{LookLine}
 use Rattle.air_model.specs.declared.reports.VerdictLine.{VerdictLine}
-use Rattle.air_report.specs.LineTexts.{line_of}
+use Rattle.air_report.specs.LineTexts.{spelled_line}
 use Rattle.item_catalog.specs.Records.{records_of}
 use Rattle.air_report.specs.declared.reading.ReadReport.{ReadReport}
 use Rattle.live_replay.specs.Audits.{findings}
@@ -23,7 +23,7 @@ use Rattle.live_replay.specs.FindingTexts.{some_differ}
 pub record IsTrueAudit (deck : Deck) (text : List ℕ) (read : ReadReport) : Type 0 where
   pub verdicts : (line : VerdictLine) → (verdict_cause deck read.report.history line ≡ None) ↔ GivesVerdict deck read.report.history line
   pub looks : (line : LookLine) → (look_cause deck read.report.history line ≡ None) ↔ GivesLook deck read.report.history line
-  pub rows : findings deck read ≡ filter_map (λ p. spelled_finding deck read.report.history p.0 (line_of p.1)) (enumerate_from 1 (records_of text))
+  pub rows : findings deck read ≡ filter_map (λ p. spelled_finding deck read.report.history p.0 (spelled_line p.1)) (enumerate_from 1 (records_of text))
   pub sessions : (heard : ℕ → List (Option Bucket)) → read.report.verdicts ≡ verdict_lines (sessions_judged deck read.report.history heard)
       → All (GivesLook deck read.report.history) read.report.glances → All (GivesLook deck read.report.history) read.report.looks
       → All (λ found. found.differs ≡ None) (findings deck read)

@@ -8,7 +8,7 @@ ghost use Rattle.air_history.specs.Histories.{event_at, starts, writes};
 ghost use Rattle.air_history.specs.Places.{last_place, same_place};
 ghost use Rattle.air_history.specs.Reads.{origin};
 ghost use Rattle.live_replay.specs.Findings.{places_of};
-ghost use Rattle.live_replay.specs.Steps.Alone.{MarksAlone, MarksDescents};
+ghost use Rattle.live_replay.specs.Private.Alone.{MarksAlone, MarksDescents};
 
 use crate::replay::{Replay, same_place};
 use air_base::{NoMemory, ReadOf};

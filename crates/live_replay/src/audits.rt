@@ -5,7 +5,7 @@ ghost use Rattle.air_history.specs.Histories.{is_start, starts};
 ghost use Rattle.air_report.specs.KeptReports.{IsFew, KeepsGrammar};
 ghost use Rattle.live_replay.specs.Audits.{IsAuditRefusal, findings, found_in, replayed_in};
 ghost use Rattle.live_replay.specs.Findings.{look_cause, verdict_cause};
-ghost use Rattle.live_replay.specs.Steps.Lines.{LineFits};
+ghost use Rattle.live_replay.specs.Private.Lines.{LineFits};
 ghost use Rattle.live_replay.specs.declared.limits.TheConstants.{MOST_REPLAYED};
 
 pub(crate) mod reports;
@@ -99,7 +99,7 @@ pub fn audit(alloc: Global, deck: &Deck, report: &ReadReport) -> Result<Vec<Find
     ensures within { IfOk result (λ _. replayed_in report.now.report ≤ MOST_REPLAYED) }
     ensures refused { IfErr result (IsAuditRefusal report.now.report) }
 {
-    deck.well_made();
+    deck.shows_well_made();
     let lines = &report.report;
     let product = replayed_in(lines);
     if product > MOST_REPLAYED {

@@ -12,7 +12,7 @@ ghost use Rattle.air_model.specs.ReceiverLaws.{session_of};
 ghost use Rattle.air_model.specs.Reports.{line_by, verdict_lines};
 ghost use Rattle.air_model.specs.declared.reports.LookLine.{LookLine};
 ghost use Rattle.air_model.specs.declared.reports.VerdictLine.{VerdictLine};
-ghost use Rattle.air_report.specs.LineTexts.{line_of};
+ghost use Rattle.air_report.specs.LineTexts.{spelled_line};
 ghost use Rattle.item_catalog.specs.Records.{records_of};
 ghost use Rattle.air_report.specs.declared.reading.ReadReport.{ReadReport};
 ghost use Rattle.air_report.specs.ReadReports.{IsReportOf};
@@ -30,7 +30,7 @@ pub fn agrees_law()
 /// The findings are those of the lines that a text's records spell, in their order, each with its record's row, counted from 1.
 pub fn rows_law()
     ensures { (deck : Deck) (text : List ℕ) (read : ReadReport) → IsReportOf deck text read →
-        findings deck read ≡ filter_map (λ p. spelled_finding deck read.report.history p.0 (line_of p.1)) (enumerate_from 1 (records_of text)) }
+        findings deck read ≡ filter_map (λ p. spelled_finding deck read.report.history p.0 (spelled_line p.1)) (enumerate_from 1 (records_of text)) }
 {}
 
 /// A replay gives each line of a session that its history judges, whatever the reader heard.

@@ -17,7 +17,7 @@ mod running;
 mod writes;
 
 pub use audits::audit;
-pub use audits::reports::{Audited, audit_report};
+pub use audits::reports::{AuditText, audit_report};
 pub use audits::texts::findings_text;
 pub use findings::{AuditError, Cause, Finding};
 pub use laws::{agrees_law, rows_law, session_law, true_report_law};

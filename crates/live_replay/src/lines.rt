@@ -6,7 +6,7 @@ ghost use Rattle.air_base.specs.declared.verdicts.VerdictKind.{VerdictKind};
 ghost use Rattle.air_history.specs.Histories.{starts};
 ghost use Rattle.air_model.specs.Decks.{values_in};
 ghost use Rattle.live_replay.specs.Findings.{has_value, is_clash, is_refused, look_cause, places_of, verdict_cause};
-ghost use Rattle.live_replay.specs.Steps.Lines.{EndFits, LineFits};
+ghost use Rattle.live_replay.specs.Private.Lines.{EndFits, LineFits};
 ghost use Rattle.live_replay.specs.declared.findings.Cause.{Cause};
 
 use crate::findings::Cause;

@@ -7,8 +7,8 @@ ghost use Rattle.air_history.specs.Histories.{starts};
 ghost use Rattle.air_history.specs.Reads.{IsRead, first_cycle, last_cycle, newest_cycle};
 ghost use Rattle.air_history.specs.Clashes.{clash_by_history, is_late, lesser, named_clash};
 ghost use Rattle.air_history.specs.ClashLaws.{passes};
-ghost use Rattle.live_replay.specs.Findings.{all_pass, place_of, places_of};
-ghost use Rattle.live_replay.specs.Steps.NamedClashes.{NamesWithin, clash_named, named_by};
+ghost use Rattle.live_replay.specs.Findings.{all_pass, place_of_line, places_of};
+ghost use Rattle.live_replay.specs.Private.NamedClashes.{NamesWithin, clash_named, named_by};
 
 use crate::alone::is_consistent;
 use crate::replay::Replay;
@@ -36,7 +36,7 @@ fn is_named(
 ) -> Result<bool, NoMemory>
     requires held { held.now.cycle ≤ starts replay.now.history }
     requires new { NamesWithin (starts replay.now.history) naming }
-    ensures { IfOk result (λ named. named ≡ named_by replay.now.history naming (place_of held.now)) }
+    ensures { IfOk result (λ named. named ≡ named_by replay.now.history naming (place_of_line held.now)) }
 {
     match naming {
         Naming::StaleAt(cycle) => Ok(!replay.same_origin(held.item, cycle, held.cycle)),
@@ -47,7 +47,7 @@ fn is_named(
 
 /// Of a read and a clash, the one of lesser item number.
 fn lesser(read: &ReadOf, clash: Option<Clash>) -> Clash
-    ensures { Some result ≡ lesser (place_of read.now) clash }
+    ensures { Some result ≡ lesser (place_of_line read.now) clash }
 {
     match clash {
         Some(clash) if clash.item < read.item => clash,
@@ -59,7 +59,7 @@ fn lesser(read: &ReadOf, clash: Option<Clash>) -> Clash
 }
 
 /// The held read of least item number among those that are named.
-#[tactic(auto, using(crate::proofs::PolicyFacts::named_more, crate::proofs::PolicyFacts::named_not, crate::proofs::PolicyFacts::named_none))]
+#[tactic(auto, using(crate::proofs::PolicyLemmas::named_more, crate::proofs::PolicyLemmas::named_not, crate::proofs::PolicyLemmas::named_none))]
 fn least_named(
     alloc: Global,
     replay: &Replay<'_>,
@@ -101,7 +101,7 @@ fn first_cycle(reads: &[ReadOf]) -> u32
 }
 
 /// The cycle of the last read, 0 where there is none.
-#[tactic(auto, using(crate::proofs::PolicyFacts::last_is))]
+#[tactic(auto, using(crate::proofs::PolicyLemmas::last_is))]
 fn last_cycle(reads: &[ReadOf]) -> u32
     ensures { result ≡ last_cycle (places_of reads.now) }
 {
@@ -114,7 +114,7 @@ fn last_cycle(reads: &[ReadOf]) -> u32
 /// Whether a read comes too late after held ones.
 #[tactic(auto, unfolding(air_history::specs::Clashes::is_late))]
 pub fn is_late(policy: Policy, held: &[ReadOf], read: &ReadOf) -> bool
-    ensures { result ≡ is_late policy (places_of held.now) (place_of read.now) }
+    ensures { result ≡ is_late policy (places_of held.now) (place_of_line read.now) }
 {
     match policy {
         Policy::FMatrix | Policy::Datacycle => false,
@@ -129,7 +129,7 @@ fn naming_of(replay: &Replay<'_>, held: &[ReadOf], read: &ReadOf) -> Option<Nami
     requires new { read.now.cycle ≤ starts replay.now.history }
     ensures new { IfSome result (NamesWithin (starts replay.now.history)) }
     ensures told { clash_named replay.now.history result (places_of held.now)
-        ≡ clash_by_history replay.now.deck.settings.policy replay.now.history (places_of held.now) (place_of read.now) }
+        ≡ clash_by_history replay.now.deck.settings.policy replay.now.history (places_of held.now) (place_of_line read.now) }
 {
     match replay.policy() {
         Policy::FMatrix => Some(Naming::ApartFrom(*read)),
@@ -162,7 +162,7 @@ pub fn clash(
     requires held { All (λ r. r.cycle ≤ starts replay.now.history) held.now }
     requires new { read.now.cycle ≤ starts replay.now.history }
     ensures { IfOk result (λ clash. clash
-        ≡ clash_by_history replay.now.deck.settings.policy replay.now.history (places_of held.now) (place_of read.now)) }
+        ≡ clash_by_history replay.now.deck.settings.policy replay.now.history (places_of held.now) (place_of_line read.now)) }
 {
     match naming_of(replay, held, read) {
         None => Ok(None),
@@ -181,7 +181,7 @@ fn passes(
     requires held { All (λ r. r.cycle ≤ starts replay.now.history) held.now }
     requires new { read.now.cycle ≤ starts replay.now.history }
     ensures { IfOk result (λ told. told
-        ≡ passes replay.now.deck.settings.policy replay.now.history (places_of held.now) (place_of read.now)) }
+        ≡ passes replay.now.deck.settings.policy replay.now.history (places_of held.now) (place_of_line read.now)) }
 {
     if is_late(replay.policy(), held, read) {
         return Ok(false);

@@ -9,10 +9,10 @@ ghost use Rattle.air_history.specs.Reads.{origin, read_value, same_origin};
 ghost use Rattle.air_history.specs.Tables.{values_of};
 ghost use Rattle.air_model.specs.Decks.{values_in};
 ghost use Rattle.air_model.specs.Reports.{total_at};
-ghost use Rattle.live_replay.specs.Findings.{read_of};
-ghost use Rattle.live_replay.specs.Steps.Writes.{count_at, writes_from};
+ghost use Rattle.live_replay.specs.Findings.{read_in_cycle};
+ghost use Rattle.live_replay.specs.Private.Writes.{count_at, writes_from};
 
-use crate::running::Running;
+use crate::running::ReplayState;
 use crate::writes::ItemWrites;
 use air_base::{NoMemory, Policy};
 use air_history::{Event, History, writer_at};
@@ -29,9 +29,9 @@ pub struct Replay<'a> {
 }
 
 impl<'a> Model for Replay<'a> {
-    ghost use Rattle.live_replay.specs.Steps.Replays.{IsReplay, Replayed, replay_of};
+    ghost use Rattle.live_replay.specs.Private.Replays.{DeckAndHistory, IsReplay, replay_of};
 
-    ghost Value = { Replayed };
+    ghost Value = { DeckAndHistory };
 
     ghost view = { replay_of };
 
@@ -58,7 +58,7 @@ impl<'a> Replay<'a> {
         ensures { IfOk result (λ r. r ≡ record { deck = deck.now; history = history.now }) }
     {
         let events = history.events();
-        let mut running = Running::new(alloc, deck)?;
+        let mut running = ReplayState::new(alloc, deck)?;
         for event in events {
             match event {
                 Event::Start => running.start(),
@@ -91,7 +91,7 @@ impl<'a> Replay<'a> {
     /// The place of the commit that is the origin of a read.
     pub fn origin(&self, item: u16, cycle: u32) -> Option<u64>
         requires { cycle ≤ starts self.now.history }
-        ensures { result ≡ origin self.now.history (read_of item cycle) }
+        ensures { result ≡ origin self.now.history (read_in_cycle item cycle) }
     {
         writer_at(self.history, cycle, item)
     }
@@ -124,7 +124,7 @@ impl<'a> Replay<'a> {
     /// The value of an item at a cycle's start.
     pub fn value(&self, item: u16, cycle: u32) -> u64
         requires { item < length self.now.deck.items }
-        ensures { result ≡ read_value (values_of (values_in self.now.deck)) self.now.history (read_of item cycle) }
+        ensures { result ≡ read_value (values_of (values_in self.now.deck)) self.now.history (read_in_cycle item cycle) }
     {
         let before = self.writes_before(item, cycle);
         if before == 0 {

@@ -3,9 +3,9 @@
 ghost use Rattle.std.specs.Prelude.{◌≡◌, ◌≢◌, ◌<◌, ◌+◌, ◌^◌, ℕ, List, [], ◌++◌, length, get_or, map, All, AllPairs, IfOk, OnOk};
 ghost use Rattle.air_history.specs.declared.histories.Event.{Event};
 ghost use Rattle.air_history.specs.Histories.{event_at};
-ghost use Rattle.air_history.specs.UpdateRules.{UpdateFits, item_of};
+ghost use Rattle.air_history.specs.UpdateRules.{UpdateFits, written_item};
 ghost use Rattle.air_model.specs.Decks.{values_in};
-ghost use Rattle.live_replay.specs.Steps.Runs.{IsRun, added_write};
+ghost use Rattle.live_replay.specs.Private.Runs.{IsReplayOfFirst, added_write};
 
 use crate::writes::{ItemWrite, ItemWrites};
 use air_base::NoMemory;
@@ -15,7 +15,7 @@ use std::alloc::Global;
 
 /// What is kept of the events so far: the values, the number of starts, and the writes of each item.
 #[derive(Debug, Drop)]
-pub struct Running {
+pub struct ReplayState {
     pub values: Vec<u64>,
     pub starts: u32,
     pub writes: Vec<ItemWrites>,
@@ -30,7 +30,7 @@ fn add_writes(
 ) -> Result<(), NoMemory>
     requires fits { All (λ w. w.item < length writes.old) written.now }
     requires sized { length values.now ≡ length writes.old }
-    requires apart { AllPairs (λ a b. a ≢ b) (map item_of written.now) }
+    requires apart { AllPairs (λ a b. a ≢ b) (map written_item written.now) }
     ensures { OnOk result ((i : ℕ) → i < length writes.old →
         get_or writes.new i [] ≡ get_or writes.old i [] ++ added_write cycle values.now written.now i) }
 {
@@ -44,10 +44,10 @@ fn add_writes(
     Ok(())
 }
 
-impl Running {
+impl ReplayState {
     /// Nothing was run.
-    pub fn new(alloc: Global, deck: &Deck) -> Result<Running, NoMemory>
-        ensures { IfOk result (λ run. (H : List Event) → IsRun (values_in deck.now) H 0 run) }
+    pub fn new(alloc: Global, deck: &Deck) -> Result<ReplayState, NoMemory>
+        ensures { IfOk result (λ run. (H : List Event) → IsReplayOfFirst (values_in deck.now) H 0 run) }
     {
         let mut values = Vec::new(alloc);
         let mut writes = Vec::new(alloc);
@@ -55,7 +55,7 @@ impl Running {
             values.push(deck.value(item))?;
             writes.push(ItemWrites::new(alloc))?;
         }
-        Ok(Running {
+        Ok(ReplayState {
             values,
             starts: 0,
             writes,
@@ -65,8 +65,8 @@ impl Running {
     /// A cycle is started.
     pub fn start(&mut self)
         requires { self.old.starts + 1 < 2 ^ 32 }
-        ensures { (V : List ℕ) (H : List Event) (n : ℕ) → IsRun V H n self.old → n < length H →
-            event_at H n ≡ Event.Start → IsRun V H (n + 1) self.new }
+        ensures { (V : List ℕ) (H : List Event) (n : ℕ) → IsReplayOfFirst V H n self.old → n < length H →
+            event_at H n ≡ Event.Start → IsReplayOfFirst V H (n + 1) self.new }
     {
         self.starts += 1;
     }
@@ -81,10 +81,10 @@ impl Running {
     ) -> Result<(), NoMemory>
         requires fits { UpdateFits (length self.old.writes.items) update.now }
         requires sized { length self.old.values.items ≡ length self.old.writes.items }
-        ensures { OnOk result ((V : List ℕ) (H : List Event) (n : ℕ) → IsRun V H n self.old → n < length H →
-            event_at H n ≡ Event.Commit by seq update.now → IsRun V H (n + 1) self.new) }
+        ensures { OnOk result ((V : List ℕ) (H : List Event) (n : ℕ) → IsReplayOfFirst V H n self.old → n < length H →
+            event_at H n ≡ Event.Commit by seq update.now → IsReplayOfFirst V H (n + 1) self.new) }
     {
-        update.keeps_rules();
+        update.shows_rules_kept();
         let event = Event::Commit {
             by,
             seq,

@@ -14,7 +14,7 @@ use case_lines::{add_line, first_word, number};
 use chunk_program::Program;
 use item_catalog::Deck;
 use listeners::Sessions;
-use scripts::{AiredPieces, PieceRun, piece_cycles};
+use scripts::{PieceRun, ScriptAiring, piece_cycles};
 use std::alloc::Global;
 use std::thread::Threads;
 
@@ -70,7 +70,7 @@ fn air_pieces<T: Threads + Sync>(
     requires some { 1 ≤ cycles }
 {
     let mut tape = Vec::new(alloc);
-    let mut aired = AiredPieces::new(alloc, deck, program, cycles)?;
+    let mut aired = ScriptAiring::new(alloc, deck, program, cycles)?;
     for _ in 0..MOST_PIECES {
         if aired.is_done(deck) {
             break;

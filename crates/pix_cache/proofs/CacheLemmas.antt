@@ -9,41 +9,41 @@ use Rattle.std.proofs.lemmas.List.FromFn.{get_or-map-range_with_len, length-map-
 use Rattle.std.proofs.lemmas.List.Sums.{sum_by-cons}
 use Rattle.air_model.specs.Reads.{Read}
 use Rattle.air_model.specs.Copies.{without_item}
-use Rattle.pix_cache.specs.Stores.{Stored, no_store}
-use Rattle.pix_cache.specs.Caches.{copy, copy_of}
-use Rattle.pix_cache.specs.CacheFields.{copies_at, read_in, somes}
+use Rattle.pix_cache.specs.Stores.{StoredCopy, no_store}
+use Rattle.pix_cache.specs.Caches.{copy, copy_among}
+use Rattle.pix_cache.specs.CacheFields.{copies_in_store, somes, stored_read}
 use Rattle.pix_cache.proofs.SomeLemmas.{Placed, copy_is, count_somes, without_is}
 
 -- ---- the copies by place
 -- There is one place for each item.
-pub long : (stores : List Stored) (places : List (Option ℕ)) → length (copies_at stores places) ≡ length places
-long stores places = length-map-range_with_len (λ item. option_map (read_in stores item) (get_or places item None)) 0 (length places)
+pub long : (stores : List StoredCopy) (places : List (Option ℕ)) → length (copies_in_store stores places) ≡ length places
+long stores places = length-map-range_with_len (λ item. option_map (stored_read stores item) (get_or places item None)) 0 (length places)
 
 -- At an item's place stands what its room holds.
-pub at_place : (stores : List Stored) (places : List (Option ℕ)) (item : ℕ) → item < length places → get_or (copies_at stores places) item None ≡ option_map (read_in stores item) (get_or places item None)
-at_place stores places item l = get_or-map-range_with_len (λ item. option_map (read_in stores item) (get_or places item None)) 0 (length places) item item None l (omega arith)
+pub at_place : (stores : List StoredCopy) (places : List (Option ℕ)) (item : ℕ) → item < length places → get_or (copies_in_store stores places) item None ≡ option_map (stored_read stores item) (get_or places item None)
+at_place stores places item l = get_or-map-range_with_len (λ item. option_map (stored_read stores item) (get_or places item None)) 0 (length places) item item None l (omega arith)
 
 -- Each copy stands at its item's place.
-pub placed : (stores : List Stored) (places : List (Option ℕ)) → Placed 0 (copies_at stores places)
+pub placed : (stores : List StoredCopy) (places : List (Option ℕ)) → Placed 0 (copies_in_store stores places)
 placed stores places k r e = by (cases_lt k (length places))
   where
-    item : (o : Option ℕ) → option_map (read_in stores k) o ≡ Some r → r.item ≡ k
+    item : (o : Option ℕ) → option_map (stored_read stores k) o ≡ Some r → r.item ≡ k
     item None f = cc
-    item (Some slot) f = let same : Some (read_in stores k slot) ≡ Some r = f in let s : read_in stores k slot ≡ r = cc in sym (ap (λ x. x.item) s)
+    item (Some slot) f = let same : Some (stored_read stores k slot) ≡ Some r = f in let s : stored_read stores k slot ≡ r = cc in sym (ap (λ x. x.item) s)
 
     by : (k < length places) ⊎ (length places ≤ k) → r.item ≡ 0 + k
     by (inl l) = let i = item (get_or places k None) (sym (at_place stores places k l) ∙ e) in omega arith
-    by (inr past) = let none : get_or (copies_at stores places) k None ≡ None = get_or_past (copies_at stores places) k None (omega (arith, long stores places)) in cc
+    by (inr past) = let none : get_or (copies_in_store stores places) k None ≡ None = get_or_past (copies_in_store stores places) k None (omega (arith, long stores places)) in cc
 
 -- The copy of an item with a room is what the room holds.
-pub kept_copy : (stores : List Stored) (places : List (Option ℕ)) (item slot : ℕ) → item < length places → get_or places item None ≡ Some slot → copy_of item (somes (copies_at stores places)) ≡ Some (read_in stores item slot)
+pub kept_copy : (stores : List StoredCopy) (places : List (Option ℕ)) (item slot : ℕ) → item < length places → get_or places item None ≡ Some slot → copy_among item (somes (copies_in_store stores places)) ≡ Some (stored_read stores item slot)
 kept_copy stores places item slot l e =
-    copy_is (copies_at stores places) item (omega (arith, long stores places)) (placed stores places) ∙ at_place stores places item l ∙ ap (option_map (read_in stores item)) e
+    copy_is (copies_in_store stores places) item (omega (arith, long stores places)) (placed stores places) ∙ at_place stores places item l ∙ ap (option_map (stored_read stores item)) e
 
 -- An item without a room has no copy.
-pub no_copy : (stores : List Stored) (places : List (Option ℕ)) (item : ℕ) → item < length places → get_or places item None ≡ None → copy_of item (somes (copies_at stores places)) ≡ None
+pub no_copy : (stores : List StoredCopy) (places : List (Option ℕ)) (item : ℕ) → item < length places → get_or places item None ≡ None → copy_among item (somes (copies_in_store stores places)) ≡ None
 no_copy stores places item l e =
-    copy_is (copies_at stores places) item (omega (arith, long stores places)) (placed stores places) ∙ at_place stores places item l ∙ ap (option_map (read_in stores item)) e
+    copy_is (copies_in_store stores places) item (omega (arith, long stores places)) (placed stores places) ∙ at_place stores places item l ∙ ap (option_map (stored_read stores item)) e
 
 -- ---- how many
 -- Two lists that pass alike at each place have as many that pass.
@@ -63,9 +63,9 @@ is_some_map f None = refl
 is_some_map f (Some x) = refl
 
 -- There are as many copies as items with a room.
-pub how_many : (stores : List Stored) (places : List (Option ℕ)) → length (somes (copies_at stores places)) ≡ count_by is_some places
-how_many stores places = count_somes (copies_at stores places) ∙ count_same is_some is_some (copies_at stores places) places None None (long stores places) (λ k l.
-    ap is_some (at_place stores places k (omega (arith, long stores places))) ∙ is_some_map (read_in stores k) (get_or places k None))
+pub how_many : (stores : List StoredCopy) (places : List (Option ℕ)) → length (somes (copies_in_store stores places)) ≡ count_by is_some places
+how_many stores places = count_somes (copies_in_store stores places) ∙ count_same is_some is_some (copies_in_store stores places) places None None (long stores places) (λ k l.
+    ap is_some (at_place stores places k (omega (arith, long stores places))) ∙ is_some_map (stored_read stores k) (get_or places k None))
 
 -- ---- one copy changed
 -- Two lists with the same at each place are the same.
@@ -73,50 +73,50 @@ pub by_place : (os rs : List (Option Read)) → length os ≡ length rs → ((k 
 by_place os rs l h = same_lists os rs l (λ k d m. get_or_default os k d None m ∙ h k m ∙ get_or_default rs k None d (omega arith))
 
 -- What is read in one room is the same after a change of another.
-pub same_read : (stores : List Stored) (slot : ℕ) (st : Stored) (k : ℕ) (o : Option ℕ) → o ≢ Some slot → option_map (read_in (set stores slot st) k) o ≡ option_map (read_in stores k) o
+pub same_read : (stores : List StoredCopy) (slot : ℕ) (st : StoredCopy) (k : ℕ) (o : Option ℕ) → o ≢ Some slot → option_map (stored_read (set stores slot st) k) o ≡ option_map (stored_read stores k) o
 same_read stores slot st k None ne = refl
-same_read stores slot st k (Some t) ne = ap (λ (s : Stored). Some (copy k s.cycle s.value s.entries)) (get_or-set_other stores slot t st no_store (λ same. ne (ap Some same)))
+same_read stores slot st k (Some t) ne = ap (λ (s : StoredCopy). Some (copy k s.cycle s.value s.entries)) (get_or-set_other stores slot t st no_store (λ same. ne (ap Some same)))
 
 -- A copy put into a room of its own stands at its item's place, and all others stay.
-pub put_is : (stores : List Stored) (places : List (Option ℕ)) (item slot : ℕ) (st : Stored) → item < length places → slot < length stores →
+pub put_is : (stores : List StoredCopy) (places : List (Option ℕ)) (item slot : ℕ) (st : StoredCopy) → item < length places → slot < length stores →
     ((k : ℕ) → k < length places → k ≢ item → get_or places k None ≢ Some slot) →
-    copies_at (set stores slot st) (set places item (Some slot)) ≡ set (copies_at stores places) item (Some (copy item st.cycle st.value st.entries))
+    copies_in_store (set stores slot st) (set places item (Some slot)) ≡ set (copies_in_store stores places) item (Some (copy item st.cycle st.value st.entries))
 put_is stores places item slot st li ls apart =
-    by_place (copies_at (set stores slot st) (set places item (Some slot))) (set (copies_at stores places) item (Some x))
-    (long (set stores slot st) (set places item (Some slot)) ∙ length-set places item (Some slot) ∙ sym (long stores places) ∙ sym (length-set (copies_at stores places) item (Some x)))
+    by_place (copies_in_store (set stores slot st) (set places item (Some slot))) (set (copies_in_store stores places) item (Some x))
+    (long (set stores slot st) (set places item (Some slot)) ∙ length-set places item (Some slot) ∙ sym (long stores places) ∙ sym (length-set (copies_in_store stores places) item (Some x)))
     (λ k l. (let short : k < length places = omega (arith, long (set stores slot st) (set places item (Some slot)), length-set places item (Some slot)) in
     at_place (set stores slot st) (set places item (Some slot)) k (omega (arith, length-set places item (Some slot))) ∙ by k short (cases_eq k item)))
   where
     x : Read
     x = copy item st.cycle st.value st.entries
 
-    by : (k : ℕ) → k < length places → (k ≡ item) ⊎ (k ≡ item → ⊥) → option_map (read_in (set stores slot st) k) (get_or (set places item (Some slot)) k None) ≡ get_or (set (copies_at stores places) item (Some x)) k None
+    by : (k : ℕ) → k < length places → (k ≡ item) ⊎ (k ≡ item → ⊥) → option_map (stored_read (set stores slot st) k) (get_or (set places item (Some slot)) k None) ≡ get_or (set (copies_in_store stores places) item (Some x)) k None
     by k short (inl same) =
-        ap (λ j. option_map (read_in (set stores slot st) j) (get_or (set places item (Some slot)) j None)) same
-        ∙ ap (option_map (read_in (set stores slot st) item)) (get_or-set_same places item (Some slot) None li)
-        ∙ ap (λ (s : Stored). Some (copy item s.cycle s.value s.entries)) (get_or-set_same stores slot st no_store ls)
-        ∙ sym (ap (λ j. get_or (set (copies_at stores places) item (Some x)) j None) same ∙ get_or-set_same (copies_at stores places) item (Some x) None (omega (arith, long stores places)))
+        ap (λ j. option_map (stored_read (set stores slot st) j) (get_or (set places item (Some slot)) j None)) same
+        ∙ ap (option_map (stored_read (set stores slot st) item)) (get_or-set_same places item (Some slot) None li)
+        ∙ ap (λ (s : StoredCopy). Some (copy item s.cycle s.value s.entries)) (get_or-set_same stores slot st no_store ls)
+        ∙ sym (ap (λ j. get_or (set (copies_in_store stores places) item (Some x)) j None) same ∙ get_or-set_same (copies_in_store stores places) item (Some x) None (omega (arith, long stores places)))
     by k short (inr other) =
-        ap (option_map (read_in (set stores slot st) k)) (get_or-set_other places item k (Some slot) None other)
+        ap (option_map (stored_read (set stores slot st) k)) (get_or-set_other places item k (Some slot) None other)
         ∙ same_read stores slot st k (get_or places k None) (apart k short other)
-        ∙ sym (get_or-set_other (copies_at stores places) item k (Some x) None other ∙ at_place stores places k short)
+        ∙ sym (get_or-set_other (copies_in_store stores places) item k (Some x) None other ∙ at_place stores places k short)
 
 -- A room taken from an item leaves its place empty, and all others stay.
-pub cleared_is : (stores : List Stored) (places : List (Option ℕ)) (item : ℕ) → item < length places → copies_at stores (set places item None) ≡ set (copies_at stores places) item None
+pub cleared_is : (stores : List StoredCopy) (places : List (Option ℕ)) (item : ℕ) → item < length places → copies_in_store stores (set places item None) ≡ set (copies_in_store stores places) item None
 cleared_is stores places item li =
-    by_place (copies_at stores (set places item None)) (set (copies_at stores places) item None)
-    (long stores (set places item None) ∙ length-set places item None ∙ sym (long stores places) ∙ sym (length-set (copies_at stores places) item None))
+    by_place (copies_in_store stores (set places item None)) (set (copies_in_store stores places) item None)
+    (long stores (set places item None) ∙ length-set places item None ∙ sym (long stores places) ∙ sym (length-set (copies_in_store stores places) item None))
     (λ k l. (let short : k < length places = omega (arith, long stores (set places item None), length-set places item None) in
     at_place stores (set places item None) k (omega (arith, length-set places item None)) ∙ by k short (cases_eq k item)))
   where
-    by : (k : ℕ) → k < length places → (k ≡ item) ⊎ (k ≡ item → ⊥) → option_map (read_in stores k) (get_or (set places item None) k None) ≡ get_or (set (copies_at stores places) item None) k None
+    by : (k : ℕ) → k < length places → (k ≡ item) ⊎ (k ≡ item → ⊥) → option_map (stored_read stores k) (get_or (set places item None) k None) ≡ get_or (set (copies_in_store stores places) item None) k None
     by k short (inl same) =
-        ap (λ j. option_map (read_in stores j) (get_or (set places item None) j None)) same
-        ∙ ap (option_map (read_in stores item)) (get_or-set_same places item None None li)
-        ∙ sym (ap (λ j. get_or (set (copies_at stores places) item None) j None) same ∙ get_or-set_same (copies_at stores places) item None None (omega (arith, long stores places)))
+        ap (λ j. option_map (stored_read stores j) (get_or (set places item None) j None)) same
+        ∙ ap (option_map (stored_read stores item)) (get_or-set_same places item None None li)
+        ∙ sym (ap (λ j. get_or (set (copies_in_store stores places) item None) j None) same ∙ get_or-set_same (copies_in_store stores places) item None None (omega (arith, long stores places)))
     by k short (inr other) =
-        ap (option_map (read_in stores k)) (get_or-set_other places item k None None other)
-        ∙ sym (get_or-set_other (copies_at stores places) item k None None other ∙ at_place stores places k short)
+        ap (option_map (stored_read stores k)) (get_or-set_other places item k None None other)
+        ∙ sym (get_or-set_other (copies_in_store stores places) item k None None other ∙ at_place stores places k short)
 
 -- ---- what the code read and wrote
 -- What the code read of a place is what stands there.
@@ -125,19 +125,19 @@ read_place places item r o l e f = get_or_default places item None r l ∙ sym e
 
 -- ---- a copy dropped
 -- Without its room an item's copy is gone.
-pub dropped : (stores : List Stored) (places : List (Option ℕ)) (item : ℕ) → item < length places → somes (copies_at stores (set places item None)) ≡ without_item item (somes (copies_at stores places))
+pub dropped : (stores : List StoredCopy) (places : List (Option ℕ)) (item : ℕ) → item < length places → somes (copies_in_store stores (set places item None)) ≡ without_item item (somes (copies_in_store stores places))
 dropped stores places item l =
-    ap somes (cleared_is stores places item l) ∙ sym (without_is (copies_at stores places) item (omega (arith, long stores places)) (placed stores places))
+    ap somes (cleared_is stores places item l) ∙ sym (without_is (copies_in_store stores places) item (omega (arith, long stores places)) (placed stores places))
 
 -- Where an item has no copy, to drop it changes nothing.
-pub none_dropped : (stores : List Stored) (places : List (Option ℕ)) (item : ℕ) → item < length places → get_or places item None ≡ None → somes (copies_at stores places) ≡ without_item item (somes (copies_at stores places))
+pub none_dropped : (stores : List StoredCopy) (places : List (Option ℕ)) (item : ℕ) → item < length places → get_or places item None ≡ None → somes (copies_in_store stores places) ≡ without_item item (somes (copies_in_store stores places))
 none_dropped stores places item l e =
-    ap (λ p. somes (copies_at stores p)) (sym (ap (set places item) (sym e) ∙ set-get_or places item None)) ∙ dropped stores places item l
+    ap (λ p. somes (copies_in_store stores p)) (sym (ap (set places item) (sym e) ∙ set-get_or places item None)) ∙ dropped stores places item l
 
 -- ---- no copies
 -- Where no item has a room, there are no copies.
-pub none_at_all : (stores : List Stored) (places : List (Option ℕ)) → ((i : ℕ) → i < length places → get_or places i None ≡ None) → somes (copies_at stores places) ≡ []
-none_at_all stores places none = empty (copies_at stores places) (λ k l. (let s : k < length places = omega (arith, long stores places) in at_place stores places k s ∙ ap (option_map (read_in stores k)) (none k s)))
+pub none_at_all : (stores : List StoredCopy) (places : List (Option ℕ)) → ((i : ℕ) → i < length places → get_or places i None ≡ None) → somes (copies_in_store stores places) ≡ []
+none_at_all stores places none = empty (copies_in_store stores places) (λ k l. (let s : k < length places = omega (arith, long stores places) in at_place stores places k s ∙ ap (option_map (stored_read stores k)) (none k s)))
   where
     empty : (os : List (Option Read)) → ((k : ℕ) → k < length os → get_or os k None ≡ None) → somes os ≡ []
     empty [] h = refl

@@ -7,11 +7,11 @@ use Rattle.pix_cache.specs.declared.leaf.Leaf.{Leaf}
 use Rattle.pix_cache.specs.declared.cache.PixCache.TheInside.{Inside}
 use Rattle.pix_cache.specs.declared.cache.KeepAnswer.{KeepAnswer}
 use Rattle.pix_cache.specs.declared.cache.KeepAnswer.TheVariants.{Evicted, Placed}
-use Rattle.pix_cache.specs.Steps.KeepAnswers.{IsAnswer}
-use Rattle.pix_cache.specs.Stores.{Stored}
+use Rattle.pix_cache.specs.Private.KeepAnswers.{IsKeepAnswer}
+use Rattle.pix_cache.specs.Stores.{StoredCopy}
 use Rattle.pix_cache.specs.Leaves.{copy_leaf, nowhere, weight}
-use Rattle.pix_cache.specs.Caches.{Cache, IsLeast, copy, copy_of}
-use Rattle.pix_cache.specs.CacheFields.{Agree, KeepsCopies, cache_of, copies_at, read_in, somes}
+use Rattle.pix_cache.specs.Caches.{Cache, IsLeastCopy, copy, copy_among}
+use Rattle.pix_cache.specs.CacheFields.{Agree, KeepsCopies, cache_of, copies_in_store, somes, stored_read}
 use Rattle.pix_cache.proofs.AgreeLemmas.{new_leaf}
 use Rattle.pix_cache.proofs.CacheLemmas.{kept_copy, no_copy}
 use Rattle.pix_cache.proofs.KeepLemmas.{Outcome, all_before, declined, declined_full, kept_form, outcome, replaced}
@@ -20,7 +20,7 @@ module _ (i : Inside) (k : KeepsCopies i) (self : Cache) (view : cache_of i ≡ 
   abbrev places : List (Option ℕ)
   places = i.places.items
 
-  abbrev stores : List Stored
+  abbrev stores : List StoredCopy
   stores = i.store.stores
 
   -- The item has a place.
@@ -40,34 +40,34 @@ module _ (i : Inside) (k : KeepsCopies i) (self : Cache) (view : cache_of i ≡ 
   in_rooms slot e = let l = k.agree.within item slot within e in omega (arith, k.rooms)
 
   -- An item without a room has no copy.
-  pub has_none : get_or i.places.items item None ≡ None → copy_of item self.copies ≡ None
-  has_none none = subst (λ (s : Cache). copy_of item s.copies ≡ None) view (no_copy stores places item within none)
+  pub has_none : get_or i.places.items item None ≡ None → copy_among item self.copies ≡ None
+  has_none none = subst (λ (s : Cache). copy_among item s.copies ≡ None) view (no_copy stores places item within none)
 
   -- An item's copy is what its room holds.
-  pub has_copy : (slot : ℕ) → get_or i.places.items item None ≡ Some slot → copy_of item self.copies ≡ Some (read_in i.store.stores item slot)
-  has_copy slot e = subst (λ (s : Cache). copy_of item s.copies ≡ Some (read_in stores item slot)) view (kept_copy stores places item slot within e)
+  pub has_copy : (slot : ℕ) → get_or i.places.items item None ≡ Some slot → copy_among item self.copies ≡ Some (stored_read i.store.stores item slot)
+  has_copy slot e = subst (λ (s : Cache). copy_among item s.copies ≡ Some (stored_read stores item slot)) view (kept_copy stores places item slot within e)
 
   -- The cache with other copies.
   with_copies : (new copies : List Read) → new ≡ copies → ◌≡◌ {A = Cache} (record { room = length stores; pix = i.pix.items; copies = new }) (record { room = length stores; pix = i.pix.items; copies = copies })
   with_copies new copies e = ap {B = Cache} (λ (c : List Read). record { room = length stores; pix = i.pix.items; copies = c }) e
 
   -- The clause of a drop, by the places that are left.
-  pub drop_form : (rest : List (Option ℕ)) → somes (copies_at i.store.stores rest) ≡ without_item item (somes (copies_at i.store.stores i.places.items)) →
-      ◌≡◌ {A = Cache} (record { room = length i.store.stores; pix = i.pix.items; copies = somes (copies_at i.store.stores rest) }) (record { room = self.room; pix = self.pix; copies = without_item item self.copies })
-  drop_form rest e = with_copies (somes (copies_at stores rest)) (without_item item (somes (copies_at stores places))) e
+  pub drop_form : (rest : List (Option ℕ)) → somes (copies_in_store i.store.stores rest) ≡ without_item item (somes (copies_in_store i.store.stores i.places.items)) →
+      ◌≡◌ {A = Cache} (record { room = length i.store.stores; pix = i.pix.items; copies = somes (copies_in_store i.store.stores rest) }) (record { room = self.room; pix = self.pix; copies = without_item item self.copies })
+  drop_form rest e = with_copies (somes (copies_in_store stores rest)) (without_item item (somes (copies_in_store stores places))) e
       ∙ ap {B = Cache} (λ (s : Cache). record { room = s.room; pix = s.pix; copies = without_item item s.copies }) view
 
   -- A copy over that of its item.
-  module _ (st : Stored) where
+  module _ (st : StoredCopy) where
     abbrev x : Read
     x = copy item st.cycle st.value st.entries
 
     -- The copies are those kept of all with the newcomer.
-    pub replace_form : (slot : ℕ) → get_or i.places.items item None ≡ Some slot → (new : List Stored) → new ≡ set i.store.stores slot st →
-        ◌≡◌ {A = Cache} (record { room = length new; pix = i.pix.items; copies = somes (copies_at new i.places.items) }) (record { room = self.room; pix = self.pix; copies = keep self.room self.pix (with_copy (copy item st.cycle st.value st.entries) self.copies) })
+    pub replace_form : (slot : ℕ) → get_or i.places.items item None ≡ Some slot → (new : List StoredCopy) → new ≡ set i.store.stores slot st →
+        ◌≡◌ {A = Cache} (record { room = length new; pix = i.pix.items; copies = somes (copies_in_store new i.places.items) }) (record { room = self.room; pix = self.pix; copies = keep self.room self.pix (with_copy (copy item st.cycle st.value st.entries) self.copies) })
     replace_form slot e new put =
-        kept_form i.pix.items (length stores) (length i.tree) (length new) (somes (copies_at stores places)) _ x self view k.rooms (ap length put ∙ length-set stores slot st)
-        (replaced i.pix.items places i.tree stores k.agree same small item within st slot e ∙ ap (λ (t : List Stored). somes (copies_at t places)) (sym put))
+        kept_form i.pix.items (length stores) (length i.tree) (length new) (somes (copies_in_store stores places)) _ x self view k.rooms (ap length put ∙ length-set stores slot st)
+        (replaced i.pix.items places i.tree stores k.agree same small item within st slot e ∙ ap (λ (t : List StoredCopy). somes (copies_in_store t places)) (sym put))
 
     -- A newcomer that is lighter than all.
     module _ (none : get_or i.places.items item None ≡ None) (pix : ℕ) (number : get_or i.pix.items item 0 ≡ pix) (light : All (λ a. weight (copy_leaf 0 pix item) < weight a) i.tree) where
@@ -77,11 +77,11 @@ module _ (i : Inside) (k : KeepsCopies i) (self : Cache) (view : cache_of i ≡ 
       -- The copies before are those kept of all with the newcomer.
       pub decline_form : self ≡ record { room = self.room; pix = self.pix; copies = keep self.room self.pix (with_copy (copy item st.cycle st.value st.entries) self.copies) }
       decline_form = sym view
-          ∙ kept_form i.pix.items (length stores) (length i.tree) (length stores) (somes (copies_at stores places)) _ x self view k.rooms refl (declined i.pix.items places i.tree stores k.agree same small item within st none 0 lighter)
+          ∙ kept_form i.pix.items (length stores) (length i.tree) (length stores) (somes (copies_in_store stores places)) _ x self view k.rooms refl (declined i.pix.items places i.tree stores k.agree same small item within st none 0 lighter)
 
       -- The newcomer is the least of all.
-      pub decline_answer : IsLeast self.room self.pix self.copies (copy item st.cycle st.value st.entries)
-      decline_answer = subst (λ (s : Cache). IsLeast s.room s.pix s.copies x) view (
+      pub decline_answer : IsLeastCopy self.room self.pix self.copies (copy item st.cycle st.value st.entries)
+      decline_answer = subst (λ (s : Cache). IsLeastCopy s.room s.pix s.copies x) view (
         (no_copy stores places item within none, (let full = declined_full i.pix.items places i.tree stores k.agree same small item within st none 0 lighter in omega (arith, k.rooms))),
         all_before i.pix.items places i.tree stores k.agree same small item within st none 0 lighter,
       )
@@ -102,13 +102,13 @@ module _ (i : Inside) (k : KeepsCopies i) (self : Cache) (view : cache_of i ≡ 
       take_agree tree put = subst (Agree i.pix.items (set rest item (Some r.slot))) (ap (λ p. set i.tree r.slot (copy_leaf r.slot p item)) number ∙ sym put) (taken _ refl).0
 
       -- The copies are those kept of all with the newcomer.
-      pub take_form : (new : List Stored) → new ≡ set i.store.stores r.slot st →
-          ◌≡◌ {A = Cache} (record { room = length new; pix = i.pix.items; copies = somes (copies_at new (set rest item (Some r.slot))) }) (record { room = self.room; pix = self.pix; copies = keep self.room self.pix (with_copy (copy item st.cycle st.value st.entries) self.copies) })
+      pub take_form : (new : List StoredCopy) → new ≡ set i.store.stores r.slot st →
+          ◌≡◌ {A = Cache} (record { room = length new; pix = i.pix.items; copies = somes (copies_in_store new (set rest item (Some r.slot))) }) (record { room = self.room; pix = self.pix; copies = keep self.room self.pix (with_copy (copy item st.cycle st.value st.entries) self.copies) })
       take_form new put =
-          kept_form i.pix.items (length stores) (length i.tree) (length new) (somes (copies_at stores places)) _ x self view k.rooms (ap length put ∙ length-set stores r.slot st)
-          ((taken _ refl).1 ∙ ap (λ (t : List Stored). somes (copies_at t (set rest item (Some r.slot)))) (sym put))
+          kept_form i.pix.items (length stores) (length i.tree) (length new) (somes (copies_in_store stores places)) _ x self view k.rooms (ap length put ∙ length-set stores r.slot st)
+          ((taken _ refl).1 ∙ ap (λ (t : List StoredCopy). somes (copies_in_store t (set rest item (Some r.slot)))) (sym put))
 
       -- The answer names what became of the newcomer.
-      pub take_answer : (answer : KeepAnswer) → answer ≡ (if r.kept then Evicted r.item else Placed) → IsAnswer self.room self.pix self.copies (copy item st.cycle st.value st.entries) answer
-      take_answer answer said = subst (λ (s : Cache). IsAnswer s.room s.pix s.copies x answer) view
-          (subst (λ n. IsAnswer n i.pix.items (somes (copies_at stores places)) x answer) k.rooms (taken answer said).2)
+      pub take_answer : (answer : KeepAnswer) → answer ≡ (if r.kept then Evicted r.item else Placed) → IsKeepAnswer self.room self.pix self.copies (copy item st.cycle st.value st.entries) answer
+      take_answer answer said = subst (λ (s : Cache). IsKeepAnswer s.room s.pix s.copies x answer) view
+          (subst (λ n. IsKeepAnswer n i.pix.items (somes (copies_in_store stores places)) x answer) k.rooms (taken answer said).2)

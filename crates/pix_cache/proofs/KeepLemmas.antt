@@ -12,23 +12,23 @@ use Rattle.air_model.proofs.CopyOrders.{keep_all}
 use Rattle.pix_cache.specs.declared.leaf.Leaf.{Leaf}
 use Rattle.pix_cache.specs.declared.cache.KeepAnswer.{KeepAnswer}
 use Rattle.pix_cache.specs.declared.cache.KeepAnswer.TheVariants.{Evicted, Placed}
-use Rattle.pix_cache.specs.Steps.KeepAnswers.{IsAnswer}
-use Rattle.pix_cache.specs.Stores.{Stored}
+use Rattle.pix_cache.specs.Private.KeepAnswers.{IsKeepAnswer}
+use Rattle.pix_cache.specs.Stores.{StoredCopy}
 use Rattle.pix_cache.specs.Leaves.{nowhere, weight}
 use Rattle.pix_cache.specs.Caches.{Cache, copy}
-use Rattle.pix_cache.specs.CacheFields.{Agree, copies_at, read_in, somes}
+use Rattle.pix_cache.specs.CacheFields.{Agree, copies_in_store, somes, stored_read}
 use Rattle.pix_cache.proofs.SomeLemmas.{all_somes, count_somes, with_is}
 use Rattle.pix_cache.proofs.AgreeLemmas.{agree_put, counts, handed_on, new_leaf}
 use Rattle.pix_cache.proofs.CacheLemmas.{at_place, by_place, cleared_is, how_many, kept_copy, long, no_copy, placed, put_is}
 use Rattle.pix_cache.proofs.OrderLemmas.{all_pass, goes, heavy_kept, least_out, some_fails}
 
-module _ (pix : List ℕ) (places : List (Option ℕ)) (leaves : List Leaf) (stores : List Stored) (a : Agree pix places leaves) (same : length stores ≡ length leaves) (small : length places ≤ 65536)
-    (item : ℕ) (li : item < length places) (st : Stored) where
+module _ (pix : List ℕ) (places : List (Option ℕ)) (leaves : List Leaf) (stores : List StoredCopy) (a : Agree pix places leaves) (same : length stores ≡ length leaves) (small : length places ≤ 65536)
+    (item : ℕ) (li : item < length places) (st : StoredCopy) where
   abbrev os : List (Option Read)
-  os = copies_at stores places
+  os = copies_in_store stores places
 
   abbrev copies : List Read
-  copies = somes (copies_at stores places)
+  copies = somes (copies_in_store stores places)
 
   abbrev x : Read
   x = copy item st.cycle st.value st.entries
@@ -47,22 +47,22 @@ module _ (pix : List ℕ) (places : List (Option ℕ)) (leaves : List Leaf) (sto
   alone slot e k l ne f = ne (ap (λ (b : Leaf). b.item) (sym (a.leaf k slot l f) ∙ a.leaf item slot li e))
 
   -- A copy in place of that of its item: all stay.
-  pub replaced : (slot : ℕ) → get_or places item None ≡ Some slot → keep (length leaves) pix (with_copy x copies) ≡ somes (copies_at (set stores slot st) places)
+  pub replaced : (slot : ℕ) → get_or places item None ≡ Some slot → keep (length leaves) pix (with_copy x copies) ≡ somes (copies_in_store (set stores slot st) places)
   replaced slot e =
       let within = a.within item slot li e in
       ap (keep (length leaves) pix) joined
       ∙ keep_all (length leaves) pix (somes (set os item (Some x)))
       (let n = count_somes (set os item (Some x)) in
       let m = count_somes os in
-      let one = counts is_some os item (Some x) None true true long_os (ap is_some (at_place stores places item li ∙ ap (option_map (read_in stores item)) e)) refl in
+      let one = counts is_some os item (Some x) None true true long_os (ap is_some (at_place stores places item li ∙ ap (option_map (stored_read stores item)) e)) refl in
       let few = count_by-le-length (λ (l : Leaf). l.kept) leaves in
       let s = size in omega arith)
-      ∙ sym (ap somes (ap (copies_at (set stores slot st)) (sym (ap (set places item) (sym e) ∙ set-get_or places item None))
+      ∙ sym (ap somes (ap (copies_in_store (set stores slot st)) (sym (ap (set places item) (sym e) ∙ set-get_or places item None))
       ∙ put_is stores places item slot st li (omega arith) (alone slot e)))
 
   module _ (none : get_or places item None ≡ None) where
     nothing_here : get_or os item None ≡ None
-    nothing_here = at_place stores places item li ∙ ap (option_map (read_in stores item)) none
+    nothing_here = at_place stores places item li ∙ ap (option_map (stored_read stores item)) none
 
     one_more : length (somes (set os item (Some x))) ≡ length copies + 1
     one_more =
@@ -80,7 +80,7 @@ module _ (pix : List ℕ) (places : List (Option ℕ)) (leaves : List Leaf) (sto
     fewer slot ls free = let f = some_fails (λ (l : Leaf). l.kept) leaves slot nowhere ls free in let s = size in omega arith
 
     -- A newcomer in an empty room: all stay.
-    pub put_in : (slot : ℕ) → slot < length leaves → (get_or leaves slot nowhere).kept ≡ false → keep (length leaves) pix (with_copy x copies) ≡ somes (copies_at (set stores slot st) (set places item (Some slot)))
+    pub put_in : (slot : ℕ) → slot < length leaves → (get_or leaves slot nowhere).kept ≡ false → keep (length leaves) pix (with_copy x copies) ≡ somes (copies_in_store (set stores slot st) (set places item (Some slot)))
     put_in slot ls free =
         ap (keep (length leaves) pix) joined
         ∙ keep_all (length leaves) pix (somes (set os item (Some x))) (let f = fewer slot ls free in let m = one_more in omega arith)
@@ -90,11 +90,11 @@ module _ (pix : List ℕ) (places : List (Option ℕ)) (leaves : List Leaf) (sto
     leaf_of : (k : ℕ) (s : Read) → k < length places → get_or os k None ≡ Some s → (slot : ℕ) × (slot < length leaves) × (get_or leaves slot nowhere ≡ new_leaf pix k slot) × (s.item ≡ k)
     leaf_of k s l e = by (get_or places k None) refl (sym (at_place stores places k l) ∙ e)
       where
-        by : (o : Option ℕ) → get_or places k None ≡ o → option_map (read_in stores k) (get_or places k None) ≡ Some s → (slot : ℕ) × (slot < length leaves) × (get_or leaves slot nowhere ≡ new_leaf pix k slot) × (s.item ≡ k)
-        by None f g = let h : None ≡ Some s = sym (ap (option_map (read_in stores k)) f) ∙ g in cc
+        by : (o : Option ℕ) → get_or places k None ≡ o → option_map (stored_read stores k) (get_or places k None) ≡ Some s → (slot : ℕ) × (slot < length leaves) × (get_or leaves slot nowhere ≡ new_leaf pix k slot) × (s.item ≡ k)
+        by None f g = let h : None ≡ Some s = sym (ap (option_map (stored_read stores k)) f) ∙ g in cc
         by (Some slot) f g =
-            let h : Some (read_in stores k slot) ≡ Some s = sym (ap (option_map (read_in stores k)) f) ∙ g in
-            let i : read_in stores k slot ≡ s = cc in
+            let h : Some (stored_read stores k slot) ≡ Some s = sym (ap (option_map (stored_read stores k)) f) ∙ g in
+            let i : stored_read stores k slot ≡ s = cc in
             (slot, a.within k slot l f, a.leaf k slot l f, sym (ap (λ (r : Read). r.item) i))
 
     -- Where each room weighs something, all rooms are taken.
@@ -136,7 +136,7 @@ module _ (pix : List ℕ) (places : List (Option ℕ)) (leaves : List Leaf) (sto
     module _ (m slot n : ℕ) (lm : m < length places) (its : get_or places m None ≡ Some slot) (least : (s : ℕ) → s < length leaves → weight (get_or leaves slot nowhere) ≤ weight (get_or leaves s nowhere))
         (heavier : weight (get_or leaves slot nowhere) ≤ weight (new_leaf pix item n)) where
       abbrev r : Read
-      r = read_in stores m slot
+      r = stored_read stores m slot
 
       other_item : m ≢ item
       other_item i = let f : None ≡ Some slot = sym none ∙ ap (λ j. get_or places j None) (sym i) ∙ its in cc
@@ -173,7 +173,7 @@ module _ (pix : List ℕ) (places : List (Option ℕ)) (leaves : List Leaf) (sto
           by k s l e (inr ne) = inr (rest_before k s l e ne)
 
       held : get_or os m None ≡ Some r
-      held = at_place stores places m lm ∙ ap (option_map (read_in stores m)) its
+      held = at_place stores places m lm ∙ ap (option_map (stored_read stores m)) its
 
       swapped : set (set os item (Some x)) m None ≡ set (set os m None) item (Some x)
       swapped = by_place (set (set os item (Some x)) m None) (set (set os m None) item (Some x))
@@ -200,7 +200,7 @@ module _ (pix : List ℕ) (places : List (Option ℕ)) (leaves : List Leaf) (sto
           by (inr ni) = ni (ap (λ (b : Leaf). b.item) (sym (a.leaf k slot (omega (arith, length-set places m None)) (sym (get_or-set_other places m k None None ni) ∙ f)) ∙ a.leaf m slot lm its))
 
       -- The newcomer takes the room of that copy, and all others stay.
-      pub evicted : keep (length leaves) pix (with_copy x copies) ≡ somes (copies_at (set stores slot st) (set (set places m None) item (Some slot)))
+      pub evicted : keep (length leaves) pix (with_copy x copies) ≡ somes (copies_in_store (set stores slot st) (set (set places m None) item (Some slot)))
       evicted =
           let within = a.within m slot lm its in
           ap (keep (length leaves) pix) joined
@@ -220,8 +220,8 @@ module _ (pix : List ℕ) (places : List (Option ℕ)) (leaves : List Leaf) (sto
       -- What is so once the newcomer has that room, by the places that were left.
       abbrev pub Outcome : List (Option ℕ) → KeepAnswer → Type 0
       Outcome rest answer = Agree pix (set rest item (Some r.slot)) (set leaves r.slot (new_leaf pix item r.slot))
-          × (keep (length leaves) pix (with_copy x copies) ≡ somes (copies_at (set stores r.slot st) (set rest item (Some r.slot))))
-          × IsAnswer (length leaves) pix copies x answer
+          × (keep (length leaves) pix (with_copy x copies) ≡ somes (copies_in_store (set stores r.slot st) (set rest item (Some r.slot))))
+          × IsKeepAnswer (length leaves) pix copies x answer
 
       -- The room changes hands: rooms and items agree, the copies are those kept, and the answer is told.
       pub outcome : Outcome (if r.kept then set places r.item None else places) (if r.kept then Evicted r.item else Placed)
@@ -242,7 +242,7 @@ module _ (pix : List ℕ) (places : List (Option ℕ)) (leaves : List Leaf) (sto
                 evicted r.item r.slot r.slot lm its least heavy,
                 (
                   (no_copy stores places item li none, omega arith),
-                  read_in stores r.item r.slot,
+                  stored_read stores r.item r.slot,
                   kept_copy stores places r.item r.slot lm its,
                   newcomer_before r.item r.slot r.slot lm its least heavy,
                   least_last r.item r.slot r.slot lm its least heavy,

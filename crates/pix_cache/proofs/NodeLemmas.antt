@@ -5,8 +5,8 @@ use Rattle.std.proofs.lemmas.Bool.{cases_eq, cases_lt, le-ltb, lt-ltb}
 use Rattle.std.proofs.lemmas.List.{get_or-drop, get_or-map, get_or-set_other, get_or-set_same, get_or_default, length-map, same_lists}
 use Rattle.pix_cache.specs.declared.leaf.Leaf.{Leaf}
 use Rattle.pix_cache.specs.Leaves.{lighter, nowhere, weight}
-use Rattle.pix_cache.specs.Steps.Trees.{IsNode, IsTree}
-use Rattle.pix_cache.specs.Steps.TreeFields.{TellSlots}
+use Rattle.pix_cache.specs.Private.Trees.{IsNode, IsTree}
+use Rattle.pix_cache.specs.Private.TreeFields.{TellSlots}
 
 -- ---- weights
 -- Two tests that decide the same are the same.

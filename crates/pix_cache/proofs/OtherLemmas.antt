@@ -7,34 +7,34 @@ use Rattle.pix_cache.specs.declared.leaf.Leaf.{Leaf}
 use Rattle.pix_cache.specs.declared.cache.KeepAnswer.{KeepAnswer}
 use Rattle.pix_cache.specs.declared.cache.KeepAnswer.TheVariants.{Evicted, Placed}
 use Rattle.pix_cache.specs.declared.cache.PixCache.TheInside.{Inside}
-use Rattle.pix_cache.specs.Stores.{Stored}
+use Rattle.pix_cache.specs.Stores.{StoredCopy}
 use Rattle.pix_cache.specs.Leaves.{nowhere}
-use Rattle.pix_cache.specs.Caches.{Cache, copy_of}
-use Rattle.pix_cache.specs.CacheFields.{KeepsCopies, cache_of, copies_at, read_in, somes}
+use Rattle.pix_cache.specs.Caches.{Cache, copy_among}
+use Rattle.pix_cache.specs.CacheFields.{KeepsCopies, cache_of, copies_in_store, somes, stored_read}
 use Rattle.pix_cache.proofs.SomeLemmas.{copy_is}
 use Rattle.pix_cache.proofs.CacheLemmas.{at_place, long, placed, same_read}
 use Rattle.pix_cache.proofs.FieldLemmas.{within}
 
 module _ (i : Inside) (k : KeepsCopies i) (self : Cache) (view : cache_of i ≡ self) (other : ℕ) (asked : other < length self.pix) where
   -- An item keeps its copy where it keeps its place, and no other room than that one changes.
-  copy_stays : (slot : ℕ) (st : Stored) (new : List Stored) → new ≡ set i.store.stores slot st → (rest : List (Option ℕ)) → length rest ≡ length i.places.items → get_or rest other None ≡ get_or i.places.items other None →
-      get_or i.places.items other None ≢ Some slot → copy_of other (somes (copies_at new rest)) ≡ copy_of other self.copies
+  copy_stays : (slot : ℕ) (st : StoredCopy) (new : List StoredCopy) → new ≡ set i.store.stores slot st → (rest : List (Option ℕ)) → length rest ≡ length i.places.items → get_or rest other None ≡ get_or i.places.items other None →
+      get_or i.places.items other None ≢ Some slot → copy_among other (somes (copies_in_store new rest)) ≡ copy_among other self.copies
   copy_stays slot st new put rest size kept apart =
       let stores = i.store.stores in
       let places = i.places.items in
       let here = within i k self view other asked in
-      copy_is (copies_at new rest) other (omega (arith, long new rest)) (placed new rest)
+      copy_is (copies_in_store new rest) other (omega (arith, long new rest)) (placed new rest)
       ∙ at_place new rest other (omega arith)
-      ∙ ap (option_map (read_in new other)) kept
-      ∙ ap (λ (t : List Stored). option_map (read_in t other) (get_or places other None)) put
+      ∙ ap (option_map (stored_read new other)) kept
+      ∙ ap (λ (t : List StoredCopy). option_map (stored_read t other) (get_or places other None)) put
       ∙ same_read stores slot st other (get_or places other None) apart
       ∙ sym (at_place stores places other here)
-      ∙ sym (copy_is (copies_at stores places) other (omega (arith, long stores places)) (placed stores places))
-      ∙ ap (λ (s : Cache). copy_of other s.copies) view
+      ∙ sym (copy_is (copies_in_store stores places) other (omega (arith, long stores places)) (placed stores places))
+      ∙ ap (λ (s : Cache). copy_among other s.copies) view
 
   -- Where a copy is replaced, the others stay.
-  pub stays_beside : (item : ℕ) → item < length self.pix → (slot : ℕ) → get_or i.places.items item None ≡ Some slot → (st : Stored) (new : List Stored) → new ≡ set i.store.stores slot st → other ≢ item →
-      copy_of other (somes (copies_at new i.places.items)) ≡ copy_of other self.copies
+  pub stays_beside : (item : ℕ) → item < length self.pix → (slot : ℕ) → get_or i.places.items item None ≡ Some slot → (st : StoredCopy) (new : List StoredCopy) → new ≡ set i.store.stores slot st → other ≢ item →
+      copy_among other (somes (copies_in_store new i.places.items)) ≡ copy_among other self.copies
   stays_beside item here slot its st new put ne = copy_stays slot st new put i.places.items refl refl (λ e.
       ne (ap (λ (b : Leaf). b.item) (sym (k.agree.leaf other slot (within i k self view other asked) e) ∙ k.agree.leaf item slot (within i k self view item here) its)))
 
@@ -57,8 +57,8 @@ module _ (i : Inside) (k : KeepsCopies i) (self : Cache) (view : cache_of i ≡ 
         gave_way (ap (λ (b : Leaf). b.kept) leaf) (ap (λ (b : Leaf). b.item) leaf)
 
     -- So an item's copy stays while the newcomer takes that room.
-    pub stays_behind : (item : ℕ) → other ≢ item → (rest : List (Option ℕ)) → rest ≡ (if r.kept then set i.places.items r.item None else i.places.items) → (st : Stored) (new : List Stored) → new ≡ set i.store.stores r.slot st →
-        copy_of other (somes (copies_at new (set rest item (Some r.slot)))) ≡ copy_of other self.copies
+    pub stays_behind : (item : ℕ) → other ≢ item → (rest : List (Option ℕ)) → rest ≡ (if r.kept then set i.places.items r.item None else i.places.items) → (st : StoredCopy) (new : List StoredCopy) → new ≡ set i.store.stores r.slot st →
+        copy_among other (somes (copies_in_store new (set rest item (Some r.slot)))) ≡ copy_among other self.copies
     stays_behind item apart_from rest left st new put = copy_stays r.slot st new put (set rest item (Some r.slot))
         (length-set rest item (Some r.slot) ∙ ap length left ∙ left_long r.kept)
         (get_or-set_other rest item other (Some r.slot) None apart_from ∙ ap (λ p. get_or p other None) left ∙ left_as r.kept refl)

@@ -11,7 +11,7 @@ use Rattle.std.proofs.lemmas.List.Sums.{sum_by-cons}
 use Rattle.air_model.specs.Reads.{Read}
 use Rattle.air_model.specs.Copies.{with_copy, without_item}
 use Rattle.air_model.proofs.CopyOrders.{filter_all}
-use Rattle.pix_cache.specs.Caches.{copy_of}
+use Rattle.pix_cache.specs.Caches.{copy_among}
 use Rattle.pix_cache.specs.CacheFields.{somes}
 
 -- Each copy stands at its item's place, counted from a first one.
@@ -167,8 +167,8 @@ module _ (os : List (Option Read)) (i : ℕ) (within : i < length os) where
       ∙ sym (ap somes (set_split os i None within) ∙ somes-append f (None ∷ b))
 
   -- An item's copy is what stands at its place.
-  pub copy_is : Placed 0 os → copy_of i (somes os) ≡ get_or os i None
-  unfolding copy_of
+  pub copy_is : Placed 0 os → copy_among i (somes os) ≡ get_or os i None
+  unfolding copy_among
   copy_is h =
       let f = take i os in
       let b = drop (suc i) os in

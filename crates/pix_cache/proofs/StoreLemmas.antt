@@ -7,8 +7,8 @@ use Rattle.std.proofs.lemmas.List.FromFn.{get_or-map-range_with_len, length-map-
 use Rattle.std.proofs.lemmas.Slice.{take-put_mid_below, between-put_mid, drop-put_mid}
 use borrow.Rule.Slice.PartMut.{put_mid}
 use Rattle.pix_cache.specs.declared.store.Slot.{Slot}
-use Rattle.pix_cache.specs.Stores.{Stored, stored_copy}
-use Rattle.pix_cache.specs.Steps.StoreFields.{column_of, no_slot, stored_in, stored_of}
+use Rattle.pix_cache.specs.Stores.{StoredCopy, stored_copy}
+use Rattle.pix_cache.specs.Private.StoreFields.{column_of, no_slot, stored_in, stored_of}
 
 -- The column of a room ends before that of a later one begins.
 pub column_before : (j m n : ℕ) → j < m → j * n + n ≤ m * n
@@ -41,7 +41,7 @@ pub stores_len : (n : ℕ) (slots : List Slot) (entries : List ℕ) → length (
 stores_len n slots entries = length-map-range_with_len (stored_in n slots entries) 0 (length slots)
 
 -- What a room holds is what stands in its slot and its column.
-pub store_at : (n : ℕ) (slots : List Slot) (entries : List ℕ) (k : ℕ) (d : Stored) → k < length slots → get_or (stored_of n slots entries) k d ≡ stored_in n slots entries k
+pub store_at : (n : ℕ) (slots : List Slot) (entries : List ℕ) (k : ℕ) (d : StoredCopy) → k < length slots → get_or (stored_of n slots entries) k d ≡ stored_in n slots entries k
 store_at n slots entries k d l = get_or-map-range_with_len (stored_in n slots entries) 0 (length slots) k k d l (omega arith)
 
 -- A slot and a column overwritten change what that room holds, and nothing else.
@@ -56,7 +56,7 @@ store_put n slots entries column m k s kn lm square sized =
     new : List ℕ
     new = put_mid (m * n) k entries column
 
-    it : Stored
+    it : StoredCopy
     it = stored_copy s.cycle s.value column
 
     ends : m * n + n ≤ length entries
@@ -69,7 +69,7 @@ store_put n slots entries column m k s kn lm square sized =
         side (inl l) = inl l
         side (inr g) = inr (omega (arith, other))
 
-    by : (j : ℕ) (d : Stored) → j < length slots → (j ≡ m) ⊎ (j ≡ m → ⊥) → stored_in n (set slots m s) new j ≡ get_or (set (stored_of n slots entries) m it) j d
+    by : (j : ℕ) (d : StoredCopy) → j < length slots → (j ≡ m) ⊎ (j ≡ m → ⊥) → stored_in n (set slots m s) new j ≡ get_or (set (stored_of n slots entries) m it) j d
     by j d l (inl same) =
         ap (stored_in n (set slots m s) new) same
         ∙ ap (λ (t : Slot). stored_copy t.cycle t.value (column_of n new m)) (get_or-set_same slots m s no_slot lm)

@@ -6,17 +6,17 @@ use Rattle.air_base.specs.declared.limits.TheConstants.{ITEM_NUMBERS, MOST_ROOM}
 use Rattle.air_model.specs.Reads.{Read}
 use Rattle.pix_cache.specs.declared.leaf.Leaf.{Leaf}
 use Rattle.pix_cache.specs.declared.cache.PixCache.TheInside.{Inside}
-use Rattle.pix_cache.specs.Stores.{Stored, no_store}
+use Rattle.pix_cache.specs.Stores.{StoredCopy, no_store}
 use Rattle.pix_cache.specs.Leaves.{copy_leaf, nowhere}
 use Rattle.pix_cache.specs.Caches.{Cache, copy}
 
 -- The copy of an item in a room.
-abbrev pub read_in : List Stored → ℕ → ℕ → Read
-read_in stores item slot = copy item (get_or stores slot no_store).cycle (get_or stores slot no_store).value (get_or stores slot no_store).entries
+abbrev pub stored_read : List StoredCopy → ℕ → ℕ → Read
+stored_read stores item slot = copy item (get_or stores slot no_store).cycle (get_or stores slot no_store).value (get_or stores slot no_store).entries
 
 -- The copy of each item, if it has one.
-abbrev pub copies_at : List Stored → List (Option ℕ) → List (Option Read)
-copies_at stores places = map (λ item. option_map (read_in stores item) (get_or places item None)) (range_with_len 0 (length places))
+abbrev pub copies_in_store : List StoredCopy → List (Option ℕ) → List (Option Read)
+copies_in_store stores places = map (λ item. option_map (stored_read stores item) (get_or places item None)) (range_with_len 0 (length places))
 
 -- Those that there are.
 abbrev pub somes : List (Option Read) → List Read
@@ -26,7 +26,7 @@ somes (Some r ∷ os) = r ∷ somes os
 
 -- The cache that the fields are.
 abbrev pub cache_of : Inside → Cache
-cache_of c = record { room = length c.store.stores; pix = c.pix.items; copies = somes (copies_at c.store.stores c.places.items) }
+cache_of c = record { room = length c.store.stores; pix = c.pix.items; copies = somes (copies_in_store c.store.stores c.places.items) }
 
 -- An item's room is told by the leaf of that room, and a leaf's item by the item's room.
 pub record Agree (pix : List ℕ) (places : List (Option ℕ)) (leaves : List Leaf) : Type 0 where

@@ -16,26 +16,26 @@ abbrev pub copy : ℕ → ℕ → ℕ → List ℕ → Read
 copy item cycle value entries = record { item = item; cycle = cycle; value = value; entries = entries }
 
 -- The kept copy of an item.
-unfoldable pub copy_of : ℕ → List Read → Option Read
-copy_of item copies = find (λ r. r.item == item) copies
+unfoldable pub copy_among : ℕ → List Read → Option Read
+copy_among item copies = find (λ r. r.item == item) copies
 
 -- A copy of the newcomer's item is kept.
 abbrev pub HasCopy : List Read → Read → Type 0
-HasCopy copies x = IsTrue (is_some (copy_of x.item copies))
+HasCopy copies x = IsTrue (is_some (copy_among x.item copies))
 
 -- No copy of the newcomer's item is kept, and there is room for it.
 abbrev pub FindsRoom : ℕ → List Read → Read → Type 0
-FindsRoom room copies x = (copy_of x.item copies ≡ None) × (length copies < room)
+FindsRoom room copies x = (copy_among x.item copies ≡ None) × (length copies < room)
 
 -- No copy of the newcomer's item is kept, and there is no room for it.
 abbrev pub FindsNone : ℕ → List Read → Read → Type 0
-FindsNone room copies x = (copy_of x.item copies ≡ None) × (room ≤ length copies)
+FindsNone room copies x = (copy_among x.item copies ≡ None) × (room ≤ length copies)
 
 -- There is one too many with the newcomer, which is the least of all: each kept copy goes before it.
-abbrev pub IsLeast : ℕ → List ℕ → List Read → Read → Type 0
-IsLeast room pix copies x = FindsNone room copies x × All (λ r. IsTrue (goes_before pix r x)) copies
+abbrev pub IsLeastCopy : ℕ → List ℕ → List Read → Read → Type 0
+IsLeastCopy room pix copies x = FindsNone room copies x × All (λ r. IsTrue (goes_before pix r x)) copies
 
 -- There is one too many with the newcomer, and the item's copy is the least of all: the newcomer and each other copy go before it.
 abbrev pub GivesWay : ℕ → List ℕ → List Read → Read → ℕ → Type 0
-GivesWay room pix copies x item = FindsNone room copies x × (least : Read) × (copy_of item copies ≡ Some least)
+GivesWay room pix copies x item = FindsNone room copies x × (least : Read) × (copy_among item copies ≡ Some least)
     × IsTrue (goes_before pix x least) × All (λ r. IsTrue (r.item == item) ⊎ IsTrue (goes_before pix r least)) copies

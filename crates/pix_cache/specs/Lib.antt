@@ -2,4 +2,4 @@ pub mod Stores
 pub mod Leaves
 pub mod Caches
 pub mod CacheFields
-pub mod Steps
+pub mod Private

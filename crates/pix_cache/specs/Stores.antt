@@ -2,20 +2,20 @@
 use Rattle.std.specs.Prelude.{ℕ, List, []}
 
 -- What a room holds of a copy.
-pub record Stored : Type 0 where
+pub record StoredCopy : Type 0 where
   pub cycle : ℕ
   pub value : ℕ
   pub entries : List ℕ
 
 -- A copy as a room holds it.
-abbrev pub stored_copy : ℕ → ℕ → List ℕ → Stored
+abbrev pub stored_copy : ℕ → ℕ → List ℕ → StoredCopy
 stored_copy cycle value entries = record { cycle = cycle; value = value; entries = entries }
 
 -- What is read where there is no room.
-abbrev pub no_store : Stored
+abbrev pub no_store : StoredCopy
 no_store = stored_copy 0 0 []
 
 -- The rooms, and how many entries each has room for.
 pub record Store : Type 0 where
   pub width : ℕ
-  pub stores : List Stored
+  pub stores : List StoredCopy

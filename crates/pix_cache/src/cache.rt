@@ -6,8 +6,8 @@ ghost use Rattle.std.specs.Prelude.{◌≡◌, ◌≢◌, ◌↔◌, ◌<◌, �
 ghost use Rattle.air_base.specs.declared.limits.TheConstants.{ITEM_NUMBERS, MOST_ROOM};
 ghost use Rattle.air_model.specs.Reads.{Read};
 ghost use Rattle.air_model.specs.Copies.{keep, pix_of, with_copy, without_item};
-ghost use Rattle.pix_cache.specs.Caches.{FindsRoom, GivesWay, HasCopy, IsLeast, copy, copy_of};
-ghost use Rattle.pix_cache.specs.Steps.KeepAnswers.{IsAnswer};
+ghost use Rattle.pix_cache.specs.Caches.{FindsRoom, GivesWay, HasCopy, IsLeastCopy, copy, copy_among};
+ghost use Rattle.pix_cache.specs.Private.KeepAnswers.{IsKeepAnswer};
 ghost use Rattle.pix_cache.specs.declared.cache.KeepAnswer.TheVariants.{Declined, Evicted, Placed, Replaced};
 
 use crate::leaf::Leaf;
@@ -91,8 +91,8 @@ impl PixCache {
     /// The kept copy of an item. It takes constant time.
     pub fn get(&self, item: u16) -> Option<Kept<'_>>
         requires { item < length self.now.pix }
-        ensures { MatchOption result (copy_of item self.now.copies ≡ None)
-            (λ k. copy_of item self.now.copies ≡ Some (copy item k.cycle k.value k.column.now)) }
+        ensures { MatchOption result (copy_among item self.now.copies ≡ None)
+            (λ k. copy_among item self.now.copies ≡ Some (copy item k.cycle k.value k.column.now)) }
     {
         let slot = self.places[item as usize]?;
         Some(self.store.get(slot))
@@ -115,13 +115,13 @@ impl PixCache {
 
         // The copies of other items stay, but for the one that gives way.
         ensures others { (other : ℕ) → other < length self.old.pix → other ≢ item → result ≢ Evicted other →
-            copy_of other self.new.copies ≡ copy_of other self.old.copies }
+            copy_among other self.new.copies ≡ copy_among other self.old.copies }
 
         // Each answer comes exactly where it says.
         ensures replaced { let x = copy item cycle value column.now in (result ≡ Replaced) ↔ HasCopy self.old.copies x }
         ensures placed { let x = copy item cycle value column.now in (result ≡ Placed) ↔ FindsRoom self.old.room self.old.copies x }
         ensures declined { let x = copy item cycle value column.now in
-            (result ≡ Declined) ↔ IsLeast self.old.room self.old.pix self.old.copies x }
+            (result ≡ Declined) ↔ IsLeastCopy self.old.room self.old.pix self.old.copies x }
         ensures evicted { let x = copy item cycle value column.now in (least : ℕ) →
             (result ≡ Evicted least) ↔ GivesWay self.old.room self.old.pix self.old.copies x least }
     {
@@ -135,9 +135,9 @@ impl PixCache {
         ensures kept { let x = copy item cycle value column.now in
             self.new ≡ record self.old { copies = keep self.old.room self.old.pix (with_copy x self.old.copies) } }
         ensures others { (other : ℕ) → other < length self.old.pix → other ≢ item → result ≢ Evicted other →
-            copy_of other self.new.copies ≡ copy_of other self.old.copies }
+            copy_among other self.new.copies ≡ copy_among other self.old.copies }
         ensures answer { let x = copy item cycle value column.now in
-            IsAnswer self.old.room self.old.pix self.old.copies x result }
+            IsKeepAnswer self.old.room self.old.pix self.old.copies x result }
     {
         if let Some(slot) = self.places[item as usize] {
             self.store.put(slot, cycle, value, column);

@@ -5,7 +5,7 @@
 ghost use Rattle.std.specs.Prelude.{◌≡◌, ◌*◌, ◌+◌, ◌≤◌, ◌<◌, ℕ, true, false, length, drop, IfOk, slice_set, get_or};
 ghost use Rattle.air_base.specs.declared.limits.TheConstants.{MOST_ROOM};
 ghost use Rattle.pix_cache.specs.Leaves.{nowhere, renumbered_leaf};
-ghost use Rattle.pix_cache.specs.Steps.Trees.{IsTree};
+ghost use Rattle.pix_cache.specs.Private.Trees.{IsTree};
 
 use crate::leaf::{Leaf, lighter_of};
 use air_base::NoMemory;

@@ -38,7 +38,7 @@ impl Model for Store {
 
     ghost Value = { Stores };
 
-    ghost use Rattle.pix_cache.specs.Steps.StoreFields.{IsStore, store_of};
+    ghost use Rattle.pix_cache.specs.Private.StoreFields.{IsStore, store_of};
 
     ghost view = { store_of };
 

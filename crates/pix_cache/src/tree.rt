@@ -25,7 +25,7 @@ impl Model for Tree {
 
     ghost Value = { List Leaf };
 
-    ghost use Rattle.pix_cache.specs.Steps.TreeFields.{KeepsTree, leaves_of};
+    ghost use Rattle.pix_cache.specs.Private.TreeFields.{KeepsTree, leaves_of};
 
     ghost view = { leaves_of };
 

@@ -77,7 +77,7 @@ fn rate_of(deck: &Deck, item: u16) -> u32
 fn add_items(deck: &Deck, cut: &Cut, program: &Program, out: &mut Vec<u8>) -> Result<(), NoMemory>
     requires { cut.now ≡ program.now }
 {
-    program.well_made();
+    program.shows_well_made();
     let _some = program.slots();
     for item in 0..cut.order().len() as u16 {
         let numbers = [

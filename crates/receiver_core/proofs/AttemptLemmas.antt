@@ -10,9 +10,9 @@ use Rattle.air_history.specs.Columns.{scheme_of}
 use Rattle.air_model.specs.Judges.{by_entries, heard_of, place_of}
 use Rattle.air_model.specs.Reads.{Read}
 use Rattle.air_history.specs.HeldReads.{HeldReads, IsNew}
-use Rattle.receiver_core.specs.Steps.Attempts.{HeldValues, columns_of, line_read}
-use Rattle.receiver_core.specs.Steps.AttemptView.{KeepsBoth, held_values, with_values}
-use Rattle.receiver_core.specs.Steps.PolicyReads.{held_of, policy_of}
+use Rattle.receiver_core.specs.Private.Attempts.{HeldValues, columns_of, line_read}
+use Rattle.receiver_core.specs.Private.AttemptView.{KeepsBoth, held_values, with_values}
+use Rattle.receiver_core.specs.Private.PolicyReads.{held_of, policy_of}
 use Rattle.receiver_core.specs.declared.policy_held.PolicyHeld.{PolicyHeld}
 use Rattle.receiver_core.specs.declared.attempts.Attempt.TheInside.{Inside}
 

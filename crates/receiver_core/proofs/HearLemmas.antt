@@ -8,7 +8,7 @@ use Rattle.air_model.specs.Judges.{Judge, by_entries}
 use Rattle.air_model.specs.Reads.{Read}
 use Rattle.air_model.specs.Sessions.{Reader, State, comes_late, count_dozed, count_foreign, count_late, hear, hear_read, is_wanted, open_bucket, query_of, read_in, wanted}
 use Rattle.air_model.proofs.MomentLemmas.{wanted_from}
-use Rattle.receiver_core.specs.Steps.Attempts.{is_read_wanted, read_of}
+use Rattle.receiver_core.specs.Private.Attempts.{is_read_wanted, read_from_bucket}
 use Rattle.receiver_core.specs.FeedAnswers.{fed_of, fed_read}
 use Rattle.receiver_core.specs.LastReads.{in_state, last_reads}
 use Rattle.receiver_core.specs.Receivers.{Receiver}
@@ -38,7 +38,7 @@ no_kind_0 n e = absurd (omega arith)
 -- The read of a wanted bucket.
 pub record IsWanted (o : Option ℕ) (b : Bucket) : Type 0 where
   pub busy : kind_of b.body ≢ 0
-  pub read : read_in b.cycle b.body ≡ Some (read_of b)
+  pub read : read_in b.cycle b.body ≡ Some (read_from_bucket b)
   pub item : o ≡ Some (item_of b.body)
 
 pub wanted_read : (o : Option ℕ) (b : Bucket) → is_read_wanted o (read_in b.cycle b.body) ≡ true → IsWanted o b
@@ -77,20 +77,20 @@ fed_dozed r b f w = sym (cond-true (fits r.air b) _ _ f ∙ by (read_in b.cycle 
 
 -- A wanted bucket is late or opened.
 fed_wanted : (r : Receiver) (b : Bucket) → fits r.air b ≡ true → is_read_wanted (wanted r.reader r.state) (read_in b.cycle b.body) ≡ true →
-    fed_of r (Ok b) ≡ cond (comes_late r.air r.state (read_of b)) fed.Late fed.Opened
+    fed_of r (Ok b) ≡ cond (comes_late r.air r.state (read_from_bucket b)) fed.Late fed.Opened
 unfolding fed_of fed_read
 fed_wanted r b f w =
     let is = wanted_read (wanted r.reader r.state) b w in
     cond-true (fits r.air b) _ _ f ∙ ap (fed_read r) is.read
-    ∙ cond-true (is_wanted (wanted r.reader r.state) (read_of b).item) _ _ (ap (is_read_wanted (wanted r.reader r.state)) (sym is.read) ∙ w)
+    ∙ cond-true (is_wanted (wanted r.reader r.state) (read_from_bucket b).item) _ _ (ap (is_read_wanted (wanted r.reader r.state)) (sym is.read) ∙ w)
 
 pub fed_late : (r : Receiver) (b : Bucket) → fits r.air b ≡ true → is_read_wanted (wanted r.reader r.state) (read_in b.cycle b.body) ≡ true →
-    comes_late r.air r.state (read_of b) ≡ true → fed.Late ≡ fed_of r (Ok b)
-fed_late r b f w late = sym (fed_wanted r b f w ∙ cond-true (comes_late r.air r.state (read_of b)) _ _ late)
+    comes_late r.air r.state (read_from_bucket b) ≡ true → fed.Late ≡ fed_of r (Ok b)
+fed_late r b f w late = sym (fed_wanted r b f w ∙ cond-true (comes_late r.air r.state (read_from_bucket b)) _ _ late)
 
 pub fed_opened : (r : Receiver) (b : Bucket) → fits r.air b ≡ true → is_read_wanted (wanted r.reader r.state) (read_in b.cycle b.body) ≡ true →
-    comes_late r.air r.state (read_of b) ≡ false → fed.Opened ≡ fed_of r (Ok b)
-fed_opened r b f w late = sym (fed_wanted r b f w ∙ cond-false (comes_late r.air r.state (read_of b)) _ _ late)
+    comes_late r.air r.state (read_from_bucket b) ≡ false → fed.Opened ≡ fed_of r (Ok b)
+fed_opened r b f w late = sym (fed_wanted r b f w ∙ cond-false (comes_late r.air r.state (read_from_bucket b)) _ _ late)
 
 -- ---- what the rule does
 
@@ -114,12 +114,12 @@ hear_dozed air reader b m s e f w = sym (cond-true (fits air b) _ _ f ∙ ap (λ
 -- A wanted bucket is counted as late or opened.
 hear_wanted : (air : Air) (reader : Reader) (b : Bucket) (m : ℕ) (s : State) → m ≡ max s.now b.cycle → fits air b ≡ true →
     is_read_wanted (wanted reader s) (read_in b.cycle b.body) ≡ true →
-    hear (J air) air reader (Some b) s ≡ cond (comes_late air s (read_of b)) (count_late (at_cycle m s)) (open_bucket (J air) air reader (read_of b) (at_cycle m s))
+    hear (J air) air reader (Some b) s ≡ cond (comes_late air s (read_from_bucket b)) (count_late (at_cycle m s)) (open_bucket (J air) air reader (read_from_bucket b) (at_cycle m s))
 unfolding hear hear_read wanted query_of
 hear_wanted air reader b m s e f w =
     let is = wanted_read (wanted reader s) b w in
     cond-true (fits air b) _ _ f ∙ ap (λ k. hear_read (J air) air reader (read_in b.cycle b.body) (at_cycle k s)) (sym e) ∙ ap (λ o. hear_read (J air) air reader o (at_cycle m s)) is.read
-    ∙ cond-true (is_wanted (wanted reader s) (read_of b).item) _ _ (ap (is_read_wanted (wanted reader s)) (sym is.read) ∙ w)
+    ∙ cond-true (is_wanted (wanted reader s) (read_from_bucket b).item) _ _ (ap (is_read_wanted (wanted reader s)) (sym is.read) ∙ w)
 
 -- ---- the receiver after it
 
@@ -140,13 +140,13 @@ module _ (v : Receiver) (b : Bucket) where
   dozed_heard m free e f w = quiet v (count_dozed (at_cycle m v.state)) free ∙ ap (in_state v) (hear_dozed v.air v.reader b m v.state e f w)
 
   pub late_heard : (m : ℕ) → v.state.lines ≡ [] → m ≡ max v.state.now b.cycle → fits v.air b ≡ true → is_read_wanted (wanted v.reader v.state) (read_in b.cycle b.body) ≡ true →
-      comes_late v.air v.state (read_of b) ≡ true →
+      comes_late v.air v.state (read_from_bucket b) ≡ true →
       (let t : Receiver = record v { state = count_late (at_cycle m v.state) } in t) ≡ in_state v (hear (by_entries v.air.scheme) v.air v.reader (Some b) v.state)
   unfolding count_late
   late_heard m free e f w late = quiet v (count_late (at_cycle m v.state)) free
-      ∙ ap (in_state v) (sym (hear_wanted v.air v.reader b m v.state e f w ∙ cond-true (comes_late v.air v.state (read_of b)) _ _ late))
+      ∙ ap (in_state v) (sym (hear_wanted v.air v.reader b m v.state e f w ∙ cond-true (comes_late v.air v.state (read_from_bucket b)) _ _ late))
 
   pub opened_heard : (m : ℕ) → m ≡ max v.state.now b.cycle → fits v.air b ≡ true → is_read_wanted (wanted v.reader v.state) (read_in b.cycle b.body) ≡ true →
-      comes_late v.air v.state (read_of b) ≡ false →
-      in_state v (open_bucket (by_entries v.air.scheme) v.air v.reader (read_of b) (at_cycle m v.state)) ≡ in_state v (hear (by_entries v.air.scheme) v.air v.reader (Some b) v.state)
-  opened_heard m e f w late = ap (in_state v) (sym (hear_wanted v.air v.reader b m v.state e f w ∙ cond-false (comes_late v.air v.state (read_of b)) _ _ late))
+      comes_late v.air v.state (read_from_bucket b) ≡ false →
+      in_state v (open_bucket (by_entries v.air.scheme) v.air v.reader (read_from_bucket b) (at_cycle m v.state)) ≡ in_state v (hear (by_entries v.air.scheme) v.air v.reader (Some b) v.state)
+  opened_heard m e f w late = ap (in_state v) (sym (hear_wanted v.air v.reader b m v.state e f w ∙ cond-false (comes_late v.air v.state (read_from_bucket b)) _ _ late))

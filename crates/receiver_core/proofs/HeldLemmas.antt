@@ -11,7 +11,7 @@ use Rattle.air_base.specs.declared.verdicts.Policy.{Policy}
 use Rattle.air_base.specs.declared.verdicts.Policy.TheVariants.{FMatrix, Datacycle, RMatrix}
 use Rattle.air_history.specs.declared.histories.Event.{Event}
 use Rattle.air_history.specs.Clashes.{clash_by_history, is_late, read_at}
-use Rattle.air_history.specs.ClashLaws.{Accepts, IsAllowed, IsHeard, IsSound}
+use Rattle.air_history.specs.ClashLaws.{Accepts, HasAiredEntries, IsAllowed, IsSound}
 use Rattle.air_history.specs.Columns.{aired_entries}
 use Rattle.air_history.specs.Reads.{IsRead, ReadAt, last_cycle, read_value}
 use Rattle.air_history.specs.Tables.{values_of}
@@ -90,7 +90,7 @@ module _ (air : Air) (H : List Event) (reader : Reader) (filled : QueriesFilled 
   passes_too R x are is allowed none =
       let same : map read_at (map heard_of R) ≡ map place_of R = map-map read_at heard_of R in
       subst (λ S. clash_by_history air.scheme.policy H S (place_of x) ≡ None) same
-      (clash air.scheme air.items H (map heard_of R) (heard_of x) (All-map (IsHeard air.scheme air.items H) heard_of R are) is
+      (clash air.scheme air.items H (map heard_of R) (heard_of x) (All-map (HasAiredEntries air.scheme air.items H) heard_of R are) is
       (subst (λ S. IsAllowed air.scheme.policy (S ++ place_of x ∷ [])) (sym same) allowed) ∙ none)
 
   rules : Keeps (by_entries air.scheme) air reader (IsReadIn air H) K (λ l. Unit {0})

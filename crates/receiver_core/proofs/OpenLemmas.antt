@@ -17,8 +17,8 @@ use Rattle.air_model.specs.Sessions.{accept_if_whole, comes_late, next_attempt, 
 use Rattle.air_model.proofs.MomentLemmas.{or_false}
 use Rattle.air_history.specs.HeldReads.{IsNew}
 use Rattle.pix_cache.specs.Caches.{Cache}
-use Rattle.receiver_core.specs.Steps.Attempts.{HeldValues, columns_of, read, read_of}
-use Rattle.receiver_core.specs.Steps.Offers.{without_clash}
+use Rattle.receiver_core.specs.Private.Attempts.{HeldValues, columns_of, read, read_from_bucket}
+use Rattle.receiver_core.specs.Private.Offers.{without_clash}
 use Rattle.receiver_core.specs.LastReads.{in_state}
 use Rattle.receiver_core.specs.Receivers.{Receiver}
 use Rattle.receiver_core.specs.ReceiverView.{IsReceiver, IsWholeRead, receiver_in}
@@ -75,13 +75,13 @@ entries_counted (Vector item value entries) k = refl
 
 -- What was taken of a bucket, part by part, is the read that it gives.
 pub read_parts : (b : Bucket) (item cycle value : ℕ) (entries : List ℕ) → item ≡ item_of b.body → cycle ≡ b.cycle → value ≡ value_of b.body → entries ≡ entries_of b.body →
-    read_of b ≡ read item cycle value entries
+    read_from_bucket b ≡ read item cycle value entries
 read_parts b item cycle value entries i c v e =
     ap (λ n. read n b.cycle (value_of b.body) (entries_of b.body)) (sym i) ∙ ap (λ n. read item n (value_of b.body) (entries_of b.body)) (sym c)
     ∙ ap (λ n. read item cycle n (entries_of b.body)) (sym v) ∙ ap (read item cycle value) (sym e)
 
 -- The read of a bucket with an item and an entry for each of the items is whole.
-pub bucket_read : (b : Bucket) (n : ℕ) → IsInRange b → kind_of b.body ≢ 0 → count_of b.body ≡ n → IsWholeRead n (read_of b)
+pub bucket_read : (b : Bucket) (n : ℕ) → IsInRange b → kind_of b.body ≢ 0 → count_of b.body ≡ n → IsWholeRead n (read_from_bucket b)
 bucket_read b n range busy counted = record {
   within = elim range.placed [ inl idle ↦ absurd (busy idle) | inr below ↦ omega arith ];
   sized = entries_counted b.body busy ∙ counted;
@@ -109,9 +109,9 @@ late_at r x b k e = e ∙ ap (λ p. is_late p (map place_of r.held.reads) (place
 -- The same for a bucket's read, by its cycle.
 pub late_told : (r : Inside) (b : Bucket) (late : Bool) (cycle : ℕ) → IsReceiver r →
     ((item : ℕ) → late ≡ is_late r.held.policy (map place_of r.held.reads) (record { item = item; cycle = cycle })) → cycle ≡ b.cycle →
-    comes_late (receiver_in r).air (receiver_in r).state (read_of b) ≡ late
+    comes_late (receiver_in r).air (receiver_in r).state (read_from_bucket b) ≡ late
 late_told r b late cycle k told e =
-    sym (late_at r (read_of b) late k (told (item_of b.body) ∙ ap (λ n. is_late r.held.policy (map place_of r.held.reads) (record { item = item_of b.body; cycle = n })) e))
+    sym (late_at r (read_from_bucket b) late k (told (item_of b.body) ∙ ap (λ n. is_late r.held.policy (map place_of r.held.reads) (record { item = item_of b.body; cycle = n })) e))
 
 -- ---- an opened bucket
 

@@ -5,7 +5,7 @@ use Rattle.air_base.specs.declared.verdicts.Policy.TheVariants.{RMatrix}
 use Rattle.air_history.specs.Clashes.{Heard, is_late, read_at}
 use Rattle.air_history.specs.HeldReads.{ComesInOrder, HeldReads}
 use Rattle.air_history.specs.Reads.{last_cycle}
-use Rattle.receiver_core.specs.Steps.PolicyReads.{held_of, policy_of}
+use Rattle.receiver_core.specs.Private.PolicyReads.{held_of, policy_of}
 use Rattle.receiver_core.specs.declared.policy_held.PolicyHeld.{PolicyHeld}
 use Rattle.receiver_core.specs.declared.policy_held.PolicyHeld.TheVariants as by_policy
 

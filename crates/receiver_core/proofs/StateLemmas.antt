@@ -12,7 +12,7 @@ use Rattle.air_model.specs.Aired.{Air}
 use Rattle.air_model.specs.Judges.{Judge, by_entries}
 use Rattle.air_model.specs.Sessions.{Reader, State, accept_if_whole, copy_of, line_of, next_attempt, next_query, query_of, wanted, with_line}
 use Rattle.air_model.proofs.MomentLemmas.{cond_keeps, none_from}
-use Rattle.receiver_core.specs.Steps.Attempts.{line_read}
+use Rattle.receiver_core.specs.Private.Attempts.{line_read}
 use Rattle.receiver_core.specs.LastReads.{in_state, last_reads}
 use Rattle.receiver_core.specs.LinesGiven.{lines_of}
 use Rattle.receiver_core.specs.Receivers.{IsSettled, Receiver}

@@ -14,7 +14,7 @@ use Rattle.air_model.specs.Sessions
 use Rattle.air_model.specs.Sessions.{Line, Reader, State, accept_if_whole, comes_late, count_copied, drop_copy, hold, is_unusable, line_of, next_query, query_of, turn, turn_with, wanted, with_line}
 use Rattle.air_model.proofs.MomentLemmas.{cond_keeps, find_is}
 use Rattle.air_model.proofs.SoundLemmas.{part_of_query}
-use Rattle.pix_cache.specs.Caches.{Cache, copy_of}
+use Rattle.pix_cache.specs.Caches.{Cache, copy_among}
 use Rattle.air_base.specs.declared.verdicts.ReadOf.{ReadOf}
 use Rattle.air_base.specs.declared.verdicts.Verdict.{Verdict}
 use Rattle.receiver_core.specs.LastReads.{in_state, last_reads}
@@ -22,8 +22,8 @@ use Rattle.receiver_core.specs.LinesGiven.{lines_of}
 use Rattle.receiver_core.specs.Receivers.{Receiver}
 use Rattle.receiver_core.specs.ReceiverSteps.{step}
 use Rattle.receiver_core.specs.ReceiverView.{IsReceiver, IsWholeRead, receiver_in}
-use Rattle.receiver_core.specs.Steps.Attempts.{HeldValues}
-use Rattle.receiver_core.specs.Steps.Turns.{uses_copy}
+use Rattle.receiver_core.specs.Private.Attempts.{HeldValues}
+use Rattle.receiver_core.specs.Private.Turns.{uses_copy}
 use Rattle.receiver_core.specs.declared.receivers.Receiver.TheInside.{Inside}
 use Rattle.receiver_core.proofs.HearLemmas.{quiet}
 use Rattle.receiver_core.proofs.SettlingLemmas.{step_given, step_on_turn, step_settled}
@@ -35,17 +35,17 @@ J air = by_entries air.scheme
 -- ---- at the fields
 
 -- The copy of the wanted item is the cache's.
-pub kept_at : (r : Inside) (item : ℕ) (o : Option Read) → wanted (receiver_in r).reader (receiver_in r).state ≡ Some item → copy_of item r.copies.copies ≡ o →
+pub kept_at : (r : Inside) (item : ℕ) (o : Option Read) → wanted (receiver_in r).reader (receiver_in r).state ≡ Some item → copy_among item r.copies.copies ≡ o →
     Sessions.copy_of (wanted (receiver_in r).reader (receiver_in r).state) (receiver_in r).state ≡ o
-unfolding copy_of
+unfolding copy_among
 kept_at r item o w e = copy_in (receiver_in r).state _ item o w e
 
 -- Without a wanted item there is none.
 pub none_at : (r : Inside) → wanted (receiver_in r).reader (receiver_in r).state ≡ None → Sessions.copy_of (wanted (receiver_in r).reader (receiver_in r).state) (receiver_in r).state ≡ None
 none_at r w = ap (λ o. Sessions.copy_of o (receiver_in r).state) w ∙ no_copy (receiver_in r).state
 
-pub kept_whole : (r : Inside) (item : ℕ) (x : Read) → IsReceiver r → copy_of item r.copies.copies ≡ Some x → IsWholeRead r.air.items x
-unfolding copy_of
+pub kept_whole : (r : Inside) (item : ℕ) (x : Read) → IsReceiver r → copy_among item r.copies.copies ≡ Some x → IsWholeRead r.air.items x
+unfolding copy_among
 kept_whole r item x k e = (find_is (IsWholeRead r.air.items) (λ y. y.item == item) r.copies.copies k.cache.copies (Some x) e).0
 
 -- Whether a copy is stale is told by the reader's age and the deck's policy.

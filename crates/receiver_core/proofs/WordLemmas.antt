@@ -10,7 +10,7 @@ use Rattle.air_model.specs.Copies.{keep, with_copy, without_item}
 use Rattle.air_model.specs.Judges.{Judge, by_entries}
 use Rattle.air_model.specs.Reads.{Read}
 use Rattle.air_model.specs.Sessions.{Reader, State, abort, accept_if_whole, comes_late, copy_of, count_copied, count_opened, decide, drop_copy, end_query, hold, is_unusable, next_attempt, next_query, offer, open_bucket, query_of, turn, turn_with, wanted, with_line}
-use Rattle.receiver_core.specs.Steps.Turns.{uses_copy}
+use Rattle.receiver_core.specs.Private.Turns.{uses_copy}
 
 abbrev J : Air → Judge
 J air = by_entries air.scheme

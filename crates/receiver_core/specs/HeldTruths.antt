@@ -4,7 +4,7 @@ use Rattle.std.specs.Prelude.{◌≡◌, ℕ, ◌<◌, true, not, ◌==◌, List
 use Rattle.std.specs.List.{find, list_any}
 use Rattle.std.specs.Option.{is_some}
 use Rattle.air_history.specs.declared.histories.Event.{Event}
-use Rattle.air_history.specs.ClashLaws.{Accepts, IsAllowed, IsHeard}
+use Rattle.air_history.specs.ClashLaws.{Accepts, HasAiredEntries, IsAllowed}
 use Rattle.air_model.specs.Aired.{Air, IsAiredBucket, SlotsFit, fits}
 use Rattle.air_model.specs.Buckets.{Bucket}
 use Rattle.air_model.specs.Judges.{heard_of, place_of}
@@ -15,7 +15,7 @@ use Rattle.receiver_core.specs.Receivers.{Receiver}
 
 -- The read is the history's: its entries are those that the history airs with its item in its cycle.
 abbrev pub IsReadIn : Air → List Event → Read → Type 0
-IsReadIn air H x = IsHeard air.scheme air.items H (heard_of x)
+IsReadIn air H x = HasAiredEntries air.scheme air.items H (heard_of x)
 
 -- The held reads and the copies are the history's; the policy accepted the held ones one after another, and allows them in
 -- their order; and the query at hand wants an item, as none that is whole stays at hand.

@@ -6,4 +6,4 @@ pub mod LastReads
 pub mod FeedAnswers
 pub mod HeldTruths
 pub mod ReceiverView
-pub mod Steps
+pub mod Private

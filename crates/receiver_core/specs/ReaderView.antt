@@ -10,7 +10,7 @@ abbrev pub reader_in : Inside → Reader
 reader_in r = record { plan = r.plan; queries = map (λ q. q.items) r.queries.items }
 
 -- There are fewer than 2^32 queries, and each of them has at most sixteen items.
-pub record IsShort (reader : Reader) : Type 0 where
+pub record HasFewQueries (reader : Reader) : Type 0 where
   pub queries : length reader.queries < 2 ^ 32
   pub items : All (λ q. length q ≤ ROOM) reader.queries
 

@@ -9,7 +9,7 @@ use Rattle.air_model.specs.Sessions.{Reader}
 use Rattle.pix_cache.specs.Caches.{Cache}
 use Rattle.receiver_core.specs.declared.receivers.Receiver.TheInside.{Inside}
 use Rattle.receiver_core.specs.LinesGiven.{lines_of}
-use Rattle.receiver_core.specs.ReaderView.{AreDistinct, AreWithin, IsShort}
+use Rattle.receiver_core.specs.ReaderView.{AreDistinct, AreWithin, HasFewQueries}
 use Rattle.receiver_core.specs.Receivers.{Receiver}
 
 -- The receiver of the fields.
@@ -32,7 +32,7 @@ receiver_in r = record {
 -- The queries are short, and none has an item twice; their items are those of the air, and each of these has a PIX number; and
 -- a query is tried as often as a deck may say at most.
 pub record AreOfDeck (air : Air) (reader : Reader) : Type 0 where
-  pub short : IsShort reader
+  pub short : HasFewQueries reader
   pub distinct : AreDistinct reader
   pub within : AreWithin air.items reader
   pub numbers : length air.pix ≡ air.items

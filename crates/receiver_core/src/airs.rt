@@ -8,7 +8,7 @@ ghost use Rattle.air_model.specs.Aired.{air_of, airs_columns, fits};
 ghost use Rattle.air_model.specs.Airings.{carries, pix_number};
 ghost use Rattle.air_model.specs.Decks.{disks_in, rates_in};
 ghost use Rattle.air_model.specs.Programs;
-ghost use Rattle.receiver_core.specs.Steps.SlotKinds.{kind_fits};
+ghost use Rattle.receiver_core.specs.Private.SlotKinds.{kind_fits};
 
 use air_base::{NoMemory, Policy};
 use bucket_codec::{BucketView, ViewKind};
@@ -31,7 +31,7 @@ impl Model for Air {
 
     ghost Value = { Air };
 
-    ghost use Rattle.receiver_core.specs.Steps.AirView.{air_in};
+    ghost use Rattle.receiver_core.specs.Private.AirView.{air_in};
 
     ghost view = { air_in };
 }
@@ -44,7 +44,7 @@ impl Air {
         ensures numbers { IfOk result (λ a. length a.pix ≡ a.items) }
         ensures few { IfOk result (λ a. a.items ≤ MOST_ITEMS) }
     {
-        deck.well_made();
+        deck.shows_well_made();
         Ok(Air {
             policy: deck.settings().policy,
             items: deck.items(),
@@ -107,7 +107,7 @@ fn airs_columns(policy: Policy) -> bool
 }
 
 /// Whether the bucket's kind and item are those that the policy airs in a slot with this item.
-#[tactic(auto, unfolding(crate::specs::Steps::SlotKinds::kind_fits))]
+#[tactic(auto, unfolding(crate::specs::Private::SlotKinds::kind_fits))]
 fn stands_right(policy: Policy, slot: Option<u16>, bucket: &BucketView<'_>) -> bool
     ensures { result ≡ kind_fits policy slot (kind_of bucket.now.body) (item_of bucket.now.body) }
 {
@@ -134,7 +134,7 @@ fn pix_numbers(alloc: Global, deck: &Deck, program: &Program) -> Result<Vec<u64>
     requires { program.now ≡ disks_in deck.now }
     ensures { IfOk result (λ pix. pix.items ≡ map (λ p. pix_number (disks_in deck.now) p.0 p.1) (enumerate_from 0 (rates_in deck.now))) }
 {
-    deck.well_made();
+    deck.shows_well_made();
     let mut numbers = Vec::new(alloc);
     for item in 0..deck.items() {
         numbers.push(program.pix(item, deck.rate(item)))?;

@@ -8,7 +8,7 @@ ghost use Rattle.air_history.specs.Columns.{scheme_of};
 ghost use Rattle.air_history.specs.Clashes.{is_late};
 ghost use Rattle.air_model.specs.Judges.{by_entries, heard_of, place_of};
 ghost use Rattle.air_history.specs.HeldReads.{IsNew};
-ghost use Rattle.receiver_core.specs.Steps.Attempts.{columns_of, line_read, read};
+ghost use Rattle.receiver_core.specs.Private.Attempts.{columns_of, line_read, read};
 
 use crate::policy_held::PolicyHeld;
 use crate::reads::ReadList;
@@ -25,11 +25,11 @@ pub struct Attempt {
 }
 
 impl Model for Attempt {
-    ghost use Rattle.receiver_core.specs.Steps.Attempts.{HeldValues};
+    ghost use Rattle.receiver_core.specs.Private.Attempts.{HeldValues};
 
     ghost Value = { HeldValues };
 
-    ghost use Rattle.receiver_core.specs.Steps.AttemptView.{KeepsBoth, held_values};
+    ghost use Rattle.receiver_core.specs.Private.AttemptView.{KeepsBoth, held_values};
 
     ghost view = { held_values };
 

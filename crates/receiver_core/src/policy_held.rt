@@ -6,12 +6,12 @@
 ghost use Rattle.std.specs.Prelude.{◌≡◌, ℕ, ◌<◌, false, [], ◌∷◌, ◌++◌, List, length, map, nat_lt, All, IfOk, None};
 ghost use Rattle.air_history.specs.declared.histories.Event.{Event};
 ghost use Rattle.air_history.specs.Clashes.{clash_by_entries, clash_by_history, is_late, read_at};
-ghost use Rattle.air_history.specs.ClashLaws.{IsHeard};
+ghost use Rattle.air_history.specs.ClashLaws.{HasAiredEntries};
 ghost use Rattle.air_history.specs.Columns.{scheme_of};
 ghost use Rattle.air_history.specs.HeldReads.{IsNew};
 ghost use Rattle.air_history.specs.Reads.{last_cycle};
 ghost use Rattle.held_reads.specs.HeardReads.{heard_read};
-ghost use Rattle.receiver_core.specs.Steps.PolicyReads.{held_of, policy_of};
+ghost use Rattle.receiver_core.specs.Private.PolicyReads.{held_of, policy_of};
 
 use air_base::{Clash, NoMemory, Policy};
 use column_check::Held;
@@ -72,8 +72,8 @@ impl PolicyHeld {
         requires in_time { is_late (policy_of self.now) (map read_at (held_of self.now).reads) (read_at (heard_read item cycle entries.now)) ≡ false }
         ensures entries { result ≡ clash_by_entries (policy_of self.now) (held_of self.now).reads (heard_read item cycle entries.now) }
         ensures history { let x = heard_read item cycle entries.now in (H : List Event) →
-            All (IsHeard (scheme_of (policy_of self.now)) (held_of self.now).n H) (held_of self.now).reads →
-            IsHeard (scheme_of (policy_of self.now)) (held_of self.now).n H x →
+            All (HasAiredEntries (scheme_of (policy_of self.now)) (held_of self.now).n H) (held_of self.now).reads →
+            HasAiredEntries (scheme_of (policy_of self.now)) (held_of self.now).n H x →
             result ≡ clash_by_history (policy_of self.now) H (map read_at (held_of self.now).reads) (read_at x) }
     {
         match self {

@@ -3,7 +3,7 @@
 ghost use Rattle.std.specs.Prelude.{◌≡◌, ◌↔◌, ◌<◌, ◌≤◌, [], get_or, length, map, slice_get, IfOk, IsTrue};
 ghost use Rattle.air_model.specs.Sessions.{reader_of};
 ghost use Rattle.air_base.specs.declared.limits.TheConstants.{MOST_ROOM, MOST_TRIES};
-ghost use Rattle.receiver_core.specs.ReaderView.{AreDistinct, AreWithin, IsShort};
+ghost use Rattle.receiver_core.specs.ReaderView.{AreDistinct, AreWithin, HasFewQueries};
 
 use air_base::NoMemory;
 use air_model::deck::ReaderPlan;
@@ -33,13 +33,13 @@ impl Reader {
     pub fn new(alloc: Global, deck: &Deck, number: u32) -> Result<Reader, NoMemory>
         requires { number < length deck.now.readers }
         ensures told { IfOk result (λ r. r ≡ reader_of deck.now number) }
-        ensures short { IfOk result IsShort }
+        ensures short { IfOk result HasFewQueries }
         ensures distinct { IfOk result AreDistinct }
         ensures within { IfOk result (AreWithin (length deck.now.items)) }
         ensures room { IfOk result (λ r. r.plan.room ≤ MOST_ROOM) }
         ensures tries { IfOk result (λ r. r.plan.tries ≤ MOST_TRIES) }
     {
-        deck.well_made();
+        deck.shows_well_made();
         Ok(Reader {
             plan: deck.reader(number),
             queries: queries(alloc, deck, number)?,

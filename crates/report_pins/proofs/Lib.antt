@@ -1,4 +1,4 @@
-pub mod FaultFacts
-pub mod ReadFacts
-pub mod ReplayFacts
-pub mod AuditFacts
+pub mod FaultLemmas
+pub mod ReadLemmas
+pub mod ReplayLemmas
+pub mod AuditLemmas

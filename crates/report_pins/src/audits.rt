@@ -12,12 +12,12 @@ ghost use Rattle.report_pins.specs.SmallReports.{found};
 use air_base::NoMemory;
 use air_report::Status;
 use item_catalog::Deck;
-use live_replay::{Audited, Cause, Finding, audit_report, findings_text};
+use live_replay::{AuditText, Cause, Finding, audit_report, findings_text};
 use std::alloc::Global;
 
 /// A finding tells its own row and its own cause, and the last row counts the findings before those that differ. It also refuses that these two
 /// are exchanged, and that rows are counted from 0.
-#[tactic(auto, using(crate::proofs::AuditFacts::text_of_findings))]
+#[tactic(auto, using(crate::proofs::AuditLemmas::text_of_findings))]
 pub fn clash_told_as_verdict(alloc: Global, findings: &[Finding]) -> Result<Vec<u8>, NoMemory>
     requires { findings.now ≡ found 5 None ∷ found 6 (Some Cause.Clash) ∷ [] }
     ensures { IfOk result (λ text. text.items ≡ line (codes "agrees,5") ++ line (codes "differs,6,clash") ++ line (codes "audited,2,1")) }
@@ -30,7 +30,7 @@ pub fn differs_only_where_all_do(
     alloc: Global,
     deck: &Deck,
     bytes: &[u8],
-) -> Result<Audited, Status>
+) -> Result<AuditText, Status>
     requires deck { deck.now ≡ small_deck }
     requires bytes { bytes.now ≡ two_looks }
     ensures differs { IfOk result (λ audited. audited.differs ≡ true) }
@@ -44,7 +44,7 @@ pub fn kind_of_a_fault_forgotten(
     alloc: Global,
     deck: &Deck,
     bytes: &[u8],
-) -> Result<Audited, Status>
+) -> Result<AuditText, Status>
     requires deck { deck.now ≡ small_deck }
     requires bytes { bytes.now ≡ codes "a" }
     ensures { (result ≡ Err Status.NoMemory) ⊎ (result ≡ Err (Status.Report 1 3)) }
@@ -57,7 +57,7 @@ pub fn too_much_without_its_product(
     alloc: Global,
     deck: &Deck,
     bytes: &[u8],
-) -> Result<Audited, Status>
+) -> Result<AuditText, Status>
     requires few { length bytes.now ≤ MOST_REPORT_BYTES }
     requires spelled { (read : ReadReport) × IsReportOf deck.now bytes.now read × (replayed_in read.report ≡ 50000001) }
     ensures { (result ≡ Err Status.NoMemory) ⊎ (result ≡ Err (Status.TooMuch 50000001)) }

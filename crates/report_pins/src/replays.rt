@@ -17,7 +17,7 @@ use std::alloc::Global;
 /// in row 8, that values alone are replayed, since its abort is of a read that passes;
 /// in row 9, that the verdict is told before the value;
 /// in row 10, that a look is judged a cycle early.
-#[tactic(auto, using(crate::proofs::ReplayFacts::read_findings))]
+#[tactic(auto, using(crate::proofs::ReplayLemmas::read_findings))]
 pub fn descents_of_one_read_alone(
     alloc: Global,
     deck: &Deck,
@@ -32,7 +32,7 @@ pub fn descents_of_one_read_alone(
 
 /// Under R-Matrix a read that comes late differs, though nothing writes its item. It also refuses, in row 7, that an abort names the greatest
 /// of the items with which its read clashes.
-#[tactic(auto, using(crate::proofs::ReplayFacts::late_findings))]
+#[tactic(auto, using(crate::proofs::ReplayLemmas::late_findings))]
 pub fn late_read_passes(
     alloc: Global,
     deck: &Deck,

@@ -22,7 +22,7 @@ use Rattle.air_model.specs.ReceiverLaws.{session_of}
 use Rattle.air_model.specs.Reports.{counts_lines}
 use Rattle.air_model.specs.Sessions.{State, reader_of}
 use Rattle.item_catalog.specs.DeckLimits.{WithinLimits}
-use Rattle.item_catalog.proofs.DrillFacts.{drill_made}
+use Rattle.item_catalog.proofs.DrillLemmas.{drill_made}
 use Rattle.air_sender.specs.AiredBytes.{aired_bytes}
 use Rattle.scripts.specs.DrillLines.{sum_of}
 use Rattle.scripts.specs.DrillSums.{SumsFit}

@@ -5,7 +5,7 @@ use Rattle.air_model.specs.Disks.{Disk, cut, order}
 use Rattle.air_model.specs.Decks.{disks_in, rates_in}
 use Rattle.air_model.specs.Drills.{drill_deck, drill_disks, drill_items}
 use Rattle.air_model.specs.Programs.{chunk_len, least_common_multiple, minor_len, num_chunks, num_minors, program}
-use Rattle.air_model.proofs.AiringFacts.{length_program}
+use Rattle.air_model.proofs.ProgramLemmas.{length_program}
 
 -- Three disks, aired four times a cycle, twice and once.
 abbrev three_disks : List ℕ → List ℕ → List ℕ → List Disk

@@ -18,8 +18,8 @@ use Rattle.air_model.specs.Outputs.{script_tape}
 use Rattle.air_model.specs.Programs.{program}
 use Rattle.air_sender.specs.TapeSizes.{cycle_size, record_size}
 use Rattle.air_sender.proofs.TapeLengths.{tape_size}
-use Rattle.item_catalog.proofs.DealFacts.{script_short}
-use Rattle.item_catalog.proofs.DrawFacts.{length-draw_each}
+use Rattle.item_catalog.proofs.DealLemmas.{script_short}
+use Rattle.item_catalog.proofs.DrawLemmas.{length-draw_each}
 use Rattle.air_sender.specs.AiredBytes.{aired_bytes}
 use Rattle.air_sender.proofs.RunLoops.{script_length}
 use Rattle.scripts.proofs.DrillSlots.{drill_slots}

@@ -1,6 +1,6 @@
 pub mod PartLemmas
 pub mod PieceLemmas
-mod PieceFacts
+mod TapePieceLemmas
 mod DrillSlots
 mod DrillTapes
 mod CountBounds

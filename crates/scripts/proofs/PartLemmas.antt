@@ -12,7 +12,7 @@ use Rattle.std.proofs.lemmas.Option.{get_or_from_slice_get, slice_get-get_or}
 use Rattle.air_history.specs.declared.histories.Event.TheVariants.{Commit, Start}
 use Rattle.air_history.specs.UpdateLists.{UpdateLists}
 use Rattle.air_model.specs.Decks.{Deck, Item, ScriptFits, count_parts, event_of, updates_by}
-use Rattle.scripts.specs.Steps.RunSteps.{CountsParts}
+use Rattle.scripts.specs.Private.RunSteps.{CountsParts}
 
 -- The part is a commit of the updater.
 abbrev is_part_of : ℕ → Option ℕ → Bool

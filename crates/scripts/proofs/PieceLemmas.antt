@@ -6,7 +6,7 @@ use Rattle.air_history.specs.Boards.{board_of}
 use Rattle.air_model.specs.Decks.{Deck, count_parts, script_history, values_in}
 use Rattle.scripts.specs.declared.piece_runs.PieceRun.{PieceRun}
 use Rattle.scripts.specs.PieceRuns.{IsPieceRun}
-use Rattle.scripts.specs.Steps.RunSteps.{CountsParts}
+use Rattle.scripts.specs.Private.RunSteps.{CountsParts}
 use Rattle.air_sender.proofs.RunLoops.{event_in, event_more}
 
 no_parts : (deck : Deck) (by n : ℕ) → n ≡ 0 → count_parts by (take n deck.script) ≡ 0

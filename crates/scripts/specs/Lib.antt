@@ -1,5 +1,5 @@
 pub mod PieceRuns
-pub mod Steps
+pub mod Private
 pub mod Pieces
 pub mod DrillLines
 pub mod DrillSums

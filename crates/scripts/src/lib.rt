@@ -1,20 +1,20 @@
 //! A deck's script on the air: its events, the buckets of the cycles that they start, and the sessions of the deck's readers.
 //!
 //! `PieceRun` airs some cycles at a time (`piece_runs`), and its pieces, one behind the other, are what the script's whole history
-//! airs. `AiredPieces` has the readers hear each piece (`aired_pieces`), `air_script` the whole (`whole_scripts`), and `run_drill` does so
+//! airs. `ScriptAiring` has the readers hear each piece (`script_airing`), `air_script` the whole (`whole_scripts`), and `run_drill` does so
 //! for the deck of a drill and sums up what came of it (`drills`).
 #![tactic(auto)]
 
-mod aired_pieces;
 mod drills;
 pub mod laws;
 mod parts;
 mod piece_runs;
+mod script_airing;
 mod sizes;
 mod whole_scripts;
 
-pub use aired_pieces::AiredPieces;
 pub use drills::run_drill;
 pub use piece_runs::PieceRun;
+pub use script_airing::ScriptAiring;
 pub use sizes::piece_cycles;
 pub use whole_scripts::{AiredScript, air_script};

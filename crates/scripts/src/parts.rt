@@ -2,7 +2,7 @@
 
 ghost use Rattle.std.specs.Prelude.{◌≡◌, ◌<◌, ◌+◌, None, IfOk, get_or, length, take};
 ghost use Rattle.air_model.specs.Decks.{event_of, values_in};
-ghost use Rattle.scripts.specs.Steps.RunSteps.{CountsParts};
+ghost use Rattle.scripts.specs.Private.RunSteps.{CountsParts};
 
 use air_base::NoMemory;
 use air_history::Event;
@@ -27,7 +27,7 @@ pub(crate) fn event_at(alloc: Global, deck: &Deck, made: &[u32], k: u32) -> Resu
     requires made { CountsParts deck.now k made.now }
     ensures { IfOk result (λ event. event ≡ event_of deck.now (take k deck.now.script) (get_or deck.now.script k None)) }
 {
-    deck.well_made();
+    deck.shows_well_made();
     let Some(by) = deck.script(k) else {
         return Ok(Event::Start);
     };
@@ -43,7 +43,7 @@ pub(crate) fn count_part(deck: &Deck, made: &mut [u32], k: u32)
     requires made { CountsParts deck.now k made.old }
     ensures { CountsParts deck.now (k + 1) made.new }
 {
-    deck.well_made();
+    deck.shows_well_made();
     if let Some(by) = deck.script(k) {
         made[by as usize] += 1;
     }

@@ -7,7 +7,7 @@ ghost use Rattle.std.specs.Prelude.{◌≡◌, ◌↔◌, ◌<◌, ◌≤◌, �
 ghost use Rattle.air_history.specs.Boards.{board_of};
 ghost use Rattle.air_history.specs.Histories.{starts};
 ghost use Rattle.air_model.specs.Decks.{disks_in, script_history, values_in};
-ghost use Rattle.air_sender.specs.TapeMasts.{told_by};
+ghost use Rattle.air_sender.specs.TapeMasts.{told_by_tape};
 ghost use Rattle.air_sender.specs.AiredBytes.{aired_bytes};
 ghost use Rattle.scripts.specs.PieceRuns.{IsPieceRun};
 
@@ -36,7 +36,7 @@ impl PieceRun {
         ensures kept { IfOk result (IsPieceRun deck.now) }
         ensures empty { IfOk result (λ r. r.events.items ≡ []) }
     {
-        deck.well_made();
+        deck.shows_well_made();
         let values = values_of(alloc, deck)?;
         Ok(PieceRun {
             events: Vec::new(alloc),
@@ -70,7 +70,7 @@ impl PieceRun {
         requires some { 1 ≤ cycles }
         requires kept { IsPieceRun deck.now self.old }
         ensures kept { OnOk result (IsPieceRun deck.now self.new) }
-        ensures aired { OnOk result (aired_bytes deck.now self.new.events.items ≡ aired_bytes deck.now self.old.events.items ++ (told_by piece.new).buckets) }
+        ensures aired { OnOk result (aired_bytes deck.now self.new.events.items ≡ aired_bytes deck.now self.old.events.items ++ (told_by_tape piece.new).buckets) }
         ensures on { OnOk result (length self.old.events.items < length deck.now.script → length self.old.events.items < length self.new.events.items) }
         ensures cycles { OnOk result (starts self.new.events.items ≤ starts self.old.events.items + cycles) }
         ensures full { OnOk result (length self.new.events.items < length deck.now.script → starts self.new.events.items ≡ starts self.old.events.items + cycles) }
@@ -102,10 +102,10 @@ impl PieceRun {
         ensures kept { OnOk result (IsPieceRun deck.now self.new) }
         ensures one { OnOk result (length self.new.events.items ≡ length self.old.events.items + 1) }
         ensures cycle { IfOk result (λ started. starts self.new.events.items ≡ starts self.old.events.items + cond started 1 0) }
-        ensures aired { (before : List (List ℕ)) → aired_bytes deck.now self.old.events.items ≡ before ++ (told_by piece.old).buckets →
-            OnOk result (aired_bytes deck.now self.new.events.items ≡ before ++ (told_by piece.new).buckets) }
+        ensures aired { (before : List (List ℕ)) → aired_bytes deck.now self.old.events.items ≡ before ++ (told_by_tape piece.old).buckets →
+            OnOk result (aired_bytes deck.now self.new.events.items ≡ before ++ (told_by_tape piece.new).buckets) }
     {
-        deck.well_made();
+        deck.shows_well_made();
         let k = self.events.len() as u32;
         let _few = deck.script_len();
         let event = event_at(alloc, deck, &self.made, k)?;
@@ -128,8 +128,8 @@ impl PieceRun {
         requires planned { program.now ≡ disks_in deck.now }
         requires stepped { self.old.board ≡ board_of (values_in deck.now) (self.old.events.items ++ event.now ∷ []) }
         requires room { length self.old.room.items ≡ HEAD_BYTES + ENTRY_BYTES * length deck.now.items }
-        ensures aired { (before : List (List ℕ)) → aired_bytes deck.now self.old.events.items ≡ before ++ (told_by piece.old).buckets →
-            OnOk result (aired_bytes deck.now (self.old.events.items ++ event.now ∷ []) ≡ before ++ (told_by piece.new).buckets) }
+        ensures aired { (before : List (List ℕ)) → aired_bytes deck.now self.old.events.items ≡ before ++ (told_by_tape piece.old).buckets →
+            OnOk result (aired_bytes deck.now (self.old.events.items ++ event.now ∷ []) ≡ before ++ (told_by_tape piece.new).buckets) }
         ensures room { length self.new.room.items ≡ HEAD_BYTES + ENTRY_BYTES * length deck.now.items }
         ensures events { self.new.events ≡ self.old.events }
         ensures made { self.new.made ≡ self.old.made }
@@ -138,7 +138,7 @@ impl PieceRun {
         if !event.is_start() {
             return Ok(());
         }
-        deck.well_made();
+        deck.shows_well_made();
         own_cycle_law();
         below_law();
         let policy = deck.settings().policy;

@@ -21,7 +21,7 @@ pub fn piece_cycles(deck: &Deck, program: &Program) -> u32
     ensures few { 1 < result → result * cycle_size (length deck.now.items) (slots_of program.now) ≤ AIRED_PIECE_BYTES }
     ensures within { 1 < result → result ≤ script_starts deck.now }
 {
-    deck.well_made();
+    deck.shows_well_made();
     let cycle = tape_bytes(program, deck.items(), 1);
     let most = (AIRED_PIECE_BYTES / cycle.max(1)) as u32;
     most.min(deck.script_starts()).max(1)

@@ -6,7 +6,7 @@ ghost use Rattle.air_model.specs.Decks.{disks_in, script_history};
 ghost use Rattle.air_model.specs.Outputs.{script_tape, true_sessions};
 ghost use Rattle.air_model.specs.Reports.{counts_lines, verdict_lines};
 
-use crate::aired_pieces::AiredPieces;
+use crate::script_airing::ScriptAiring;
 use crate::sizes::piece_cycles;
 use air_base::NoMemory;
 use air_history::Event;
@@ -37,7 +37,7 @@ pub fn air_script<T: Threads + Sync>(
     ensures verdicts { IfOk result (λ s. s.sessions.verdicts.items ≡ verdict_lines (true_sessions deck.now (script_history deck.now))) }
     ensures counts { IfOk result (λ s. s.sessions.counts.items ≡ counts_lines (true_sessions deck.now (script_history deck.now))) }
 {
-    let mut aired = AiredPieces::new(alloc, deck, program, piece_cycles(deck, program))?;
+    let mut aired = ScriptAiring::new(alloc, deck, program, piece_cycles(deck, program))?;
     while !aired.is_done(deck) {
         aired.next_piece(threads, alloc, deck, program)?;
     }

@@ -1,7 +1,7 @@
-pub mod ListenerFacts
-pub mod PieceFacts
-pub mod PixFacts
-pub mod RangeFacts
-pub mod SessionFacts
-pub mod SizeFacts
+pub mod ListenerLemmas
+pub mod PieceLemmas
+pub mod PixLemmas
+pub mod RangeLemmas
+pub mod SessionLemmas
+pub mod SizeLemmas
 pub mod TapeCauses

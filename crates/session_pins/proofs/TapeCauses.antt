@@ -1,7 +1,7 @@
 -- What is known of a tape whose bytes are told: that they were heard, or why they weren't.
 use Rattle.std.proofs.Common.{◌≡◌, ◌≤◌, ◌<◌, ◌+◌, ◌∙◌, ℕ, List, Option, Some, None, drop, length, sym, subst, arith}
 use Rattle.std.specs.Prelude.{IfErr, IfOk, MatchResult, Result, Ok, Err}
-use Rattle.air_devices.specs.Shelves.{Shelved}
+use Rattle.air_devices.specs.Shelves.{ShelfState}
 use Rattle.air_devices.specs.Told.{ToldIs, WhereTold}
 use Rattle.air_model.specs.Tapes.{tape_read}
 use Rattle.air_report.specs.declared.status.Status.{Status}
@@ -10,14 +10,14 @@ use Rattle.air_cli.specs.NamedFiles.{UnreadCause}
 use Rattle.air_cli.specs.HeardTapes.{UnheardCause}
 use Rattle.session_pins.specs.Refusals.{IsCutAt, IsUnread}
 use Rattle.session_pins.specs.SmallBuckets.{cut_tape, pair_tape}
-use Rattle.session_pins.proofs.SessionFacts.{cut_cut, pair_whole}
+use Rattle.session_pins.proofs.SessionLemmas.{cut_cut, pair_whole}
 
 -- The bytes of a told file.
 pub told_bytes : (file : Option (List ℕ)) (bytes tape : List ℕ) → file ≡ Some tape → ToldIs file bytes → bytes ≡ tape
 told_bytes file bytes tape is_told told = subst (λ o. ToldIs o bytes) is_told told
 
 -- A whole tape within its limit isn't heard only where it can't be read or memory runs out.
-pub unread_cause : (name : List ℕ) (most : ℕ) (before now : Shelved) (s : Status) → before.told.file name ≡ Some pair_tape → 72 ≤ most →
+pub unread_cause : (name : List ℕ) (most : ℕ) (before now : ShelfState) (s : Status) → before.told.file name ≡ Some pair_tape → 72 ≤ most →
     UnheardCause name most before now s → IsUnread s
 unfolding UnheardCause UnreadCause
 unread_cause name most before now (status.TapeCut at) is_told few cause =
@@ -34,7 +34,7 @@ unread_cause name most before now status.NoMemory is_told few cause = tt
 unread_cause name most before now other is_told few cause = absurd cause
 
 -- A tape that is cut in the record at byte 36 is told as that.
-pub cut_cause : (name : List ℕ) (before now : Shelved) (s : Status) → before.told.file name ≡ Some cut_tape → UnheardCause name 72 before now s → IsCutAt 36 s
+pub cut_cause : (name : List ℕ) (before now : ShelfState) (s : Status) → before.told.file name ≡ Some cut_tape → UnheardCause name 72 before now s → IsCutAt 36 s
 unfolding UnheardCause UnreadCause
 cut_cause name before now (status.TapeCut at) is_told cause =
     let cut : (39 ≤ 72) × ((tape_read cut_tape).cut ≡ Some at) =

@@ -8,7 +8,7 @@ ghost use Rattle.session_pins.specs.SmallDecks.{frequent, scripted};
 use air_base::NoMemory;
 use chunk_program::Program;
 use item_catalog::Deck;
-use scripts::{AiredPieces, piece_cycles};
+use scripts::{ScriptAiring, piece_cycles};
 use std::alloc::Global;
 
 /// A mast has room for the cycles of a piece alone: here for one of the two that the script starts.
@@ -16,12 +16,12 @@ pub fn mast_for_the_whole_tape(
     alloc: Global,
     deck: &Deck,
     program: &Program,
-) -> Result<AiredPieces, NoMemory>
+) -> Result<ScriptAiring, NoMemory>
     requires deck { deck.now ≡ scripted (None ∷ None ∷ []) }
     requires planned { program.now ≡ disks_in deck.now }
     ensures { IfOk result (λ a. a.mast.tape.room ≡ 72) }
 {
-    let aired = AiredPieces::new(alloc, deck, program, 1)?;
+    let aired = ScriptAiring::new(alloc, deck, program, 1)?;
     Ok(aired)
 }
 

@@ -4,7 +4,7 @@
 ghost use Rattle.std.specs.Prelude.{◌≡◌, [], ◌∷◌, None, OnOk, Some};
 ghost use Rattle.air_history.specs.declared.histories.Event.TheVariants.{Start};
 ghost use Rattle.air_model.specs.Decks.{disks_in};
-ghost use Rattle.air_sender.specs.TapeMasts.{told_by};
+ghost use Rattle.air_sender.specs.TapeMasts.{told_by_tape};
 ghost use Rattle.scripts.specs.PieceRuns.{IsPieceRun};
 ghost use Rattle.session_pins.specs.SmallBuckets.{item_bytes};
 ghost use Rattle.session_pins.specs.SmallDecks.{commit, scripted, set_to, updated};
@@ -46,7 +46,7 @@ pub fn mast_not_emptied(
     requires planned { program.now ≡ disks_in deck.now }
     requires kept { IsPieceRun deck.now run.old }
     requires events { run.old.events.items ≡ Start ∷ [] }
-    ensures { OnOk result ((told_by piece.new).buckets ≡ item_bytes 2 0 10 ∷ item_bytes 2 1 20 ∷ []) }
+    ensures { OnOk result ((told_by_tape piece.new).buckets ≡ item_bytes 2 0 10 ∷ item_bytes 2 1 20 ∷ []) }
 {
     run.next_piece(alloc, deck, program, 1, piece)?;
     Ok(())

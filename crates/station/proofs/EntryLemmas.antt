@@ -14,11 +14,11 @@ use Rattle.air_history.specs.Histories.{is_start, since_start, EventFits}
 use Rattle.air_model.specs.Decks.{is_by}
 use Rattle.air_model.specs.Closings.{GoesOnWithout}
 use Rattle.update_commit.proofs.StepLemmas.{start_fits}
-use Rattle.station.specs.EventEntries.{maker, entry_of, entries_of, events_of}
+use Rattle.station.specs.EventEntries.{maker, event_entry, event_entries, events_of}
 
 -- ---- entries
 
-pub events_back : (m : ℕ) (G : List Event) → events_of (entries_of m G) ≡ G
+pub events_back : (m : ℕ) (G : List Event) → events_of (event_entries m G) ≡ G
 events_back m [] = refl
 events_back m (e ∷ G) = ap (λ l. e ∷ l) (events_back m G)
 
@@ -45,11 +45,11 @@ maker_start m = refl
 -- ---- going on
 
 -- Entries of others have no event that the number's pass makes.
-foreign_count : (m number : ℕ) (own : Event → Bool) → ((e : Event) → own e ≡ true → maker m e ≡ number) → (F : List Event) → Foreign (number ∷ []) (entries_of m F) → count_by own F ≡ 0
+foreign_count : (m number : ℕ) (own : Event → Bool) → ((e : Event) → own e ≡ true → maker m e ≡ number) → (F : List Event) → Foreign (number ∷ []) (event_entries m F) → count_by own F ≡ 0
 foreign_count m number own makes [] h = refl
 foreign_count m number own makes (e ∷ F) h =
-    let rest = foreign_count m number own makes F (All-tail (λ (x : ℕ × Event). ¬ Contains (number ∷ []) x.0) (entry_of m e) (entries_of m F) h) in
-    let here = All-head (λ (x : ℕ × Event). ¬ Contains (number ∷ []) x.0) (entry_of m e) (entries_of m F) h in
+    let rest = foreign_count m number own makes F (All-tail (λ (x : ℕ × Event). ¬ Contains (number ∷ []) x.0) (event_entry m e) (event_entries m F) h) in
+    let here = All-head (λ (x : ℕ × Event). ¬ Contains (number ∷ []) x.0) (event_entry m e) (event_entries m F) h in
     elim (cases_Bool (own e)) as (λ _. count_by own (e ∷ F) ≡ 0) [
       | inl made ↦ absurd (here (0, omega arith, sym (makes e made)))
       | inr other ↦ (let none = cond-false {A = ℕ} (own e) 1 0 other in omega (arith, sum_by-cons (λ x. cond (own x) 1 0) e F))
@@ -57,10 +57,10 @@ foreign_count m number own makes (e ∷ F) h =
 
 -- A list that goes on from the seen entries by those of others goes on without events that the pass makes.
 pub goes_on : (m number : ℕ) (own : Event → Bool) → ((e : Event) → own e ≡ true → maker m e ≡ number) → (seen : List (ℕ × Event)) (G : List Event) →
-    Continues (number ∷ []) seen (entries_of m G) → GoesOnWithout own (events_of seen) G
+    Continues (number ∷ []) seen (event_entries m G) → GoesOnWithout own (events_of seen) G
 goes_on m number own makes seen G c =
-    let front : events_of seen ≡ take (length seen) G = ap events_of (sym (take-append_seam seen c.0) ∙ ap (take (length seen)) (sym c.1) ∙ take-map (entry_of m) (length seen) G) ∙ events_back m (take (length seen) G) in
-    let rest : c.0 ≡ entries_of m (drop (length seen) G) = sym (drop-append_seam seen c.0) ∙ ap (drop (length seen)) (sym c.1) ∙ drop-map (entry_of m) (length seen) G in (
+    let front : events_of seen ≡ take (length seen) G = ap events_of (sym (take-append_seam seen c.0) ∙ ap (take (length seen)) (sym c.1) ∙ take-map (event_entry m) (length seen) G) ∙ events_back m (take (length seen) G) in
+    let rest : c.0 ≡ event_entries m (drop (length seen) G) = sym (drop-append_seam seen c.0) ∙ ap (drop (length seen)) (sym c.1) ∙ drop-map (event_entry m) (length seen) G in (
       drop (length seen) G,
       sym (take-append-drop (length seen) G) ∙ ap (λ l. l ++ drop (length seen) G) (sym front),
       foreign_count m number own makes (drop (length seen) G) (subst (Foreign (number ∷ [])) rest c.2),
@@ -75,11 +75,11 @@ count_same own seen later g = ap (count_by own) g.1 ∙ (let both = sum_by-appen
 
 -- More events that the pass makes lengthen the list of entries by its own.
 pub lengthens : (numbers : List ℕ) (m n : ℕ) (old new more : List Event) → n ≡ m → new ≡ old ++ more → All (λ e. Contains numbers (maker m e)) more →
-    Lengthens numbers (entries_of m old) (entries_of n new)
+    Lengthens numbers (event_entries m old) (event_entries n new)
 lengthens numbers m n old new more same is own = (
-  entries_of m more,
-  ap (λ k. entries_of k new) same ∙ ap (entries_of m) is ∙ map-append (entry_of m) old more,
-  All-map (λ (e : ℕ × Event). Contains numbers e.0) (entry_of m) more own,
+  event_entries m more,
+  ap (λ k. event_entries k new) same ∙ ap (event_entries m) is ∙ map-append (event_entry m) old more,
+  All-map (λ (e : ℕ × Event). Contains numbers e.0) (event_entry m) more own,
 )
 
 -- ---- the events after the last start

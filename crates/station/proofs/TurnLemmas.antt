@@ -3,13 +3,13 @@ use Rattle.std.proofs.Common.{rules, ◌≡◌, ℕ, ◌+◌, List, [], ◌∷�
 use Rattle.std.specs.Prelude.{Result, Ok, Err, IsErr, MatchResult, Some}
 use Rattle.turnstile.specs.PassEntries.{Continues}
 use Rattle.std.proofs.lemmas.List.Elements.{All-nil}
-use Rattle.turnstile.specs.Passes.{GateId, after_enter, after_leave, newcomer}
+use Rattle.turnstile.specs.Passes.{TurnstileId, after_enter, after_leave, newcomer}
 use Rattle.air_history.specs.declared.histories.Event.{Event}
 use Rattle.air_history.specs.Histories.{is_start, EventFits}
 use Rattle.air_model.specs.Decks.{Deck, is_by, values_in}
 use Rattle.air_model.specs.Closings.{GoesOnWithout}
 use Rattle.update_commit.specs.CoreStates.{CoreState}
-use Rattle.station.specs.EventEntries.{entries_of, events_of}
+use Rattle.station.specs.EventEntries.{event_entries, events_of}
 use Rattle.station.specs.PassStates.{PassState, new_pass}
 use Rattle.station.specs.PassFields.{Base, Inner, base_or, base_in, pass_in, IsPass}
 use Rattle.station.proofs.EntryLemmas.{events_back, commits_make, starts_make, goes_on}
@@ -17,10 +17,10 @@ use Rattle.station.proofs.EntryLemmas.{events_back, commits_make, starts_make, g
 -- The pass before a turn and after it, and the core that the turn handed out and that which it put back.
 pub record Turned (before after : Inner) (old new : CoreState) : Type 0 where
   pub base : before.base ≡ Some (old.values, old.updaters)
-  pub list : Continues before.numbers before.seen (entries_of old.updaters old.events)
+  pub list : Continues before.numbers before.seen (event_entries old.updaters old.events)
   pub kept : (new.values ≡ old.values) × (new.updaters ≡ old.updaters)
   pub fits : All (EventFits new.updaters (length new.values)) new.events
-  pub back : after ≡ after_leave (after_enter before (entries_of old.updaters old.events)) (entries_of new.updaters new.events)
+  pub back : after ≡ after_leave (after_enter before (event_entries old.updaters old.events)) (event_entries new.updaters new.events)
 
 pub base_is : (pass : Inner) (core : CoreState) → pass.base ≡ Some (core.values, core.updaters) → base_in pass ≡ (core.values, core.updaters)
 base_is pass core is = ap base_or is
@@ -44,16 +44,16 @@ after_turn number before after old new h t =
     )
 
 -- What an updater's turn was handed has no further commit of it.
-pub no_commit : (by : ℕ) (pass : Inner) (core : CoreState) → IsPass pass by → Continues pass.numbers pass.seen (entries_of core.updaters core.events) →
+pub no_commit : (by : ℕ) (pass : Inner) (core : CoreState) → IsPass pass by → Continues pass.numbers pass.seen (event_entries core.updaters core.events) →
     GoesOnWithout (is_by by) (events_of pass.seen) core.events
 no_commit by pass core h list = goes_on core.updaters by (is_by by) (commits_make core.updaters by) pass.seen core.events
-    (subst (λ ns. Continues ns pass.seen (entries_of core.updaters core.events)) h.numbers list)
+    (subst (λ ns. Continues ns pass.seen (event_entries core.updaters core.events)) h.numbers list)
 
 -- What the conductor's turn was handed has no further start.
 pub no_start : (pass : Inner) (core : CoreState) → IsPass pass (base_in pass).1 → pass.base ≡ Some (core.values, core.updaters) →
-    Continues pass.numbers pass.seen (entries_of core.updaters core.events) → GoesOnWithout is_start (events_of pass.seen) core.events
+    Continues pass.numbers pass.seen (event_entries core.updaters core.events) → GoesOnWithout is_start (events_of pass.seen) core.events
 no_start pass core h is list = goes_on core.updaters core.updaters is_start (starts_make core.updaters) pass.seen core.events
-    (subst (λ ns. Continues ns pass.seen (entries_of core.updaters core.events)) (h.numbers ∙ ap (λ (b : Base). b.1 ∷ []) (base_is pass core is)) list)
+    (subst (λ ns. Continues ns pass.seen (event_entries core.updaters core.events)) (h.numbers ∙ ap (λ (b : Base). b.1 ∷ []) (base_is pass core is)) list)
 
 -- What holds however a call ended.
 pub either_way : {T E : Type 0} (R : Type 0) (P : T → Type 0) (Q : E → Type 0) (r : Result T E) → ((x : T) → P x → R) → ((e : E) → Q e → R) → MatchResult r P Q → R
@@ -68,8 +68,8 @@ refused P Q (Err e) h q = q
 -- ---- new passes
 
 -- A pass of a new turnstile round an empty core keeps what a pass keeps, and has seen nothing.
-pub fresh : (gate : GateId) (n k : ℕ) (core : CoreState) (pass : Inner) → core.events ≡ [] → n ≡ core.updaters + 1 →
-    pass ≡ newcomer gate n (core.values, core.updaters) (entries_of core.updaters core.events) k →
+pub fresh : (gate : TurnstileId) (n k : ℕ) (core : CoreState) (pass : Inner) → core.events ≡ [] → n ≡ core.updaters + 1 →
+    pass ≡ newcomer gate n (core.values, core.updaters) (event_entries core.updaters core.events) k →
     IsPass pass k × (base_in pass ≡ (core.values, core.updaters)) × (events_of pass.seen ≡ [])
 fresh gate n k core pass none count e =
     let is : base_in pass ≡ (core.values, core.updaters) = ap base_in e in
@@ -85,13 +85,13 @@ fresh gate n k core pass none count e =
       seen,
     )
 
-same_state : (g : GateId) (v w : List ℕ) (m n k : ℕ) (F G : List Event) → v ≡ w → m ≡ n → F ≡ G →
+same_state : (g : TurnstileId) (v w : List ℕ) (m n k : ℕ) (F G : List Event) → v ≡ w → m ≡ n → F ≡ G →
     ◌≡◌ {A = PassState} (record { station = g; values = v; updaters = m; number = k; seen = F }) (record { station = g; values = w; updaters = n; number = k; seen = G })
 same_state g v w m n k F G p q r = cc
 
 -- As contracts see it, it is the deck's new pass.
-pub as_new : (gate : GateId) (deck : Deck) (n k : ℕ) (core : CoreState) (pass : Inner) → core.events ≡ [] → core.values ≡ values_in deck → core.updaters ≡ length deck.updates →
-    pass ≡ newcomer gate n (core.values, core.updaters) (entries_of core.updaters core.events) k → pass_in pass k ≡ new_pass gate deck k
+pub as_new : (gate : TurnstileId) (deck : Deck) (n k : ℕ) (core : CoreState) (pass : Inner) → core.events ≡ [] → core.values ≡ values_in deck → core.updaters ≡ length deck.updates →
+    pass ≡ newcomer gate n (core.values, core.updaters) (event_entries core.updaters core.events) k → pass_in pass k ≡ new_pass gate deck k
 as_new gate deck n k core pass none values count e =
-    ap (λ p. pass_in p k) e ∙ same_state gate core.values (values_in deck) core.updaters (length deck.updates) k (events_of (entries_of core.updaters core.events)) [] values count
+    ap (λ p. pass_in p k) e ∙ same_state gate core.values (values_in deck) core.updaters (length deck.updates) k (events_of (event_entries core.updaters core.events)) [] values count
     (events_back core.updaters core.events ∙ none)

@@ -10,12 +10,12 @@ maker updaters (Commit by seq update) = by
 maker updaters Start = updaters
 
 -- The event beside that number.
-abbrev pub entry_of : ℕ → Event → ℕ × Event
-entry_of updaters event = (maker updaters event, event)
+abbrev pub event_entry : ℕ → Event → ℕ × Event
+event_entry updaters event = (maker updaters event, event)
 
 -- The events as entries.
-abbrev pub entries_of : ℕ → List Event → List (ℕ × Event)
-entries_of updaters events = map (entry_of updaters) events
+abbrev pub event_entries : ℕ → List Event → List (ℕ × Event)
+event_entries updaters events = map (event_entry updaters) events
 
 -- The events of entries.
 abbrev pub events_of : List (ℕ × Event) → List Event

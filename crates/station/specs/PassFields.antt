@@ -1,6 +1,6 @@
--- What contracts see of the fields of a pass, and what holds of them between calls. A turnstile's pass is a `Known`.
+-- What contracts see of the fields of a pass, and what holds of them between calls. A turnstile's pass is a `TurnstilePass`.
 use Rattle.std.specs.Prelude.{◌≡◌, ℕ, ◌+◌, ◌<◌, List, [], ◌∷◌, length, All, Option, Some, None}
-use Rattle.turnstile.specs.Passes.{Known}
+use Rattle.turnstile.specs.Passes.{TurnstilePass}
 use Rattle.air_history.specs.declared.histories.Event.{Event}
 use Rattle.air_history.specs.Histories.{starts, EventFits}
 use Rattle.air_model.specs.Decks.{count_made}
@@ -13,7 +13,7 @@ Base = List ℕ × ℕ
 
 -- The turnstile's pass of a station.
 abbrev pub Inner : Type 0
-Inner = Known Event Base
+Inner = TurnstilePass Event Base
 
 -- The base that the pass has.
 abbrev pub base_or : Option Base → Base

@@ -34,10 +34,10 @@ fn add_commit(core: &mut Core, by: u32, update: Update, into: &mut Receipt) -> R
         (λ _. (core.new.events ≡ core.old.events ++ Commit by (count_made by core.old.events) update ∷ []) × (reply_in into.new ≡ reply_of core.old.values core.new.events (length core.old.events)))
         (λ _. core.new.events ≡ core.old.events) }
 {
-    core.events_fit();
+    core.shows_events_fit();
     core.reserve(1)?;
     core.commit(by, update, into);
-    core.events_fit();
+    core.shows_events_fit();
     Ok(())
 }
 
@@ -65,11 +65,11 @@ fn add_start(core: &mut Core, alloc: Global, fresh: &mut Vec<Event>) -> Result<u
         (λ _. (core.new.events ≡ core.old.events) × (fresh.new.items ≡ [])) }
     ensures fresh { OnOk result (All (EventFits core.old.updaters (length core.old.values)) fresh.new.items) }
 {
-    core.events_fit();
+    core.shows_events_fit();
     core.reserve(1)?;
     copy_fresh(core, alloc, fresh)?;
     let cycle = core.start();
-    core.events_fit();
+    core.shows_events_fit();
     Ok(cycle)
 }
 
@@ -119,7 +119,7 @@ impl Station {
             (λ _. pass.new.seen ≡ before) }
         ensures fits { All (EventFits pass.old.updaters (length pass.old.values)) pass.new.seen }
     {
-        pass.events_fit();
+        pass.shows_events_fit();
         let copy = update.copy(alloc)?;
         let mut receipt = Receipt::room(alloc, &copy)?;
         self.place(wait, pass, copy, &mut receipt)?;

@@ -7,14 +7,18 @@ ghost use Rattle.station.specs.EventEntries.{events_of};
 ghost use Rattle.station.specs.PassStates.{PassState, numbers_of};
 ghost use Rattle.station.specs.PassFields.{IsPass, base_in};
 
-use crate::locked::Locked;
+use crate::locked::StationCore;
 use crate::passes::{ConductorPass, UpdaterPass};
 use crate::stations::Station;
 use air_history::History;
 use turnstile::Pass;
 
 /// Joins the passes to the conductor's, and gives the value.
-fn finish(station: Station, mut first: Pass<Locked>, mut passes: Vec<UpdaterPass>) -> Locked
+fn finish(
+    station: Station,
+    mut first: Pass<StationCore>,
+    mut passes: Vec<UpdaterPass>,
+) -> StationCore
     requires own { (first.gate ≡ station) × All (λ (p : PassState). p.station ≡ station) passes.items }
     requires first { IsPass first (base_in first).1 }
     requires all { (by : ℕ) → by < (base_in first).1 → Contains (numbers_of passes.items) by }
@@ -42,8 +46,8 @@ impl Station {
         ensures fits { All (EventFits conductor.updaters (length conductor.values)) result }
     {
         let ConductorPass { pass, .. } = conductor;
-        let Locked { core } = finish(self, pass, passes);
-        core.events_fit();
+        let StationCore { core } = finish(self, pass, passes);
+        core.shows_events_fit();
         core.into_history()
     }
 }

@@ -7,18 +7,18 @@ use update_commit::Core;
 /// A core, whose events are the entries, each beside the number of the pass that makes such an event. The base is the first
 /// values and the number of updaters.
 #[derive(Drop)]
-pub struct Locked {
+pub struct StationCore {
     pub core: Core,
 }
 
-impl Chronicle for Locked {
-    ghost use Rattle.station.specs.EventEntries.{entries_of};
+impl Chronicle for StationCore {
+    ghost use Rattle.station.specs.EventEntries.{event_entries};
 
     type Entry = Event;
 
     type Base = (Values, u32);
 
-    ghost entries = { λ locked. entries_of locked.core.updaters locked.core.events };
+    ghost entries = { λ locked. event_entries locked.core.updaters locked.core.events };
 
     ghost base = { λ locked. (locked.core.values, locked.core.updaters) };
 }

@@ -6,14 +6,14 @@ ghost use Rattle.std.specs.Prelude.{◌≡◌, ◌<◌, length, All};
 ghost use Rattle.air_history.specs.Histories.{starts, EventFits};
 ghost use Rattle.air_model.specs.Decks.{count_made};
 
-use crate::locked::Locked;
+use crate::locked::StationCore;
 use std::marker::Model;
 use turnstile::Pass;
 
 /// An updater's pass.
 #[derive(Drop)]
 pub struct UpdaterPass {
-    pub(crate) pass: Pass<Locked>,
+    pub(crate) pass: Pass<StationCore>,
     pub(crate) by: u32,
     pub(crate) made: u32,
 }
@@ -46,7 +46,7 @@ impl UpdaterPass {
     }
 
     /// Hands to a caller's proof that each event that it has seen fits; it does nothing.
-    pub fn events_fit(&self)
+    pub fn shows_events_fit(&self)
         ensures { All (EventFits self.now.updaters (length self.now.values)) self.now.seen }
     {
         let _by = self.by;
@@ -56,7 +56,7 @@ impl UpdaterPass {
 /// The conductor's pass.
 #[derive(Drop)]
 pub struct ConductorPass {
-    pub(crate) pass: Pass<Locked>,
+    pub(crate) pass: Pass<StationCore>,
     pub(crate) started: u32,
 }
 
@@ -80,7 +80,7 @@ impl ConductorPass {
     }
 
     /// Hands to a caller's proof that each event that it has seen fits; it does nothing.
-    pub fn events_fit(&self)
+    pub fn shows_events_fit(&self)
         ensures { All (EventFits self.now.updaters (length self.now.values)) self.now.seen }
     {
         let _started = self.started;

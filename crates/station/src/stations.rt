@@ -4,7 +4,7 @@ ghost use Rattle.air_model.specs.Decks.{values_in};
 ghost use Rattle.station.specs.PassStates.{new_pass};
 ghost use Rattle.station.specs.PassFields.{pass_in, IsUpdater};
 
-use crate::locked::Locked;
+use crate::locked::StationCore;
 use crate::passes::{ConductorPass, UpdaterPass};
 use air_base::NoMemory;
 use item_catalog::Deck;
@@ -16,14 +16,14 @@ use update_commit::Core;
 /// One history, which its passes make. In a clause it is which one it is.
 #[derive(Drop)]
 pub struct Station {
-    pub(crate) turnstile: Turnstile<Locked>,
+    pub(crate) turnstile: Turnstile<StationCore>,
 }
 
 impl Model for Station {
     ghost use Rattle.atomic_table.specs.Seated.{table_id_coded};
-    ghost use Rattle.turnstile.specs.Passes.{GateId};
+    ghost use Rattle.turnstile.specs.Passes.{TurnstileId};
 
-    ghost Value = { GateId };
+    ghost Value = { TurnstileId };
 
     ghost coded = { table_id_coded };
 
@@ -42,7 +42,7 @@ fn first_values(alloc: Global, deck: &Deck) -> Result<Vec<u64>, NoMemory>
 }
 
 /// Makes each pass that of the updater of its number.
-fn hand_out(all: Vec<Pass<Locked>>, passes: &mut Vec<UpdaterPass>)
+fn hand_out(all: Vec<Pass<StationCore>>, passes: &mut Vec<UpdaterPass>)
     requires room { (passes.old.items ≡ []) × (length all.items ≤ vec_capacity passes.old) }
     requires few { length all.items < 2 ^ 32 }
     requires each { (by : ℕ) (pass : _) → slice_get all.items by ≡ Some pass → IsUpdater pass by 0 }
@@ -71,7 +71,7 @@ impl Station {
         let values = first_values(alloc, deck)?;
         let core = Core::new(alloc, &values, updaters)?;
         let mut passes = Vec::with_capacity(alloc, updaters as usize)?;
-        let (turnstile, mut all) = Turnstile::new(alloc, Locked { core }, updaters + 1)?;
+        let (turnstile, mut all) = Turnstile::new(alloc, StationCore { core }, updaters + 1)?;
         let Some(pass) = all.pop() else {
             unreachable!()
         };

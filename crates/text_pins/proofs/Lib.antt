@@ -1,5 +1,5 @@
-pub mod BucketFacts
-pub mod DrillFacts
-pub mod ReportFacts
-pub mod DeckFacts
-pub mod PlaceFacts
+pub mod BucketLemmas
+pub mod DrillLemmas
+pub mod ReportLemmas
+pub mod DeckLemmas
+pub mod PlaceLemmas

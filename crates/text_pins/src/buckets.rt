@@ -41,7 +41,7 @@ pub fn length_always_four(bytes: &[u8], out: &mut [u8]) -> usize
 }
 
 /// The byte after a bucket stays as it was.
-#[tactic(auto, using(crate::proofs::BucketFacts::slot_has_room))]
+#[tactic(auto, using(crate::proofs::BucketLemmas::slot_has_room))]
 pub fn encode_touches_bytes_behind(bucket: &Bucket<'_>, out: &mut [u8]) -> usize
     requires bucket { bucket_to_air bucket.now ≡ idle }
     requires out { out.old ≡ idle_bytes ++ 9 ∷ [] }
@@ -51,7 +51,7 @@ pub fn encode_touches_bytes_behind(bucket: &Bucket<'_>, out: &mut [u8]) -> usize
 }
 
 /// Three entries take twelve bytes after the head.
-#[tactic(auto, using(crate::proofs::BucketFacts::varied_size))]
+#[tactic(auto, using(crate::proofs::BucketLemmas::varied_size))]
 pub fn size_without_the_entries(bucket: &Bucket<'_>) -> usize
     requires { bucket_to_air bucket.now ≡ varied }
     ensures { result ≡ 36 }

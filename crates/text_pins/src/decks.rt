@@ -61,7 +61,7 @@ pub fn setting_checked_before_its_fields(alloc: Global, bytes: &[u8]) -> Result<
 }
 
 /// The first query of the drill of seed 1 and size 1 is drawn after all updates.
-#[tactic(auto, using(crate::proofs::DrillFacts::query_of_drill))]
+#[tactic(auto, using(crate::proofs::DrillLemmas::query_of_drill))]
 pub fn queries_drawn_before_updates(alloc: Global) -> Result<Deck, NoMemory>
     ensures { IfOk result (λ deck. get_or deck.queries 0 [] ≡ (13 ∷ 2 ∷ 9 ∷ 16 ∷ []) ∷ []) }
 {
@@ -79,7 +79,7 @@ pub fn sizes_told_as_a_limit() -> u8
 pub fn total_without_the_record_itself(deck: &Deck)
     ensures { sum_by length deck.now.queries ≤ 10000 }
 {
-    deck.well_made()
+    deck.shows_well_made()
 }
 
 /// Each updater has its own updates.

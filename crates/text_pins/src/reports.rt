@@ -18,7 +18,7 @@ pub fn rows_of_one_length(text: Vec<u8>) -> Writer<Vec<u8>>
 }
 
 /// A commit tells its updater before its number. It also refuses that a start has no row.
-#[tactic(auto, using(crate::proofs::ReportFacts::text_of_two_events))]
+#[tactic(auto, using(crate::proofs::ReportLemmas::text_of_two_events))]
 pub fn by_and_seq_swapped(alloc: Global, report: &Report, out: &mut Vec<u8>) -> Result<(), NoMemory>
     requires report { report.now ≡ of_two_events }
     requires out { out.old.items ≡ [] }
@@ -29,7 +29,7 @@ pub fn by_and_seq_swapped(alloc: Global, report: &Report, out: &mut Vec<u8>) -> 
 
 /// A verdict tells its reader, query and attempt, and then its reads. It also refuses that a read tells its cycle for its item, and
 /// that two spaces come between reads.
-#[tactic(auto, using(crate::proofs::ReportFacts::text_of_an_abort))]
+#[tactic(auto, using(crate::proofs::ReportLemmas::text_of_an_abort))]
 pub fn attempt_told_as_query(
     alloc: Global,
     report: &Report,
@@ -43,7 +43,7 @@ pub fn attempt_told_as_query(
 }
 
 /// Counts are told in this order: opened, dozed, late, refused, foreign and copied.
-#[tactic(auto, using(crate::proofs::ReportFacts::text_of_counts))]
+#[tactic(auto, using(crate::proofs::ReportLemmas::text_of_counts))]
 pub fn refused_told_as_late(
     alloc: Global,
     report: &Report,
@@ -57,7 +57,7 @@ pub fn refused_told_as_late(
 }
 
 /// What was seen in the run is told as a glance, by who calls and by who writes the row, and what was seen at its end as a look.
-#[tactic(auto, using(crate::proofs::ReportFacts::text_of_a_glance_and_a_look))]
+#[tactic(auto, using(crate::proofs::ReportLemmas::text_of_a_glance_and_a_look))]
 pub fn glances_written_as_looks(
     alloc: Global,
     report: &Report,
@@ -71,7 +71,7 @@ pub fn glances_written_as_looks(
 }
 
 /// A report goes after the text that is there.
-#[tactic(auto, using(crate::proofs::ReportFacts::text_of_a_start))]
+#[tactic(auto, using(crate::proofs::ReportLemmas::text_of_a_start))]
 pub fn report_in_place_of_the_text(
     alloc: Global,
     report: &Report,

@@ -7,7 +7,7 @@ ghost use Rattle.text_pins.specs.SmallWrites.{one_on_zero, one_write};
 use item_catalog::{ItemList, WriteList};
 
 /// The amount of the last write ends where the text ends.
-#[tactic(auto, unfolding(air_base::specs::Numbers::number_of, air_base::specs::NumberLists::all_some, item_catalog::specs::Writes::write_of, item_catalog::specs::Writes::value_of, item_catalog::specs::KeptLists::writes_seen))]
+#[tactic(auto, unfolding(air_base::specs::Numbers::number_of, air_base::specs::NumberLists::all_some, item_catalog::specs::Writes::spelled_write, item_catalog::specs::Writes::spelled_value_write, item_catalog::specs::KeptLists::writes_seen))]
 pub fn last_part_filled_with_zeros(writes: &mut WriteList, reads: &ItemList, text: &[u8]) -> bool
     requires reads { reads.now.items ≡ 0 ∷ [] }
     requires text { text.now ≡ codes "1=0+5" }
@@ -18,7 +18,7 @@ pub fn last_part_filled_with_zeros(writes: &mut WriteList, reads: &ItemList, tex
 }
 
 /// A write with a `-` takes its amount from the base.
-#[tactic(auto, unfolding(air_base::specs::Numbers::number_of, air_base::specs::NumberLists::all_some, item_catalog::specs::Writes::write_of, item_catalog::specs::Writes::value_of, item_catalog::specs::KeptLists::writes_seen))]
+#[tactic(auto, unfolding(air_base::specs::Numbers::number_of, air_base::specs::NumberLists::all_some, item_catalog::specs::Writes::spelled_write, item_catalog::specs::Writes::spelled_value_write, item_catalog::specs::KeptLists::writes_seen))]
 pub fn plus_for_a_minus(writes: &mut WriteList, reads: &ItemList, text: &[u8]) -> bool
     requires reads { reads.now.items ≡ 0 ∷ [] }
     requires text { text.now ≡ codes "1=0-5" }
@@ -29,7 +29,7 @@ pub fn plus_for_a_minus(writes: &mut WriteList, reads: &ItemList, text: &[u8]) -
 }
 
 /// A base that isn't among the reads is remembered.
-#[tactic(auto, unfolding(air_base::specs::Numbers::number_of, air_base::specs::NumberLists::all_some, item_catalog::specs::Writes::write_of, item_catalog::specs::Writes::value_of, item_catalog::specs::KeptLists::writes_seen))]
+#[tactic(auto, unfolding(air_base::specs::Numbers::number_of, air_base::specs::NumberLists::all_some, item_catalog::specs::Writes::spelled_write, item_catalog::specs::Writes::spelled_value_write, item_catalog::specs::KeptLists::writes_seen))]
 pub fn unread_base_taken(writes: &mut WriteList, reads: &ItemList, text: &[u8]) -> bool
     requires reads { reads.now.items ≡ 1 ∷ [] }
     requires text { text.now ≡ codes "1=0+5" }

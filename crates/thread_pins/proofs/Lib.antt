@@ -1,3 +1,3 @@
-mod BatchFacts
-mod PassFacts
-mod ReceiptFacts
+mod BatchLemmas
+mod PassLemmas
+mod ReceiptLemmas

@@ -12,8 +12,8 @@ ghost use Rattle.air_model.specs.Decks.{count_made};
 ghost use Rattle.air_model.specs.DeckLaws.{made_by};
 ghost use Rattle.air_model.specs.Disks.{all_items};
 ghost use Rattle.bucket_codec.specs.declared.offsets.TheConstants.{ENTRY_BYTES, HEAD_BYTES};
-ghost use Rattle.cycle_snapshot.specs.Batches.{events_in};
-ghost use Rattle.deck_runs.specs.Published.{AreInStep};
+ghost use Rattle.cycle_snapshot.specs.Batches.{batch_events};
+ghost use Rattle.deck_runs.specs.PublishedBatches.{AreInStep};
 ghost use Rattle.thread_pins.specs.SmallBatches.{reads_and_sets, first_batch};
 
 use air_base::{NoMemory, Policy};
@@ -94,7 +94,7 @@ pub fn cycle_left_out<R: Wait, M: Mast, G: Gate>(
     ensures few { OnErr result (starts pass.new.seen ≤ 2) }
     ensures published { OnOk result (length publisher.new.batches ≡ 2) }
     ensures each { All (λ batch. (commits : List Event) × (batch ≡ commits ++ Start ∷ []) × (starts commits ≡ 0)) publisher.new.batches }
-    ensures whole { OnOk result ((later : List Event) × (pass.new.seen ≡ events_in publisher.new.batches ++ later) × (starts later ≡ 0)) }
+    ensures whole { OnOk result ((later : List Event) × (pass.new.seen ≡ batch_events publisher.new.batches ++ later) × (starts later ≡ 0)) }
     ensures in_step { (sent : ℕ) → result ≡ Err (ConductFault.Mast sent) → length publisher.new.batches ≡ starts pass.new.seen }
     ensures cause { (sent : ℕ) → result ≡ Err (ConductFault.Mast sent) → 1 ≤ (M.state mast.new).faults }
 {

@@ -6,7 +6,7 @@ ghost use Rattle.std.specs.Prelude.{◌≡◌, ◌≤◌, ℕ, [], ◌∷◌, le
 ghost use Rattle.air_history.specs.Histories.{starts};
 ghost use Rattle.air_model.specs.Decks.{count_made, disks_in};
 ghost use Rattle.air_model.specs.declared.reports.LookLine.{LookLine};
-ghost use Rattle.air_devices.specs.Masts.{Sent, nothing_sent};
+ghost use Rattle.air_devices.specs.Masts.{SentBuckets, nothing_sent};
 ghost use Rattle.thread_pins.specs.SmallBatches.{adds_to};
 
 use air_devices::{Gate, Mast};
@@ -69,7 +69,7 @@ pub fn sent_buckets_not_counted<R: Threads + Wait + Sync, M: Mast + Send, G: Gat
     requires planned { program.now ≡ disks_in deck.now }
     requires unsent { (M.state mast.old).told ≡ Some nothing_sent }
     requires faults { (M.state mast.old).faults ≡ 0 }
-    ensures sent { (sent : ℕ) (now : Sent) → result ≡ Err (RunFault.Mast sent) → (M.state mast.new).told ≡ Some now → length now.buckets ≡ sent }
+    ensures sent { (sent : ℕ) (now : SentBuckets) → result ≡ Err (RunFault.Mast sent) → (M.state mast.new).told ≡ Some now → length now.buckets ≡ sent }
     ensures cause { (sent : ℕ) → result ≡ Err (RunFault.Mast sent) → 1 ≤ (M.state mast.new).faults }
 {
     run_threads(rt, alloc, deck, program, mast, gate)

@@ -5,8 +5,8 @@ use mathlib.Core.Logic.{dite}
 use native.Mathlib.Decide.{ℕ_discrete}
 use Rattle.std.proofs.lemmas.Bool.{leb-true}
 use Rattle.std.proofs.lemmas.Bool.Decides.{leb_tells}
-use Rattle.turnstile.specs.Steps.TurnstileRule.{once_below}
-use Rattle.turnstile.specs.Steps.SeatViews.{times, numbers_from}
+use Rattle.turnstile.specs.Private.TurnstileRule.{once_below}
+use Rattle.turnstile.specs.Private.SeatViews.{times, numbers_from}
 
 pub times_append : (n : ℕ) (xs ys : List ℕ) → times n (xs ++ ys) ≡ times n xs + times n ys
 times_append n [] ys = omega arith

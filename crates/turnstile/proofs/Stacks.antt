@@ -1,11 +1,11 @@
--- How one pass is cut into one for each number.
+-- How one pass is split into one for each number.
 use Rattle.std.proofs.Common.{◌≡◌, ℕ, zero, suc, ◌+◌, ◌-◌, ◌<◌, List, [], ◌∷◌, ◌++◌, length, ap, ◌∙◌, sym, refl, subst, arith, slice_get, Some, Option}
-use Rattle.turnstile.specs.SeatFields.{pass_with, IsSound}
-use Rattle.turnstile.specs.Passes.{GateId, newcomer}
+use Rattle.turnstile.specs.SeatFields.{pass_with, IsSeated}
+use Rattle.turnstile.specs.Passes.{TurnstileId, newcomer}
 use Rattle.std.proofs.lemmas.Option.{none-some, same_Some}
 use Rattle.atomic_table.specs.Table.{Me}
 use Rattle.turnstile.specs.declared.views.View.{View}
-use Rattle.turnstile.specs.Steps.SeatViews.{numbers_from, idle, sight, without_one, with_one}
+use Rattle.turnstile.specs.Private.SeatViews.{numbers_from, idle, sight, without_one, with_one}
 use Rattle.turnstile.proofs.Numbers.{length_from}
 
 pub each_snoc : {A : Type 0} (P : ℕ → A → Type 0) (xs : List A) (y : A) → ((k : ℕ) (p : A) → slice_get xs k ≡ Some p → P k p) → P (length xs) y → (k : ℕ) (p : A) → slice_get (xs ++ y ∷ []) k ≡ Some p → P k p
@@ -27,8 +27,8 @@ module _ {K E B : Type 0} where
   stack_two n k es b me h is = let e = ap (λ m. length m.0.sight.numbers) is in let l = length_from k (n - k) in omega arith
 
   -- a seat for one number is sound, and a new pass
-  pub sound_one : (n k : ℕ) (es : List (ℕ × E)) (b : Option B) (me : Me (Option K) (View E B)) → me ≡ (idle n b (sight es (numbers_from k 1)), []) → IsSound me
-  sound_one n k es b me is = subst IsSound (sym is) record { live = omega arith; calm = refl; placed = (refl, refl) }
+  pub sound_one : (n k : ℕ) (es : List (ℕ × E)) (b : Option B) (me : Me (Option K) (View E B)) → me ≡ (idle n b (sight es (numbers_from k 1)), []) → IsSeated me
+  sound_one n k es b me is = subst IsSeated (sym is) record { live = omega arith; calm = refl; placed = (refl, refl) }
 
-  pub pass_with_one : (t g : GateId) (n k : ℕ) (es : List (ℕ × E)) (b : B) (me : Me (Option K) (View E B)) → t ≡ g → me ≡ (idle n (Some b) (sight es (numbers_from k 1)), []) → pass_with t me ≡ newcomer g n b es k
+  pub pass_with_one : (t g : TurnstileId) (n k : ℕ) (es : List (ℕ × E)) (b : B) (me : Me (Option K) (View E B)) → t ≡ g → me ≡ (idle n (Some b) (sight es (numbers_from k 1)), []) → pass_with t me ≡ newcomer g n b es k
   pass_with_one t g n k es b me same is = λ i. pass_with (same i) (is i)

@@ -6,7 +6,7 @@ use mathlib.Core.Option.{some, some-injective, some-ne-none}
 use lib.ListN.{get_elem?}
 use Rattle.atomic_table.proofs.Lists.{at_set, at_snoc}
 use Rattle.turnstile.specs.declared.views.View.{View}
-use Rattle.turnstile.specs.Steps.TurnstileRule.{Apart}
+use Rattle.turnstile.specs.Private.TurnstileRule.{Apart}
 
 module _ {V : Type 0} where
   -- what each seat knows, after a step of the seat `id`

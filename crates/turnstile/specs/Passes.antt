@@ -5,13 +5,13 @@ use Rattle.atomic_table.specs.Seated.{TableId}
 use Rattle.turnstile.specs.PassEntries.{longer}
 
 -- Which turnstile it is.
-abbrev pub GateId : Type 0
-GateId = TableId
+abbrev pub TurnstileId : Type 0
+TurnstileId = TableId
 
 -- An entry is an E beside the number of its pass, and the base is a B.
-pub record Known (E B : Type 0) : Type 0 where
+pub record TurnstilePass (E B : Type 0) : Type 0 where
   -- The turnstile that it is of.
-  pub gate : GateId
+  pub gate : TurnstileId
   -- How many passes that turnstile was made with.
   pub passes : ℕ
   -- The base of the turnstile's value; each pass that a call gives has one.
@@ -25,17 +25,17 @@ pub record Known (E B : Type 0) : Type 0 where
 
 module _ {E B : Type 0} where
   -- A new pass of the number k.
-  abbrev pub newcomer : GateId → ℕ → B → List (ℕ × E) → ℕ → Known E B
+  abbrev pub newcomer : TurnstileId → ℕ → B → List (ℕ × E) → ℕ → TurnstilePass E B
   newcomer g n b es k = record { gate = g; passes = n; base = Some b; numbers = k ∷ []; seen = es; turn = None }
 
   -- The pass that was handed a value with this list.
-  abbrev pub after_enter : Known E B → List (ℕ × E) → Known E B
+  abbrev pub after_enter : TurnstilePass E B → List (ℕ × E) → TurnstilePass E B
   after_enter p es = record p { turn = Some es }
 
   -- The pass that put back a value with this list.
-  abbrev pub after_leave : Known E B → List (ℕ × E) → Known E B
+  abbrev pub after_leave : TurnstilePass E B → List (ℕ × E) → TurnstilePass E B
   after_leave p es = record p { seen = es; turn = None }
 
   -- The pass that stands for the numbers of both, and has seen the longer list.
-  abbrev pub after_join : Known E B → Known E B → Known E B
+  abbrev pub after_join : TurnstilePass E B → TurnstilePass E B → TurnstilePass E B
   after_join p q = record p { numbers = p.numbers ++ q.numbers; seen = longer p.seen q.seen }

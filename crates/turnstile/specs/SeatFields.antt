@@ -2,11 +2,11 @@
 use Rattle.std.specs.Prelude.{◌≡◌, ℕ, ◌<◌, List, [], ◌∷◌, length, Option, Some, None}
 use Rattle.atomic_table.specs.Table.{Me}
 use Rattle.turnstile.specs.declared.views.View.{View}
-use Rattle.turnstile.specs.Passes.{GateId, Known}
+use Rattle.turnstile.specs.Passes.{TurnstileId, TurnstilePass}
 
 module _ {K E B : Type 0} where
   -- The pass with this seat.
-  abbrev pub pass_with : GateId → Me (Option K) (View E B) → Known E B
+  abbrev pub pass_with : TurnstileId → Me (Option K) (View E B) → TurnstilePass E B
   pass_with g me = record { gate = g; passes = me.0.passes; base = me.0.base; numbers = me.0.sight.numbers; seen = me.0.sight.entries; turn = me.0.noted }
 
 module _ {K E : Type 0} where
@@ -17,7 +17,7 @@ module _ {K E : Type 0} where
 
 module _ {K E B : Type 0} where
   -- It has a number, no list of a join, and is placed.
-  pub record IsSound (me : Me (Option K) (View E B)) : Type 0 where
+  pub record IsSeated (me : Me (Option K) (View E B)) : Type 0 where
     pub live : 0 < length me.0.sight.numbers
     pub calm : me.0.old ≡ []
     pub placed : IsPlaced me.0.noted me.0.ticket me.1

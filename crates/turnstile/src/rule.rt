@@ -24,8 +24,8 @@ pub struct About<K> {
 pub struct Rule;
 
 impl<K: Chronicle> TableRule<Option<K>, View<K::Entry, K::Base>, About<K>> for Rule {
-    ghost use Rattle.turnstile.specs.Steps.TurnstileRule.{Kept};
-    ghost use Rattle.turnstile.specs.Steps.SeatViews.{first as first_view};
+    ghost use Rattle.turnstile.specs.Private.TurnstileRule.{Kept};
+    ghost use Rattle.turnstile.specs.Private.SeatViews.{first as first_view};
 
     ghost holds = { λ _. Kept K.entries K.base };
 

@@ -1,6 +1,6 @@
 //! A turnstile and its five calls. What a layer above knows of many threads is what these contracts say.
 //!
-//! In a clause a turnstile is which one it is, and a pass is a `Known` (`specs/Passes`): `own` says that the pass is of this
+//! In a clause a turnstile is which one it is, and a pass is a `TurnstilePass` (`specs/Passes`): `own` says that the pass is of this
 //! turnstile, `outside` that it is in no turn. `enter`, `leave`, `join` and `close` take no memory, and only `enter` waits.
 ghost use Rattle.std.specs.Prelude.{◌≡◌, ℕ, ◌<◌, length, slice_get, Contains, IfOk, IsSome, IfSome, Some, None};
 ghost use Rattle.turnstile.specs.PassEntries.{Below, Continues, Lengthens};
@@ -32,9 +32,9 @@ pub struct Turnstile<K: Chronicle> {
 impl<K: Chronicle> Model for Turnstile<K> {
     ghost use Rattle.std.specs.Prelude.{◌≡◌};
     ghost use Rattle.atomic_table.specs.Seated.{table_id_coded};
-    ghost use Rattle.turnstile.specs.Passes.{GateId};
+    ghost use Rattle.turnstile.specs.Passes.{TurnstileId};
 
-    ghost Value = { GateId };
+    ghost Value = { TurnstileId };
 
     ghost coded = { table_id_coded };
 

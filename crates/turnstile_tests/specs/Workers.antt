@@ -1,14 +1,14 @@
 -- What holds of a worker between its turns, and of all workers of a turnstile.
 use Rattle.std.specs.Prelude.{◌≡◌, ℕ, ◌<◌, List, [], ◌∷◌, length, slice_index_or, None, Some}
-use Rattle.turnstile.specs.Passes.{GateId, Known}
+use Rattle.turnstile.specs.Passes.{TurnstileId, TurnstilePass}
 use Rattle.turnstile_tests.specs.declared.workers.Worker.{Worker}
 
 -- All but what it has seen is the same.
-abbrev pub IsSamePass : {E B : Type 0} → Known E B → Known E B → Type 0
+abbrev pub IsSamePass : {E B : Type 0} → TurnstilePass E B → TurnstilePass E B → Type 0
 IsSamePass p q = q ≡ record p { seen = q.seen }
 
 -- Its pass is of this turnstile of n passes with this mark, stands for its number, and is outside.
-abbrev pub IsReady : GateId → ℕ → ℕ → Worker → Type 0
+abbrev pub IsReady : TurnstileId → ℕ → ℕ → Worker → Type 0
 IsReady g n mark w = (w.pass.gate ≡ g) × (w.pass.passes ≡ n) × (w.pass.base ≡ Some mark) × (w.pass.numbers ≡ w.by ∷ []) × (w.pass.turn ≡ None)
 
 -- The workers stand in the order of their numbers, from 0 on.

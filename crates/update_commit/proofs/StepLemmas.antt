@@ -7,7 +7,7 @@ use Rattle.air_history.specs.declared.updates.Write.{Write}
 use Rattle.air_history.specs.declared.histories.Event.{Event}
 use Rattle.air_history.specs.declared.histories.Event.TheVariants.{Commit, Start}
 use Rattle.air_history.specs.UpdateLists.{UpdateLists}
-use Rattle.air_history.specs.UpdateRules.{UpdateFits, item_of}
+use Rattle.air_history.specs.UpdateRules.{UpdateFits, written_item}
 use Rattle.air_history.specs.Histories.{reads, writes_of, starts, cycle_at, ItemsFit, EventFits}
 use Rattle.air_history.specs.Tables.{table, values_of, value_after, write_of}
 use Rattle.air_history.specs.Boards.{Reply, reply_of}
@@ -83,7 +83,7 @@ writes_within n Start fits = All-nil (λ (w : Write). w.item < n)
 
 -- The parts of the reply to the last event.
 pub reply_last : (first : List ℕ) (G : List Event) (e : Event) (number cycle : ℕ) (read written : List ℕ) → number ≡ length G → cycle ≡ starts G →
-    read ≡ map (table (values_of first) G) (reads e) → written ≡ map (table (values_of first) (G ++ e ∷ [])) (map item_of (writes_of e)) →
+    read ≡ map (table (values_of first) G) (reads e) → written ≡ map (table (values_of first) (G ++ e ∷ [])) (map written_item (writes_of e)) →
     record { number = number; cycle = cycle; read = read; written = written } ≡ reply_of first (G ++ e ∷ []) (length G)
 reply_last first G e number cycle read written n c r w =
     let here : get_or (G ++ e ∷ []) (length G) Start ≡ e = get_or_push G e Start (length G) refl in
@@ -92,7 +92,7 @@ reply_last first G e number cycle read written n c r w =
     let at : cycle_at (G ++ e ∷ []) (length G) ≡ starts G = cycle_append G (e ∷ []) (length G) (omega arith) ∙ cycle_all G (length G) (omega arith) in
     same_reply number (length G) cycle (cycle_at (G ++ e ∷ []) (length G)) read _ written _ n (c ∙ sym at)
     (r ∙ ap (λ (F : List Event). map (table (values_of first) F) (reads e)) (sym front) ∙ ap (λ f. map (table (values_of first) (take (length G) (G ++ e ∷ []))) (reads f)) (sym here))
-    (w ∙ ap (λ (F : List Event). map (table (values_of first) F) (map item_of (writes_of e))) (sym whole) ∙ ap (λ f. map (table (values_of first) (take (length G + 1) (G ++ e ∷ []))) (map item_of (writes_of f))) (sym here))
+    (w ∙ ap (λ (F : List Event). map (table (values_of first) F) (map written_item (writes_of e))) (sym whole) ∙ ap (λ f. map (table (values_of first) (take (length G + 1) (G ++ e ∷ []))) (map written_item (writes_of f))) (sym here))
   where
     same_reply : (a b c d : ℕ) (p q r s : List ℕ) → a ≡ b → c ≡ d → p ≡ q → r ≡ s →
         ◌≡◌ {A = Reply} (record { number = a; cycle = c; read = p; written = r }) (record { number = b; cycle = d; read = q; written = s })

@@ -134,7 +134,7 @@ impl Core {
     }
 
     /// Hands to a caller's proof that each event fits; it does nothing.
-    pub fn events_fit(&self)
+    pub fn shows_events_fit(&self)
         ensures { All (EventFits self.now.updaters (length self.now.values)) self.now.events }
     {
         let _events = &self.events;

@@ -3,7 +3,7 @@
 //! A receipt is made with room for an update's lists before the commit, which then takes no memory.
 
 ghost use Rattle.std.specs.Prelude.{◌≡◌, ◌<◌, ℕ, length, map, get_or, All, IfOk};
-ghost use Rattle.air_history.specs.UpdateRules.{item_of};
+ghost use Rattle.air_history.specs.UpdateRules.{written_item};
 ghost use Rattle.air_history.specs.Histories.{reads, writes_of, ItemsFit};
 ghost use Rattle.air_history.specs.Tables.{values_of, value_after};
 ghost use Rattle.update_commit.specs.Receipts.{HasRoom};
@@ -58,7 +58,7 @@ fn copy_read(values: &[u64], items: &[u16], into: &mut Values)
 fn copy_written(values: &[u64], writes: &[Write], into: &mut Values)
     requires room { length into.old ≡ length writes.now }
     requires fits { All (λ w. w.item < length values.now) writes.now }
-    ensures { into.new ≡ map (values_of values.now) (map item_of writes.now) }
+    ensures { into.new ≡ map (values_of values.now) (map written_item writes.now) }
 {
     for (place, write) in writes.iter().enumerate() {
         into.put(place, values[write.item as usize]);
@@ -72,7 +72,7 @@ pub(crate) fn run_and_answer(values: &mut [u64], event: &Event, into: &mut Recei
     requires room { (length into.old.read ≡ length (reads event.now)) × (length into.old.written ≡ length (writes_of event.now)) }
     ensures values { (i : ℕ) → get_or values.new i 0 ≡ value_after (values_of values.old) event.now i }
     ensures read { into.new.read ≡ map (values_of values.old) (reads event.now) }
-    ensures written { into.new.written ≡ map (values_of values.new) (map item_of (writes_of event.now)) }
+    ensures written { into.new.written ≡ map (values_of values.new) (map written_item (writes_of event.now)) }
     ensures kept { (into.new.number ≡ into.old.number) × (into.new.cycle ≡ into.old.cycle) }
 {
     copy_read(values, event.reads(), &mut into.read);

@@ -9,7 +9,7 @@ use Rattle.air_history.specs.declared.histories.Event.{Event}
 use Rattle.air_history.specs.Columns.{scheme_of}
 use Rattle.air_history.specs.Reads.{ReadAt, IsRead, last_cycle}
 use Rattle.air_history.specs.Clashes.{Heard, read_at, entry_of, entry_in, heard_clash, newest_heard, first_heard, is_late, clash_by_history, clash_by_entries, IsCurrent, Takes}
-use Rattle.air_history.specs.ClashLaws.{IsHeard, IsAllowed}
+use Rattle.air_history.specs.ClashLaws.{HasAiredEntries, IsAllowed}
 use Rattle.air_history.proofs.ClashLemmas.{clash}
 use Rattle.air_history.proofs.PolicyLemmas.{stays_current, takes}
 use Rattle.held_reads.specs.Searches.{is_reached}
@@ -57,12 +57,12 @@ named_from_first R x above =
 -- ---- by the history
 
 -- Where the vectors are a history's, the clash by the entries is the clash by the history.
-pub told_by_history : (policy : Policy) (n : ℕ) (H : List Event) (R : List Heard) (x : Heard) → All (IsHeard (scheme_of policy) n H) R → IsHeard (scheme_of policy) n H x →
+pub told_by_history : (policy : Policy) (n : ℕ) (H : List Event) (R : List Heard) (x : Heard) → All (HasAiredEntries (scheme_of policy) n H) R → HasAiredEntries (scheme_of policy) n H x →
     IsAllowed policy (map read_at R ++ read_at x ∷ []) → clash_by_entries policy R x ≡ clash_by_history policy H (map read_at R) (read_at x)
 told_by_history policy n H R x held new order = sym (clash (scheme_of policy) n H R x held new order)
 
 -- Under Datacycle there is none exactly if the reads stay current.
-pub none_if_current : (n : ℕ) (H : List Event) (R : List Heard) (x : Heard) → All (IsHeard (scheme_of Datacycle) n H) R → IsHeard (scheme_of Datacycle) n H x → IsCurrent H (map read_at R) →
+pub none_if_current : (n : ℕ) (H : List Event) (R : List Heard) (x : Heard) → All (HasAiredEntries (scheme_of Datacycle) n H) R → HasAiredEntries (scheme_of Datacycle) n H x → IsCurrent H (map read_at R) →
     (clash_by_entries Datacycle R x ≡ None) ↔ IsCurrent H (map read_at R ++ read_at x ∷ [])
 none_if_current n H R x held new current =
     let same = told_by_history Datacycle n H R x held new tt in
@@ -74,7 +74,7 @@ unfolding is_late
 not_late S y le = grind arith
 
 -- Under R-Matrix there is none exactly if the read is taken.
-pub none_if_taken : (n : ℕ) (H : List Event) (R : List Heard) (x : Heard) → All (IsHeard (scheme_of RMatrix) n H) R → IsHeard (scheme_of RMatrix) n H x →
+pub none_if_taken : (n : ℕ) (H : List Event) (R : List Heard) (x : Heard) → All (HasAiredEntries (scheme_of RMatrix) n H) R → HasAiredEntries (scheme_of RMatrix) n H x →
     IsAllowed RMatrix (map read_at R ++ read_at x ∷ []) → last_cycle (map read_at R) ≤ x.cycle →
     (clash_by_entries RMatrix R x ≡ None) ↔ Takes H (map read_at R) (read_at x)
 none_if_taken n H R x held new order in_time =

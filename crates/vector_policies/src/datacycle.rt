@@ -9,7 +9,7 @@ ghost use Rattle.air_base.specs.declared.verdicts.Policy.TheVariants.{Datacycle}
 ghost use Rattle.air_history.specs.declared.histories.Event.{Event};
 ghost use Rattle.air_history.specs.Reads.{last_cycle};
 ghost use Rattle.air_history.specs.Clashes.{read_at, clash_by_history, clash_by_entries, IsCurrent};
-ghost use Rattle.air_history.specs.ClashLaws.{IsHeard};
+ghost use Rattle.air_history.specs.ClashLaws.{HasAiredEntries};
 ghost use Rattle.air_history.specs.Columns.{scheme_of};
 ghost use Rattle.air_history.specs.HeldReads.{IsNew};
 ghost use Rattle.held_reads.specs.HeardReads.{heard_read};
@@ -76,10 +76,10 @@ impl DataHeld {
 
         // By each history that has these vectors at their cycles.
         ensures history { let x = heard_read item cycle vector.now in (H : List Event) →
-            All (IsHeard (scheme_of Datacycle) self.now.n H) self.now.reads → IsHeard (scheme_of Datacycle) self.now.n H x →
+            All (HasAiredEntries (scheme_of Datacycle) self.now.n H) self.now.reads → HasAiredEntries (scheme_of Datacycle) self.now.n H x →
             result ≡ clash_by_history Datacycle H (map read_at self.now.reads) (read_at x) }
         ensures current { let x = heard_read item cycle vector.now in (H : List Event) →
-            All (IsHeard (scheme_of Datacycle) self.now.n H) self.now.reads → IsHeard (scheme_of Datacycle) self.now.n H x →
+            All (HasAiredEntries (scheme_of Datacycle) self.now.n H) self.now.reads → HasAiredEntries (scheme_of Datacycle) self.now.n H x →
             IsCurrent H (map read_at self.now.reads) →
             (result ≡ None) ↔ IsCurrent H (map read_at self.now.reads ++ read_at x ∷ []) }
     {

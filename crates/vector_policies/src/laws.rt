@@ -4,14 +4,14 @@ ghost use Rattle.std.specs.Prelude.{◌≢◌, List, All};
 ghost use Rattle.air_base.specs.declared.verdicts.Policy.TheVariants.{Datacycle, RMatrix};
 ghost use Rattle.air_history.specs.declared.histories.Event.{Event};
 ghost use Rattle.air_history.specs.Clashes.{Heard};
-ghost use Rattle.air_history.specs.ClashLaws.{IsHeard};
+ghost use Rattle.air_history.specs.ClashLaws.{HasAiredEntries};
 ghost use Rattle.air_history.specs.Columns.{scheme_of};
 ghost use Rattle.air_history.specs.HeldReads.{HeldReads, IsNew};
 
 /// Each read whose vector a history has at its cycle may be tried, if its item isn't held.
 pub fn aired_is_new_law()
     ensures datacycle { (held : HeldReads) (H : List Event) (x : Heard) →
-        IsHeard (scheme_of Datacycle) held.n H x → All (λ r. r.item ≢ x.item) held.reads → IsNew held x }
+        HasAiredEntries (scheme_of Datacycle) held.n H x → All (λ r. r.item ≢ x.item) held.reads → IsNew held x }
     ensures r_matrix { (held : HeldReads) (H : List Event) (x : Heard) →
-        IsHeard (scheme_of RMatrix) held.n H x → All (λ r. r.item ≢ x.item) held.reads → IsNew held x }
+        HasAiredEntries (scheme_of RMatrix) held.n H x → All (λ r. r.item ≢ x.item) held.reads → IsNew held x }
 {}

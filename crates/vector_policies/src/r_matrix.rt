@@ -9,7 +9,7 @@ ghost use Rattle.air_base.specs.declared.verdicts.Policy.TheVariants.{RMatrix};
 ghost use Rattle.air_history.specs.declared.histories.Event.{Event};
 ghost use Rattle.air_history.specs.Reads.{last_cycle};
 ghost use Rattle.air_history.specs.Clashes.{read_at, clash_by_history, clash_by_entries, Takes};
-ghost use Rattle.air_history.specs.ClashLaws.{IsHeard};
+ghost use Rattle.air_history.specs.ClashLaws.{HasAiredEntries};
 ghost use Rattle.air_history.specs.Columns.{scheme_of};
 ghost use Rattle.air_history.specs.HeldReads.{IsNew, ComesInOrder};
 ghost use Rattle.held_reads.specs.HeardReads.{heard_read};
@@ -83,10 +83,10 @@ impl RHeld {
 
         // By each history that has these vectors at their cycles.
         ensures history { let x = heard_read item cycle vector.now in (H : List Event) →
-            All (IsHeard (scheme_of RMatrix) self.now.n H) self.now.reads → IsHeard (scheme_of RMatrix) self.now.n H x →
+            All (HasAiredEntries (scheme_of RMatrix) self.now.n H) self.now.reads → HasAiredEntries (scheme_of RMatrix) self.now.n H x →
             result ≡ clash_by_history RMatrix H (map read_at self.now.reads) (read_at x) }
         ensures takes { let x = heard_read item cycle vector.now in (H : List Event) →
-            All (IsHeard (scheme_of RMatrix) self.now.n H) self.now.reads → IsHeard (scheme_of RMatrix) self.now.n H x →
+            All (HasAiredEntries (scheme_of RMatrix) self.now.n H) self.now.reads → HasAiredEntries (scheme_of RMatrix) self.now.n H x →
             (result ≡ None) ↔ Takes H (map read_at self.now.reads) (read_at x) }
     {
         let _held = &self.held;

@@ -1,12 +1,12 @@
 //! The command `audit`: what the replay of a named report finds, by a named deck.
 
 ghost use Rattle.std.specs.Prelude.{IfErr, IfOk};
-ghost use Rattle.air_cli.specs.Steps.BeforeDelivery.{IsMade, IsUnmade, Reads};
+ghost use Rattle.air_cli.specs.Private.BeforeDelivery.{IsMade, IsUnmade, ReadsInputs};
 ghost use Rattle.air_cli.specs.Audit.{audit_meaning};
 
 use crate::files::decks::read_deck_file;
 use crate::files::read_bytes;
-use crate::outputs::given::Given;
+use crate::outputs::report_and_tape::ReportAndTape;
 use air_devices::Shelf;
 use air_report::Status;
 use air_report::reading::limits::MOST_REPORT_BYTES;
@@ -14,23 +14,23 @@ use live_replay::audit_report;
 use std::alloc::Global;
 
 /// The findings of the named report, by the named deck.
-#[tactic(auto, using(crate::proofs::MakeFacts::is_unmade, crate::proofs::AuditFacts::deck_audit, crate::proofs::AuditFacts::unread_later, crate::proofs::AuditFacts::unaudited_later, crate::proofs::AuditFacts::audited_later, crate::proofs::AuditFacts::reads_both))]
+#[tactic(auto, using(crate::proofs::MakeLemmas::is_unmade, crate::proofs::AuditLemmas::deck_audit, crate::proofs::AuditLemmas::unread_later, crate::proofs::AuditLemmas::unaudited_later, crate::proofs::AuditLemmas::audited_later, crate::proofs::AuditLemmas::reads_both))]
 pub(crate) fn audit<S: Shelf>(
     alloc: Global,
     shelf: &mut S,
     name: &str,
     report: &str,
-) -> Result<Given, Status>
+) -> Result<ReportAndTape, Status>
     ensures made { IfOk result (IsMade (audit_meaning name.now report.now) (S.state shelf.old) (S.state shelf.new)) }
     ensures unmade { IfErr result (IsUnmade (audit_meaning name.now report.now) (S.state shelf.old) (S.state shelf.new)) }
-    ensures reads { Reads (audit_meaning name.now report.now) (S.state shelf.old) (S.state shelf.new) }
+    ensures reads { ReadsInputs (audit_meaning name.now report.now) (S.state shelf.old) (S.state shelf.new) }
 {
     let deck = read_deck_file(alloc, shelf, name)?;
     let bytes = read_bytes(alloc, shelf, report, MOST_REPORT_BYTES)?;
-    deck.well_made();
+    deck.shows_well_made();
     let bytes: &[u8] = &bytes;
     let audited = audit_report(alloc, &deck, bytes)?;
-    Ok(Given {
+    Ok(ReportAndTape {
         text: audited.text,
         tape: None,
         differs: audited.differs,

@@ -6,18 +6,18 @@ ghost use Rattle.air_devices.specs.Told.{WhereTold};
 ghost use Rattle.air_model.specs.Decks.{disks_in};
 ghost use Rattle.deck_runs.specs.RunTapes.{run_tape_len};
 ghost use Rattle.air_cli.specs.FileLimits.{tape_limit};
-ghost use Rattle.air_cli.specs.RunnableDecks.{IsShort};
+ghost use Rattle.air_cli.specs.RunnableDecks.{HasShortProgram};
 ghost use Rattle.air_model.specs.Runs.{Run};
 ghost use Rattle.air_cli.specs.Cast.{HasSent, IsCast, cast_meaning};
 ghost use Rattle.air_cli.specs.MainWords.{Casts};
 ghost use Rattle.air_cli.specs.OnAir.{LeavesMast};
-ghost use Rattle.air_cli.specs.Steps.Airing.{IsCastRefusal, cast_status};
-ghost use Rattle.air_cli.specs.Steps.BeforeDelivery.{IsMade, IsUnmade, Reads};
+ghost use Rattle.air_cli.specs.Private.Airing.{IsCastRefusal, cast_status};
+ghost use Rattle.air_cli.specs.Private.BeforeDelivery.{IsMade, IsUnmade, ReadsInputs};
 
 use crate::commands::reports::cast_report;
 use crate::files::runnable::read_runnable_deck;
-use crate::outputs::given::Given;
-use crate::truths::casts_are_true;
+use crate::outputs::report_and_tape::ReportAndTape;
+use crate::truths::shows_cast_truth;
 use air_devices::{Gate, Mast, Shelf};
 use air_report::Status;
 use chunk_program::Program;
@@ -28,7 +28,7 @@ use std::sync::Wait;
 use std::thread::Threads;
 
 /// The report of a run of the named deck, which is cast to a port.
-#[tactic(auto, using(crate::proofs::MakeFacts::is_unmade, crate::proofs::MakeFacts::is_unmade_calm, crate::proofs::CastFacts::unrunnable_cast, crate::proofs::CastFacts::refused_cast, crate::proofs::CastFacts::leaves_cast))]
+#[tactic(auto, using(crate::proofs::MakeLemmas::is_unmade, crate::proofs::MakeLemmas::is_unmade_calm, crate::proofs::CastLemmas::unrunnable_cast, crate::proofs::CastLemmas::refused_cast, crate::proofs::CastLemmas::leaves_cast))]
 pub(crate) fn cast<R: Threads + Wait + Sync, S: Shelf, M: Mast + Send, G: Gate + Sync>(
     rt: &R,
     alloc: Global,
@@ -37,22 +37,22 @@ pub(crate) fn cast<R: Threads + Wait + Sync, S: Shelf, M: Mast + Send, G: Gate +
     name: &str,
     port: u16,
     gate: &G,
-) -> Result<Given, Status>
+) -> Result<ReportAndTape, Status>
     requires unaimed { (M.state mast.old).port ≡ None }
     requires unsent { WhereTold (M.state mast.old).told (λ s. s ≡ nothing_sent) }
     ensures made { IfOk result (IsMade (cast_meaning name.now port (M.state mast.old) (M.state mast.new)) (S.state shelf.old) (S.state shelf.new)) }
     ensures unmade { IfErr result (IsUnmade (cast_meaning name.now port (M.state mast.old) (M.state mast.new)) (S.state shelf.old) (S.state shelf.new)) }
-    ensures reads { Reads (cast_meaning name.now port (M.state mast.old) (M.state mast.new)) (S.state shelf.old) (S.state shelf.new) }
+    ensures reads { ReadsInputs (cast_meaning name.now port (M.state mast.old) (M.state mast.new)) (S.state shelf.old) (S.state shelf.new) }
     ensures mast { LeavesMast (Casts name.now port) (S.state shelf.old) (M.state mast.old) (M.state mast.new) }
 {
     let (deck, program) = read_runnable_deck(alloc, shelf, name)?;
-    deck.well_made();
+    deck.shows_well_made();
     let given = cast_on_air(rt, alloc, &deck, &program, mast, port, gate)?;
     Ok(given)
 }
 
 /// The report of a run of a deck, which is cast to a port. A deck whose tape would be too long is refused before the mast is aimed.
-#[tactic(auto, unfolding(crate::specs::Steps::Airing::IsCastRefusal), using(crate::proofs::CastFacts::all_cast, crate::proofs::CastFacts::part_cast, crate::proofs::CastFacts::is_cast, crate::proofs::CastFacts::fault_refused))]
+#[tactic(auto, unfolding(crate::specs::Private::Airing::IsCastRefusal), using(crate::proofs::CastLemmas::all_cast, crate::proofs::CastLemmas::part_cast, crate::proofs::CastLemmas::is_cast, crate::proofs::CastLemmas::fault_refused))]
 fn cast_on_air<R: Threads + Wait + Sync, M: Mast + Send, G: Gate + Sync>(
     rt: &R,
     alloc: Global,
@@ -61,9 +61,9 @@ fn cast_on_air<R: Threads + Wait + Sync, M: Mast + Send, G: Gate + Sync>(
     mast: &mut M,
     port: u16,
     gate: &G,
-) -> Result<Given, Status>
+) -> Result<ReportAndTape, Status>
     requires planned { program.now ≡ disks_in deck.now }
-    requires short { IsShort deck.now }
+    requires short { HasShortProgram deck.now }
     requires unaimed { (M.state mast.old).port ≡ None }
     requires unsent { WhereTold (M.state mast.old).told (λ s. s ≡ nothing_sent) }
     ensures few { IfOk result (λ given. run_tape_len deck.now ≤ tape_limit) }
@@ -74,11 +74,11 @@ fn cast_on_air<R: Threads + Wait + Sync, M: Mast + Send, G: Gate + Sync>(
     if let Some(bytes) = long_run(deck, program) {
         return Err(Status::TooLong { bytes });
     }
-    casts_are_true(deck);
+    shows_cast_truth(deck);
     match cast_run(rt, alloc, deck, program, mast, gate, port) {
         Ok(run) => {
             let text = cast_report(alloc, run)?;
-            Ok(Given {
+            Ok(ReportAndTape {
                 text,
                 tape: None,
                 differs: false,

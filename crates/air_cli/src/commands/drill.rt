@@ -4,8 +4,8 @@ ghost use Rattle.std.specs.Prelude.{◌≤◌, IfErr, IfOk};
 ghost use Rattle.air_cli.specs.Drill.{DrillCause, DrillGives};
 ghost use Rattle.item_catalog.specs.declared.deck.drill.TheConstants.{MOST_DRILL_SIZE};
 
-use crate::outputs::given::Given;
-use crate::truths::drill_is_true;
+use crate::outputs::report_and_tape::ReportAndTape;
+use crate::truths::shows_drill_truth;
 use air_report::Status;
 use scripts::run_drill;
 use std::alloc::Global;
@@ -18,15 +18,15 @@ pub(crate) fn drill<T: Threads + Sync>(
     alloc: Global,
     seed: u64,
     size: u32,
-) -> Result<Given, Status>
+) -> Result<ReportAndTape, Status>
     requires some { 1 ≤ size }
     requires few { size ≤ MOST_DRILL_SIZE }
     ensures gives { IfOk result (DrillGives seed size) }
     ensures refused { IfErr result DrillCause }
 {
-    drill_is_true(seed, size);
+    shows_drill_truth(seed, size);
     let text = run_drill(threads, alloc, seed, size)?;
-    Ok(Given {
+    Ok(ReportAndTape {
         text,
         tape: None,
         differs: false,

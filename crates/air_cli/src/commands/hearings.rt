@@ -5,8 +5,8 @@ ghost use Rattle.air_model.specs.Buckets.{bucket_in};
 ghost use Rattle.air_model.specs.Decks.{disks_in};
 ghost use Rattle.receiver_core.specs.Receivers.{heard_count};
 ghost use Rattle.listeners.specs.Listeners.{hears_one};
-ghost use Rattle.air_cli.specs.Hearings.{IsHearAnswer, IsHearing};
-ghost use Rattle.air_cli.specs.Steps.EarSteps.{HaveHeard};
+ghost use Rattle.air_cli.specs.Hearings.{AreEarSessions, IsHearAnswer};
+ghost use Rattle.air_cli.specs.Private.EarSteps.{HaveHeardEar};
 
 use air_base::NoMemory;
 use air_devices::{Ear, Heard};
@@ -58,7 +58,7 @@ fn all_hear_ear<E: Ear>(
     requires room { length buf.old ≡ MOST_HEARD_BYTES }
     requires tuned { IsSome (E.state ear.old).port }
     requires counts { All (λ l. heard_count l.state.counts + hears < 2 ^ 64) listeners.old }
-    ensures heard { OnOk result (HaveHeard hears (E.state ear.old).told (E.state ear.new).told listeners.old listeners.new) }
+    ensures heard { OnOk result (HaveHeardEar hears (E.state ear.old).told (E.state ear.new).told listeners.old listeners.new) }
     ensures calm { OnOk result ((E.state ear.new).faults ≡ (E.state ear.old).faults) }
     ensures fault { IfErr result (IsHearAnswer hears (E.state ear.old) (E.state ear.new)) }
     ensures port { (E.state ear.new).port ≡ (E.state ear.old).port }
@@ -88,12 +88,12 @@ pub fn ear_sessions<E: Ear>(
 ) -> Result<Sessions, HearFault>
     requires planned { program.now ≡ disks_in deck.now }
     requires untuned { (E.state ear.old).port ≡ None }
-    ensures sessions { IfOk result (λ s. IsHearing deck.now (E.state ear.old).told (E.state ear.new).told s.verdicts.items s.counts.items) }
+    ensures sessions { IfOk result (λ s. AreEarSessions deck.now (E.state ear.old).told (E.state ear.new).told s.verdicts.items s.counts.items) }
     ensures calm { OnOk result ((E.state ear.new).faults ≡ (E.state ear.old).faults) }
     ensures fault { IfErr result (IsHearAnswer deck.now.settings.hears (E.state ear.old) (E.state ear.new)) }
     ensures port { (E.state ear.new).port ≡ Some port }
 {
-    deck.well_made();
+    deck.shows_well_made();
     if ear.tune_in(port).is_err() {
         return Err(HearFault::Ear { heard: 0 });
     }

@@ -2,17 +2,17 @@
 
 ghost use Rattle.std.specs.Prelude.{◌≡◌, ◌⊎◌, ℕ, List, None, IfErr, IfOk};
 ghost use Rattle.air_model.specs.Decks.{disks_in};
-ghost use Rattle.air_cli.specs.Listen.{HasHeard, IsListening, listen_meaning};
+ghost use Rattle.air_cli.specs.Listen.{HasHeardPort, IsListening, listen_meaning};
 ghost use Rattle.air_cli.specs.MainWords.{Listens};
 ghost use Rattle.air_cli.specs.OnAir.{LeavesEar};
-ghost use Rattle.air_cli.specs.Steps.Airing.{IsListenRefusal, hear_status};
-ghost use Rattle.air_cli.specs.Steps.BeforeDelivery.{IsMade, IsUnmade, Reads};
+ghost use Rattle.air_cli.specs.Private.Airing.{IsListenRefusal, hear_status};
+ghost use Rattle.air_cli.specs.Private.BeforeDelivery.{IsMade, IsUnmade, ReadsInputs};
 
 use crate::commands::hearings::{HearFault, ear_sessions};
 use crate::commands::reports::heard_report;
 use crate::files::runnable::read_runnable_deck;
-use crate::outputs::given::Given;
-use crate::truths::tapes_are_true;
+use crate::outputs::report_and_tape::ReportAndTape;
+use crate::truths::shows_tape_truth;
 use air_devices::{Ear, Shelf};
 use air_report::Status;
 use chunk_program::Program;
@@ -20,46 +20,46 @@ use item_catalog::Deck;
 use std::alloc::Global;
 
 /// The report of the named deck's readers over what they hear on a port.
-#[tactic(auto, using(crate::proofs::MakeFacts::is_unmade, crate::proofs::MakeFacts::is_unmade_calm, crate::proofs::ListenFacts::unrunnable_listen, crate::proofs::ListenFacts::refused_listen, crate::proofs::ListenFacts::leaves_listen))]
+#[tactic(auto, using(crate::proofs::MakeLemmas::is_unmade, crate::proofs::MakeLemmas::is_unmade_calm, crate::proofs::ListenLemmas::unrunnable_listen, crate::proofs::ListenLemmas::refused_listen, crate::proofs::ListenLemmas::leaves_listen))]
 pub(crate) fn listen<S: Shelf, E: Ear>(
     alloc: Global,
     shelf: &mut S,
     ear: &mut E,
     name: &str,
     port: u16,
-) -> Result<Given, Status>
+) -> Result<ReportAndTape, Status>
     requires untuned { (E.state ear.old).port ≡ None }
     ensures made { IfOk result (IsMade (listen_meaning name.now port (E.state ear.old) (E.state ear.new)) (S.state shelf.old) (S.state shelf.new)) }
     ensures unmade { IfErr result (IsUnmade (listen_meaning name.now port (E.state ear.old) (E.state ear.new)) (S.state shelf.old) (S.state shelf.new)) }
-    ensures reads { Reads (listen_meaning name.now port (E.state ear.old) (E.state ear.new)) (S.state shelf.old) (S.state shelf.new) }
+    ensures reads { ReadsInputs (listen_meaning name.now port (E.state ear.old) (E.state ear.new)) (S.state shelf.old) (S.state shelf.new) }
     ensures ear { LeavesEar (Listens name.now port) (S.state shelf.old) (E.state ear.old) (E.state ear.new) }
 {
     let (deck, program) = read_runnable_deck(alloc, shelf, name)?;
-    deck.well_made();
+    deck.shows_well_made();
     let given = hear_on_air(alloc, &deck, &program, ear, port)?;
     Ok(given)
 }
 
 /// The report of a deck's readers over what they hear on a port.
-#[tactic(auto, unfolding(crate::specs::Steps::Airing::IsListenRefusal), using(crate::proofs::ListenFacts::all_heard, crate::proofs::ListenFacts::part_heard, crate::proofs::ListenFacts::is_listening, crate::proofs::ListenFacts::fault_refused))]
+#[tactic(auto, unfolding(crate::specs::Private::Airing::IsListenRefusal), using(crate::proofs::ListenLemmas::all_heard, crate::proofs::ListenLemmas::part_heard, crate::proofs::ListenLemmas::is_listening, crate::proofs::ListenLemmas::fault_refused))]
 fn hear_on_air<E: Ear>(
     alloc: Global,
     deck: &Deck,
     program: &Program,
     ear: &mut E,
     port: u16,
-) -> Result<Given, Status>
+) -> Result<ReportAndTape, Status>
     requires planned { program.now ≡ disks_in deck.now }
     requires untuned { (E.state ear.old).port ≡ None }
     ensures gives { IfOk result (λ given. (heard : List (List ℕ)) × IsListening deck.now port (E.state ear.old) (E.state ear.new) given heard) }
     ensures refused { IfErr result (IsListenRefusal deck.now port (E.state ear.old) (E.state ear.new)) }
-    ensures ear { (E.state ear.new ≡ E.state ear.old) ⊎ HasHeard deck.now port (E.state ear.old) (E.state ear.new) }
+    ensures ear { (E.state ear.new ≡ E.state ear.old) ⊎ HasHeardPort deck.now port (E.state ear.old) (E.state ear.new) }
 {
-    tapes_are_true(deck);
+    shows_tape_truth(deck);
     match ear_sessions(alloc, deck, program, ear, port) {
         Ok(sessions) => {
             let text = heard_report(alloc, sessions)?;
-            Ok(Given {
+            Ok(ReportAndTape {
                 text,
                 tape: None,
                 differs: false,

@@ -18,7 +18,7 @@ use chunk_program::Program;
 use deck_runs::Run;
 use item_catalog::Deck;
 use listeners::Sessions;
-use scripts::AiredPieces;
+use scripts::ScriptAiring;
 use std::alloc::Global;
 use std::thread::Threads;
 
@@ -28,7 +28,7 @@ pub(crate) fn script_report<T: Threads + Sync>(
     alloc: Global,
     deck: &Deck,
     program: &Program,
-    aired: AiredPieces,
+    aired: ScriptAiring,
 ) -> Result<Vec<u8>, NoMemory>
     requires planned { program.now ≡ disks_in deck.now }
     requires few { length (script_tape deck.now) ≤ MOST_TAPE_BYTES }
@@ -36,7 +36,7 @@ pub(crate) fn script_report<T: Threads + Sync>(
     requires done { aired.run.events.items ≡ script_history deck.now }
     ensures { IfOk result (λ text. text.items ≡ script_output deck.now) }
 {
-    deck.well_made();
+    deck.shows_well_made();
     let (events, sessions) = aired.end(threads, alloc, deck, program)?;
     let report = report_of(alloc, events, sessions)?;
     Ok(report)

@@ -8,7 +8,7 @@ ghost use Rattle.air_cli.specs.GivenRuns.{IsGivenRun, IsRunRefusal};
 ghost use Rattle.deck_runs.specs.RunTapes.{run_tape_len};
 
 use crate::commands::run_reports::make_run;
-use crate::outputs::given::Given;
+use crate::outputs::report_and_tape::ReportAndTape;
 use air_devices::Gate;
 use air_report::Status;
 use chunk_program::Program;
@@ -26,7 +26,7 @@ pub fn run_on_air<R: Threads + Wait + Sync, G: Gate + Sync>(
     deck: &Deck,
     program: &Program,
     gate: &G,
-) -> Result<Given, Status>
+) -> Result<ReportAndTape, Status>
     requires planned { program.now ≡ disks_in deck.now }
     ensures short { IfOk result (λ given. run_tape_len deck.now ≤ MOST_TAPE_BYTES) }
     ensures gives { IfOk result (λ given. (run : Run) × IsGivenRun deck.now given run) }

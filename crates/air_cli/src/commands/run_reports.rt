@@ -7,12 +7,12 @@ ghost use Rattle.air_model.specs.Runs.{Run};
 ghost use Rattle.air_cli.specs.GivenRuns.{IsGivenRun};
 ghost use Rattle.deck_runs.specs.RunTapes.{run_tape_len};
 
-use crate::outputs::given::Given;
+use crate::outputs::report_and_tape::ReportAndTape;
 use air_base::NoMemory;
 use air_devices::Gate;
 use air_report::{Report, write_report};
 use chunk_program::Program;
-use deck_runs::{AiredRun, air_run, true_run_law};
+use deck_runs::{HeardRun, air_run, true_run_law};
 use item_catalog::Deck;
 use std::alloc::Global;
 use std::sync::Wait;
@@ -25,15 +25,15 @@ pub(crate) fn make_run<R: Threads + Wait + Sync, G: Gate + Sync>(
     deck: &Deck,
     program: &Program,
     gate: &G,
-) -> Result<Given, NoMemory>
+) -> Result<ReportAndTape, NoMemory>
     requires planned { program.now ≡ disks_in deck.now }
     requires few { run_tape_len deck.now ≤ MOST_TAPE_BYTES }
     ensures { IfOk result (λ given. (run : Run) × IsGivenRun deck.now given run) }
 {
-    deck.well_made();
+    deck.shows_well_made();
     let _slots = program.slots();
     true_run_law();
-    let AiredRun {
+    let HeardRun {
         run,
         sessions,
         tape,
@@ -47,7 +47,7 @@ pub(crate) fn make_run<R: Threads + Wait + Sync, G: Gate + Sync>(
     };
     let mut text = Vec::new(alloc);
     write_report(alloc, &report, &mut text)?;
-    Ok(Given {
+    Ok(ReportAndTape {
         text,
         tape: Some(tape),
         differs: false,

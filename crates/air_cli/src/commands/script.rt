@@ -6,7 +6,7 @@
 ghost use Rattle.std.specs.Prelude.{◌≡◌, ◌<◌, ◌≤◌, IfErr, IfOk, None, OnOk, length, option_map};
 ghost use Rattle.air_base.specs.declared.limits.TheConstants.{MOST_TAPE_BYTES};
 ghost use Rattle.air_devices.specs.Counts.{NoCountFalls};
-ghost use Rattle.air_devices.specs.Shelves.{Shelved};
+ghost use Rattle.air_devices.specs.Shelves.{ShelfState};
 ghost use Rattle.air_model.specs.Decks.{disks_in};
 ghost use Rattle.air_model.specs.Outputs.{script_output, script_tape};
 ghost use Rattle.scripts.specs.Pieces.{IsAiring, tape_so_far};
@@ -14,21 +14,21 @@ ghost use Rattle.air_cli.specs.Deliveries.{KeepsButDelivered};
 ghost use Rattle.air_cli.specs.OutputPieces.{IsWritten};
 ghost use Rattle.air_cli.specs.Answers.{Leaves, QuietAnswers};
 ghost use Rattle.air_cli.specs.Script.{script_given, script_meaning};
-ghost use Rattle.air_cli.specs.Steps.BeforeDelivery.{IsMade, IsUnmade, Reads};
-ghost use Rattle.air_cli.specs.Steps.Scripting.{AirsScript, IsStopped};
+ghost use Rattle.air_cli.specs.Private.BeforeDelivery.{IsMade, IsUnmade, ReadsInputs};
+ghost use Rattle.air_cli.specs.Private.Scripting.{AirsScript, IsStopped};
 
 use crate::commands::reports::script_report;
 use crate::files::runnable::read_runnable_deck;
 use crate::outputs::pieces::{append_piece, begin_output};
 use crate::outputs::refusals::refuse;
-use crate::truths::script_is_true;
+use crate::truths::shows_script_truth;
 use air_base::limits::MOST_TAPE_BYTES;
 use air_devices::Shelf;
 use air_report::Status;
 use air_sender::tape_len;
 use chunk_program::Program;
 use item_catalog::Deck;
-use scripts::{AiredPieces, piece_cycles};
+use scripts::{ScriptAiring, piece_cycles};
 use std::alloc::Global;
 use std::thread::Threads;
 
@@ -62,14 +62,14 @@ fn read_script<S: Shelf>(
     ensures few { IfOk result (λ p. length (script_tape p.0) ≤ MOST_TAPE_BYTES) }
     ensures made { IfOk result (λ p. IsMade (script_meaning name.now None) (S.state shelf.old) (S.state shelf.new) (script_given p.0)) }
     ensures unmade { IfErr result (IsUnmade (script_meaning name.now None) (S.state shelf.old) (S.state shelf.new)) }
-    ensures reads { Reads (script_meaning name.now None) (S.state shelf.old) (S.state shelf.new) }
+    ensures reads { ReadsInputs (script_meaning name.now None) (S.state shelf.old) (S.state shelf.new) }
 {
     let (deck, program) = read_runnable_deck(alloc, shelf, name)?;
     let bytes = tape_len(&deck, &program);
     if bytes > MOST_TAPE_BYTES as u64 {
         return Err(Status::TooLong { bytes });
     }
-    script_is_true(&deck);
+    shows_script_truth(&deck);
     Ok((deck, program))
 }
 
@@ -115,7 +115,7 @@ fn air_to_output<T: Threads + Sync, S: Shelf>(
     let Ok(()) = begin_output(shelf, output) else {
         return Err(Status::WriteFault);
     };
-    let mut aired = AiredPieces::new(alloc, deck, program, piece_cycles(deck, program))?;
+    let mut aired = ScriptAiring::new(alloc, deck, program, piece_cycles(deck, program))?;
     while !aired.is_done(deck) {
         air_piece(threads, alloc, shelf, output, deck, program, &mut aired)?;
     }
@@ -131,23 +131,23 @@ fn air_piece<T: Threads + Sync, S: Shelf>(
     output: Option<&str>,
     deck: &Deck,
     program: &Program,
-    aired: &mut AiredPieces,
+    aired: &mut ScriptAiring,
 ) -> Result<(), Status>
     requires planned { program.now ≡ disks_in deck.now }
     requires few { length (script_tape deck.now) ≤ MOST_TAPE_BYTES }
     requires kept { IsAiring deck.now aired.old }
     ensures kept { OnOk result (IsAiring deck.now aired.new) }
     ensures on { OnOk result (length aired.old.run.events.items < length deck.now.script → length aired.old.run.events.items < length aired.new.run.events.items) }
-    ensures added { (first : Shelved) →
+    ensures added { (first : ShelfState) →
         IsWritten (option_map (λ name. name.now) output.entry) (tape_so_far deck.now aired.old) first (S.state shelf.old) →
         OnOk result (IsWritten (option_map (λ name. name.now) output.entry) (tape_so_far deck.now aired.new) first (S.state shelf.new)) }
-    ensures stopped { (first : Shelved) →
+    ensures stopped { (first : ShelfState) →
         IsWritten (option_map (λ name. name.now) output.entry) (tape_so_far deck.now aired.old) first (S.state shelf.old) →
         IfErr result (IsStopped (option_map (λ name. name.now) output.entry) deck.now first (S.state shelf.new)) }
 {
-    aired.is_beginning(deck);
+    aired.shows_beginning(deck);
     aired.next_piece(threads, alloc, deck, program)?;
-    aired.is_beginning(deck);
+    aired.shows_beginning(deck);
     match append_piece(shelf, output, aired.piece()) {
         Ok(()) => Ok(()),
         Err(_) => Err(Status::WriteFault),

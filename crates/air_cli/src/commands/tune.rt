@@ -4,14 +4,14 @@
 //! written: what is given is delivered at the end.
 
 ghost use Rattle.std.specs.Prelude.{IfErr, IfOk};
-ghost use Rattle.air_cli.specs.Steps.BeforeDelivery.{IsMade, IsUnmade, Reads};
+ghost use Rattle.air_cli.specs.Private.BeforeDelivery.{IsMade, IsUnmade, ReadsInputs};
 ghost use Rattle.air_cli.specs.Tune.{tune_meaning};
 
 use crate::commands::reports::heard_report;
 use crate::files::runnable::read_runnable_deck;
-use crate::outputs::given::Given;
+use crate::outputs::report_and_tape::ReportAndTape;
 use crate::tapes::file_sessions;
-use crate::truths::tapes_are_true;
+use crate::truths::shows_tape_truth;
 use air_devices::Shelf;
 use air_report::Status;
 use std::alloc::Global;
@@ -24,16 +24,16 @@ pub(crate) fn tune<T: Threads + Sync, S: Shelf>(
     shelf: &mut S,
     name: &str,
     tape: &str,
-) -> Result<Given, Status>
+) -> Result<ReportAndTape, Status>
     ensures made { IfOk result (IsMade (tune_meaning name.now tape.now) (S.state shelf.old) (S.state shelf.new)) }
     ensures unmade { IfErr result (IsUnmade (tune_meaning name.now tape.now) (S.state shelf.old) (S.state shelf.new)) }
-    ensures reads { Reads (tune_meaning name.now tape.now) (S.state shelf.old) (S.state shelf.new) }
+    ensures reads { ReadsInputs (tune_meaning name.now tape.now) (S.state shelf.old) (S.state shelf.new) }
 {
     let (deck, program) = read_runnable_deck(alloc, shelf, name)?;
     let sessions = file_sessions(threads, alloc, shelf, tape, &deck, &program)?;
-    tapes_are_true(&deck);
+    shows_tape_truth(&deck);
     let text = heard_report(alloc, sessions)?;
-    Ok(Given {
+    Ok(ReportAndTape {
         text,
         tape: None,
         differs: false,

@@ -12,7 +12,7 @@ use item_catalog::{Deck, DeckError, read_deck};
 use std::alloc::Global;
 
 /// The deck of a named file.
-#[tactic(auto, using(crate::proofs::CauseFacts::unread_deck), unfolding(crate::specs::NamedDecks::DeckCause, crate::specs::NamedFiles::UnreadCause))]
+#[tactic(auto, using(crate::proofs::CauseLemmas::unread_deck), unfolding(crate::specs::NamedDecks::DeckCause, crate::specs::NamedFiles::UnreadCause))]
 pub fn read_deck_file<S: Shelf>(alloc: Global, shelf: &mut S, name: &str) -> Result<Deck, Status>
     ensures deck { IfOk result (SpellsDeck name.now (S.state shelf.old)) }
     ensures refused { IfErr result (DeckCause name.now (S.state shelf.old) (S.state shelf.new)) }

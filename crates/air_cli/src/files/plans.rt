@@ -2,7 +2,7 @@
 
 ghost use Rattle.std.specs.Prelude.{◌≡◌, IfErr, IfOk, OnOk};
 ghost use Rattle.air_model.specs.Decks.{disks_in};
-ghost use Rattle.air_cli.specs.RunnableDecks.{IsShort, LengthCause};
+ghost use Rattle.air_cli.specs.RunnableDecks.{HasShortProgram, LengthCause};
 
 use air_report::Status;
 use chunk_program::{Cut, PlanFault, Program, cut};
@@ -14,7 +14,7 @@ use std::alloc::Global;
 pub fn plan_deck(alloc: Global, deck: &Deck) -> Result<(Cut, Program), Status>
     ensures cut { IfOk result (λ p. p.0 ≡ disks_in deck.now) }
     ensures program { IfOk result (λ p. p.1 ≡ disks_in deck.now) }
-    ensures short { OnOk result (IsShort deck.now) }
+    ensures short { OnOk result (HasShortProgram deck.now) }
     ensures refused { IfErr result (LengthCause deck.now) }
 {
     let cut = cut(alloc, deck)?;

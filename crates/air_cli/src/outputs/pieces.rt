@@ -1,7 +1,7 @@
 //! An output that is written piece by piece: begun, and then each piece is added behind those before.
 
 ghost use Rattle.std.specs.Prelude.{◌++◌, [], ℕ, List, OnErr, OnOk, option_map};
-ghost use Rattle.air_devices.specs.Shelves.{Shelved};
+ghost use Rattle.air_devices.specs.Shelves.{ShelfState};
 ghost use Rattle.air_cli.specs.OutputPieces.{IsCutOff, IsWritten};
 
 use air_devices::{Failed, Shelf};
@@ -28,9 +28,9 @@ pub fn append_piece<S: Shelf>(
     output: Option<&str>,
     piece: &[u8],
 ) -> Result<(), Failed>
-    ensures added { (first : Shelved) (so_far : List ℕ) → IsWritten (option_map (λ name. name.now) output.entry) so_far first (S.state shelf.old) →
+    ensures added { (first : ShelfState) (so_far : List ℕ) → IsWritten (option_map (λ name. name.now) output.entry) so_far first (S.state shelf.old) →
         OnOk result (IsWritten (option_map (λ name. name.now) output.entry) (so_far ++ piece.now) first (S.state shelf.new)) }
-    ensures cut { (first : Shelved) (so_far rest : List ℕ) → IsWritten (option_map (λ name. name.now) output.entry) so_far first (S.state shelf.old) →
+    ensures cut { (first : ShelfState) (so_far rest : List ℕ) → IsWritten (option_map (λ name. name.now) output.entry) so_far first (S.state shelf.old) →
         OnErr result (IsCutOff (option_map (λ name. name.now) output.entry) ((so_far ++ piece.now) ++ rest) first (S.state shelf.new)) }
 {
     match output {

@@ -23,7 +23,7 @@ pub fn refuse<S: Shelf>(alloc: Global, shelf: &mut S, status: Status) -> Status
 }
 
 /// Prints the line of a status; a print that fails leaves out the rest of it.
-#[tactic(auto, using(crate::proofs::DeliveryFacts::print_steady))]
+#[tactic(auto, using(crate::proofs::DeliveryLemmas::print_steady))]
 fn print_line<S: Shelf>(alloc: Global, shelf: &mut S, status: &Status) -> Result<(), NoMemory>
     ensures line { OnOk result
         (PrintsLine status.now (S.state shelf.old) (S.state shelf.new)) }

@@ -6,7 +6,7 @@
 ghost use Rattle.std.specs.Prelude.{◌≡◌, ◌≤◌, ◌<◌, ◌+◌, ◌-◌, [], drop, length, take, vec_len, IfOk, OnOk};
 ghost use Rattle.air_devices.specs.Counts.{HasCauseIn, reading_of};
 ghost use Rattle.air_devices.specs.Unchanged.{KeepsButLeft};
-ghost use Rattle.air_cli.specs.Steps.Pieces.{HasCome};
+ghost use Rattle.air_cli.specs.Private.Pieces.{HasCome};
 
 use air_base::NoMemory;
 use air_devices::{Failed, Shelf};
@@ -22,7 +22,7 @@ pub(crate) struct Piece {
 
 impl Model for Piece {
     ghost use Rattle.std.specs.Prelude.{◌≤◌, length, take};
-    ghost use Rattle.air_cli.specs.Steps.Pieces.{Held};
+    ghost use Rattle.air_cli.specs.Private.Pieces.{Held};
 
     ghost Value = { Held };
 

@@ -4,7 +4,7 @@
 //! too, whatever the reason. The forms in memory share this.
 
 ghost use Rattle.std.specs.Prelude.{◌≡◌, ◌≤◌};
-ghost use Rattle.air_devices.specs.Calls.{AreNew, is_next_listed, next_call};
+ghost use Rattle.air_devices.specs.Calls.{AreNewCalls, is_next_listed, next_call};
 ghost use Rattle.air_devices.specs.Counts.{Rose};
 
 use crate::shelves::Failed;
@@ -20,7 +20,7 @@ pub(crate) struct Calls {
 impl Calls {
     /// No call was made yet; those whose numbers are listed in `fail` will fail.
     pub fn new(fail: Vec<u64>) -> Calls
-        ensures { AreNew fail.items result }
+        ensures { AreNewCalls fail.items result }
     {
         Calls {
             fail,

@@ -7,7 +7,7 @@ ghost use Rattle.std.specs.Prelude.{◌≡◌, ◌≤◌, ◌<◌, ◌↔◌, So
 ghost use Rattle.air_devices.specs.Calls.{IsNextCall, is_next_listed};
 ghost use Rattle.air_devices.specs.Counts.{HasCause};
 ghost use Rattle.air_devices.specs.Ears.{Hears};
-ghost use Rattle.air_devices.specs.MemoryEars.{IsNewEar, eared_of};
+ghost use Rattle.air_devices.specs.MemoryEars.{IsNewEar, memory_ear_state};
 
 use crate::ears::{Ear, Heard};
 use crate::memory::calls::Calls;
@@ -24,13 +24,13 @@ pub struct MemEar {
 }
 
 impl Model for MemEar {
-    ghost use Rattle.air_devices.specs.MemoryEars.{IsListening, Listening, listening_in};
+    ghost use Rattle.air_devices.specs.MemoryEars.{IsMemEar, MemEarState, listening_in};
 
-    ghost Value = { Listening };
+    ghost Value = { MemEarState };
 
     ghost view = { listening_in };
 
-    ghost invariant = { IsListening };
+    ghost invariant = { IsMemEar };
 }
 
 impl MemEar {
@@ -62,7 +62,7 @@ fn fill(buf: &mut [u8], bytes: &[u8]) -> usize
 }
 
 impl Ear for MemEar {
-    ghost state = { eared_of };
+    ghost state = { memory_ear_state };
 
     fn tune_in(&mut self, port: u16) -> Result<(), Failed>
         ensures fails { IsErr result ↔ IsTrue (is_next_listed self.old.calls) }

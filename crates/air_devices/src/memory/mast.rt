@@ -9,7 +9,7 @@ ghost use Rattle.air_model.specs.Tapes.{tape_of};
 ghost use Rattle.air_devices.specs.Calls.{is_next_listed};
 ghost use Rattle.air_devices.specs.Counts.{HasCause};
 ghost use Rattle.air_devices.specs.Masts.{Changes, with_buckets, with_end};
-ghost use Rattle.air_devices.specs.MemoryMasts.{IsNewMast, MadeCall, is_send_refused, masted_of, told_by};
+ghost use Rattle.air_devices.specs.MemoryMasts.{IsNewMast, MadeMastCall, is_send_refused, memory_mast_state, told_by_mast};
 
 use crate::masts::Mast;
 use crate::memory::calls::Calls;
@@ -43,27 +43,27 @@ impl MemMast {
 
     /// The sent buckets as a tape.
     pub fn sent(&self) -> &[u8]
-        ensures { result.now ≡ tape_of (told_by self.now).buckets }
+        ensures { result.now ≡ tape_of (told_by_mast self.now).buckets }
     {
         self.tape.as_slice()
     }
 
     /// Whether the end was sent.
     pub fn ended(&self) -> bool
-        ensures { result ≡ is_some (told_by self.now).ended }
+        ensures { result ≡ is_some (told_by_mast self.now).ended }
     {
         self.ended.is_some()
     }
 }
 
 impl Mast for MemMast {
-    ghost state = { masted_of };
+    ghost state = { memory_mast_state };
 
     fn aim(&mut self, port: u16) -> Result<(), Failed>
         ensures fails { IsErr result ↔ IsTrue (is_next_listed self.old.calls) }
-        ensures call { MadeCall self.old self.new }
+        ensures call { MadeMastCall self.old self.new }
         ensures aimed { self.new.port ≡ Some port }
-        ensures kept { told_by self.new ≡ told_by self.old }
+        ensures kept { told_by_mast self.new ≡ told_by_mast self.old }
         ensures cause { HasCause self.old.calls.faults self.new.calls.faults result }
     {
         self.port = Some(port);
@@ -76,9 +76,9 @@ impl Mast for MemMast {
     fn send(&mut self, bytes: &[u8]) -> Result<(), Failed>
         requires { length bytes.now < 2 ^ 32 }
         ensures fails { IsErr result ↔ IsTrue (is_send_refused self.old bytes.now) }
-        ensures call { MadeCall self.old self.new }
-        ensures added { OnOk result (Changes (with_buckets (bytes.now ∷ [])) (Some (told_by self.old)) (Some (told_by self.new))) }
-        ensures refused { OnErr result (told_by self.new ≡ told_by self.old) }
+        ensures call { MadeMastCall self.old self.new }
+        ensures added { OnOk result (Changes (with_buckets (bytes.now ∷ [])) (Some (told_by_mast self.old)) (Some (told_by_mast self.new))) }
+        ensures refused { OnErr result (told_by_mast self.new ≡ told_by_mast self.old) }
         ensures port { self.new.port ≡ self.old.port }
         ensures cause { HasCause self.old.calls.faults self.new.calls.faults result }
     {
@@ -90,9 +90,9 @@ impl Mast for MemMast {
 
     fn finish(&mut self) -> Result<(), Failed>
         ensures fails { IsErr result ↔ IsTrue (is_next_listed self.old.calls) }
-        ensures call { MadeCall self.old self.new }
-        ensures ended { OnOk result (Changes with_end (Some (told_by self.old)) (Some (told_by self.new))) }
-        ensures refused { OnErr result (told_by self.new ≡ told_by self.old) }
+        ensures call { MadeMastCall self.old self.new }
+        ensures ended { OnOk result (Changes with_end (Some (told_by_mast self.old)) (Some (told_by_mast self.new))) }
+        ensures refused { OnErr result (told_by_mast self.new ≡ told_by_mast self.old) }
         ensures port { self.new.port ≡ self.old.port }
         ensures cause { HasCause self.old.calls.faults self.new.calls.faults result }
     {

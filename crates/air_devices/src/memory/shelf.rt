@@ -12,7 +12,7 @@ ghost use Rattle.air_devices.specs.Calls.{is_next_listed};
 ghost use Rattle.air_devices.specs.Counts.{HasCauseIn, printing_of, reading_of, writing_of};
 ghost use Rattle.air_devices.specs.Unchanged.{KeepsButLeft, KeepsButOutput, KeepsButPrinted};
 ghost use Rattle.air_devices.specs.Told.{AppendsPart, Becomes};
-ghost use Rattle.air_devices.specs.Memory.{IsNewShelf, MadeCall, added_bytes, empty_output, faults_of, file_in, given_bytes, given_named, output_in, overflows_output, overflows_print, shelved_of, spells, told_by, unpicked_file};
+ghost use Rattle.air_devices.specs.Memory.{IsNewShelf, MadeShelfCall, added_bytes, empty_output, faults_of, file_in, given_bytes, given_named, output_in, overflows_output, overflows_print, shelved_of, spells, told_by, unpicked_file};
 
 use crate::memory::calls::Calls;
 use crate::rooms::fixed_bytes::FixedBytes;
@@ -105,7 +105,7 @@ impl Shelf for MemShelf {
 
     fn pick(&mut self, name: &str) -> Result<(), Failed>
         ensures fails { IsErr result ↔ IsTrue (is_next_listed self.old.calls || is_none (file_in name.now self.old)) }
-        ensures call { MadeCall self.old self.new }
+        ensures call { MadeShelfCall self.old self.new }
         ensures picked { OnOk result ((told_by self.new).left name.now ≡ (told_by self.old).file name.now) }
         ensures refused { OnErr result ((told_by self.new).left name.now ≡ (told_by self.old).left name.now) }
         ensures rest { KeepsButLeft name.now (told_by self.old) (told_by self.new) }
@@ -123,7 +123,7 @@ impl Shelf for MemShelf {
 
     fn read(&mut self, name: &str, buf: &mut [u8]) -> Result<usize, Failed>
         ensures fails { IsErr result ↔ IsTrue (is_next_listed self.old.calls) }
-        ensures call { MadeCall self.old self.new }
+        ensures call { MadeShelfCall self.old self.new }
         ensures bound { ReadsAtMost result buf.new }
         ensures moved { ReadConsumes ((told_by self.old).left name.now) ((told_by self.new).left name.now) result buf.new }
         ensures refused { OnErr result ((told_by self.new).left name.now ≡ (told_by self.old).left name.now) }
@@ -137,14 +137,14 @@ impl Shelf for MemShelf {
             return Ok(0);
         };
         let file = &mut self.files[place];
-        let count = move_front(&file.bytes, file.at, buf);
+        let count = move_beginning(&file.bytes, file.at, buf);
         file.at += count;
         Ok(count)
     }
 
     fn create(&mut self, name: &str) -> Result<(), Failed>
         ensures fails { IsErr result ↔ IsTrue (is_next_listed self.old.calls || is_none (output_in name.now self.old)) }
-        ensures call { MadeCall self.old self.new }
+        ensures call { MadeShelfCall self.old self.new }
         ensures emptied { OnOk result (Becomes ((told_by self.old).output name.now) ((told_by self.new).output name.now) []) }
         ensures refused { OnErr result ((told_by self.new).output name.now ≡ (told_by self.old).output name.now) }
         ensures rest { KeepsButOutput name.now (told_by self.old) (told_by self.new) }
@@ -162,7 +162,7 @@ impl Shelf for MemShelf {
 
     fn append(&mut self, name: &str, bytes: &[u8]) -> Result<(), Failed>
         ensures fails { IsErr result ↔ IsTrue (is_next_listed self.old.calls || overflows_output (output_in name.now self.old) bytes.now) }
-        ensures call { MadeCall self.old self.new }
+        ensures call { MadeShelfCall self.old self.new }
         ensures fitting { IfSome (output_in name.now self.old) (λ o. (told_by self.new).output name.now ≡ Some (o.written.bytes ++ added_bytes self.old.calls o.written bytes.now)) }
         ensures all { OnOk result (Appends ((told_by self.old).output name.now) ((told_by self.new).output name.now) bytes.now) }
         ensures part { OnErr result (AppendsPart ((told_by self.old).output name.now) ((told_by self.new).output name.now) bytes.now) }
@@ -183,7 +183,7 @@ impl Shelf for MemShelf {
 
     fn print(&mut self, bytes: &[u8]) -> Result<(), Failed>
         ensures fails { IsErr result ↔ IsTrue (is_next_listed self.old.calls || overflows_print self.old bytes.now) }
-        ensures call { MadeCall self.old self.new }
+        ensures call { MadeShelfCall self.old self.new }
         ensures fitting { (told_by self.new).printed ≡ Some (self.old.printed.bytes ++ added_bytes self.old.calls self.old.printed bytes.now) }
         ensures all { OnOk result (Appends (told_by self.old).printed (told_by self.new).printed bytes.now) }
         ensures part { OnErr result (AppendsPart (told_by self.old).printed (told_by self.new).printed bytes.now) }
@@ -198,7 +198,7 @@ impl Shelf for MemShelf {
 }
 
 /// Moves the front of what is left behind a place to the front of the buffer, and tells how much that is.
-fn move_front(bytes: &[u8], at: usize, buf: &mut [u8]) -> usize
+fn move_beginning(bytes: &[u8], at: usize, buf: &mut [u8]) -> usize
     ensures count { result ≡ min (length bytes.now - at) (length buf.old) }
     ensures front { take result buf.new ≡ take result (drop at bytes.now) }
     ensures fits { at + result < 2 ^ 64 }

@@ -56,7 +56,7 @@ impl ReadFiles {
     }
 
     /// Adds a file, where it isn't among them; it fails where there is no room.
-    #[tactic(auto, using(crate::proofs::ReadFileFacts::is_added, crate::proofs::ReadFileFacts::stays_among))]
+    #[tactic(auto, using(crate::proofs::ReadFileLemmas::is_added, crate::proofs::ReadFileLemmas::stays_among))]
     pub fn add(&mut self, id: FileId) -> io::Result<()>
         ensures added { OnOk result (is_among id self.new.ids.items ≡ true) }
         ensures kept { (other : FileId) → is_among other self.old.ids.items ≡ true → is_among other self.new.ids.items ≡ true }

@@ -17,9 +17,9 @@ pub struct FixedBytes {
 
 impl Model for FixedBytes {
     ghost use Rattle.std.specs.Prelude.{◌≤◌, length, take};
-    ghost use Rattle.air_devices.specs.Written.{Written};
+    ghost use Rattle.air_devices.specs.WrittenBytes.{WrittenBytes};
 
-    ghost Value = { Written };
+    ghost Value = { WrittenBytes };
 
     ghost view = { λ text. record { bytes = take text.len text.buffer.items; room = length text.buffer.items } };
 

@@ -81,7 +81,7 @@ impl TapeRoom {
 }
 
 /// Adds a record for which there is memory: its length in four bytes, then its own.
-#[tactic(auto, using(crate::proofs::RecordFacts::record_put))]
+#[tactic(auto, using(crate::proofs::RecordLemmas::record_put))]
 fn put_record(tape: &mut Vec<u8>, bytes: &[u8])
     requires short { length bytes.now < 2 ^ 32 }
     requires room { vec_len tape.old + 4 + length bytes.now ≤ vec_capacity tape.old }

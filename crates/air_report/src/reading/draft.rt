@@ -5,10 +5,10 @@
 
 ghost use Rattle.std.specs.Prelude.{◌≡◌, [], Ok, None};
 ghost use Rattle.csv.specs.Records.{fields_of};
-ghost use Rattle.air_report.specs.LineTexts.{line_of};
-ghost use Rattle.air_report.specs.ReportFaults.{comes_late, comes_next, is_next};
+ghost use Rattle.air_report.specs.LineTexts.{spelled_line};
+ghost use Rattle.air_report.specs.ReportFaults.{comes_after_later_section, comes_next, is_next};
 ghost use Rattle.air_report.specs.ReportLines.{sections_of};
-ghost use Rattle.air_report.specs.Steps.RecordAnswers.{Adds, CanCommit, CanPush, Pushed, record_kind, with_line};
+ghost use Rattle.air_report.specs.Private.RecordAnswers.{AddsLine, CanCommit, CanPush, Pushed, line_record_kind, with_one_line};
 
 use crate::reading::kinds::FaultKind;
 use crate::reading::lines::{EventLine, Line};
@@ -31,7 +31,7 @@ pub struct Draft {
 
 impl Model for Draft {
     ghost use Rattle.air_report.specs.ReportLines.{ReportLines};
-    ghost use Rattle.air_report.specs.Steps.ReportView.{DraftCounts};
+    ghost use Rattle.air_report.specs.Private.ReportView.{DraftCounts};
 
     ghost Value = { ReportLines };
 
@@ -53,8 +53,8 @@ impl Draft {
     }
 
     /// Whether a line of a later section stands among those before.
-    fn comes_late(&self, line: &Line) -> bool
-        ensures { result ≡ comes_late self.now line.now }
+    fn comes_after_later_section(&self, line: &Line) -> bool
+        ensures { result ≡ comes_after_later_section self.now line.now }
     {
         let lines = &self.lines;
         let looks = !lines.looks.is_empty();
@@ -95,9 +95,9 @@ impl Draft {
 
     /// The least kind that applies to a line.
     fn kind_of(&self, deck: &Deck, line: &Line) -> Option<FaultKind>
-        ensures { result ≡ record_kind deck.now self.now (Ok line.now) }
+        ensures { result ≡ line_record_kind deck.now self.now (Ok line.now) }
     {
-        if self.comes_late(line) {
+        if self.comes_after_later_section(line) {
             return Some(FaultKind::Order);
         }
         if !self.comes_next(deck, line) {
@@ -115,7 +115,7 @@ impl Draft {
     /// Adds a line of the history, which is a start or its updater's next commit.
     fn push_event(&mut self, event: EventLine) -> Result<(), Refusal<FaultKind>>
         requires { CanCommit self.old event }
-        ensures { Pushed result (self.new ≡ with_line self.old (Line.Event event)) }
+        ensures { Pushed result (self.new ≡ with_one_line self.old (Line.Event event)) }
     {
         self.lines.push_event(event)?;
         let _places = self.lines.history().len();
@@ -129,7 +129,7 @@ impl Draft {
     /// Adds a line to which no kind applies.
     fn push(&mut self, line: Line) -> Result<(), Refusal<FaultKind>>
         requires { CanPush self.old line }
-        ensures { Pushed result (self.new ≡ with_line self.old line) }
+        ensures { Pushed result (self.new ≡ with_one_line self.old line) }
     {
         match line {
             Line::Event(event) => self.push_event(event)?,
@@ -148,9 +148,9 @@ impl Draft {
         deck: &Deck,
         row: &ByteRecord,
     ) -> Result<(), Refusal<FaultKind>>
-        ensures { Adds result deck.now (line_of (fields_of row.now)) self.old self.new }
+        ensures { AddsLine result deck.now (spelled_line (fields_of row.now)) self.old self.new }
     {
-        deck.well_made();
+        deck.shows_well_made();
         let line = read_line(alloc, row)?;
         if let Some(kind) = self.kind_of(deck, &line) {
             return Err(Refusal::Kind(kind));

@@ -2,7 +2,7 @@
 
 ghost use Rattle.std.specs.Prelude.{◌≡◌, All, IfOk, map};
 ghost use Rattle.air_report.specs.ReportLines.{event_in};
-ghost use Rattle.air_report.specs.Steps.ReportsOfLines.{NamesUpdate};
+ghost use Rattle.air_report.specs.Private.ReportsOfLines.{NamesUpdate};
 
 use crate::reading::lines::EventLine;
 use air_base::NoMemory;

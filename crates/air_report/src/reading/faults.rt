@@ -1,7 +1,7 @@
 //! Why a text is no report of a deck.
 
 ghost use Rattle.std.specs.Prelude.{◌≡◌};
-ghost use Rattle.air_report.specs.Kinds.{code_of};
+ghost use Rattle.air_report.specs.Kinds.{report_kind_number};
 
 use crate::reading::kinds::FaultKind;
 use air_base::NoMemory;
@@ -20,7 +20,7 @@ pub enum ReportError {
 impl ReportError {
     /// The fault of this kind at this record.
     pub(crate) fn at(row: u32, kind: FaultKind) -> ReportError
-        ensures { result ≡ ReportError.Fault row (code_of kind) }
+        ensures { result ≡ ReportError.Fault row (report_kind_number kind) }
     {
         ReportError::Fault {
             row,

@@ -1,7 +1,7 @@
 //! The kinds of a report's fault.
 
 ghost use Rattle.std.specs.Prelude.{◌≡◌};
-ghost use Rattle.air_report.specs.Kinds.{code_of};
+ghost use Rattle.air_report.specs.Kinds.{report_kind_number};
 
 /// A kind of fault. Each has a number: of those that apply to a record, the one of the least number is told.
 #[derive(Clone, Copy, Debug, PartialEq, Eq)]
@@ -25,7 +25,7 @@ pub enum FaultKind {
 impl FaultKind {
     /// Its number.
     pub fn code(self) -> u8
-        ensures { result ≡ code_of self }
+        ensures { result ≡ report_kind_number self }
     {
         match self {
             FaultKind::Fields => 1,

@@ -4,9 +4,9 @@ ghost use Rattle.std.specs.Prelude.{◌≡◌, ◌<◌, drop, length};
 ghost use Rattle.air_base.specs.Pieces.{three_of, two_of};
 ghost use Rattle.csv.specs.Records.{fields_of};
 ghost use Rattle.item_catalog.specs.RecordFields.{four_of, seven_of, six_of};
-ghost use Rattle.item_catalog.specs.Steps.ReadAnswers.{Reads};
+ghost use Rattle.item_catalog.specs.Private.ReadAnswers.{ReadsRecord};
 ghost use Rattle.item_catalog.specs.Spelled.{or_fault};
-ghost use Rattle.air_report.specs.LineTexts.{abort_by, abort_of, commit_by, counts_by, ended_by, line_of, seen_by, start_by, verdict_by};
+ghost use Rattle.air_report.specs.LineTexts.{abort_by, abort_of, commit_by, counts_by, ended_by, seen_by, spelled_line, start_by, verdict_by};
 ghost use Rattle.air_report.specs.declared.reading.kinds.FaultKind.TheVariants as fault;
 
 use crate::reading::kinds::FaultKind;
@@ -21,7 +21,7 @@ use std::alloc::Global;
 
 /// The commit of a record.
 fn read_commit(row: &ByteRecord) -> Result<Line, Refusal<FaultKind>>
-    ensures { Reads result (commit_by (two_of (drop 1 (fields_of row.now)))) }
+    ensures { ReadsRecord result (commit_by (two_of (drop 1 (fields_of row.now)))) }
 {
     let Some((by, seq)) = two(row) else {
         return Err(Refusal::Kind(FaultKind::Fields));
@@ -36,10 +36,10 @@ fn read_commit(row: &ByteRecord) -> Result<Line, Refusal<FaultKind>>
 }
 
 /// The start of a record.
-#[tactic(auto, using(crate::proofs::RecordFacts::no_fields, crate::proofs::RecordFacts::some_fields))]
+#[tactic(auto, using(crate::proofs::RecordLemmas::no_fields, crate::proofs::RecordLemmas::some_fields))]
 fn read_start(row: &ByteRecord) -> Result<Line, Refusal<FaultKind>>
     requires { 0 < length (fields_of row.now) }
-    ensures { Reads result (start_by (drop 1 (fields_of row.now))) }
+    ensures { ReadsRecord result (start_by (drop 1 (fields_of row.now))) }
 {
     if row.len() != 1 {
         return Err(Refusal::Kind(FaultKind::Fields));
@@ -56,7 +56,7 @@ fn read_verdict(
     attempt: &[u8],
     reads: &[u8],
 ) -> Result<Line, Refusal<FaultKind>>
-    ensures { Reads result (or_fault fault.Form (verdict_by kind reader.now query.now attempt.now reads.now)) }
+    ensures { ReadsRecord result (or_fault fault.Form (verdict_by kind reader.now query.now attempt.now reads.now)) }
 {
     let Some(reader) = read_short(reader) else {
         return Err(Refusal::Kind(FaultKind::Form));
@@ -91,7 +91,7 @@ fn read_ended(
     kind: VerdictKind,
     row: &ByteRecord,
 ) -> Result<Line, Refusal<FaultKind>>
-    ensures { Reads result (ended_by kind (four_of (drop 1 (fields_of row.now)))) }
+    ensures { ReadsRecord result (ended_by kind (four_of (drop 1 (fields_of row.now)))) }
 {
     let Some((reader, query, attempt, reads)) = four(row) else {
         return Err(Refusal::Kind(FaultKind::Fields));
@@ -110,7 +110,7 @@ fn abort_of(place: &[u8], clash: &[u8]) -> Option<VerdictKind>
 
 /// The abort of a record.
 fn read_abort(alloc: Global, row: &ByteRecord) -> Result<Line, Refusal<FaultKind>>
-    ensures { Reads result (abort_by (six_of (drop 1 (fields_of row.now)))) }
+    ensures { ReadsRecord result (abort_by (six_of (drop 1 (fields_of row.now)))) }
 {
     let Some((reader, query, attempt, reads, place, clash)) = six(row) else {
         return Err(Refusal::Kind(FaultKind::Fields));
@@ -120,7 +120,7 @@ fn read_abort(alloc: Global, row: &ByteRecord) -> Result<Line, Refusal<FaultKind
 
 /// The counts of a record.
 fn read_counts(row: &ByteRecord) -> Result<Line, Refusal<FaultKind>>
-    ensures { Reads result (counts_by (seven_of (drop 1 (fields_of row.now)))) }
+    ensures { ReadsRecord result (counts_by (seven_of (drop 1 (fields_of row.now)))) }
 {
     let Some((reader, opened, dozed, late, refused, foreign, copied)) = seven(row) else {
         return Err(Refusal::Kind(FaultKind::Fields));
@@ -159,7 +159,7 @@ fn read_counts(row: &ByteRecord) -> Result<Line, Refusal<FaultKind>>
 
 /// What a monitor saw, by a record.
 fn read_seen(row: &ByteRecord) -> Result<LookLine, Refusal<FaultKind>>
-    ensures { Reads result (seen_by (three_of (drop 1 (fields_of row.now)))) }
+    ensures { ReadsRecord result (seen_by (three_of (drop 1 (fields_of row.now)))) }
 {
     let Some((monitor, cycle, total)) = three(row) else {
         return Err(Refusal::Kind(FaultKind::Fields));
@@ -182,7 +182,7 @@ fn read_seen(row: &ByteRecord) -> Result<LookLine, Refusal<FaultKind>>
 
 /// The line that a record spells.
 pub fn read_line(alloc: Global, row: &ByteRecord) -> Result<Line, Refusal<FaultKind>>
-    ensures { Reads result (line_of (fields_of row.now)) }
+    ensures { ReadsRecord result (spelled_line (fields_of row.now)) }
 {
     match read_tag(row) {
         Some(Tag::Commit) => read_commit(row),

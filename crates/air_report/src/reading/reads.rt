@@ -1,12 +1,12 @@
 //! Reads as reports write them, and lists of them, read from the front in one pass.
 
 ghost use Rattle.std.specs.Prelude.{◌≡◌, ◌<◌, ◌^◌, IfOk, MatchOption, Some, None, option_map};
-ghost use Rattle.air_base.specs.Fronts.{FrontIs, after_digits, digits_of};
+ghost use Rattle.air_base.specs.LeadingParts.{FrontIs, after_digits, digits_of};
 ghost use Rattle.air_base.specs.NumberLists.{list_of};
-ghost use Rattle.air_report.specs.LineTexts.{below, item_of, place_of, read_of, short_of};
-ghost use Rattle.air_report.specs.Steps.ReadFronts.{leading_place, leading_read};
+ghost use Rattle.air_report.specs.LineTexts.{below, short_of, spelled_item, spelled_place, spelled_read};
+ghost use Rattle.air_report.specs.Private.ReadFronts.{leading_place, leading_read};
 
-use air_base::{ReadOf, Reads, after_byte, leading_number, number_front, read_u64};
+use air_base::{ReadOf, Reads, after_byte, leading_number, read_leading_number, read_u64};
 use std::alloc::{AllocFailed, Global};
 
 /// A number as an item, where it is one.
@@ -30,9 +30,9 @@ fn to_short(n: u64) -> Option<u32>
 }
 
 /// The item that a text spells.
-#[tactic(auto, unfolding(crate::specs::LineTexts::item_of))]
+#[tactic(auto, unfolding(crate::specs::LineTexts::spelled_item))]
 pub fn read_item(text: &[u8]) -> Option<u16>
-    ensures { result ≡ item_of text.now }
+    ensures { result ≡ spelled_item text.now }
 {
     to_item(read_u64(text)?)
 }
@@ -46,9 +46,9 @@ pub fn read_short(text: &[u8]) -> Option<u32>
 }
 
 /// The item at the front, and the text behind its digits.
-#[tactic(auto, unfolding(crate::specs::LineTexts::item_of))]
+#[tactic(auto, unfolding(crate::specs::LineTexts::spelled_item))]
 fn leading_item(text: &[u8]) -> Option<(u16, &[u8])>
-    ensures { MatchOption result (item_of (digits_of text.now) ≡ None) (λ f. (item_of (digits_of text.now) ≡ Some f.0) × (f.1.now ≡ after_digits text.now)) }
+    ensures { MatchOption result (spelled_item (digits_of text.now) ≡ None) (λ f. (spelled_item (digits_of text.now) ≡ Some f.0) × (f.1.now ≡ after_digits text.now)) }
 {
     let (n, rest) = leading_number(text)?;
     let item = to_item(n)?;
@@ -66,7 +66,7 @@ fn leading_short(text: &[u8]) -> Option<(u32, &[u8])>
 }
 
 /// The place at the front, and the text behind it.
-#[tactic(auto, unfolding(crate::specs::Steps::ReadFronts::leading_place))]
+#[tactic(auto, unfolding(crate::specs::Private::ReadFronts::leading_place))]
 fn leading_place(text: &[u8]) -> Option<(u16, u32, &[u8])>
     ensures { option_map (λ f. (f.0, f.1, f.2.now)) result ≡ leading_place text.now }
 {
@@ -78,7 +78,7 @@ fn leading_place(text: &[u8]) -> Option<(u16, u32, &[u8])>
 
 /// The place that a text spells.
 pub fn read_place(text: &[u8]) -> Option<(u16, u32)>
-    ensures { result ≡ place_of text.now }
+    ensures { result ≡ spelled_place text.now }
 {
     let Some((item, cycle, rest)) = leading_place(text) else {
         return None;
@@ -90,26 +90,26 @@ pub fn read_place(text: &[u8]) -> Option<(u16, u32)>
 }
 
 /// The read at the front, and the text behind its part.
-#[tactic(auto, unfolding(crate::specs::Steps::ReadFronts::leading_read))]
+#[tactic(auto, unfolding(crate::specs::Private::ReadFronts::leading_read))]
 fn leading_read(text: &[u8]) -> Option<(ReadOf, &[u8])>
     ensures { option_map (λ f. (f.0, f.1.now)) result ≡ leading_read text.now }
 {
     let (item, cycle, rest) = leading_place(text)?;
     let more = after_byte(rest, b'=')?;
-    let (value, rest) = number_front(more)?;
+    let (value, rest) = read_leading_number(more)?;
     Some((ReadOf { item, cycle, value }, rest))
 }
 
 /// The read that the first part spells, and what follows the part.
 fn read_front(text: &[u8]) -> Option<(ReadOf, &[u8])>
-    ensures { FrontIs read_of text.now (option_map (λ f. (f.0, f.1.now)) result) }
+    ensures { FrontIs spelled_read text.now (option_map (λ f. (f.0, f.1.now)) result) }
 {
     leading_read(text)
 }
 
 /// The reads of the list that a text spells; none where it spells no list.
 pub fn read_reads(alloc: Global, text: &[u8]) -> Result<Option<Reads>, AllocFailed<ReadOf>>
-    ensures { IfOk result (λ list. list ≡ list_of read_of text.now) }
+    ensures { IfOk result (λ list. list ≡ list_of spelled_read text.now) }
 {
     let mut reads = Vec::new(alloc);
     if text.is_empty() {

@@ -2,7 +2,7 @@
 
 ghost use Rattle.std.specs.Prelude.{◌≡◌, ◌==◌, map};
 ghost use Rattle.std.specs.List.{list_all, list_any};
-ghost use Rattle.air_report.specs.ReportFaults.{end_begun, follow, has_begun, is_begun, is_known, is_tried, its_item, leads};
+ghost use Rattle.air_report.specs.ReportFaults.{end_begun, follow, has_begun, is_begun, is_known, is_tried, leads, read_item};
 
 use crate::reading::lines::Line;
 use air_base::{ReadOf, VerdictKind};
@@ -11,7 +11,7 @@ use item_catalog::Deck;
 
 /// Whether the items of reads stand in order at the front of a query.
 fn leads(reads: &[ReadOf], query: &[u16]) -> bool
-    ensures { result ≡ leads (map its_item reads.now) query.now }
+    ensures { result ≡ leads (map read_item reads.now) query.now }
 {
     let mut left = query;
     for read in reads {
@@ -28,7 +28,7 @@ fn leads(reads: &[ReadOf], query: &[u16]) -> bool
 
 /// Whether the item was read.
 fn was_read(reads: &[ReadOf], item: u16) -> bool
-    ensures { result ≡ list_any (λ other. other == item) (map its_item reads.now) }
+    ensures { result ≡ list_any (λ other. other == item) (map read_item reads.now) }
 {
     for read in reads {
         if read.item == item {
@@ -40,7 +40,7 @@ fn was_read(reads: &[ReadOf], item: u16) -> bool
 
 /// Whether the items of reads follow a query, where the attempt ended so.
 fn follow(query: &[u16], reads: &[ReadOf], end: VerdictKind) -> bool
-    ensures { result ≡ follow query.now (map its_item reads.now) end }
+    ensures { result ≡ follow query.now (map read_item reads.now) end }
 {
     if !leads(reads, query) {
         return false;
@@ -58,7 +58,7 @@ fn follow(query: &[u16], reads: &[ReadOf], end: VerdictKind) -> bool
 fn is_tried(deck: &Deck, line: &VerdictLine) -> bool
     ensures { result ≡ is_tried deck.now line.now }
 {
-    deck.well_made();
+    deck.shows_well_made();
     if line.reader >= deck.readers() {
         return false;
     }

@@ -2,7 +2,7 @@
 
 ghost use Rattle.std.specs.Prelude.{◌≡◌, drop};
 ghost use Rattle.csv.specs.Records.{fields_of};
-ghost use Rattle.air_report.specs.LineTexts.{line_by, line_of, tag_of};
+ghost use Rattle.air_report.specs.LineTexts.{line_tag, spelled_line, spelled_line_by};
 
 use csv::ByteRecord;
 
@@ -21,7 +21,7 @@ pub enum Tag {
 
 /// The tag of this name.
 fn tag_of(text: &[u8]) -> Option<Tag>
-    ensures { result ≡ tag_of text.now }
+    ensures { result ≡ line_tag text.now }
 {
     if text == b"commit".as_slice() {
         Some(Tag::Commit)
@@ -46,7 +46,7 @@ fn tag_of(text: &[u8]) -> Option<Tag>
 
 /// The tag of a record.
 pub fn read_tag(row: &ByteRecord) -> Option<Tag>
-    ensures { line_of (fields_of row.now) ≡ line_by result (drop 1 (fields_of row.now)) }
+    ensures { spelled_line (fields_of row.now) ≡ spelled_line_by result (drop 1 (fields_of row.now)) }
 {
     match row.get(0) {
         Some(text) => tag_of(text),

@@ -3,7 +3,7 @@
 ghost use Rattle.std.specs.Prelude.{◌≡◌, ◌∷◌, [], IfOk, codes, map};
 ghost use Rattle.air_base.specs.Numbers.{number_text};
 ghost use Rattle.air_model.specs.Rows.{rows_text};
-ghost use Rattle.air_report.specs.Statuses.{line_of};
+ghost use Rattle.air_report.specs.Statuses.{status_line};
 
 use crate::status::Status;
 use crate::writing::fields::{finish, put_numbers, row_writer};
@@ -13,7 +13,7 @@ use std::alloc::Global;
 /// The line that a refusal prints; nothing where the status tells no fault.
 #[tactic(auto, unfolding(air_model::specs::Reports::fault_line))]
 pub fn refusal_line(alloc: Global, status: &Status) -> Result<Vec<u8>, NoMemory>
-    ensures { IfOk result (λ text. text.items ≡ line_of status.now) }
+    ensures { IfOk result (λ text. text.items ≡ status_line status.now) }
 {
     let code = u64::from(status.code());
     match *status {

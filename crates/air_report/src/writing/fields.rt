@@ -7,7 +7,7 @@ ghost use Rattle.std.specs.Prelude.{◌≡◌, ◌+◌, ◌<◌, ◌^◌, ◌++�
 ghost use Rattle.csv.specs.Writing.{row_text};
 ghost use Rattle.air_base.specs.Numbers.{number_text};
 ghost use Rattle.air_model.specs.Rows.{row_writer};
-ghost use Rattle.air_report.specs.RowWriters.{IsReady, written_text};
+ghost use Rattle.air_report.specs.RowWriters.{IsRowWriter, written_text};
 ghost use Rattle.air_report.specs.BegunRows.{IsBegun};
 
 use air_base::{NoMemory, write_u64};
@@ -16,7 +16,7 @@ use std::alloc::Global;
 
 /// A writer of rows behind a text.
 pub fn row_writer(text: Vec<u8>) -> Writer<Vec<u8>>
-    ensures ready { IsReady result }
+    ensures ready { IsRowWriter result }
     ensures text { written_text result ≡ text.items }
 {
     WriterBuilder::new().flexible(true).from_writer(text)
@@ -24,8 +24,8 @@ pub fn row_writer(text: Vec<u8>) -> Writer<Vec<u8>>
 
 /// Adds the row of these fields.
 pub fn put_row<'a>(wtr: &mut Writer<Vec<u8>>, fields: &[&'a [u8]]) -> Result<(), NoMemory>
-    requires { IsReady wtr.old }
-    ensures ready { OnOk result (IsReady wtr.new) }
+    requires { IsRowWriter wtr.old }
+    ensures ready { OnOk result (IsRowWriter wtr.new) }
     ensures text { OnOk result
         (written_text wtr.new ≡ written_text wtr.old ++ row_text row_writer (map (λ f. f.now) fields.now)) }
 {
@@ -39,8 +39,8 @@ pub fn put_numbers(
     tag: &[u8],
     ns: &[u64],
 ) -> Result<(), NoMemory>
-    requires { IsReady wtr.old }
-    ensures ready { OnOk result (IsReady wtr.new) }
+    requires { IsRowWriter wtr.old }
+    ensures ready { OnOk result (IsRowWriter wtr.new) }
     ensures text { OnOk result
         (written_text wtr.new ≡ written_text wtr.old ++ row_text row_writer (tag.now ∷ map number_text ns.now)) }
 {
@@ -75,7 +75,7 @@ pub fn put_field(wtr: &mut Writer<Vec<u8>>, field: &[u8]) -> Result<(), NoMemory
 
 /// Ends the row that is begun.
 pub fn end_row(wtr: &mut Writer<Vec<u8>>) -> Result<(), NoMemory>
-    ensures ready { OnOk result ((before : List ℕ) (fields : List (List ℕ)) → IsBegun before fields wtr.old → IsReady wtr.new) }
+    ensures ready { OnOk result ((before : List ℕ) (fields : List (List ℕ)) → IsBegun before fields wtr.old → IsRowWriter wtr.new) }
     ensures text { OnOk result ((before : List ℕ) (fields : List (List ℕ)) → IsBegun before fields wtr.old
         → written_text wtr.new ≡ before ++ row_text row_writer fields) }
 {

@@ -7,7 +7,7 @@ ghost use Rattle.air_base.specs.NumberLists.{list_text};
 ghost use Rattle.air_model.specs.Reports.{attempt_row, counts_row, event_row, look_row, place_text, read_text, verdict_row};
 ghost use Rattle.air_model.specs.Rows.{row_writer};
 ghost use Rattle.air_report.specs.BegunRows.{IsBegun};
-ghost use Rattle.air_report.specs.RowWriters.{IsReady, written_text};
+ghost use Rattle.air_report.specs.RowWriters.{IsRowWriter, written_text};
 
 use crate::writing::fields::{end_row, put_field, put_numbers, put_row};
 use air_base::{NoMemory, ReadOf, VerdictKind, write_u64};
@@ -22,8 +22,8 @@ pub(crate) fn put_event(
     wtr: &mut Writer<Vec<u8>>,
     event: &Event,
 ) -> Result<(), NoMemory>
-    requires { IsReady wtr.old }
-    ensures ready { OnOk result (IsReady wtr.new) }
+    requires { IsRowWriter wtr.old }
+    ensures ready { OnOk result (IsRowWriter wtr.new) }
     ensures text { OnOk result
         (written_text wtr.new ≡ written_text wtr.old ++ row_text row_writer (event_row event.now)) }
 {
@@ -42,8 +42,8 @@ pub(crate) fn put_counts(
     wtr: &mut Writer<Vec<u8>>,
     line: &CountsLine,
 ) -> Result<(), NoMemory>
-    requires { IsReady wtr.old }
-    ensures ready { OnOk result (IsReady wtr.new) }
+    requires { IsRowWriter wtr.old }
+    ensures ready { OnOk result (IsRowWriter wtr.new) }
     ensures text { OnOk result
         (written_text wtr.new ≡ written_text wtr.old ++ row_text row_writer (counts_row line.now)) }
 {
@@ -67,8 +67,8 @@ pub(crate) fn put_look(
     tag: &[u8],
     line: &LookLine,
 ) -> Result<(), NoMemory>
-    requires { IsReady wtr.old }
-    ensures ready { OnOk result (IsReady wtr.new) }
+    requires { IsRowWriter wtr.old }
+    ensures ready { OnOk result (IsRowWriter wtr.new) }
     ensures text { OnOk result
         (written_text wtr.new ≡ written_text wtr.old ++ row_text row_writer (look_row tag.now line.now)) }
 {
@@ -82,8 +82,8 @@ pub(crate) fn put_verdict(
     wtr: &mut Writer<Vec<u8>>,
     line: &VerdictLine,
 ) -> Result<(), NoMemory>
-    requires { IsReady wtr.old }
-    ensures ready { OnOk result (IsReady wtr.new) }
+    requires { IsRowWriter wtr.old }
+    ensures ready { OnOk result (IsRowWriter wtr.new) }
     ensures text { OnOk result
         (written_text wtr.new ≡ written_text wtr.old ++ row_text row_writer (verdict_row line.now)) }
 {
@@ -106,7 +106,7 @@ fn put_attempt(
     tag: &[u8],
     line: &VerdictLine,
 ) -> Result<(), NoMemory>
-    requires { IsReady wtr.old }
+    requires { IsRowWriter wtr.old }
     ensures { OnOk result (IsBegun (written_text wtr.old) (attempt_row tag.now line.now) wtr.new) }
 {
     let mut text = Vec::new(alloc);

@@ -3,7 +3,7 @@
 ghost use Rattle.std.specs.Prelude.{◌≡◌, ◌++◌, OnOk, map};
 ghost use Rattle.air_model.specs.Reports.{counts_row, event_row, look_row, verdict_row};
 ghost use Rattle.air_model.specs.Rows.{rows_text};
-ghost use Rattle.air_report.specs.RowWriters.{IsReady, written_text};
+ghost use Rattle.air_report.specs.RowWriters.{IsRowWriter, written_text};
 
 use crate::writing::rows::{put_counts, put_event, put_look, put_verdict};
 use air_base::NoMemory;
@@ -18,8 +18,8 @@ pub(crate) fn put_history(
     wtr: &mut Writer<Vec<u8>>,
     events: &[Event],
 ) -> Result<(), NoMemory>
-    requires { IsReady wtr.old }
-    ensures ready { OnOk result (IsReady wtr.new) }
+    requires { IsRowWriter wtr.old }
+    ensures ready { OnOk result (IsRowWriter wtr.new) }
     ensures text { OnOk result
         (written_text wtr.new ≡ written_text wtr.old ++ rows_text (map event_row events.now)) }
 {
@@ -35,8 +35,8 @@ pub(crate) fn put_verdicts(
     wtr: &mut Writer<Vec<u8>>,
     lines: &[VerdictLine],
 ) -> Result<(), NoMemory>
-    requires { IsReady wtr.old }
-    ensures ready { OnOk result (IsReady wtr.new) }
+    requires { IsRowWriter wtr.old }
+    ensures ready { OnOk result (IsRowWriter wtr.new) }
     ensures text { OnOk result
         (written_text wtr.new ≡ written_text wtr.old ++ rows_text (map verdict_row lines.now)) }
 {
@@ -52,8 +52,8 @@ pub(crate) fn put_all_counts(
     wtr: &mut Writer<Vec<u8>>,
     lines: &[CountsLine],
 ) -> Result<(), NoMemory>
-    requires { IsReady wtr.old }
-    ensures ready { OnOk result (IsReady wtr.new) }
+    requires { IsRowWriter wtr.old }
+    ensures ready { OnOk result (IsRowWriter wtr.new) }
     ensures text { OnOk result
         (written_text wtr.new ≡ written_text wtr.old ++ rows_text (map counts_row lines.now)) }
 {
@@ -70,8 +70,8 @@ pub(crate) fn put_looks(
     tag: &[u8],
     lines: &[LookLine],
 ) -> Result<(), NoMemory>
-    requires { IsReady wtr.old }
-    ensures ready { OnOk result (IsReady wtr.new) }
+    requires { IsRowWriter wtr.old }
+    ensures ready { OnOk result (IsRowWriter wtr.new) }
     ensures text { OnOk result
         (written_text wtr.new ≡ written_text wtr.old ++ rows_text (map (look_row tag.now) lines.now)) }
 {

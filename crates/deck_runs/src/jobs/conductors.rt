@@ -5,9 +5,9 @@ ghost use Rattle.air_model.specs.Disks.{all_items};
 ghost use Rattle.air_model.specs.Programs.{program as slots_of};
 ghost use Rattle.air_model.specs.Aired.{Air};
 ghost use Rattle.bucket_codec.specs.declared.offsets.TheConstants.{ENTRY_BYTES, HEAD_BYTES};
-ghost use Rattle.deck_runs.specs.Published.{AreInStep, GoesOn, IsPublishedUpTo, PublishesOn};
+ghost use Rattle.deck_runs.specs.PublishedBatches.{AreInStep, GoesOn, IsPublishedUpTo, PublishesOn};
 ghost use Rattle.deck_runs.specs.Sendings.{IsAirOf, IsCause, SendsCycles, SendsUpTo};
-ghost use Rattle.deck_runs.specs.Steps.CycleSteps.{HasConducted};
+ghost use Rattle.deck_runs.specs.Private.CycleSteps.{HasConducted};
 
 use crate::jobs::cycles::conduct_cycle;
 use crate::jobs::means::Means;
@@ -103,7 +103,7 @@ pub fn conduct<R: Wait, M: Mast, G: Gate>(
     ensures conducted { HasConducted M.state means.now.policy (slots_of means.now.program.now) cycles pass.old pass.new publisher.old publisher.new board.new mast.old mast.new result }
     ensures buffer { length buf.new ≡ length buf.old }
 {
-    means.program.well_made();
+    means.program.shows_well_made();
     let slots = u64::from(means.program.slots());
     for k in 0..cycles {
         let cycle = pass.started() + 1;

@@ -8,10 +8,10 @@ ghost use Rattle.air_history.specs.Histories.{starts};
 ghost use Rattle.air_model.specs.Disks.{all_items};
 ghost use Rattle.air_model.specs.Programs.{program as slots_of};
 ghost use Rattle.bucket_codec.specs.declared.offsets.TheConstants.{ENTRY_BYTES, HEAD_BYTES};
-ghost use Rattle.deck_runs.specs.Published.{AreInStep};
-ghost use Rattle.deck_runs.specs.Steps.CycleSteps.{HasConducted};
+ghost use Rattle.deck_runs.specs.PublishedBatches.{AreInStep};
+ghost use Rattle.deck_runs.specs.Private.CycleSteps.{HasConducted};
 ghost use Rattle.deck_runs.specs.declared.jobs.TheConstants.{LOOKS};
-ghost use Rattle.deck_runs.specs.Crews.{EachDone, EachWatched, IsDone, IsReady, IsWatched};
+ghost use Rattle.deck_runs.specs.Crews.{EachDone, EachWatched, HasMadeUpdates, HasNewPass, IsWatched};
 
 use crate::jobs::LOOKS;
 use crate::jobs::conductors::{ConductFault, conduct};
@@ -39,7 +39,7 @@ pub struct UpdaterRun {
 
 impl UpdaterRun {
     /// Commits the deck's updates of the updater.
-    #[tactic(auto, unfolding(crate::specs::Crews::IsReady, crate::specs::Crews::IsDone))]
+    #[tactic(auto, unfolding(crate::specs::Crews::HasNewPass, crate::specs::Crews::HasMadeUpdates))]
     fn work<R: Wait, G: Gate>(
         &mut self,
         wait: &R,
@@ -48,10 +48,10 @@ impl UpdaterRun {
         deck: &Deck,
         gate: &G,
     )
-        requires ready { IsReady station.now deck.now self.old }
-        ensures done { IsDone deck.now self.old self.new }
+        requires ready { HasNewPass station.now deck.now self.old }
+        ensures done { HasMadeUpdates deck.now self.old self.new }
     {
-        deck.well_made();
+        deck.shows_well_made();
         let number = self.pass.by();
         let mine = deck.updates(number);
         match updater_job(wait, alloc, station, &mut self.pass, mine, gate) {
@@ -91,7 +91,7 @@ fn update_all<R: Threads + Wait + Sync, G: Gate + Sync>(
     updaters: &mut [UpdaterRun],
     gate: &G,
 )
-    requires { All (IsReady station.now deck.now) updaters.old }
+    requires { All (HasNewPass station.now deck.now) updaters.old }
     ensures { EachDone deck.now updaters.old updaters.new }
 {
     thread::for_each_mut(
@@ -131,7 +131,7 @@ fn update_and_watch<R: Threads + Wait + Sync, G: Gate + Sync>(
     looks: u32,
     gate: &G,
 )
-    requires ready { All (IsReady station.now deck.now) updaters.old }
+    requires ready { All (HasNewPass station.now deck.now) updaters.old }
     requires some { 1 ≤ looks }
     ensures updaters { EachDone deck.now updaters.old updaters.new }
     ensures monitors { EachWatched looks monitors.old monitors.new }
@@ -143,7 +143,7 @@ fn update_and_watch<R: Threads + Wait + Sync, G: Gate + Sync>(
             ensures { EachWatched looks monitors.entry.now monitors.exit.now }
         { watch_all(rt, monitors, looks, gate) },
         &mut ||
-            requires { IsSync R.row × IsSync G.row × All (IsReady station.now deck.now) updaters.now }
+            requires { IsSync R.row × IsSync G.row × All (HasNewPass station.now deck.now) updaters.now }
             ensures { EachDone deck.entry.now updaters.entry.now updaters.exit.now }
         { update_all(rt, alloc, station, deck, updaters, gate) },
     );
@@ -168,7 +168,7 @@ pub fn run_beside<R: Threads + Wait + Sync, M: Mast + Send, G: Gate + Sync>(
     requires room { (starts pass.old.seen + deck.now.settings.cycles ≤ publisher.old.most) × (starts pass.old.seen + deck.now.settings.cycles + 1 < 2 ^ 32) }
     requires items { length (all_items means.now.program.now) ≡ length pass.old.values }
     requires buffer { HEAD_BYTES + ENTRY_BYTES * length pass.old.values ≤ length buf.old }
-    requires ready { All (IsReady means.now.station.now deck.now) updaters.old }
+    requires ready { All (HasNewPass means.now.station.now deck.now) updaters.old }
     ensures conducted { HasConducted M.state means.now.policy (slots_of means.now.program.now) deck.now.settings.cycles pass.old pass.new publisher.old publisher.new board.new mast.old mast.new result }
     ensures updaters { EachDone deck.now updaters.old updaters.new }
     ensures monitors { EachWatched LOOKS monitors.old monitors.new }
@@ -181,7 +181,7 @@ pub fn run_beside<R: Threads + Wait + Sync, M: Mast + Send, G: Gate + Sync>(
         rt,
         &mut || conduct(means, pass, publisher, board, cycles, mast, buf, gate),
         &mut ||
-            requires { IsSync R.row × IsSync G.row × All (IsReady station.now deck.now) updaters.now }
+            requires { IsSync R.row × IsSync G.row × All (HasNewPass station.now deck.now) updaters.now }
             ensures { EachDone deck.entry.now updaters.entry.now updaters.exit.now × EachWatched LOOKS monitors.entry.now monitors.exit.now }
         { update_and_watch(rt, alloc, station, deck, updaters, monitors, LOOKS, gate) },
     );

@@ -9,12 +9,12 @@ ghost use Rattle.air_model.specs.Aired.{Air};
 ghost use Rattle.air_sender.specs.BoardBuckets.{EntriesBelow};
 ghost use Rattle.bucket_codec.specs.declared.offsets.TheConstants.{ENTRY_BYTES, HEAD_BYTES};
 ghost use Rattle.air_sender.specs.AirFaults.{failed_slot};
-ghost use Rattle.cycle_snapshot.specs.Batches.{IsBatch, events_in};
-ghost use Rattle.cycle_snapshot.specs.Steps.BoardRuns.{step_all};
-ghost use Rattle.deck_runs.specs.Published.{AreInStep, GoesOn, IsPublishedUpTo, IsUpTo, PublishesOn};
+ghost use Rattle.cycle_snapshot.specs.Batches.{IsBatch, batch_events};
+ghost use Rattle.cycle_snapshot.specs.Private.BoardRuns.{step_all};
+ghost use Rattle.deck_runs.specs.PublishedBatches.{AreInStep, GoesOn, IsPublishedUpTo, IsUpTo, PublishesOn};
 ghost use Rattle.deck_runs.specs.declared.jobs.conductors.ConductFault.TheVariants as fault;
 ghost use Rattle.deck_runs.specs.Sendings.{IsAirOf, IsCause, SendsCycles};
-ghost use Rattle.deck_runs.specs.Steps.CycleSteps.{AddsBatch, HasStopped, IsWithin, SendsInCycle};
+ghost use Rattle.deck_runs.specs.Private.CycleSteps.{AddsBatch, HasStopped, IsWithin, SendsInCycle};
 
 use crate::jobs::conductors::ConductFault;
 use crate::jobs::means::Means;
@@ -35,7 +35,7 @@ fn apply_all(board: &mut Board, events: &[Event])
     ensures bases { All BasesRead events.now }
 {
     for event in events {
-        event.keeps_rules();
+        event.shows_rules_kept();
         board.apply(event);
     }
 }
@@ -111,7 +111,7 @@ pub fn conduct_cycle<R: Wait, M: Mast>(
     ensures stopped { IfErr result (HasStopped 1 pass.new publisher.old publisher.new) }
     ensures short { IfErr result (IsWithin (length (slots_of means.now.program.now))) }
     ensures aired { (air : Air) → IsAirOf pass.old.values means.now.policy (slots_of means.now.program.now) air →
-        MatchResult result (λ _. SendsCycles pass.old.values air 1 (events_in publisher.old.batches) (events_in publisher.new.batches) (M.state mast.old).told (M.state mast.new).told) (SendsInCycle M.state pass.old.values air (events_in publisher.old.batches) (events_in publisher.new.batches) mast.old mast.new) }
+        MatchResult result (λ _. SendsCycles pass.old.values air 1 (batch_events publisher.old.batches) (batch_events publisher.new.batches) (M.state mast.old).told (M.state mast.new).told) (SendsInCycle M.state pass.old.values air (batch_events publisher.old.batches) (batch_events publisher.new.batches) mast.old mast.new) }
     ensures cause { MatchResult result (λ _. (M.state mast.new).faults ≡ (M.state mast.old).faults) (IsCause (M.state mast.old).faults (M.state mast.new).faults) }
     ensures port { (M.state mast.new).port ≡ (M.state mast.old).port }
     ensures buffer { length buf.new ≡ length buf.old }

@@ -1,6 +1,6 @@
 //! A monitor's job, and its last look.
 ghost use Rattle.std.specs.Prelude.{◌≡◌, ℕ, ◌<◌, ◌≤◌, MatchResult};
-ghost use Rattle.cycle_snapshot.specs.SnapshotStates.{Looked};
+ghost use Rattle.cycle_snapshot.specs.SnapshotStates.{HasLooked};
 ghost use mathlib.Core.List.{IsPrefix};
 ghost use Rattle.deck_runs.specs.Looks.{IsLineOf, LookedTimes};
 
@@ -44,7 +44,7 @@ pub fn monitor_job<G: Gate>(
 pub fn last_look(monitor: &mut Monitor, publisher: &Publisher) -> Result<LookLine, NoMemory>
     requires own { monitor.old.publisher ≡ publisher.now.id }
     ensures told { IsPrefix publisher.now.batches monitor.new.told × IsPrefix monitor.old.told monitor.new.told }
-    ensures looked { MatchResult result (λ line. Looked (record monitor.old { told = monitor.new.told }) monitor.new × IsLineOf monitor.new line) (λ _. monitor.new ≡ record monitor.old { told = monitor.new.told }) }
+    ensures looked { MatchResult result (λ line. HasLooked (record monitor.old { told = monitor.new.told }) monitor.new × IsLineOf monitor.new line) (λ _. monitor.new ≡ record monitor.old { told = monitor.new.told }) }
 {
     monitor.learn(publisher.tell());
     monitor.look()?;

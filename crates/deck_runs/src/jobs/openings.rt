@@ -2,7 +2,7 @@
 ghost use Rattle.std.specs.Prelude.{◌≡◌, ℕ, length, slice_get, All, IfOk, Some};
 ghost use Rattle.air_model.specs.Decks.{values_in};
 ghost use Rattle.station.specs.PassStates.{PassState, new_pass};
-ghost use Rattle.deck_runs.specs.Crews.{IsReady, passes_of, monitors_of};
+ghost use Rattle.deck_runs.specs.Crews.{HasNewPass, passes_of, monitors_of};
 
 use crate::jobs::crews::{MonitorRun, UpdaterRun};
 use air_base::NoMemory;
@@ -43,7 +43,7 @@ pub fn updaters_of(
     requires count { length passes.items ≡ length deck.now.updates }
     requires each { (by : ℕ) (p : PassState) → slice_get passes.items by ≡ Some p → p ≡ new_pass station.now deck.now by }
     ensures passes { IfOk result (λ updaters. passes_of updaters.items ≡ passes.items) }
-    ensures ready { IfOk result (λ updaters. All (IsReady station.now deck.now) updaters.items) }
+    ensures ready { IfOk result (λ updaters. All (HasNewPass station.now deck.now) updaters.items) }
 {
     let updaters = with_passes(alloc, passes)?;
     Ok(updaters)

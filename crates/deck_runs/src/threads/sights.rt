@@ -2,7 +2,7 @@
 
 ghost use Rattle.std.specs.Prelude.{◌≡◌, ◌<◌, ◌^◌, length, All, IfOk};
 ghost use Rattle.deck_runs.specs.declared.jobs.crews.MonitorRun.{MonitorRun as Watcher};
-ghost use Rattle.deck_runs.specs.Steps.SightSteps.{AreAllSights, AreSights};
+ghost use Rattle.deck_runs.specs.Private.SightSteps.{AreAllSights, AreSights};
 
 use crate::jobs::crews::MonitorRun;
 use crate::jobs::monitors::last_look;

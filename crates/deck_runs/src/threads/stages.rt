@@ -7,12 +7,12 @@ ghost use Rattle.air_devices.specs.Masts.{Changes, with_buckets};
 ghost use Rattle.air_model.specs.Batches.{AirsByBatches};
 ghost use Rattle.cycle_snapshot.specs.SnapshotStates.{new_monitor, new_publisher};
 ghost use Rattle.deck_runs.specs.Crews.{EachWatched, passes_of};
-ghost use Rattle.deck_runs.specs.Published.{IsUpTo, PublishesOn};
+ghost use Rattle.deck_runs.specs.PublishedBatches.{IsUpTo, PublishesOn};
 ghost use Rattle.deck_runs.specs.declared.jobs.crews.MonitorRun.{MonitorRun as Watcher};
 ghost use Rattle.deck_runs.specs.declared.jobs.crews.UpdaterRun.{UpdaterRun as Updater};
 ghost use Rattle.deck_runs.specs.declared.jobs.TheConstants.{LOOKS};
 ghost use Rattle.deck_runs.specs.DeckBytes.{deck_bytes};
-ghost use Rattle.deck_runs.specs.Steps.StageSteps.{BeginsWhole, IsEnd, IsPlayed, IsSeenAnswer, IsStage};
+ghost use Rattle.deck_runs.specs.Private.StageSteps.{BeginsWhole, IsEnd, IsPlayed, IsSeenAnswer, IsStage};
 
 use crate::jobs::conductors::ConductFault;
 use crate::jobs::crews::{MonitorRun, UpdaterRun};
@@ -47,7 +47,7 @@ pub(crate) struct Stage {
 pub(crate) fn open_stage(alloc: Global, deck: &Deck) -> Result<Stage, NoMemory>
     ensures { IfOk result (IsStage deck.now) }
 {
-    deck.well_made();
+    deck.shows_well_made();
     let (station, passes, pass) = Station::new(alloc, deck)?;
     let updaters = updaters_of(alloc, &station, deck, passes)?;
     let values = first_values(alloc, deck)?;
@@ -71,7 +71,7 @@ pub(crate) fn open_publisher<R: Wait>(
     ensures count { IfOk result (λ made. length made.1.items ≡ deck.now.settings.monitors) }
     ensures each { IfOk result (λ made. All (λ (run : Watcher). run.monitor ≡ new_monitor made.0) made.1.items) }
 {
-    deck.well_made();
+    deck.shows_well_made();
     let settings = deck.settings();
     let values = first_values(alloc, deck)?;
     let (source, monitors) = publisher(wait, alloc, &values, settings.monitors, settings.cycles)?;

@@ -1,6 +1,6 @@
 //! Lists of items, of writes and of reads.
 
-use crate::words::texts::{cut_at, cut_at_sign, front_of};
+use crate::words::texts::{cut_at, cut_at_sign, text_before};
 use air_base::read_u64;
 
 /// The item that a part of a list names: all of it, or what stands before `@` or, where there is none, before `=`.
@@ -8,13 +8,13 @@ pub fn item_of(part: &str) -> Option<u64> {
     let bytes = part.as_bytes();
     match cut_at(bytes, b'@') {
         Some((front, _)) => read_u64(front),
-        None => read_u64(front_of(bytes, b'=')),
+        None => read_u64(text_before(bytes, b'=')),
     }
 }
 
 /// The cycle of a part `<item>@<cycle>`, whatever stands behind a `=`.
 fn cycle_of(part: &str) -> Option<u64> {
-    let (_, cycle) = cut_at(front_of(part.as_bytes(), b'='), b'@')?;
+    let (_, cycle) = cut_at(text_before(part.as_bytes(), b'='), b'@')?;
     read_u64(cycle)
 }
 

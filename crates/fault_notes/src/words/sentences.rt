@@ -2,7 +2,7 @@
 //!
 //! No memory is taken here: what is said points into the record, and the line of the note is written once, in the end.
 
-use crate::words::texts::Shown;
+use crate::words::texts::ShownText;
 use std::fmt;
 
 /// A sentence in two parts, with the name of one of its values between two `#` in the place of that value. A value is told by its
@@ -97,7 +97,7 @@ impl Sentence<'_> {
             return Ok(());
         };
         let number = match *letter {
-            b't' => return fmt::Display::fmt(&Shown::field(self.text), f),
+            b't' => return fmt::Display::fmt(&ShownText::field(self.text), f),
             b'n' => return f.write_str(self.name),
             b'w' => return f.write_str(self.why),
             b'f' => self.first,

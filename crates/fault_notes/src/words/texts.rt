@@ -4,27 +4,27 @@ use std::fmt;
 
 /// A text as a note shows it, on one line: a question mark stands for each character that can't be printed.
 #[derive(Clone, Copy)]
-pub struct Shown<'a> {
+pub struct ShownText<'a> {
     text: &'a str,
     most: usize,
 }
 
-impl<'a> Shown<'a> {
+impl<'a> ShownText<'a> {
     /// The first forty characters of a field.
-    pub fn field(text: &'a str) -> Shown<'a> {
-        Shown { text, most: 40 }
+    pub fn field(text: &'a str) -> ShownText<'a> {
+        ShownText { text, most: 40 }
     }
 
     /// The whole of a name.
-    pub fn whole(text: &'a str) -> Shown<'a> {
-        Shown {
+    pub fn whole(text: &'a str) -> ShownText<'a> {
+        ShownText {
             text,
             most: usize::MAX,
         }
     }
 }
 
-impl fmt::Display for Shown<'_> {
+impl fmt::Display for ShownText<'_> {
     fn fmt<W: fmt::Write>(&self, f: &mut fmt::Formatter<W>) -> fmt::Result {
         if self.text.is_empty() {
             return f.write_str("(empty)");
@@ -66,7 +66,7 @@ pub fn cut_at(bytes: &[u8], mark: u8) -> Option<(&[u8], &[u8])> {
 }
 
 /// What stands before the first byte of this value; all where there is no such byte.
-pub fn front_of(bytes: &[u8], mark: u8) -> &[u8] {
+pub fn text_before(bytes: &[u8], mark: u8) -> &[u8] {
     match cut_at(bytes, mark) {
         Some((front, _)) => front,
         None => bytes,

@@ -8,9 +8,9 @@ ghost use Rattle.csv.specs.Records.{fields_of};
 ghost use Rattle.air_model.specs.Decks.{IsDeck};
 ghost use Rattle.item_catalog.specs.RecordKinds.{first_of};
 ghost use Rattle.item_catalog.specs.DeckLimits.{WithinLimits};
-ghost use Rattle.item_catalog.specs.Steps.Drafts.{Adds, deck_from, draft_of};
+ghost use Rattle.item_catalog.specs.Private.Drafts.{AddsDeclaration, deck_from, draft_of};
 ghost use Rattle.item_catalog.specs.Settings.{number_in};
-ghost use Rattle.item_catalog.specs.DeckEntries.{disk_by, entry_of, item_by, reader_by};
+ghost use Rattle.item_catalog.specs.Declarations.{disk_by, item_by, reader_by, spelled_declaration};
 ghost use Rattle.item_catalog.specs.Faults.{end_tests};
 ghost use Rattle.air_base.specs.Pieces.{three_of, two_of};
 
@@ -57,8 +57,8 @@ pub struct Draft {
 }
 
 impl Model for Draft {
-    ghost use Rattle.item_catalog.specs.Steps.Drafts.{DraftValue};
-    ghost use Rattle.item_catalog.specs.Steps.DraftView.{DraftKept, draft_seen};
+    ghost use Rattle.item_catalog.specs.Private.Drafts.{DraftValue};
+    ghost use Rattle.item_catalog.specs.Private.DraftView.{DraftKept, draft_seen};
 
     ghost Value = { DraftValue };
 
@@ -112,7 +112,7 @@ impl Draft {
 
     /// Adds the item of a record.
     pub fn add_item(&mut self, row: &ByteRecord) -> Result<(), Refusal<FaultKind>>
-        ensures { Adds result (item_by (three_of (drop 1 (fields_of row.now)))) self.old self.new }
+        ensures { AddsDeclaration result (item_by (three_of (drop 1 (fields_of row.now)))) self.old self.new }
     {
         let Some((id, value, rate)) = three(row) else {
             return Err(Refusal::Kind(FaultKind::Fields));
@@ -139,7 +139,7 @@ impl Draft {
 
     /// Adds the disk of a record.
     pub fn add_disk(&mut self, row: &ByteRecord) -> Result<(), Refusal<FaultKind>>
-        ensures { Adds result (disk_by (two_of (drop 1 (fields_of row.now)))) self.old self.new }
+        ensures { AddsDeclaration result (disk_by (two_of (drop 1 (fields_of row.now)))) self.old self.new }
     {
         let Some((size, freq)) = two(row) else {
             return Err(Refusal::Kind(FaultKind::Fields));
@@ -162,7 +162,7 @@ impl Draft {
 
     /// Adds the reader of a record.
     pub fn add_reader(&mut self, row: &ByteRecord) -> Result<(), Refusal<FaultKind>>
-        ensures { Adds result (reader_by (three_of (drop 1 (fields_of row.now)))) self.old self.new }
+        ensures { AddsDeclaration result (reader_by (three_of (drop 1 (fields_of row.now)))) self.old self.new }
     {
         let Some((room, age, tries)) = three(row) else {
             return Err(Refusal::Kind(FaultKind::Fields));
@@ -194,7 +194,7 @@ impl Draft {
 
     /// Adds what a record spells.
     pub fn add(&mut self, alloc: Global, row: &ByteRecord) -> Result<(), Refusal<FaultKind>>
-        ensures { Adds result (entry_of (fields_of row.now)) self.old self.new }
+        ensures { AddsDeclaration result (spelled_declaration (fields_of row.now)) self.old self.new }
     {
         match read_tag(row) {
             Some(Tag::Item) => self.add_item(row),

@@ -8,7 +8,7 @@ ghost use Rattle.item_catalog.specs.RecordFields.{four_of, seven_of, six_of};
 use csv::ByteRecord;
 
 /// The field at a place.
-#[tactic(auto, using(crate::proofs::FieldFacts::field_there))]
+#[tactic(auto, using(crate::proofs::FieldLemmas::field_there))]
 fn field(row: &ByteRecord, place: usize) -> &[u8]
     requires { place < length (fields_of row.now) }
     ensures { Some result.now ≡ field_at (fields_of row.now) place }
@@ -20,7 +20,7 @@ fn field(row: &ByteRecord, place: usize) -> &[u8]
 }
 
 /// The one field.
-#[tactic(auto, using(crate::proofs::FieldFacts::one_field, crate::proofs::FieldFacts::other_than_one))]
+#[tactic(auto, using(crate::proofs::FieldLemmas::one_field, crate::proofs::FieldLemmas::other_than_one))]
 pub fn one(row: &ByteRecord) -> Option<&[u8]>
     ensures { option_map (λ f. f.now) result ≡ one_of (drop 1 (fields_of row.now)) }
 {
@@ -31,7 +31,7 @@ pub fn one(row: &ByteRecord) -> Option<&[u8]>
 }
 
 /// The two fields.
-#[tactic(auto, using(crate::proofs::FieldFacts::two_fields, crate::proofs::FieldFacts::other_than_two))]
+#[tactic(auto, using(crate::proofs::FieldLemmas::two_fields, crate::proofs::FieldLemmas::other_than_two))]
 pub fn two(row: &ByteRecord) -> Option<(&[u8], &[u8])>
     ensures { option_map (λ f. (f.0.now, f.1.now)) result ≡ two_of (drop 1 (fields_of row.now)) }
 {
@@ -42,7 +42,7 @@ pub fn two(row: &ByteRecord) -> Option<(&[u8], &[u8])>
 }
 
 /// The three fields.
-#[tactic(auto, using(crate::proofs::FieldFacts::three_fields, crate::proofs::FieldFacts::other_than_three))]
+#[tactic(auto, using(crate::proofs::FieldLemmas::three_fields, crate::proofs::FieldLemmas::other_than_three))]
 pub fn three(row: &ByteRecord) -> Option<(&[u8], &[u8], &[u8])>
     ensures { option_map (λ f. (f.0.now, f.1.now, f.2.now)) result ≡ three_of (drop 1 (fields_of row.now)) }
 {
@@ -53,7 +53,7 @@ pub fn three(row: &ByteRecord) -> Option<(&[u8], &[u8], &[u8])>
 }
 
 /// The four fields.
-#[tactic(auto, using(crate::proofs::FieldFacts::four_fields, crate::proofs::FieldFacts::other_than_four))]
+#[tactic(auto, using(crate::proofs::FieldLemmas::four_fields, crate::proofs::FieldLemmas::other_than_four))]
 pub fn four(row: &ByteRecord) -> Option<(&[u8], &[u8], &[u8], &[u8])>
     ensures { option_map (λ f. (f.0.now, f.1.now, f.2.now, f.3.now)) result ≡ four_of (drop 1 (fields_of row.now)) }
 {
@@ -64,7 +64,7 @@ pub fn four(row: &ByteRecord) -> Option<(&[u8], &[u8], &[u8], &[u8])>
 }
 
 /// The six fields.
-#[tactic(auto, using(crate::proofs::ManyFieldFacts::six_fields, crate::proofs::ManyFieldFacts::other_than_six))]
+#[tactic(auto, using(crate::proofs::ManyFieldLemmas::six_fields, crate::proofs::ManyFieldLemmas::other_than_six))]
 pub fn six(row: &ByteRecord) -> Option<(&[u8], &[u8], &[u8], &[u8], &[u8], &[u8])>
     ensures { option_map (λ f. (f.0.now, f.1.now, f.2.now, f.3.now, f.4.now, f.5.now)) result ≡ six_of (drop 1 (fields_of row.now)) }
 {
@@ -82,7 +82,7 @@ pub fn six(row: &ByteRecord) -> Option<(&[u8], &[u8], &[u8], &[u8], &[u8], &[u8]
 }
 
 /// The seven fields.
-#[tactic(auto, using(crate::proofs::ManyFieldFacts::seven_fields, crate::proofs::ManyFieldFacts::other_than_seven))]
+#[tactic(auto, using(crate::proofs::ManyFieldLemmas::seven_fields, crate::proofs::ManyFieldLemmas::other_than_seven))]
 pub fn seven(row: &ByteRecord) -> Option<(&[u8], &[u8], &[u8], &[u8], &[u8], &[u8], &[u8])>
     ensures { option_map (λ f. (f.0.now, f.1.now, f.2.now, f.3.now, f.4.now, f.5.now, f.6.now)) result ≡ seven_of (drop 1 (fields_of row.now)) }
 {

@@ -10,7 +10,7 @@ ghost use Rattle.air_base.specs.ReadParts.{ReadsTo};
 ghost use Rattle.item_catalog.specs.KeptLists.{ReadIs, among, items_seen, no_items, see_item};
 
 use air_base::limits::MOST_ITEMS;
-use air_base::{number_front, plain_short};
+use air_base::{plain_short, read_leading_number};
 use std::marker::Model;
 
 /// The items that are declared and distinct, in order; whether one wasn't declared, or stood twice. The first `count` of
@@ -157,7 +157,7 @@ impl ItemList {
         }
         let mut rest = &text[place..];
         loop {
-            let Some((item, after)) = number_front(rest) else {
+            let Some((item, after)) = read_leading_number(rest) else {
                 return false;
             };
             self.see(declared, item);

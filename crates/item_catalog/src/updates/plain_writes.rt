@@ -1,15 +1,15 @@
 //! Writes as most decks spell them, read by their places in a list.
 //!
 //! A plain write has the form `<item>=<base>+<amount>` or `<item>=<base>-<amount>`, where item and base have at most three
-//! digits. What isn't plain is left to the readers of `write_fronts`: so none says nothing of the part. The last part of a
+//! digits. What isn't plain is left to the readers of `leading_writes`: so none says nothing of the part. The last part of a
 //! list, where it is too near to the end for the reader by place, is read from a copy with spaces behind it.
 
 ghost use Rattle.std.specs.Prelude.{◌≡◌, ◌==◌, ◌<◌, ◌≤◌, ◌+◌, length, IfSome, MatchOption, Some, false};
 ghost use Rattle.air_base.specs.ReadParts.{PlainAt};
-ghost use Rattle.item_catalog.specs.Writes.{value_of, write_of};
-ghost use Rattle.item_catalog.specs.Steps.WriteParts.{sign_of, write_said};
+ghost use Rattle.item_catalog.specs.Writes.{spelled_value_write, spelled_write};
+ghost use Rattle.item_catalog.specs.Private.WriteParts.{sign_of, write_said};
 
-use crate::updates::write_fronts::WritePart;
+use crate::updates::leading_writes::WritePart;
 use air_base::{plain_number, short_number};
 
 /// The bytes from the beginning of a part in which the reader by place looks for a plain write.
@@ -30,7 +30,7 @@ fn is_minus(sign: u8) -> Option<bool>
 #[inline(always)]
 fn plain_value(item: u64, text: &[u8], place: usize) -> Option<(WritePart, usize)>
     requires { place + 8 ≤ length text.now }
-    ensures { IfSome result (λ f. PlainAt (value_of (Some item)) text.now place (write_said f.0, f.1)) }
+    ensures { IfSome result (λ f. PlainAt (spelled_value_write (Some item)) text.now place (write_said f.0, f.1)) }
 {
     let (base, sign) = short_number(text, place)?;
     let minus = is_minus(text[sign])?;
@@ -48,7 +48,7 @@ fn plain_value(item: u64, text: &[u8], place: usize) -> Option<(WritePart, usize
 #[inline(always)]
 pub fn plain_write(text: &[u8], place: usize) -> Option<(WritePart, usize)>
     requires { place + PLAIN_BYTES ≤ length text.now }
-    ensures { IfSome result (λ f. PlainAt write_of text.now place (write_said f.0, f.1)) }
+    ensures { IfSome result (λ f. PlainAt spelled_write text.now place (write_said f.0, f.1)) }
 {
     let (item, equals) = short_number(text, place)?;
     if text[equals] != b'=' {
@@ -61,7 +61,7 @@ pub fn plain_write(text: &[u8], place: usize) -> Option<(WritePart, usize)>
 #[inline(never)]
 pub fn last_write(text: &[u8]) -> Option<(WritePart, usize)>
     requires { length text.now < PLAIN_BYTES }
-    ensures { IfSome result (λ f. PlainAt write_of text.now 0 (write_said f.0, f.1)) }
+    ensures { IfSome result (λ f. PlainAt spelled_write text.now 0 (write_said f.0, f.1)) }
 {
     let mut spaced = [b' '; PLAIN_BYTES];
     spaced[..text.len()].copy_from_slice(text);

@@ -4,15 +4,15 @@
 
 ghost use Rattle.std.specs.Prelude.{◌≡◌, ◌<◌, ◌≤◌, ◌||◌, IfSome, length};
 ghost use Rattle.air_base.specs.NumberLists.{list_of};
-ghost use Rattle.item_catalog.specs.Writes.{write_of};
+ghost use Rattle.item_catalog.specs.Writes.{spelled_write};
 ghost use Rattle.item_catalog.specs.ListTests.{is_unread, write_reaches};
 ghost use Rattle.air_base.specs.ReadParts.{ReadsTo};
 ghost use Rattle.item_catalog.specs.KeptLists.{ReadIs, no_writes, see_write, writes_seen};
-ghost use Rattle.item_catalog.specs.Steps.WriteParts.{write_said};
+ghost use Rattle.item_catalog.specs.Private.WriteParts.{write_said};
 
 use crate::updates::item_lists::ItemList;
+use crate::updates::leading_writes::{WritePart, leading_write};
 use crate::updates::plain_writes::{PLAIN_BYTES, plain_write};
-use crate::updates::write_fronts::{WritePart, write_front};
 use air_base::limits::MOST_ITEMS;
 use air_history::Write;
 use std::marker::Model;
@@ -32,14 +32,14 @@ pub struct WriteList {
 impl Model for WriteList {
     ghost use Rattle.std.specs.Prelude.{◌≡◌, ◌≤◌, length, map, take};
     ghost use Rattle.air_base.specs.declared.limits.TheConstants.{MOST_ITEMS};
-    ghost use Rattle.air_history.specs.UpdateRules.{item_of};
+    ghost use Rattle.air_history.specs.UpdateRules.{written_item};
     ghost use Rattle.item_catalog.specs.KeptLists.{KeptOnce, WritesSeen};
 
     ghost Value = { WritesSeen };
 
     ghost view = { λ l. record { writes = take l.count l.writes; undeclared = l.undeclared; repeated = l.repeated; unread = l.unread } };
 
-    ghost invariant = { λ l. (length l.writes ≡ MOST_ITEMS) × (l.count ≤ MOST_ITEMS) × KeptOnce l.marks (map item_of (take l.count l.writes)) };
+    ghost invariant = { λ l. (length l.writes ≡ MOST_ITEMS) × (l.count ≤ MOST_ITEMS) × KeptOnce l.marks (map written_item (take l.count l.writes)) };
 }
 
 /// Whether a write names an item or a base that isn't below `declared`.
@@ -170,7 +170,7 @@ impl WriteList {
         requires known { declared ≤ MOST_ITEMS }
         requires some { 0 < length text.now }
         requires none { self.old ≡ no_writes }
-        ensures { ReadsTo write_of text.now (λ writes. self.new ≡ writes_seen declared reads.now.items writes) result }
+        ensures { ReadsTo spelled_write text.now (λ writes. self.new ≡ writes_seen declared reads.now.items writes) result }
     {
         if text.len() < PLAIN_BYTES {
             return 0;
@@ -191,7 +191,7 @@ impl WriteList {
     #[inline(never)]
     pub fn read(&mut self, declared: u16, reads: &ItemList, text: &[u8]) -> bool
         requires { declared ≤ MOST_ITEMS }
-        ensures { ReadIs result (list_of write_of text.now) (λ writes. self.new ≡ writes_seen declared reads.now.items writes) }
+        ensures { ReadIs result (list_of spelled_write text.now) (λ writes. self.new ≡ writes_seen declared reads.now.items writes) }
     {
         self.clear();
         if text.is_empty() {
@@ -203,7 +203,7 @@ impl WriteList {
         }
         let mut rest = &text[place..];
         loop {
-            let Some((write, after)) = write_front(rest) else {
+            let Some((write, after)) = leading_write(rest) else {
                 return false;
             };
             self.see(declared, reads, write);

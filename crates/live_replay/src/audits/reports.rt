@@ -18,14 +18,14 @@ use std::alloc::Global;
 
 /// An audit: the text of its findings, and whether some line differs.
 #[derive(Debug, Drop)]
-pub struct Audited {
+pub struct AuditText {
     pub text: Vec<u8>,
     pub differs: bool,
 }
 
 /// The audit of a report of a deck.
 #[tactic(auto, unfolding(crate::specs::AuditAnswers::UnauditedCause))]
-pub fn audit_report(alloc: Global, deck: &Deck, bytes: &[u8]) -> Result<Audited, Status>
+pub fn audit_report(alloc: Global, deck: &Deck, bytes: &[u8]) -> Result<AuditText, Status>
     requires { length bytes.now ≤ MOST_REPORT_BYTES }
     ensures audit { IfOk result (HasAudit deck.now bytes.now) }
     ensures refused { IfErr result (UnauditedCause deck.now bytes.now) }
@@ -38,24 +38,24 @@ pub fn audit_report(alloc: Global, deck: &Deck, bytes: &[u8]) -> Result<Audited,
 }
 
 /// The audit of the report that was read of these bytes.
-#[tactic(auto, using(crate::proofs::AuditFacts::too_much), unfolding(crate::specs::AuditAnswers::UnauditedCause))]
+#[tactic(auto, using(crate::proofs::AuditLemmas::too_much), unfolding(crate::specs::AuditAnswers::UnauditedCause))]
 fn audit_read(
     alloc: Global,
     deck: &Deck,
     bytes: &[u8],
     report: &ReadReport,
-) -> Result<Audited, Status>
+) -> Result<AuditText, Status>
     requires read { IsReportOf deck.now bytes.now report.now }
     requires kept { KeepsGrammar deck.now report.now }
     ensures audit { IfOk result (HasAudit deck.now bytes.now) }
     ensures refused { IfErr result (UnauditedCause deck.now bytes.now) }
 {
-    audits_are_true(deck);
+    shows_audit_truth(deck);
     match audit(alloc, deck, report) {
         Ok(found) => {
             let text = findings_text(alloc, &found)?;
             let differs = differing_count(&found) > 0;
-            Ok(Audited { text, differs })
+            Ok(AuditText { text, differs })
         }
         Err(AuditError::TooMuch { product }) => Err(Status::TooMuch { product }),
         Err(AuditError::NoMemory) => Err(Status::NoMemory),
@@ -63,10 +63,10 @@ fn audit_read(
 }
 
 /// Audits are true, by the laws of replays. The calls do nothing.
-fn audits_are_true(deck: &Deck)
+fn shows_audit_truth(deck: &Deck)
     ensures { (text : List ℕ) (read : ReadReport) → IsReportOf deck.now text read → IsTrueAudit deck.now text read }
 {
-    deck.well_made();
+    deck.shows_well_made();
     agrees_law();
     rows_law();
     true_report_law();

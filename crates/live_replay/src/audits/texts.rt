@@ -3,7 +3,7 @@
 ghost use Rattle.std.specs.Prelude.{◌≡◌, ◌++◌, IfOk, OnOk, count_by, map};
 ghost use Rattle.csv.specs.Writing.{row_text};
 ghost use Rattle.air_model.specs.Rows.{row_writer, rows_text};
-ghost use Rattle.air_report.specs.RowWriters.{IsReady, written_text};
+ghost use Rattle.air_report.specs.RowWriters.{IsRowWriter, written_text};
 ghost use Rattle.live_replay.specs.FindingTexts.{cause_word, differs, finding_row, findings_text};
 
 use crate::findings::{Cause, Finding};
@@ -39,8 +39,8 @@ pub(crate) fn differing_count(found: &[Finding]) -> u64
 
 /// Adds the rows of findings.
 fn put_findings(alloc: Global, wtr: &mut Writer<Vec<u8>>, found: &[Finding]) -> Result<(), NoMemory>
-    requires { IsReady wtr.old }
-    ensures ready { OnOk result (IsReady wtr.new) }
+    requires { IsRowWriter wtr.old }
+    ensures ready { OnOk result (IsRowWriter wtr.new) }
     ensures text { OnOk result
         (written_text wtr.new ≡ written_text wtr.old ++ rows_text (map finding_row found.now)) }
 {
@@ -52,8 +52,8 @@ fn put_findings(alloc: Global, wtr: &mut Writer<Vec<u8>>, found: &[Finding]) -> 
 
 /// Adds the row of a finding.
 fn put_finding(alloc: Global, wtr: &mut Writer<Vec<u8>>, finding: Finding) -> Result<(), NoMemory>
-    requires { IsReady wtr.old }
-    ensures ready { OnOk result (IsReady wtr.new) }
+    requires { IsRowWriter wtr.old }
+    ensures ready { OnOk result (IsRowWriter wtr.new) }
     ensures text { OnOk result
         (written_text wtr.new ≡ written_text wtr.old ++ row_text row_writer (finding_row finding)) }
 {

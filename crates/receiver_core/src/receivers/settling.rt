@@ -7,7 +7,7 @@ ghost use Rattle.air_model.specs.Judges.{by_entries, place_of};
 ghost use Rattle.air_model.specs.Sessions.{copy_of, turn, wanted};
 ghost use Rattle.receiver_core.specs.LastReads.{in_state};
 ghost use Rattle.receiver_core.specs.ReceiverSteps.{step};
-ghost use Rattle.receiver_core.specs.Steps.Turns.{uses_copy};
+ghost use Rattle.receiver_core.specs.Private.Turns.{uses_copy};
 
 use super::Receiver;
 use crate::attempts::Attempt;

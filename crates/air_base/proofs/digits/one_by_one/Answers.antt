@@ -1,5 +1,5 @@
 use Rattle.std.proofs.Common.{arith, sym}
-use Rattle.air_base.proofs.NumberFacts.{digits_more_read}
+use Rattle.air_base.proofs.NumberLemmas.{digits_more_read}
 use Rattle.air_base.proofs.LeadingNumbers.{too_long}
 use Rattle.air_base.proofs.digits.one_by_one.Goals as goal
 

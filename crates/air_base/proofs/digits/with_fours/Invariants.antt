@@ -1,5 +1,5 @@
 use Rattle.std.proofs.Common.{◌≤◌, ◌-◌, length}
-use Rattle.air_base.specs.Fronts.{DigitsRead}
+use Rattle.air_base.specs.LeadingParts.{DigitsRead}
 use Rattle.air_base.proofs.digits.with_fours.Given as goal
 
 abbrev pub invariant-loop-place : goal.invariant-loop-place

@@ -1,7 +1,7 @@
 use Rattle.std.proofs.Common.{◌≡◌, ◌∙◌, ◌+◌, ◌<◌, ◌≤◌, arith, ap, drop, false, true, get_or, length, length-drop, refl, subst, sym}
 use Rattle.std.proofs.lemmas.List.{get_or-drop}
 use Rattle.std.specs.Char.{is_ascii_digit}
-use Rattle.air_base.specs.Fronts.{DigitsRead, ends_part}
+use Rattle.air_base.specs.LeadingParts.{DigitsRead, ends_part}
 use Rattle.air_base.proofs.PlainNumbers.{ends_space, from_place, number_plain}
 use Rattle.air_base.proofs.plain_numbers.plain_number.Goals as goal
 

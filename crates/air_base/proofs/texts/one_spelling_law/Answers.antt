@@ -1,4 +1,4 @@
-use Rattle.air_base.proofs.NumberFacts.{one_spelling}
+use Rattle.air_base.proofs.NumberLemmas.{one_spelling}
 use Rattle.air_base.proofs.texts.one_spelling_law.Goals as goal
 
 pub returns : goal.returns

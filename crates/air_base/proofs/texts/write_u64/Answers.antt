@@ -1,5 +1,5 @@
 use Rattle.std.proofs.Common.{rules, arith}
-use Rattle.air_base.proofs.NumberFacts.{number_text-decimal}
+use Rattle.air_base.proofs.NumberLemmas.{number_text-decimal}
 use Rattle.air_base.proofs.texts.write_u64.Goals as goal
 
 pub returns-clause-written : goal.returns-clause-written

@@ -1,4 +1,4 @@
-use Rattle.air_cli.proofs.TopFacts.{one_given}
+use Rattle.air_cli.proofs.TopLemmas.{one_given}
 use Rattle.air_cli.proofs.laws.one_output_law.Goals as goal
 
 pub returns : goal.returns

@@ -2,7 +2,7 @@ use Rattle.std.proofs.Common.{map, string_bytes, sym, subst, refl}
 use Rattle.air_cli.specs.Answers.{Completes, Leaves, QuietAnswers}
 use Rattle.air_cli.specs.MainWords.{called_of}
 use Rattle.air_cli.specs.OnAir.{LeavesEar, LeavesMast, called_meaning}
-use Rattle.air_cli.proofs.TopFacts.{call_complete}
+use Rattle.air_cli.proofs.TopLemmas.{call_complete}
 use Rattle.air_cli.proofs.main_call.air_main.Goals as goal
 
 pub returns-in-Some-clause-answers : goal.returns-in-Some-clause-answers

@@ -1,6 +1,6 @@
 use Rattle.air_cli.specs.Cast.{cast_meaning}
-use Rattle.air_cli.proofs.EndFacts.{answers_ended, leaves_ended}
-use Rattle.air_cli.proofs.CastFacts.{cast_sound}
+use Rattle.air_cli.proofs.EndLemmas.{answers_ended, leaves_ended}
+use Rattle.air_cli.proofs.CastLemmas.{cast_sound}
 use Rattle.air_cli.proofs.main_call.cast_deck.Goals as goal
 
 pub returns-clause-answers : goal.returns-clause-answers

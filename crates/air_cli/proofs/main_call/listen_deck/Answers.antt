@@ -1,6 +1,6 @@
 use Rattle.air_cli.specs.Listen.{listen_meaning}
-use Rattle.air_cli.proofs.EndFacts.{answers_ended, leaves_ended}
-use Rattle.air_cli.proofs.ListenFacts.{listen_sound}
+use Rattle.air_cli.proofs.EndLemmas.{answers_ended, leaves_ended}
+use Rattle.air_cli.proofs.ListenLemmas.{listen_sound}
 use Rattle.air_cli.proofs.main_call.listen_deck.Goals as goal
 
 pub returns-clause-answers : goal.returns-clause-answers

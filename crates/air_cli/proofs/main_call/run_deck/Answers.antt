@@ -1,6 +1,6 @@
 use Rattle.air_cli.specs.Run.{run_meaning}
-use Rattle.air_cli.proofs.EndFacts.{answers_ended, leaves_ended}
-use Rattle.air_cli.proofs.RunFacts.{run_sound}
+use Rattle.air_cli.proofs.EndLemmas.{answers_ended, leaves_ended}
+use Rattle.air_cli.proofs.RunMeaningLemmas.{run_sound}
 use Rattle.air_cli.proofs.main_call.run_deck.Goals as goal
 
 pub returns-clause-answers : goal.returns-clause-answers

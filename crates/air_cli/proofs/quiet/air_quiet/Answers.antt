@@ -2,10 +2,10 @@ use Rattle.std.proofs.Common.{map, string_bytes, subst}
 use Rattle.air_report.specs.declared.status.Status.TheVariants as status
 use Rattle.air_cli.specs.Answers.{QuietAnswers}
 use Rattle.air_cli.specs.Commands.{words_meaning}
-use Rattle.air_cli.specs.Meanings.{no_form}
+use Rattle.air_cli.specs.Meanings.{no_command}
 use Rattle.air_cli.specs.Words.{asked_of}
-use Rattle.air_cli.proofs.TopFacts.{words_complete}
-use Rattle.air_cli.proofs.RefusalFacts.{answers_refused, keeps_all, no_form_sound, reads_nothing, words_refused}
+use Rattle.air_cli.proofs.TopLemmas.{words_complete}
+use Rattle.air_cli.proofs.RefusalLemmas.{answers_refused, keeps_all, no_command_sound, reads_nothing, words_refused}
 use Rattle.air_cli.proofs.quiet.air_quiet.Goals as goal
 
 pub returns-in-None-clause-answers : goal.returns-in-None-clause-answers
@@ -14,7 +14,7 @@ returns-in-None-clause-answers g c =
     let before = S.state c.args.shelf.now in
     let now = S.state c.refuse.new.shelf in
     subst (λ asked. QuietAnswers (words_meaning asked) before now c.refuse.result) c.in-None.ensures.asked
-    (answers_refused no_form no_form_sound before before now status.Words c.refuse.result (λ e. cc) (reads_nothing before) words_refused (λ read. keeps_all before) c.refuse.ensures.gives c.refuse.ensures.rest c.refuse.ensures.counts)
+    (answers_refused no_command no_command_sound before before now status.Words c.refuse.result (λ e. cc) (reads_nothing before) words_refused (λ read. keeps_all before) c.refuse.ensures.gives c.refuse.ensures.rest c.refuse.ensures.counts)
 
 pub returns-in-Some-clause-complete : goal.returns-in-Some-clause-complete
 returns-in-Some-clause-complete g c =

@@ -1,7 +1,7 @@
 use Rattle.std.proofs.Common.{subst}
 use Rattle.air_cli.specs.Commands.{asked_by, meaning_of}
-use Rattle.air_cli.proofs.CommandFacts.{facts_of}
-use Rattle.air_cli.proofs.EndFacts.{EndsAt, answers_ended, leaves_ended}
+use Rattle.air_cli.proofs.CommandLemmas.{facts_of}
+use Rattle.air_cli.proofs.EndLemmas.{EndsAt, answers_ended, leaves_ended}
 use Rattle.air_cli.proofs.quiet.give.Goals as goal
 
 pub returns-clause-answers : goal.returns-clause-answers

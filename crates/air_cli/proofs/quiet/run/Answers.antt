@@ -1,4 +1,4 @@
-use Rattle.air_cli.proofs.CommandFacts.{made_whole}
+use Rattle.air_cli.proofs.CommandLemmas.{made_whole}
 use Rattle.air_cli.proofs.quiet.run.Goals as goal
 
 pub give-requires-clause-whole : goal.give-requires-clause-whole

@@ -4,7 +4,7 @@ use Rattle.air_cli.specs.NamedFiles.{UnreadCause}
 use Rattle.air_cli.specs.HeardTapes.{UnheardCause}
 use Rattle.air_cli.proofs.HeardSoFar.{begun, heard_more, rest_after, room_for_piece, whole_heard}
 use Rattle.air_cli.proofs.ReadSoFar.{cut_cause, none_came, too_large}
-use Rattle.air_cli.proofs.ReadingFacts.{calm_twice, left_twice}
+use Rattle.air_cli.proofs.ReadingLemmas.{calm_twice, left_twice}
 use Rattle.air_cli.proofs.tapes.hear_pieces.Goals as goal
 
 pub loop-count-init : goal.loop-count-init
@@ -20,8 +20,8 @@ loop-count-init g c =
       calm = c.in-Ok.ensures.cause.calm;
     }
 
-pub hear_front-requires-after_bounds : goal.hear_front-requires-after_bounds
-hear_front-requires-after_bounds g c κs within =
+pub hear_whole_records-requires-after_bounds : goal.hear_whole_records-requires-after_bounds
+hear_whole_records-requires-after_bounds g c κs within =
     room_for_piece c.as_slice-in-loop-count.result.now (omega arith) c.requires c.loop-count.invariant.far c.in-Ok-read.ensures.moved (omega arith) c.as_slice-in-loop-count.ensures
 
 pub loop-count-preserved : goal.loop-count-preserved
@@ -31,7 +31,7 @@ loop-count-preserved g c =
     let front = c.in_ok-heard.ensures.front in
     let next = c.let_go.new.self.bytes in
     record {
-      far = heard_more next c.hear_front.new.readers inv.far come (omega arith) c.as_slice-in-loop-count.ensures front c.in_ok-heard.ensures.heard c.in_ok-let_go.ensures.rest;
+      far = heard_more next c.hear_whole_records.new.readers inv.far come (omega arith) c.as_slice-in-loop-count.ensures front c.in_ok-heard.ensures.heard c.in_ok-let_go.ensures.rest;
       rest = rest_after next c.as_slice-in-loop-count.ensures front c.in_ok-let_go.ensures.rest;
       room = c.in_ok-let_go.ensures.room;
       keeps = left_twice inv.keeps c.read.ensures.rest;

@@ -1,7 +1,7 @@
 use Rattle.std.proofs.Common.{◌<◌, length}
 use Rattle.air_devices.specs.Counts.{KeepsCounts}
 use Rattle.air_devices.specs.Unchanged.{KeepsButLeft}
-use Rattle.air_cli.specs.Steps.Pieces.{IsRest}
+use Rattle.air_cli.specs.Private.Pieces.{IsRest}
 use Rattle.air_cli.proofs.HeardSoFar.{SoFar}
 use Rattle.air_cli.proofs.tapes.hear_pieces.Given as goal
 

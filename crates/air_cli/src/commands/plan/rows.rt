@@ -12,7 +12,7 @@ ghost use Rattle.air_model.specs.Programs.{minor_cycle, minor_len, num_minors};
 ghost use Rattle.air_model.specs.PlanTexts.{disk_row, item_row, minor_row, program_row, slot_text};
 ghost use Rattle.air_model.specs.Outputs.{plan_output};
 ghost use Rattle.air_model.specs.Rows.{row_writer, rows_text};
-ghost use Rattle.air_report.specs.RowWriters.{IsReady, written_text};
+ghost use Rattle.air_report.specs.RowWriters.{IsRowWriter, written_text};
 
 use air_base::{NoMemory, write_u64};
 use air_model::program::slots_law;
@@ -44,8 +44,8 @@ pub(crate) fn plan_text(
 
 /// Adds the row of the program.
 fn put_program(alloc: Global, wtr: &mut Writer<Vec<u8>>, program: &Program) -> Result<(), NoMemory>
-    requires { IsReady wtr.old }
-    ensures ready { OnOk result (IsReady wtr.new) }
+    requires { IsRowWriter wtr.old }
+    ensures ready { OnOk result (IsRowWriter wtr.new) }
     ensures text { OnOk result
         (written_text wtr.new ≡ written_text wtr.old ++ row_text row_writer (program_row program.now)) }
 {
@@ -65,9 +65,9 @@ fn put_disks(
     deck: &Deck,
     program: &Program,
 ) -> Result<(), NoMemory>
-    requires ready { IsReady wtr.old }
+    requires ready { IsRowWriter wtr.old }
     requires planned { program.now ≡ disks_in deck.now }
-    ensures ready { OnOk result (IsReady wtr.new) }
+    ensures ready { OnOk result (IsRowWriter wtr.new) }
     ensures text { OnOk result (written_text wtr.new
         ≡ written_text wtr.old ++ rows_text (map (disk_row (num_minors program.now)) (enumerate_from 0 program.now))) }
 {
@@ -85,10 +85,10 @@ fn put_disk(
     program: &Program,
     d: u32,
 ) -> Result<(), NoMemory>
-    requires ready { IsReady wtr.old }
+    requires ready { IsRowWriter wtr.old }
     requires planned { program.now ≡ disks_in deck.now }
     requires disk { d < length deck.now.disks }
-    ensures ready { OnOk result (IsReady wtr.new) }
+    ensures ready { OnOk result (IsRowWriter wtr.new) }
     ensures text { OnOk result (IfSome (slice_get program.now d) (λ disk.
         written_text wtr.new ≡ written_text wtr.old ++ row_text row_writer (disk_row (num_minors program.now) (d, disk)))) }
 {
@@ -104,8 +104,8 @@ fn put_disk(
 
 /// Adds the rows of the minor cycles.
 fn put_minors(alloc: Global, wtr: &mut Writer<Vec<u8>>, program: &Program) -> Result<(), NoMemory>
-    requires { IsReady wtr.old }
-    ensures ready { OnOk result (IsReady wtr.new) }
+    requires { IsRowWriter wtr.old }
+    ensures ready { OnOk result (IsRowWriter wtr.new) }
     ensures text { OnOk result (written_text wtr.new
         ≡ written_text wtr.old ++ rows_text (map (minor_row program.now) (range_with_len 0 (num_minors program.now)))) }
 {
@@ -122,9 +122,9 @@ fn put_minor(
     program: &Program,
     k: u32,
 ) -> Result<(), NoMemory>
-    requires ready { IsReady wtr.old }
+    requires ready { IsRowWriter wtr.old }
     requires minor { k < num_minors program.now }
-    ensures ready { OnOk result (IsReady wtr.new) }
+    ensures ready { OnOk result (IsRowWriter wtr.new) }
     ensures text { OnOk result
         (written_text wtr.new ≡ written_text wtr.old ++ row_text row_writer (minor_row program.now k)) }
 {
@@ -184,10 +184,10 @@ fn put_items(
     cut: &Cut,
     program: &Program,
 ) -> Result<(), NoMemory>
-    requires ready { IsReady wtr.old }
+    requires ready { IsRowWriter wtr.old }
     requires cut { cut.now ≡ disks_in deck.now }
     requires planned { program.now ≡ disks_in deck.now }
-    ensures ready { OnOk result (IsReady wtr.new) }
+    ensures ready { OnOk result (IsRowWriter wtr.new) }
     ensures text { OnOk result (written_text wtr.new
         ≡ written_text wtr.old ++ rows_text (map (item_row program.now) (enumerate_from 0 (rates_in deck.now)))) }
 {
@@ -206,15 +206,15 @@ fn put_item(
     program: &Program,
     i: u16,
 ) -> Result<(), NoMemory>
-    requires ready { IsReady wtr.old }
+    requires ready { IsRowWriter wtr.old }
     requires cut { cut.now ≡ disks_in deck.now }
     requires planned { program.now ≡ disks_in deck.now }
     requires item { i < length deck.now.items }
-    ensures ready { OnOk result (IsReady wtr.new) }
+    ensures ready { OnOk result (IsRowWriter wtr.new) }
     ensures text { OnOk result (IfSome (slice_get deck.now.items i) (λ item.
         written_text wtr.new ≡ written_text wtr.old ++ row_text row_writer (item_row program.now (i, item.rate)))) }
 {
-    deck.well_made();
+    deck.shows_well_made();
     let _slots = program.slots();
     let ns = [
         u64::from(i),

@@ -1,6 +1,6 @@
 use Rattle.std.proofs.Common.{arith, sym, ap, ◌∙◌, ◌≡◌, ℕ, ◌<◌, ◌≤◌, ◌+◌, ◌-◌, ◌⊎◌, inl, inr, List, map, subst}
 use Rattle.air_ether.specs.declared.cursor.Cursor.{Cursor}
-use Rattle.air_ether.specs.HeardPositions.{InWindow, copies_at, left_at, position}
+use Rattle.air_ether.specs.HeardPositions.{InWindow, left_at, position, times_heard_at}
 use Rattle.air_ether.specs.KeptPushes.{Push, Waits, copies_of, push_of}
 use Rattle.air_ether.proofs.CursorLemmas.{front_of, next_place, next_number, same_place, same_number, room_read}
 use Rattle.air_ether.proofs.cursor.seek.Goals as goal
@@ -30,7 +30,7 @@ loop-cursor-preserved c =
       | then-cursor-pushes+then-cursor+else-cursor-copies w ↦
           let read = room_read c.args.rooms.now cursor.place w.index-rooms-cursor.result c.requires.count w.index-rooms-cursor.is in
           let same = ap (λ p. copies_of p cursor.number) read in
-          let passed : copies_at rooms cursor ≤ cursor.copy = omega (arith, w.copies.ensures) in
+          let passed : times_heard_at rooms cursor ≤ cursor.copy = omega (arith, w.copies.ensures) in
           stepped c.args.pushes c.args.limit rooms c.args.cursor.now _ _ w.cursor-is
           (next_place c.args.pushes c.args.limit rooms cursor c.loop-cursor.invariant.within c.loop-cursor-test.true w.if-cursor-pushes.true w.if-cursor.true)
           (omega (arith, c.loop-cursor.invariant.fewer))

@@ -1,6 +1,6 @@
 use Rattle.std.proofs.Common.{◌∙◌, sym, None, false}
 use Rattle.air_history.specs.declared.updates.Write.{Write}
-use Rattle.air_history.proofs.RuleLemmas.{items_here, items_more}
+use Rattle.air_history.proofs.RepeatedItemLemmas.{items_here, items_more}
 use Rattle.air_history.proofs.updates.has_item_twice.Goals as goal
 
 abbrev no_write : Write

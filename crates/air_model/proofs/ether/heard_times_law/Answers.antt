@@ -1,5 +1,5 @@
 use Rattle.air_model.proofs.ether.heard_times_law.Goals as goal
-use Rattle.air_model.proofs.EtherFacts.{heard_times}
+use Rattle.air_model.proofs.EtherLemmas.{heard_times}
 
 pub returns : goal.returns
 returns c = heard_times

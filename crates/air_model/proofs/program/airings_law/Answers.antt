@@ -1,4 +1,4 @@
-use Rattle.air_model.proofs.AiringFacts.{item_airings}
+use Rattle.air_model.proofs.ProgramLemmas.{item_airings}
 use Rattle.air_model.proofs.program.airings_law.Goals as goal
 
 pub returns : goal.returns

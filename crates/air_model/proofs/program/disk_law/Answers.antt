@@ -1,4 +1,4 @@
-use Rattle.air_model.proofs.AiringFacts.{chunks_are, disk_is}
+use Rattle.air_model.proofs.ProgramLemmas.{chunks_are, disk_is}
 use Rattle.air_model.proofs.program.disk_law.Goals as goal
 
 pub returns : goal.returns

@@ -1,4 +1,4 @@
-use Rattle.air_model.proofs.AiringFacts.{item_comes_every}
+use Rattle.air_model.proofs.ProgramLemmas.{item_comes_every}
 use Rattle.air_model.proofs.program.gap_law.Goals as goal
 
 pub returns : goal.returns

@@ -1,4 +1,4 @@
-use Rattle.air_model.proofs.AiringFacts.{item_next_wake}
+use Rattle.air_model.proofs.ProgramLemmas.{item_next_wake}
 use Rattle.air_model.proofs.program.next_wake_law.Goals as goal
 
 pub returns : goal.returns

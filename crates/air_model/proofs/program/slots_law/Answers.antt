@@ -1,4 +1,4 @@
-use Rattle.air_model.proofs.AiringFacts.{length_program}
+use Rattle.air_model.proofs.ProgramLemmas.{length_program}
 use Rattle.air_model.proofs.program.slots_law.Goals as goal
 
 pub returns : goal.returns

@@ -1,4 +1,4 @@
-use Rattle.air_model.proofs.AiringFacts.{item_times_gap}
+use Rattle.air_model.proofs.ProgramLemmas.{item_times_gap}
 use Rattle.air_model.proofs.program.times_gap_law.Goals as goal
 
 pub returns : goal.returns

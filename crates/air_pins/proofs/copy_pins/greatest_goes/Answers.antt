@@ -2,7 +2,7 @@
 use Rattle.std.proofs.Common.{◌<◌, ◌==◌, ◌⊎◌, ℕ, zero, suc, List, [], ◌∷◌, IsTrue, get_or, inl, inr, subst, sym, refl, lit≤, arith}
 use Rattle.air_model.specs.Reads.{Read}
 use Rattle.air_model.specs.Copies.{goes_before}
-use Rattle.pix_cache.specs.Caches.{Cache, GivesWay, copy, copy_of}
+use Rattle.pix_cache.specs.Caches.{Cache, GivesWay, copy, copy_among}
 use Rattle.air_pins.specs.SmallCaches.{of_three}
 use Rattle.air_pins.proofs.copy_pins.greatest_goes.Goals as goal
 
@@ -18,7 +18,7 @@ others (suc zero) d h = inr refl
 others (suc (suc k)) d h = absurd (omega arith)
 
 gives_way : GivesWay 2 numbers copies (of_three 2 3) 0
-unfolding copy_of
+unfolding copy_among
 gives_way = ((refl, lit≤ tt), of_three 0 2, refl, refl, others)
 
 pub returns-clause-answer : goal.returns-clause-answer

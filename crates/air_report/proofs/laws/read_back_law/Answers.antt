@@ -2,7 +2,7 @@ use Rattle.std.proofs.Common.{sym, ◌∙◌}
 use Rattle.air_model.specs.Reports.{report_text}
 use Rattle.item_catalog.specs.Records.{records_of}
 use Rattle.item_catalog.proofs.FaultPlaces.{not_both}
-use Rattle.air_report.specs.ReportFaults.{kinds_at}
+use Rattle.air_report.specs.ReportFaults.{line_kinds_at}
 use Rattle.air_report.specs.ReportGrammar.{HasReportFault, SpellsReport}
 use Rattle.air_report.specs.ReportLines.{lines_in}
 use Rattle.air_report.proofs.SameHistories.{read_same, report_same}
@@ -13,7 +13,7 @@ pub returns-clause-faultless : goal.returns-clause-faultless
 unfolding SpellsReport HasReportFault
 returns-clause-faultless c = λ deck report wide right row kind fault.
     let text = report_text report in
-    not_both (kinds_at deck (records_of text)) _ fault.0 kind (read_back deck report wide right).faultless fault.2
+    not_both (line_kinds_at deck (records_of text)) _ fault.0 kind (read_back deck report wide right).faultless fault.2
 
 pub returns-clause-same : goal.returns-clause-same
 returns-clause-same c = λ deck report wide right legal read is.

@@ -2,7 +2,7 @@ use Rattle.std.proofs.Common.{All, arith, ap, sym, subst, length, ◌∙◌}
 use Rattle.std.proofs.lemmas.List.{length-map}
 use Rattle.air_history.proofs.ScanLemmas.{starts_within}
 use Rattle.air_report.specs.ReportLines.{ReportLines, event_in}
-use Rattle.air_report.specs.Steps.ReportsOfLines.{NamesUpdate}
+use Rattle.air_report.specs.Private.ReportsOfLines.{NamesUpdate}
 use Rattle.air_report.proofs.MadeReports.{sizes, spelled_named}
 use Rattle.air_report.proofs.reading.report_of.Goals as goal
 

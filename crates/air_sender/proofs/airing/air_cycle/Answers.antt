@@ -5,7 +5,7 @@ use Rattle.air_model.specs.Buckets.{spelling}
 use Rattle.air_devices.specs.Masts.{Changes, with_buckets}
 use Rattle.air_sender.specs.BoardBuckets.{bucket_on, cycle_bytes}
 use Rattle.air_sender.specs.declared.airing.AirFault.TheVariants as fault
-use Rattle.air_sender.proofs.SendFacts.{last_bytes_are, length_cycle, refused, sent_all, sent_more, sent_up_to, slot_bytes, well}
+use Rattle.air_sender.proofs.SendLemmas.{last_bytes_are, length_cycle, refused, sent_all, sent_more, sent_up_to, slot_bytes, well}
 use Rattle.air_sender.proofs.airing.air_cycle.Goals as goal
 
 pub returns-then-is_err-clause-fault : goal.returns-then-is_err-clause-fault
@@ -43,11 +43,11 @@ returns-clause-aired g c =
 pub returns-clause-history : goal.returns-clause-history
 returns-clause-history g c values air G is =
     subst (λ bs. Changes (with_buckets bs) (g.M.Mast.state c.args.mast.now).told (g.M.Mast.state c.loop-slot.mast).told)
-    (last_bytes_are values air G c.args.policy (slots_of c.args.program.now) c.args.board.now (length (all_items c.args.program.now)) is c.requires.items c.well_made.ensures.slots)
+    (last_bytes_are values air G c.args.policy (slots_of c.args.program.now) c.args.board.now (length (all_items c.args.program.now)) is c.requires.items c.shows_well_made.ensures.slots)
     (returns-clause-aired g c)
 
 pub returns-then-is_err-clause-history : goal.returns-then-is_err-clause-history
 returns-then-is_err-clause-history g c values air G is =
     sent_up_to g.M.Mast.state _ _ c.args.mast.now _ (fault.Mast _)
-    (last_bytes_are values air G c.args.policy (slots_of c.args.program.now) c.args.board.now (length (all_items c.args.program.now)) is c.requires.items c.well_made.ensures.slots)
+    (last_bytes_are values air G c.args.policy (slots_of c.args.program.now) c.args.board.now (length (all_items c.args.program.now)) is c.requires.items c.shows_well_made.ensures.slots)
     (returns-then-is_err-clause-fault g c)

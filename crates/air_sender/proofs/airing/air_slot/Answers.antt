@@ -4,7 +4,7 @@ use Rattle.air_model.specs.Programs.{program as slots_of}
 use Rattle.air_model.specs.Buckets.{spelling}
 use Rattle.bucket_codec.specs.BucketsToAir.{bucket_to_air}
 use Rattle.air_devices.specs.Masts.{Changes, with_buckets}
-use Rattle.air_sender.proofs.SendFacts.{bucket_is, front_is}
+use Rattle.air_sender.proofs.SendLemmas.{bucket_is, front_is}
 use Rattle.air_sender.proofs.airing.air_slot.Goals as goal
 
 pub returns-clause-sent : goal.returns-clause-sent

@@ -4,7 +4,7 @@ use Rattle.air_model.specs.Buckets.{IsInRange, entries_of}
 use Rattle.bucket_codec.specs.declared.encoding.Body.TheVariants as Given
 use Rattle.air_sender.specs.BoardBuckets.{entries_on}
 use Rattle.bucket_codec.specs.BucketsToAir.{body_to_air, bucket_to_air}
-use Rattle.air_sender.proofs.RangeFacts.{aired_below, aired_entries, aired_range, idle_range, spelling_within}
+use Rattle.air_sender.proofs.RangeLemmas.{aired_below, aired_entries, aired_range, idle_range, spelling_within}
 use Rattle.air_sender.proofs.buckets.slot_bucket.Goals as goal
 
 pub returns-in_default-clause-range : goal.returns-in_default-clause-range

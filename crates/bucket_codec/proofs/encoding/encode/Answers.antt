@@ -1,7 +1,7 @@
 use Rattle.std.proofs.Common.{◌+◌, ◌*◌, ◌∙◌, ◌++◌, ℕ, List, length, drop, sym, ap, arith}
-use Rattle.bucket_codec.specs.Steps.Heads.{head_bytes}
+use Rattle.bucket_codec.specs.Private.Heads.{head_bytes}
 use Rattle.bucket_codec.specs.BucketsToAir.{bucket_to_air}
-use Rattle.bucket_codec.proofs.EncodingFacts.{decodes, length_spelling, whole_is}
+use Rattle.bucket_codec.proofs.EncodingLemmas.{decodes, length_spelling, whole_is}
 use Rattle.bucket_codec.proofs.encoding.encode.Goals as goal
 
 pub put_head-requires : goal.put_head-requires

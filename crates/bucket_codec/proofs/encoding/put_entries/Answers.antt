@@ -1,5 +1,5 @@
 use Rattle.std.proofs.Common.{arith}
-use Rattle.bucket_codec.proofs.WriteFacts.{entries_end, entries_next, entries_start}
+use Rattle.bucket_codec.proofs.WriteLemmas.{entries_end, entries_next, entries_start}
 use Rattle.bucket_codec.proofs.encoding.put_entries.Goals as goal
 
 pub loop-i-init : goal.loop-i-init

@@ -1,7 +1,7 @@
 use Rattle.std.proofs.Common.{◌∙◌, ◌-◌, length, refl, ap}
 use borrow.Rule.Slice.PartMut.{put_mid}
 use Rattle.byteorder.specs.Endian.{big_bytes}
-use Rattle.bucket_codec.proofs.WriteFacts.{written_at}
+use Rattle.bucket_codec.proofs.WriteLemmas.{written_at}
 use Rattle.bucket_codec.proofs.encoding.put_four.Goals as goal
 
 pub returns : goal.returns

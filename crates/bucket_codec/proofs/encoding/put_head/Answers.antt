@@ -1,7 +1,7 @@
 use Rattle.std.proofs.Common.{◌++◌, ◌∷◌, [], List, ℕ, set, refl, arith}
 use Rattle.byteorder.specs.Endian.{big_bytes}
-use Rattle.bucket_codec.proofs.WriteFacts.{four_set, put_next}
-use Rattle.bucket_codec.specs.Steps.Heads.{head_bytes}
+use Rattle.bucket_codec.proofs.WriteLemmas.{four_set, put_next}
+use Rattle.bucket_codec.specs.Private.Heads.{head_bytes}
 use Rattle.bucket_codec.proofs.encoding.put_head.Goals as goal
 
 pub returns : goal.returns

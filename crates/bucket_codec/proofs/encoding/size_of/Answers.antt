@@ -1,6 +1,6 @@
 use Rattle.std.proofs.Common.{◌+◌, ◌*◌, ◌∙◌, ℕ, List, length, sym, ap}
 use Rattle.bucket_codec.specs.BucketsToAir.{bucket_to_air}
-use Rattle.bucket_codec.proofs.EncodingFacts.{length_spelling}
+use Rattle.bucket_codec.proofs.EncodingLemmas.{length_spelling}
 use Rattle.bucket_codec.proofs.encoding.size_of.Goals as goal
 
 pub returns : goal.returns

@@ -1,5 +1,5 @@
 use Rattle.std.proofs.Common.{◌≡◌, ◌+◌, ◌-◌, arith, rules}
-use Rattle.air_model.proofs.TapeFacts.{cut_short, cut_within, record_is}
+use Rattle.air_model.proofs.TapeLemmas.{cut_short, cut_within, record_is}
 use Rattle.bucket_codec.proofs.tape.first_record.Goals as goal
 
 pub returns-then-rest-lt-LENGTH_BYTES-clause-first : goal.returns-then-rest-lt-LENGTH_BYTES-clause-first

@@ -1,6 +1,6 @@
 use Rattle.std.proofs.Common.{◌∙◌, ◌+◌, ◌-◌, ℕ, List, length, ap, refl, arith}
 use borrow.Rule.Slice.PartMut.{put_mid}
-use Rattle.bucket_codec.proofs.TapeReadFacts.{pasted, record_size, record_wrote}
+use Rattle.bucket_codec.proofs.TapeReadLemmas.{pasted, record_size, record_wrote}
 use Rattle.bucket_codec.proofs.tape.tape_record.Goals as goal
 
 pub returns-clause-len : goal.returns-clause-len

@@ -1,5 +1,5 @@
 use Rattle.std.proofs.Common.{rules, sym}
-use Rattle.bucket_codec.proofs.FaultFacts.{err_from_some, in_grammar, no_bucket, ok_from_none}
+use Rattle.bucket_codec.proofs.FaultLemmas.{err_from_some, in_grammar, no_bucket, ok_from_none}
 use Rattle.bucket_codec.proofs.view.decode.Goals as goal
 
 pub returns-in-Some-clause-reading : goal.returns-in-Some-clause-reading

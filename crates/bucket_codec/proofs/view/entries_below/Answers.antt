@@ -1,7 +1,7 @@
 use Rattle.std.proofs.Common.{◌&&◌, ◌∙◌, nat_lt, sym, ap}
 use Rattle.std.specs.List.{list_all}
 use Rattle.air_model.specs.Buckets.{entries_at}
-use Rattle.bucket_codec.proofs.EntryFacts.{below_more, below_none}
+use Rattle.bucket_codec.proofs.EntryLemmas.{below_more, below_none}
 use Rattle.bucket_codec.proofs.view.entries_below.Goals as goal
 
 pub loop-i-init : goal.loop-i-init

@@ -1,6 +1,6 @@
 use Rattle.std.proofs.Common.{◌∙◌, drop, arith, rules}
 use Rattle.std.proofs.lemmas.List.{length-drop, take_all}
-use Rattle.bucket_codec.proofs.ViewFacts.{rest_is}
+use Rattle.bucket_codec.proofs.ViewLemmas.{rest_is}
 use Rattle.bucket_codec.proofs.view.entry_part.Goals as goal
 
 pub returns : goal.returns

@@ -1,5 +1,5 @@
 use Rattle.std.proofs.Common.{arith, rules, inl, inr, sym}
-use Rattle.bucket_codec.proofs.FaultFacts.{fault_kind, fault_length, fault_magic, no_fault, fault_shape, fault_short, fault_version}
+use Rattle.bucket_codec.proofs.FaultLemmas.{fault_kind, fault_length, fault_magic, no_fault, fault_shape, fault_short, fault_version}
 use Rattle.bucket_codec.proofs.view.first_fault.Goals as goal
 use Rattle.bucket_codec.proofs.view.first_fault.Goals.{then-bytes-ne65-via-then-bytes-ne65, then-bytes-ne65-via-else-bytes-ne65+then-bytes-ne68}
 

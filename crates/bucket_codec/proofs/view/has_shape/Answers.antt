@@ -1,4 +1,4 @@
-use Rattle.bucket_codec.proofs.FaultFacts.{shape_is}
+use Rattle.bucket_codec.proofs.FaultLemmas.{shape_is}
 use Rattle.bucket_codec.proofs.view.has_shape.Goals as goal
 
 pub returns : goal.returns

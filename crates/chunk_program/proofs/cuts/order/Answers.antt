@@ -2,7 +2,7 @@ use Rattle.std.proofs.Common.{ℕ, map, arith, ◌∙◌, ap, subst}
 use Rattle.std.specs.declared.cmp.Reverse.{Reverse}
 use Rattle.std.specs.List.Sorted.{IsPermutation}
 use Rattle.std.proofs.lemmas.List.{take_all}
-use Rattle.chunk_program.specs.Steps.Ranks.{ranks}
+use Rattle.chunk_program.specs.Private.Ranks.{ranks}
 use Rattle.chunk_program.proofs.RankLemmas.{order_from_ranks}
 use Rattle.chunk_program.proofs.cuts.order.Goals as goal
 

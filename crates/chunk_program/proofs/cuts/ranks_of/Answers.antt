@@ -1,7 +1,7 @@
 use Rattle.std.proofs.Common.{rules, ◌≡◌, true, ◌∙◌, ap, sym, [], ◌∷◌, ◌++◌, arith}
 use Rattle.std.specs.Result.{is_ok}
 use Rattle.std.proofs.lemmas.List.FromFn.{map-range_with_len_more}
-use Rattle.chunk_program.specs.Steps.Ranks.{rank_of}
+use Rattle.chunk_program.specs.Private.Ranks.{rank_of}
 use Rattle.chunk_program.proofs.cuts.ranks_of.Goals as goal
 
 pub loop-item-preserved : goal.loop-item-preserved

@@ -1,6 +1,6 @@
 use Rattle.std.proofs.Common.{◌≡◌, map}
 use Rattle.std.specs.List.{range_with_len}
-use Rattle.chunk_program.specs.Steps.Ranks.{rank_of}
+use Rattle.chunk_program.specs.Private.Ranks.{rank_of}
 use Rattle.chunk_program.proofs.cuts.ranks_of.Given as goal
 
 abbrev pub invariant-loop-item : goal.invariant-loop-item

@@ -2,7 +2,7 @@ use Rattle.std.proofs.Common.{◌≡◌, ◌≤◌, refl, arith, length, ap, ◌
 use Rattle.std.proofs.lemmas.Option.{slice_get_read}
 use Rattle.air_model.specs.Disks.{Disk}
 use Rattle.air_model.specs.Programs.{least_common_multiple}
-use Rattle.air_model.proofs.AiringFacts.{airable_aired}
+use Rattle.air_model.proofs.ProgramLemmas.{airable_aired}
 use Rattle.air_model.proofs.CommonMultiples.{least_common_pos}
 use Rattle.air_model.proofs.Elements.{all_at}
 use Rattle.chunk_program.proofs.Numbers.{common_bound, common_fits, minors_bound, minors_more, minors_none}

@@ -1,7 +1,7 @@
 use Rattle.std.proofs.Common.{◌*◌, ◌++◌, slice_get, map, refl, arith, length, ap, ◌∙◌}
 use Rattle.std.specs.List.{range_with_len}
 use Rattle.std.proofs.lemmas.Option.{slice_get_read}
-use Rattle.chunk_program.proofs.ChunkFacts.{chunk_ends, chunks_some, minor_more, minor_none}
+use Rattle.chunk_program.proofs.ChunkLemmas.{chunk_ends, chunks_some, minor_more, minor_none}
 use Rattle.chunk_program.proofs.layout.push_minor.Goals as goal
 
 pub loop-disk-init : goal.loop-disk-init

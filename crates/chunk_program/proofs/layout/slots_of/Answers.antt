@@ -1,7 +1,7 @@
 use Rattle.std.proofs.Common.{◌≡◌, ◌∙◌, ap, arith}
 use Rattle.std.specs.List.{flat_map, range_with_len}
 use Rattle.air_model.specs.Programs.{minor_cycle}
-use Rattle.chunk_program.proofs.ChunkFacts.{slots_more, slots_whole}
+use Rattle.chunk_program.proofs.ChunkLemmas.{slots_more, slots_whole}
 use Rattle.chunk_program.proofs.layout.slots_of.Goals as goal
 
 pub loop-minor-preserved : goal.loop-minor-preserved

@@ -1,4 +1,4 @@
-use Rattle.column_check.proofs.LeastFacts.{names_least}
+use Rattle.column_check.proofs.LeastLemmas.{names_least}
 use Rattle.column_check.proofs.laws.names_least_law.Goals as goal
 
 pub returns : goal.returns

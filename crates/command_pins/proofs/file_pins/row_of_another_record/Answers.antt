@@ -1,4 +1,4 @@
-use Rattle.command_pins.proofs.RowFacts.{first_row}
+use Rattle.command_pins.proofs.RowLemmas.{first_row}
 use Rattle.command_pins.proofs.file_pins.row_of_another_record.Goals as goal
 
 pub returns : goal.returns

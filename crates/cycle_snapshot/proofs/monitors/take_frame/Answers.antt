@@ -1,5 +1,5 @@
 use Rattle.std.proofs.Common.{◌∙◌, sym, ap, subst, length}
-use Rattle.cycle_snapshot.specs.CopyRule.{Follows, Agrees}
+use Rattle.cycle_snapshot.specs.SideRule.{Follows, Agrees}
 use Rattle.cycle_snapshot.proofs.SightLemmas.{sees, follows_self, shown_values}
 use Rattle.cycle_snapshot.proofs.monitors.take_frame.Goals as goal
 

@@ -1,5 +1,5 @@
 use Rattle.std.proofs.Common.{◌≡◌, subst, fold}
-use Rattle.cycle_snapshot.specs.Steps.BoardRuns.{after_news}
+use Rattle.cycle_snapshot.specs.Private.BoardRuns.{after_news}
 use Rattle.cycle_snapshot.proofs.SightLemmas.{sees, news_follow}
 use Rattle.cycle_snapshot.proofs.publishers.publish_step.Goals as goal
 

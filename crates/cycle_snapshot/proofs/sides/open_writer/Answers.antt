@@ -1,6 +1,6 @@
 use Rattle.std.proofs.Common.{◌≡◌, sym, subst, fold}
-use Rattle.cycle_snapshot.specs.CopyRule.{IsPublished, Follows}
-use Rattle.cycle_snapshot.specs.Steps.BoardRuns.{after_news}
+use Rattle.cycle_snapshot.specs.SideRule.{IsPublished, Follows}
+use Rattle.cycle_snapshot.specs.Private.BoardRuns.{after_news}
 use Rattle.cycle_snapshot.proofs.SightLemmas.{sees, follows_self, opens_rule}
 use Rattle.cycle_snapshot.proofs.sides.open_writer.Goals as goal
 

@@ -3,7 +3,7 @@ use Rattle.std.specs.Prelude.{IsTrue}
 use Rattle.std.proofs.lemmas.List.Elements.{All-push}
 use Rattle.air_history.specs.Histories.{ItemsFit}
 use Rattle.cycle_snapshot.specs.Batches.{IsBatch}
-use Rattle.cycle_snapshot_tests.proofs.BatchFacts.{no_start, all_none, none_yet, batch_ends}
+use Rattle.cycle_snapshot_tests.proofs.BatchLemmas.{no_start, all_none, none_yet, batch_ends}
 use Rattle.cycle_snapshot_tests.proofs.batches.batch_of.Goals as goal
 
 pub loop-by-init : goal.loop-by-init

@@ -4,7 +4,7 @@ use Rattle.air_model.specs.Decks.{values_in}
 use Rattle.station.specs.PassStates.{PassState}
 use Rattle.cycle_snapshot.specs.SnapshotStates.{PublisherState}
 use Rattle.update_commit.proofs.EventLemmas.{starts_none}
-use Rattle.deck_runs.specs.Crews.{IsReady}
+use Rattle.deck_runs.specs.Crews.{HasNewPass}
 use Rattle.deck_runs.proofs.RunLemmas.{items_aired, new_in_step, own_air, run_aired, run_batches, run_few, run_whole}
 use Rattle.deck_runs.proofs.jobs.run_jobs.Goals as goal
 
@@ -12,7 +12,7 @@ pub run_beside-requires-clause-own : goal.run_beside-requires-clause-own
 run_beside-requires-clause-own g c κs within = ap (λ (p : PassState). p.station) c.requires.pass ∙ sym c.means_of-means.ensures.station
 
 pub run_beside-requires-clause-ready : goal.run_beside-requires-clause-ready
-run_beside-requires-clause-ready g c κs within = subst (λ s. All (IsReady s c.args.deck.now) c.args.updaters.now) (sym c.means_of-means.ensures.station) c.requires.ready
+run_beside-requires-clause-ready g c κs within = subst (λ s. All (HasNewPass s c.args.deck.now) c.args.updaters.now) (sym c.means_of-means.ensures.station) c.requires.ready
 
 pub run_beside-requires-clause-step : goal.run_beside-requires-clause-step
 run_beside-requires-clause-step g c κs within = new_in_step c.args.pass.now c.args.publisher.now c.args.board.now (values_in c.args.deck.now)
@@ -23,12 +23,12 @@ pub run_beside-requires-clause-room : goal.run_beside-requires-clause-room
 run_beside-requires-clause-room g c κs within =
     let none : starts c.args.pass.now.seen ≡ 0 = ap (λ (p : PassState). starts p.seen) c.requires.pass ∙ starts_none in
     let most = ap (λ (f : PublisherState). f.most) c.requires.publisher in
-    let few = c.well_made.ensures.limits.settings.cycles in
+    let few = c.shows_well_made.ensures.limits.settings.cycles in
     (omega arith, omega arith)
 
 pub run_beside-requires-clause-items : goal.run_beside-requires-clause-items
 run_beside-requires-clause-items g c κs within =
-    items_aired c.args.deck.now c.means_of-means.result.program.now c.well_made.ensures.made (c.means_of-means.ensures.program ∙ c.requires.program) ∙ ap (λ (p : PassState). length p.values) (sym c.requires.pass)
+    items_aired c.args.deck.now c.means_of-means.result.program.now c.shows_well_made.ensures.made (c.means_of-means.ensures.program ∙ c.requires.program) ∙ ap (λ (p : PassState). length p.values) (sym c.requires.pass)
 
 pub returns-clause-whole : goal.returns-clause-whole
 returns-clause-whole g c =

@@ -1,4 +1,4 @@
-use Rattle.deck_runs.proofs.AiredRunLemmas.{run_length}
+use Rattle.deck_runs.proofs.HeardRunLemmas.{run_length}
 use Rattle.deck_runs.proofs.laws.run_length_law.Goals as goal
 
 pub returns : goal.returns

@@ -1,4 +1,4 @@
-use Rattle.deck_runs.proofs.AiredRunLemmas.{true_run}
+use Rattle.deck_runs.proofs.HeardRunLemmas.{true_run}
 use Rattle.deck_runs.proofs.laws.true_run_law.Goals as goal
 
 pub returns : goal.returns

@@ -7,7 +7,7 @@ use Rattle.air_sender.proofs.AiredLemmas.{items_aired}
 use Rattle.deck_runs.proofs.tapes.run_bytes.Goals as goal
 
 pub tape_bytes-requires : goal.tape_bytes-requires
-tape_bytes-requires c = c.items.ensures.told ∙ sym (items_aired c.args.deck.now c.well_made.ensures.made) ∙ ap (λ disks. length (all_items disks)) (sym c.requires)
+tape_bytes-requires c = c.items.ensures.told ∙ sym (items_aired c.args.deck.now c.shows_well_made.ensures.made) ∙ ap (λ disks. length (all_items disks)) (sym c.requires)
 
 pub returns : goal.returns
 returns c =

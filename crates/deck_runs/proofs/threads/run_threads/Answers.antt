@@ -10,7 +10,7 @@ use Rattle.air_model.specs.Runs.{IsRun, Run}
 use Rattle.air_model.proofs.BatchLemmas.{airs_further}
 use Rattle.deck_runs.specs.DeckBytes.{deck_bytes}
 use Rattle.deck_runs.specs.RunAnswers.{IsRunAnswer, run_fault}
-use Rattle.deck_runs.specs.Steps.SightSteps.{AreAllSights}
+use Rattle.deck_runs.specs.Private.SightSteps.{AreAllSights}
 use Rattle.deck_runs.specs.declared.threads.RunFault.TheVariants as fault
 use Rattle.deck_runs.proofs.SentLemmas.{all_sent, fault_answer, same_bytes, sends_first, sends_nothing}
 use Rattle.deck_runs.proofs.SightLemmas.{glances_are, keep_publisher, looks_are}
@@ -48,7 +48,7 @@ all_sights-sights-requires-clause-few g c =
     let same = ap length (with_items_is runs now (watched.0 ∙ sym runs.ok.0)) in
     let kept = watched.0 in
     let count = c.in_ok-source.ensures.count in
-    let few = c.well_made.ensures.limits.settings.monitors in
+    let few = c.shows_well_made.ensures.limits.settings.monitors in
     omega (arith, same, kept, count, few)
 
 pub returns-in_err-conducted-clause-fault : goal.returns-in_err-conducted-clause-fault

@@ -1,4 +1,4 @@
-use Rattle.item_catalog.proofs.DrillFacts.{drill_made}
+use Rattle.item_catalog.proofs.DrillLemmas.{drill_made}
 use Rattle.item_catalog.proofs.laws.drill_law.Goals as goal
 
 pub returns : goal.returns

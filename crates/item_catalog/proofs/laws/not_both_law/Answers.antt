@@ -1,4 +1,4 @@
-use Rattle.item_catalog.proofs.GrammarFacts.{no_fault}
+use Rattle.item_catalog.proofs.GrammarLemmas.{no_fault}
 use Rattle.item_catalog.proofs.laws.not_both_law.Goals as goal
 
 pub returns : goal.returns

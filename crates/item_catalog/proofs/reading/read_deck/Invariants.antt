@@ -1,7 +1,7 @@
 use Rattle.std.proofs.Common.{◌≡◌, ◌+◌, ◌++◌, ℕ, List, length}
 use Rattle.item_catalog.specs.FirstFaults.{NoneBefore}
 use Rattle.item_catalog.specs.Records.{records_of}
-use Rattle.item_catalog.specs.Steps.Drafts.{draft_of}
+use Rattle.item_catalog.specs.Private.Drafts.{draft_of}
 use Rattle.item_catalog.specs.Faults.{entries_in, kinds_at}
 use Rattle.item_catalog.proofs.reading.read_deck.Given as goal
 

@@ -1,7 +1,7 @@
 use Rattle.std.proofs.Common.{◌∙◌, ap, drop, sym}
 use Rattle.csv.specs.Records.{fields_of}
-use Rattle.item_catalog.proofs.TagFacts.{tagged, untagged}
-use Rattle.item_catalog.specs.DeckEntries.{entry_by, tag_of}
+use Rattle.item_catalog.proofs.TagLemmas.{tagged, untagged}
+use Rattle.item_catalog.specs.Declarations.{entry_by, tag_of}
 use Rattle.item_catalog.proofs.reading.read_tag.Goals as goal
 
 pub returns-in-Some : goal.returns-in-Some

@@ -2,10 +2,10 @@
 
 ghost use Rattle.std.specs.Prelude.{◌≡◌, OnOk, drop};
 ghost use Rattle.csv.specs.Records.{fields_of};
-ghost use Rattle.item_catalog.specs.Steps.Drafts.{Adds, QueryRead, UpdateRead};
-ghost use Rattle.item_catalog.specs.DeckEntries.{query_by, script_by, update_by};
+ghost use Rattle.item_catalog.specs.Private.Drafts.{AddsDeclaration, QueryRead, UpdateRead};
+ghost use Rattle.item_catalog.specs.Declarations.{query_by, script_by, update_by};
 ghost use Rattle.air_base.specs.Pieces.{one_of, three_of, two_of};
-ghost use Rattle.item_catalog.specs.Steps.ListKinds.{seen_query_kind, seen_update_kind};
+ghost use Rattle.item_catalog.specs.Private.ListKinds.{seen_query_kind, seen_update_kind};
 
 use crate::deck::draft::Draft;
 use crate::faults::FaultKind;
@@ -97,7 +97,7 @@ impl Draft {
 
     /// Adds the update of a record.
     pub fn add_update(&mut self, alloc: Global, row: &ByteRecord) -> Result<(), Refusal<FaultKind>>
-        ensures { Adds result (update_by (three_of (drop 1 (fields_of row.now)))) self.old self.new }
+        ensures { AddsDeclaration result (update_by (three_of (drop 1 (fields_of row.now)))) self.old self.new }
     {
         let (by, update) = self.read_update(alloc, row)?;
         self.updates[by as usize].push(update)?;
@@ -139,7 +139,7 @@ impl Draft {
 
     /// Adds the query of a record.
     pub fn add_query(&mut self, alloc: Global, row: &ByteRecord) -> Result<(), Refusal<FaultKind>>
-        ensures { Adds result (query_by (two_of (drop 1 (fields_of row.now)))) self.old self.new }
+        ensures { AddsDeclaration result (query_by (two_of (drop 1 (fields_of row.now)))) self.old self.new }
     {
         let (reader, query) = self.read_query(alloc, row)?;
         self.queries[reader as usize].push(query)?;
@@ -149,7 +149,7 @@ impl Draft {
 
     /// Adds the events of a record.
     pub fn add_events(&mut self, row: &ByteRecord) -> Result<(), Refusal<FaultKind>>
-        ensures { Adds result (script_by (one_of (drop 1 (fields_of row.now)))) self.old self.new }
+        ensures { AddsDeclaration result (script_by (one_of (drop 1 (fields_of row.now)))) self.old self.new }
     {
         let Some(events) = one(row) else {
             return Err(Refusal::Kind(FaultKind::Fields));

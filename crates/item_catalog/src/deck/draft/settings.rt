@@ -4,10 +4,10 @@ ghost use Rattle.std.specs.Prelude.{◌≡◌, ◌≤◌, drop};
 ghost use Rattle.std.specs.List.{list_any};
 ghost use Rattle.csv.specs.Records.{fields_of};
 ghost use Rattle.air_base.specs.Pieces.{two_of};
-ghost use Rattle.item_catalog.specs.DeckEntries.{set_by};
-ghost use Rattle.item_catalog.specs.Steps.Drafts.{Adds};
+ghost use Rattle.item_catalog.specs.Declarations.{set_by};
+ghost use Rattle.item_catalog.specs.Private.Drafts.{AddsDeclaration};
 ghost use Rattle.item_catalog.specs.DeckLimits.{SettingsWithin};
-ghost use Rattle.item_catalog.specs.Settings.{default_of, name_of, number_in, number_said, number_set, policy_in, policy_of, range_of, same_setting, setting_of, settings_in};
+ghost use Rattle.item_catalog.specs.Settings.{default_of, name_of, number_in, number_said, number_set, policy_in, range_of, same_setting, setting_of, settings_in, spelled_policy};
 
 use crate::deck::draft::Draft;
 use crate::faults::FaultKind;
@@ -67,7 +67,7 @@ fn name_of(text: &[u8]) -> Option<Name>
 
 /// The policy of this letter.
 fn policy_of(text: &[u8]) -> Option<Policy>
-    ensures { result ≡ policy_of text.now }
+    ensures { result ≡ spelled_policy text.now }
 {
     if text == b"F".as_slice() {
         Some(Policy::FMatrix)
@@ -144,7 +144,7 @@ pub fn is_set(setting: Setting, set: &[Setting]) -> bool
 impl Draft {
     /// Adds the setting of a record.
     pub fn add_setting(&mut self, row: &ByteRecord) -> Result<(), Refusal<FaultKind>>
-        ensures { Adds result (set_by (two_of (drop 1 (fields_of row.now)))) self.old self.new }
+        ensures { AddsDeclaration result (set_by (two_of (drop 1 (fields_of row.now)))) self.old self.new }
     {
         let Some((name, value)) = two(row) else {
             return Err(Refusal::Kind(FaultKind::Fields));

@@ -2,7 +2,7 @@ use Rattle.std.proofs.Common.{◌≡◌, ◌∙◌, All, true, length, map, ap, 
 use Rattle.std.proofs.lemmas.List.{with_items_is}
 use Rattle.listeners.specs.declared.apart.PieceReader.{PieceReader}
 use Rattle.listeners.specs.Hearings.{AreApart}
-use Rattle.listeners.specs.Steps.ApartSteps.{IsOpenStill}
+use Rattle.listeners.specs.Private.ApartSteps.{IsOpenStill}
 use Rattle.listeners.proofs.ApartLemmas.{have_ended, still_open}
 use Rattle.listeners.proofs.apart.end_apart.Goals as goal
 

@@ -5,7 +5,7 @@ use Rattle.std.proofs.lemmas.Bool.{eqb-false, eqb-true}
 use Rattle.air_model.specs.Buckets.{bucket_in}
 use Rattle.air_model.specs.Tapes.{TapeRead, tape_read}
 use Rattle.listeners.specs.Listeners.{hears}
-use Rattle.listeners.specs.Steps.TogetherSteps.{CanHear, listeners_in}
+use Rattle.listeners.specs.Private.TogetherSteps.{CanHear, listeners_in}
 use Rattle.listeners.proofs.PieceLemmas.{all_read, fewer_left, next_is}
 use Rattle.listeners.proofs.ReaderLemmas.{hears_none}
 use Rattle.listeners.proofs.TogetherLemmas.{can_hear, map_pieces}

@@ -4,7 +4,7 @@ use Rattle.std.specs.Result.{result_ok}
 use Rattle.air_model.specs.Buckets.{Bucket, IsInRange, bucket_in}
 use Rattle.air_model.specs.Tapes.{tape_read}
 use Rattle.listeners.specs.Listeners.{hears}
-use Rattle.listeners.specs.Steps.TogetherSteps.{listeners_in}
+use Rattle.listeners.specs.Private.TogetherSteps.{listeners_in}
 use Rattle.listeners.proofs.together.hear_pieces.Given as goal
 
 abbrev pub invariant-loop-records : goal.invariant-loop-records

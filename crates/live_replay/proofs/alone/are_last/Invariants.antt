@@ -1,7 +1,7 @@
 use Rattle.std.proofs.Common.{◌≡◌, true, take}
 use Rattle.std.specs.List.{list_all}
 use Rattle.live_replay.specs.Findings.{places_of}
-use Rattle.live_replay.proofs.AloneFacts.{is_last}
+use Rattle.live_replay.proofs.AloneLemmas.{is_last}
 use Rattle.live_replay.proofs.alone.are_last.Given as goal
 
 abbrev pub invariant-loop-k : goal.invariant-loop-k

@@ -2,8 +2,8 @@ use Rattle.std.proofs.Common.{◌≡◌, ◌<◌, All, IfSome, length, map, sym,
 use Rattle.std.proofs.lemmas.List.{with_items_is}
 use Rattle.air_history.specs.Reads.{origin}
 use Rattle.live_replay.specs.Findings.{places_of}
-use Rattle.live_replay.specs.Steps.Alone.{MarksAlone, MarksDescents}
-use Rattle.live_replay.proofs.AloneFacts.{marks_alone, origins_within}
+use Rattle.live_replay.specs.Private.Alone.{MarksAlone, MarksDescents}
+use Rattle.live_replay.proofs.AloneLemmas.{marks_alone, origins_within}
 use Rattle.live_replay.proofs.alone.is_consistent.Goals as goal
 
 pub mark_descents-requires-clause-within : goal.mark_descents-requires-clause-within

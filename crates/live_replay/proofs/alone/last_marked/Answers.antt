@@ -1,7 +1,7 @@
 use Rattle.std.proofs.Common.{◌≡◌, ◌<◌, ◌+◌, ◌-◌, ℕ, true, length, sym, ap, subst, ◌∙◌, arith}
 use Rattle.air_history.specs.Histories.{event_at, writes}
 use Rattle.air_history.proofs.ScanLemmas.{event_read}
-use Rattle.live_replay.proofs.AloneFacts.{NoneFrom, last_here, last_in, last_nowhere}
+use Rattle.live_replay.proofs.AloneLemmas.{NoneFrom, last_here, last_in, last_nowhere}
 use Rattle.live_replay.proofs.alone.last_marked.Goals as goal
 
 pub returns-then-writes_item : goal.returns-then-writes_item

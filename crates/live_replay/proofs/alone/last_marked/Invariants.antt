@@ -1,4 +1,4 @@
-use Rattle.live_replay.proofs.AloneFacts.{NoneFrom}
+use Rattle.live_replay.proofs.AloneLemmas.{NoneFrom}
 use Rattle.live_replay.proofs.alone.last_marked.Given as goal
 
 abbrev pub invariant-loop-place : goal.invariant-loop-place

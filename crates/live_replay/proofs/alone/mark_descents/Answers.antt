@@ -1,8 +1,8 @@
 use Rattle.std.proofs.Common.{◌<◌, ◌+◌, ◌-◌, ℕ, None, IfSome, length, drop, sym, ap, subst, ◌∙◌, arith}
 use Rattle.std.proofs.lemmas.List.FromFn.{length-map-range_with_len}
 use Rattle.air_history.specs.Descents.{descends}
-use Rattle.live_replay.specs.Steps.Alone.{MarksDescents}
-use Rattle.live_replay.proofs.AloneFacts.{marked_origin, new_origin}
+use Rattle.live_replay.specs.Private.Alone.{MarksDescents}
+use Rattle.live_replay.proofs.AloneLemmas.{marked_origin, new_origin}
 use Rattle.live_replay.proofs.alone.mark_descents.Goals as goal
 
 pub mark_too-requires : goal.mark_too-requires

@@ -1,5 +1,5 @@
 use Rattle.std.proofs.Common.{drop}
-use Rattle.live_replay.specs.Steps.Alone.{MarksDescents}
+use Rattle.live_replay.specs.Private.Alone.{MarksDescents}
 use Rattle.live_replay.proofs.alone.mark_descents.Given as goal
 
 abbrev pub invariant-loop-k : goal.invariant-loop-k

@@ -1,4 +1,4 @@
-use Rattle.live_replay.proofs.AloneFacts.{MarkedTo}
+use Rattle.live_replay.proofs.AloneLemmas.{MarkedTo}
 use Rattle.live_replay.proofs.alone.mark_too.Given as goal
 
 abbrev pub invariant-loop-place : goal.invariant-loop-place

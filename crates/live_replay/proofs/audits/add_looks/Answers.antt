@@ -5,7 +5,7 @@ use Rattle.live_replay.specs.Audits.{found_in}
 use Rattle.live_replay.specs.Findings.{look_cause}
 use Rattle.live_replay.specs.declared.findings.Cause.{Cause}
 use Rattle.live_replay.specs.declared.findings.Finding.{Finding}
-use Rattle.live_replay.proofs.FoundFacts.{found_next, found_none}
+use Rattle.live_replay.proofs.FoundLemmas.{found_next, found_none}
 use Rattle.live_replay.proofs.audits.add_looks.Goals as goal
 
 pub loop-place-init : goal.loop-place-init

@@ -1,4 +1,4 @@
-use Rattle.live_replay.proofs.FindingFacts.{agrees, look_agrees}
+use Rattle.live_replay.proofs.FindingLemmas.{agrees, look_agrees}
 use Rattle.live_replay.proofs.laws.agrees_law.Goals as goal
 
 pub returns : goal.returns

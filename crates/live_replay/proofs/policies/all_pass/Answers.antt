@@ -2,7 +2,7 @@ use Rattle.std.proofs.Common.{◌≡◌, Bool, sym, ap, subst, ◌∙◌}
 use Rattle.std.specs.Prelude.{IfOk}
 use Rattle.air_history.specs.Consistency.{consistent}
 use Rattle.live_replay.specs.Findings.{all_pass, places_of}
-use Rattle.live_replay.proofs.PassFacts.{pass_consistent}
+use Rattle.live_replay.proofs.PassLemmas.{pass_consistent}
 use Rattle.live_replay.proofs.policies.all_pass.Goals as goal
 
 pub returns-in-FMatrix : goal.returns-in-FMatrix

@@ -1,7 +1,7 @@
 use Rattle.std.proofs.Common.{◌≡◌, drop}
 use Rattle.air_history.specs.Clashes.{named_clash}
 use Rattle.live_replay.specs.Findings.{places_of}
-use Rattle.live_replay.specs.Steps.NamedClashes.{named_by}
+use Rattle.live_replay.specs.Private.NamedClashes.{named_by}
 use Rattle.live_replay.proofs.policies.least_named.Given as goal
 
 abbrev pub invariant-loop-k : goal.invariant-loop-k

@@ -1,6 +1,6 @@
 use Rattle.std.proofs.Common.{arith}
 use Rattle.air_history.specs.Histories.{starts}
-use Rattle.live_replay.proofs.PolicyFacts.{first_within, newest_within}
+use Rattle.live_replay.proofs.PolicyLemmas.{first_within, newest_within}
 use Rattle.live_replay.proofs.policies.naming_of.Goals as goal
 
 pub same_origin-requires-clause-first : goal.same_origin-requires-clause-first

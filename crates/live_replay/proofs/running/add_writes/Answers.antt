@@ -3,8 +3,8 @@ use Rattle.std.proofs.lemmas.Bool.{cases_eq}
 use Rattle.std.proofs.lemmas.List.{append-nil, get_or_default, get_or-set_same, get_or-set_other, length-set}
 use Rattle.air_history.specs.declared.updates.Write.{Write}
 use Rattle.live_replay.specs.declared.writes.ItemWrite.{ItemWrite}
-use Rattle.live_replay.specs.Steps.Runs.{added_write}
-use Rattle.live_replay.proofs.RunFacts.{added_here, added_other}
+use Rattle.live_replay.specs.Private.Runs.{added_write}
+use Rattle.live_replay.proofs.RunLemmas.{added_here, added_other}
 use Rattle.live_replay.proofs.running.add_writes.Goals as goal
 
 pub loop-write-preserved : goal.loop-write-preserved

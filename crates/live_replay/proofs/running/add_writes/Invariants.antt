@@ -1,5 +1,5 @@
 use Rattle.std.proofs.Common.{◌≡◌, ◌<◌, ◌++◌, ℕ, [], length, get_or, take}
-use Rattle.live_replay.specs.Steps.Runs.{added_write}
+use Rattle.live_replay.specs.Private.Runs.{added_write}
 use Rattle.live_replay.proofs.running.add_writes.Given as goal
 
 abbrev pub invariant-loop-write : goal.invariant-loop-write

@@ -1,6 +1,6 @@
 use Rattle.std.proofs.Common.{◌≡◌, ℕ, ◌<◌, false, drop, get_or}
 use Rattle.pix_cache.specs.Leaves.{nowhere}
-use Rattle.pix_cache.specs.Steps.Trees.{IsTree}
+use Rattle.pix_cache.specs.Private.Trees.{IsTree}
 use Rattle.pix_cache.proofs.nodes.blank.Given as goal
 
 abbrev pub invariant-loop-slot : goal.invariant-loop-slot

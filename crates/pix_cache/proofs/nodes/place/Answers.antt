@@ -4,7 +4,7 @@ use Rattle.std.proofs.lemmas.Bool.{cases_eq}
 use Rattle.std.proofs.lemmas.List.{drop-set-add, drop-set-lt}
 use Rattle.pix_cache.specs.declared.leaf.Leaf.{Leaf}
 use Rattle.pix_cache.specs.Leaves.{lighter, nowhere}
-use Rattle.pix_cache.specs.Steps.Trees.{IsNode}
+use Rattle.pix_cache.specs.Private.Trees.{IsNode}
 use Rattle.pix_cache.proofs.NodeLemmas.{node_kept, node_mended}
 use Rattle.pix_cache.proofs.nodes.place.Goals as goal
 

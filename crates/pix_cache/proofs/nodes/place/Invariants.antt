@@ -1,6 +1,6 @@
 use Rattle.std.proofs.Common.{◌≡◌, ◌≢◌, ℕ, ◌/◌, ◌*◌, ◌<◌, ◌≤◌, drop}
 use Rattle.std.specs.Prelude.{slice_set}
-use Rattle.pix_cache.specs.Steps.Trees.{IsNode}
+use Rattle.pix_cache.specs.Private.Trees.{IsNode}
 use Rattle.pix_cache.proofs.nodes.place.Given as goal
 
 abbrev pub invariant-loop-node : goal.invariant-loop-node

@@ -1,6 +1,6 @@
 use Rattle.std.proofs.Common.{◌≡◌, ℕ, ◌<◌, ◌≤◌, drop, get_or}
 use Rattle.pix_cache.specs.Leaves.{nowhere, renumbered_leaf}
-use Rattle.pix_cache.specs.Steps.Trees.{IsTree}
+use Rattle.pix_cache.specs.Private.Trees.{IsTree}
 use Rattle.pix_cache.proofs.nodes.renumber.Given as goal
 
 abbrev pub invariant-loop-slot : goal.invariant-loop-slot

@@ -6,7 +6,7 @@ use Rattle.receiver_core.proofs.airs.pix_numbers.Goals as goal
 
 pub pix-requires-clause-item : goal.pix-requires-clause-item
 pix-requires-clause-item c =
-    let all : length (all_items c.args.program.now) ≡ length c.args.deck.now.items = ap (λ (d : List Disk). length (all_items d)) c.requires ∙ items_counted c.args.deck.now c.well_made.ensures.made in
+    let all : length (all_items c.args.program.now) ≡ length c.args.deck.now.items = ap (λ (d : List Disk). length (all_items d)) c.requires ∙ items_counted c.args.deck.now c.shows_well_made.ensures.made in
     let below = c.loop-item.invariant.all in
     omega arith
 

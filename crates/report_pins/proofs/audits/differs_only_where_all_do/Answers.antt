@@ -1,5 +1,5 @@
 -- The audit is computed from the report that the text spells.
-use Rattle.report_pins.proofs.AuditFacts.{audit_of_looks, of_looks}
+use Rattle.report_pins.proofs.AuditLemmas.{audit_of_looks, of_looks}
 use Rattle.report_pins.proofs.audits.differs_only_where_all_do.Goals as goal
 
 pub returns : goal.returns

@@ -1,5 +1,5 @@
 -- The text has this fault, so no other is answered, and no audit.
-use Rattle.report_pins.proofs.AuditFacts.{refused_by_its_fault}
+use Rattle.report_pins.proofs.AuditLemmas.{refused_by_its_fault}
 use Rattle.report_pins.proofs.audits.kind_of_a_fault_forgotten.Goals as goal
 
 pub returns : goal.returns

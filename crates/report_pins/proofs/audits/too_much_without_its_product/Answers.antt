@@ -1,5 +1,5 @@
 -- The report that the text spells is too much to replay, so it has no audit and no fault.
-use Rattle.report_pins.proofs.AuditFacts.{refused_by_its_product}
+use Rattle.report_pins.proofs.AuditLemmas.{refused_by_its_product}
 use Rattle.report_pins.proofs.audits.too_much_without_its_product.Goals as goal
 
 pub returns : goal.returns

@@ -1,5 +1,5 @@
 -- The text has this fault, so no other is answered.
-use Rattle.report_pins.proofs.FaultFacts.{query_not_ended, told}
+use Rattle.report_pins.proofs.FaultLemmas.{query_not_ended, told}
 use Rattle.report_pins.proofs.faults.accept_of_a_proper_prefix.Goals as goal
 
 pub returns : goal.returns

@@ -1,5 +1,5 @@
 -- The text has this fault, so no other is answered.
-use Rattle.report_pins.proofs.FaultFacts.{no_place, told}
+use Rattle.report_pins.proofs.FaultLemmas.{no_place, told}
 use Rattle.report_pins.proofs.faults.bytes_behind_a_place_forgotten.Goals as goal
 
 pub returns : goal.returns

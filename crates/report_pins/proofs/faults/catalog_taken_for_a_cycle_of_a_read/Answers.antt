@@ -1,5 +1,5 @@
 -- The text has this fault, so no other is answered.
-use Rattle.report_pins.proofs.FaultFacts.{cycle_nought, told}
+use Rattle.report_pins.proofs.FaultLemmas.{cycle_nought, told}
 use Rattle.report_pins.proofs.faults.catalog_taken_for_a_cycle_of_a_read.Goals as goal
 
 pub returns : goal.returns

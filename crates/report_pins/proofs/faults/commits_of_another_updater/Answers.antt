@@ -1,5 +1,5 @@
 -- The text has this fault, so no other is answered.
-use Rattle.report_pins.proofs.FaultFacts.{not_its_next, told}
+use Rattle.report_pins.proofs.FaultLemmas.{not_its_next, told}
 use Rattle.report_pins.proofs.faults.commits_of_another_updater.Goals as goal
 
 pub returns : goal.returns

@@ -1,5 +1,5 @@
 -- The text has this fault, so no other is answered.
-use Rattle.report_pins.proofs.FaultFacts.{not_begun, told}
+use Rattle.report_pins.proofs.FaultLemmas.{not_begun, told}
 use Rattle.report_pins.proofs.faults.cycle_among_all_starts_of_the_report.Goals as goal
 
 pub returns : goal.returns

@@ -1,5 +1,5 @@
 -- The text has this fault, so no other is answered.
-use Rattle.report_pins.proofs.FaultFacts.{late_and_not_begun, told}
+use Rattle.report_pins.proofs.FaultLemmas.{late_and_not_begun, told}
 use Rattle.report_pins.proofs.faults.greatest_kind_of_a_report.Goals as goal
 
 pub returns : goal.returns

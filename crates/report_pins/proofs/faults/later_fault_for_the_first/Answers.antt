@@ -1,5 +1,5 @@
 -- The text has this fault, so no other is answered.
-use Rattle.report_pins.proofs.FaultFacts.{first_unknown, told}
+use Rattle.report_pins.proofs.FaultLemmas.{first_unknown, told}
 use Rattle.report_pins.proofs.faults.later_fault_for_the_first.Goals as goal
 
 pub returns : goal.returns

@@ -1,5 +1,5 @@
 -- The text has this fault, so no other is answered.
-use Rattle.report_pins.proofs.FaultFacts.{late_start, told}
+use Rattle.report_pins.proofs.FaultLemmas.{late_start, told}
 use Rattle.report_pins.proofs.faults.order_that_forgets_glances.Goals as goal
 
 pub returns : goal.returns

@@ -1,5 +1,5 @@
 -- The rows are computed.
-use Rattle.report_pins.proofs.ReadFacts.{of_rows, rows_read}
+use Rattle.report_pins.proofs.ReadLemmas.{of_rows, rows_read}
 use Rattle.report_pins.proofs.reads.rows_from_nought.Goals as goal
 
 pub returns : goal.returns

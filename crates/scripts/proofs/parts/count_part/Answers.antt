@@ -4,17 +4,17 @@ use Rattle.scripts.proofs.parts.count_part.Goals as goal
 
 pub bounds-made-by : goal.bounds-made-by
 bounds-made-by c =
-    let own = updater_within c.args.deck.now c.args.k c.in-Some.by c.in-Some.ensures c.requires.within c.well_made.ensures.made.script in
+    let own = updater_within c.args.deck.now c.args.k c.in-Some.by c.in-Some.ensures c.requires.within c.shows_well_made.ensures.made.script in
     omega (arith, own, c.requires.updaters)
 
 pub bounds-made-by-in-Some : goal.bounds-made-by-in-Some
 bounds-made-by-in-Some c =
-    let own = updater_within c.args.deck.now c.args.k c.in-Some.by c.in-Some.ensures c.requires.within c.well_made.ensures.made.script in
+    let own = updater_within c.args.deck.now c.args.k c.in-Some.by c.in-Some.ensures c.requires.within c.shows_well_made.ensures.made.script in
     omega (arith, own, c.requires.updaters)
 
 pub returns-in-Some : goal.returns-in-Some
 returns-in-Some c =
-    let own = updater_within c.args.deck.now c.args.k c.in-Some.by c.in-Some.ensures c.requires.within c.well_made.ensures.made.script in
+    let own = updater_within c.args.deck.now c.args.k c.in-Some.by c.in-Some.ensures c.requires.within c.shows_well_made.ensures.made.script in
     counts_more c.args.deck.now c.args.k c.in-Some.by c.in-Some.ensures c.requires.within c.args.made.now c.requires.made (omega (arith, own, c.requires.updaters))
 
 pub returns-in_default : goal.returns-in_default

@@ -8,16 +8,16 @@ returns-in_default c = start_is c.args.deck.now c.args.k c.in_default.ensures
 
 pub bounds-made-by : goal.bounds-made-by
 bounds-made-by c =
-    let own = updater_within c.args.deck.now c.args.k c.in-Some.by c.in-Some.ensures c.requires.within c.well_made.ensures.made.script in
+    let own = updater_within c.args.deck.now c.args.k c.in-Some.by c.in-Some.ensures c.requires.within c.shows_well_made.ensures.made.script in
     omega (arith, own, c.requires.updaters)
 
 pub updates-requires : goal.updates-requires
-updates-requires c = updater_within c.args.deck.now c.args.k c.in-Some.by c.in-Some.ensures c.requires.within c.well_made.ensures.made.script
+updates-requires c = updater_within c.args.deck.now c.args.k c.in-Some.by c.in-Some.ensures c.requires.within c.shows_well_made.ensures.made.script
 
 pub bounds-updates-seq : goal.bounds-updates-seq
 bounds-updates-seq c =
     let by = c.in-Some.by in
-    let fits = c.well_made.ensures.made.script in
+    let fits = c.shows_well_made.ensures.made.script in
     let within = updater_within c.args.deck.now c.args.k by c.in-Some.ensures c.requires.within fits in
     let own = part_fits c.args.deck.now c.args.k by c.in-Some.ensures c.requires.within fits in
     let number = c.requires.made by (omega (arith, c.requires.updaters)) in
@@ -29,7 +29,7 @@ returns c =
     let by = c.in-Some.by in
     let deck = c.args.deck.now in
     let seq = get_or c.args.made.now by 0 in
-    let fits = c.well_made.ensures.made.script in
+    let fits = c.shows_well_made.ensures.made.script in
     let within = updater_within deck c.args.k by c.in-Some.ensures c.requires.within fits in
     let own = part_fits deck c.args.k by c.in-Some.ensures c.requires.within fits in
     let number = c.requires.made by (omega (arith, c.requires.updaters)) in

@@ -1,4 +1,4 @@
-use Rattle.session_pins.proofs.RangeFacts.{first_range}
+use Rattle.session_pins.proofs.RangeLemmas.{first_range}
 use Rattle.session_pins.proofs.listeners_pins.every_record_refused_to_all.Goals as goal
 
 pub hear-requires-clause-range : goal.hear-requires-clause-range

@@ -1,6 +1,6 @@
 use Rattle.std.proofs.Common.{◌∙◌}
 use Rattle.air_model.specs.Tapes.{tape_read}
-use Rattle.session_pins.proofs.SessionFacts.{noisy_lines, noisy_verdicts}
+use Rattle.session_pins.proofs.SessionLemmas.{noisy_lines, noisy_verdicts}
 use Rattle.session_pins.proofs.listeners_pins.lossy_ethers_heard_together.Goals as goal
 
 pub returns-clause-verdicts : goal.returns-clause-verdicts

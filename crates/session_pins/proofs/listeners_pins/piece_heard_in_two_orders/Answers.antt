@@ -1,7 +1,7 @@
 use Rattle.std.proofs.Common.{◌∙◌}
 use Rattle.std.proofs.lemmas.Result.{on_ok_weaker}
 use Rattle.air_model.specs.Tapes.{tape_read}
-use Rattle.session_pins.proofs.ListenerFacts.{both_accept}
+use Rattle.session_pins.proofs.ListenerLemmas.{both_accept}
 use Rattle.session_pins.proofs.listeners_pins.piece_heard_in_two_orders.Goals as goal
 
 pub returns : goal.returns

@@ -1,5 +1,5 @@
 use Rattle.std.proofs.Common.{◌∙◌}
-use Rattle.session_pins.proofs.SizeFacts.{scripted_size}
+use Rattle.session_pins.proofs.SizeLemmas.{scripted_size}
 use Rattle.session_pins.proofs.piece_pins.mast_for_the_whole_tape.Goals as goal
 
 pub returns : goal.returns

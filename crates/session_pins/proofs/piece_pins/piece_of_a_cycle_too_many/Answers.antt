@@ -1,4 +1,4 @@
-use Rattle.session_pins.proofs.SizeFacts.{few_frequent}
+use Rattle.session_pins.proofs.SizeLemmas.{few_frequent}
 use Rattle.session_pins.proofs.piece_pins.piece_of_a_cycle_too_many.Goals as goal
 
 pub returns : goal.returns

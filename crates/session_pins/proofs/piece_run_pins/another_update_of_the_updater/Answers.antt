@@ -1,5 +1,5 @@
 use Rattle.std.proofs.Common.{length, ap, arith}
-use Rattle.session_pins.proofs.PieceFacts.{both_commits}
+use Rattle.session_pins.proofs.PieceLemmas.{both_commits}
 use Rattle.session_pins.proofs.piece_run_pins.another_update_of_the_updater.Goals as goal
 
 pub returns : goal.returns

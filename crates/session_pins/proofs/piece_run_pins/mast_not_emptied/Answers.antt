@@ -1,6 +1,6 @@
 use Rattle.std.proofs.Common.{length, ap, arith}
-use Rattle.air_sender.specs.TapeMasts.{told_by}
-use Rattle.session_pins.proofs.PieceFacts.{second_cycle}
+use Rattle.air_sender.specs.TapeMasts.{told_by_tape}
+use Rattle.session_pins.proofs.PieceLemmas.{second_cycle}
 use Rattle.session_pins.proofs.piece_run_pins.mast_not_emptied.Goals as goal
 
 pub returns : goal.returns
@@ -8,5 +8,5 @@ returns c =
     let kept = c.in_ok-next_piece.ensures.kept in
     let one = ap length c.requires.events in
     let two = ap (λ d. length d.script) c.requires.deck in
-    second_cycle c.args.deck.now c.args.run.now.events.items c.next_piece.new.self.events.items (told_by c.next_piece.new.piece).buckets c.requires.deck c.requires.events kept.begun kept.within
+    second_cycle c.args.deck.now c.args.run.now.events.items c.next_piece.new.self.events.items (told_by_tape c.next_piece.new.piece).buckets c.requires.deck c.requires.events kept.begun kept.within
     (c.in_ok-next_piece.ensures.on (omega (arith, one, two))) c.in_ok-next_piece.ensures.aired

@@ -1,4 +1,4 @@
-use Rattle.session_pins.proofs.PieceFacts.{two_cycles}
+use Rattle.session_pins.proofs.PieceLemmas.{two_cycles}
 use Rattle.session_pins.proofs.piece_run_pins.piece_ends_early.Goals as goal
 
 pub returns : goal.returns

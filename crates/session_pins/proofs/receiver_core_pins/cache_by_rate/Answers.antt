@@ -1,5 +1,5 @@
 use Rattle.std.proofs.Common.{◌∙◌, ap}
-use Rattle.session_pins.proofs.PixFacts.{tiered_pix}
+use Rattle.session_pins.proofs.PixLemmas.{tiered_pix}
 use Rattle.session_pins.proofs.receiver_core_pins.cache_by_rate.Goals as goal
 
 pub returns : goal.returns

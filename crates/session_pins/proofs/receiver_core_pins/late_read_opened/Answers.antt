@@ -1,4 +1,4 @@
-use Rattle.session_pins.proofs.RangeFacts.{vector_range}
+use Rattle.session_pins.proofs.RangeLemmas.{vector_range}
 use Rattle.session_pins.proofs.receiver_core_pins.late_read_opened.Goals as goal
 
 pub hear-requires-clause-range : goal.hear-requires-clause-range

@@ -1,4 +1,4 @@
-use Rattle.session_pins.proofs.RangeFacts.{edition_range}
+use Rattle.session_pins.proofs.RangeLemmas.{edition_range}
 use Rattle.session_pins.proofs.receiver_core_pins.loose_decoder_other_edition_opened.Goals as goal
 
 pub hear-requires-clause-range : goal.hear-requires-clause-range

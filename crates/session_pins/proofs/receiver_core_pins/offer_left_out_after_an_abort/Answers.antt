@@ -1,4 +1,4 @@
-use Rattle.session_pins.proofs.RangeFacts.{clash_range}
+use Rattle.session_pins.proofs.RangeLemmas.{clash_range}
 use Rattle.session_pins.proofs.receiver_core_pins.offer_left_out_after_an_abort.Goals as goal
 
 pub hear-requires-clause-range : goal.hear-requires-clause-range

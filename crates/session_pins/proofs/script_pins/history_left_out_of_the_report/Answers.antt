@@ -1,5 +1,5 @@
 use Rattle.std.proofs.Common.{◌∙◌}
-use Rattle.session_pins.proofs.SessionFacts.{updated_history, updated_lines, updated_short, updated_verdicts}
+use Rattle.session_pins.proofs.SessionLemmas.{updated_history, updated_lines, updated_short, updated_verdicts}
 use Rattle.session_pins.proofs.script_pins.history_left_out_of_the_report.Goals as goal
 
 pub air_script-requires-clause-few : goal.air_script-requires-clause-few

@@ -1,6 +1,6 @@
 use Rattle.std.proofs.Common.{◌∙◌}
 use Rattle.air_model.specs.Decks.{script_history}
-use Rattle.session_pins.proofs.SessionFacts.{pair_history, pair_short, pair_verdicts}
+use Rattle.session_pins.proofs.SessionLemmas.{pair_history, pair_short, pair_verdicts}
 use Rattle.session_pins.proofs.script_pins.last_piece_not_heard.Goals as goal
 
 pub air_script-requires-clause-few : goal.air_script-requires-clause-few

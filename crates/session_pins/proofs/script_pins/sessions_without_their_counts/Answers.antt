@@ -1,6 +1,6 @@
 use Rattle.std.proofs.Common.{◌∙◌, [], ◌∷◌, refl}
 use Rattle.air_history.specs.declared.histories.Event.TheVariants.{Start}
-use Rattle.session_pins.proofs.SessionFacts.{one_cycle_short, pair_lines, pair_verdicts}
+use Rattle.session_pins.proofs.SessionLemmas.{one_cycle_short, pair_lines, pair_verdicts}
 use Rattle.session_pins.proofs.script_pins.sessions_without_their_counts.Goals as goal
 
 pub history_sessions-requires-clause-few : goal.history_sessions-requires-clause-few

@@ -1,25 +1,25 @@
 use Rattle.std.proofs.Common.{◌≡◌, ◌∙◌, [], ◌∷◌, arith}
 use Rattle.std.proofs.lemmas.Result.{IfErr-weaker, IfOk-weaker}
 use Rattle.air_base.specs.declared.verdicts.VerdictKind.TheVariants.{Accept}
-use Rattle.air_cli.specs.HeardTapes.{AreHeard, UnheardCause}
+use Rattle.air_cli.specs.HeardTapes.{AreFileSessions, UnheardCause}
 use Rattle.session_pins.specs.Refusals.{IsUnread}
 use Rattle.session_pins.specs.SmallBuckets.{pair_tape}
 use Rattle.session_pins.specs.SmallReceivers.{counted, counts, read, told}
-use Rattle.session_pins.proofs.SessionFacts.{heard_lines, heard_verdicts}
+use Rattle.session_pins.proofs.SessionLemmas.{heard_lines, heard_verdicts}
 use Rattle.session_pins.proofs.TapeCauses.{told_bytes, unread_cause}
 use Rattle.session_pins.proofs.tape_pins.carried_rest_forgotten.Goals as goal
 
 pub returns-clause-verdicts : goal.returns-clause-verdicts
 returns-clause-verdicts g c =
     let before = g.S.Shelf.state c.args.shelf.now in
-    IfOk-weaker c.piece_sessions.result (AreHeard c.args.name.now 72 before c.args.deck.now) (λ s. s.verdicts.items ≡ told 0 Accept (read 0 1 10 ∷ read 1 1 20 ∷ []) ∷ [])
+    IfOk-weaker c.piece_sessions.result (AreFileSessions c.args.name.now 72 before c.args.deck.now) (λ s. s.verdicts.items ≡ told 0 Accept (read 0 1 10 ∷ read 1 1 20 ∷ []) ∷ [])
     (λ s h. h.verdicts ∙ heard_verdicts c.args.deck.now h.bytes c.requires.deck (told_bytes (before.told.file c.args.name.now) h.bytes pair_tape c.requires.file h.told))
     c.piece_sessions.ensures.heard
 
 pub returns-clause-lines : goal.returns-clause-lines
 returns-clause-lines g c =
     let before = g.S.Shelf.state c.args.shelf.now in
-    IfOk-weaker c.piece_sessions.result (AreHeard c.args.name.now 72 before c.args.deck.now) (λ s. s.counts.items ≡ counted 0 (counts 2 0 0 0 0 0) ∷ [])
+    IfOk-weaker c.piece_sessions.result (AreFileSessions c.args.name.now 72 before c.args.deck.now) (λ s. s.counts.items ≡ counted 0 (counts 2 0 0 0 0 0) ∷ [])
     (λ s h. h.counts ∙ heard_lines c.args.deck.now h.bytes c.requires.deck (told_bytes (before.told.file c.args.name.now) h.bytes pair_tape c.requires.file h.told))
     c.piece_sessions.ensures.heard
 

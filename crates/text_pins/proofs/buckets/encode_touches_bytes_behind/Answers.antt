@@ -1,5 +1,5 @@
 -- The slot is in range, and its bytes are known.
-use Rattle.text_pins.proofs.BucketFacts.{slot_in_range, slot_written}
+use Rattle.text_pins.proofs.BucketLemmas.{slot_in_range, slot_written}
 use Rattle.text_pins.proofs.buckets.encode_touches_bytes_behind.Goals as goal
 
 pub encode-requires-clause-range : goal.encode-requires-clause-range

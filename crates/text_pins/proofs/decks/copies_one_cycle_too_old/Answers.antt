@@ -1,5 +1,5 @@
 -- The text has this fault, so no other is answered.
-use Rattle.text_pins.proofs.DeckFacts.{too_old, told}
+use Rattle.text_pins.proofs.DeckLemmas.{too_old, told}
 use Rattle.text_pins.proofs.decks.copies_one_cycle_too_old.Goals as goal
 
 pub returns : goal.returns

@@ -1,5 +1,5 @@
 -- The text has this fault, so no other is answered.
-use Rattle.text_pins.proofs.DeckFacts.{overdrawn, told}
+use Rattle.text_pins.proofs.DeckLemmas.{overdrawn, told}
 use Rattle.text_pins.proofs.decks.earlier_script_records_forgotten.Goals as goal
 
 pub returns : goal.returns

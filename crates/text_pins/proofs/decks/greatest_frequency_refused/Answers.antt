@@ -1,5 +1,5 @@
 -- The text has this fault, so no other is answered.
-use Rattle.text_pins.proofs.DeckFacts.{sizes_apart, told}
+use Rattle.text_pins.proofs.DeckLemmas.{sizes_apart, told}
 use Rattle.text_pins.proofs.decks.greatest_frequency_refused.Goals as goal
 
 pub returns : goal.returns

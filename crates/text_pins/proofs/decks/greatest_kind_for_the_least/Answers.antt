@@ -1,5 +1,5 @@
 -- The text has this fault, so no other is answered.
-use Rattle.text_pins.proofs.DeckFacts.{wrong_id, told}
+use Rattle.text_pins.proofs.DeckLemmas.{wrong_id, told}
 use Rattle.text_pins.proofs.decks.greatest_kind_for_the_least.Goals as goal
 
 pub returns : goal.returns

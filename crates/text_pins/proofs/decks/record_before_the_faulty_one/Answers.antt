@@ -1,5 +1,5 @@
 -- The text has this fault, so no other is answered.
-use Rattle.text_pins.proofs.DeckFacts.{tag_unknown, told}
+use Rattle.text_pins.proofs.DeckLemmas.{tag_unknown, told}
 use Rattle.text_pins.proofs.decks.record_before_the_faulty_one.Goals as goal
 
 pub returns : goal.returns

@@ -1,5 +1,5 @@
 -- The text has this fault, so no other is answered.
-use Rattle.text_pins.proofs.DeckFacts.{field_missing, told}
+use Rattle.text_pins.proofs.DeckLemmas.{field_missing, told}
 use Rattle.text_pins.proofs.decks.setting_checked_before_its_fields.Goals as goal
 
 pub returns : goal.returns

@@ -1,5 +1,5 @@
 use Rattle.std.proofs.Common.{◌∙◌}
-use Rattle.thread_pins.proofs.BatchFacts.{ends_each}
+use Rattle.thread_pins.proofs.BatchLemmas.{ends_each}
 use Rattle.thread_pins.proofs.job_pins.cycle_left_out.Goals as goal
 
 pub returns-clause-each : goal.returns-clause-each

@@ -1,4 +1,4 @@
-use Rattle.thread_pins.proofs.BatchFacts.{on_ok, keeps_two}
+use Rattle.thread_pins.proofs.BatchLemmas.{on_ok, keeps_two}
 use Rattle.thread_pins.proofs.snapshot_pins.frame_of_half_a_batch.Goals as goal
 
 pub returns : goal.returns

@@ -1,7 +1,7 @@
 use Rattle.std.proofs.Common.{length, subst, sym}
 use Rattle.cycle_snapshot.specs.Batches.{IsBatch}
 use Rattle.thread_pins.specs.SmallBatches.{first_batch}
-use Rattle.thread_pins.proofs.BatchFacts.{first_is_batch}
+use Rattle.thread_pins.proofs.BatchLemmas.{first_is_batch}
 use Rattle.thread_pins.proofs.snapshot_pins.published_event_dropped.Goals as goal
 
 pub publish-requires-clause-batch : goal.publish-requires-clause-batch

@@ -1,4 +1,4 @@
-use Rattle.thread_pins.proofs.BatchFacts.{on_ok, keeps_total}
+use Rattle.thread_pins.proofs.BatchLemmas.{on_ok, keeps_total}
 use Rattle.thread_pins.proofs.snapshot_pins.total_without_modulus.Goals as goal
 
 pub returns : goal.returns

@@ -1,4 +1,4 @@
-use Rattle.thread_pins.proofs.PassFacts.{commits_once, commits_update}
+use Rattle.thread_pins.proofs.PassLemmas.{commits_once, commits_update}
 use Rattle.thread_pins.proofs.station_pins.another_update_committed.Goals as goal
 
 pub returns-clause-once : goal.returns-clause-once

@@ -1,4 +1,4 @@
-use Rattle.thread_pins.proofs.PassFacts.{starts_once, starts_fresh}
+use Rattle.thread_pins.proofs.PassLemmas.{starts_once, starts_fresh}
 use Rattle.thread_pins.proofs.station_pins.fresh_without_its_start.Goals as goal
 
 pub returns-clause-once : goal.returns-clause-once

@@ -1,4 +1,4 @@
-use Rattle.thread_pins.proofs.ReceiptFacts.{replies}
+use Rattle.thread_pins.proofs.ReceiptLemmas.{replies}
 use Rattle.thread_pins.proofs.station_pins.receipt_without_its_cycle.Goals as goal
 
 pub returns : goal.returns

@@ -1,4 +1,4 @@
-use Rattle.thread_pins.proofs.PassFacts.{one_start}
+use Rattle.thread_pins.proofs.PassLemmas.{one_start}
 use Rattle.thread_pins.proofs.station_pins.start_added_at_the_close.Goals as goal
 
 pub returns : goal.returns

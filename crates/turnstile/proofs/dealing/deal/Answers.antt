@@ -1,8 +1,8 @@
 use Rattle.std.proofs.Common.{◌≡◌, ◌<◌, ◌-◌, ◌+◌, length, [], arith, ap, sym, refl, ◌∙◌, slice_get, Some}
 use Rattle.std.proofs.lemmas.Option.{none-some}
 use Rattle.turnstile.specs.Passes.{newcomer}
-use Rattle.turnstile.specs.Steps.SeatViews.{numbers_from, idle, sight}
-use Rattle.turnstile.proofs.SplitFacts.{splits}
+use Rattle.turnstile.specs.Private.SeatViews.{numbers_from, idle, sight}
+use Rattle.turnstile.proofs.SplitLemmas.{splits}
 use Rattle.turnstile.proofs.Stacks.{each_snoc, stack_step, stack_two, sound_one, pass_with_one}
 use Rattle.turnstile.proofs.dealing.deal.Goals as goal
 

@@ -4,7 +4,7 @@ use Rattle.air_model.specs.Buckets.{bucket_in}
 use Rattle.air_model.specs.Reports.{counts_lines, verdict_lines}
 use Rattle.listeners.specs.Listeners.{AreNumbered, end_state}
 use Rattle.listeners.proofs.ReaderLemmas.{HasRoom, are_numbered, heard_whole, room_at_first, sessions_are}
-use Rattle.air_cli.specs.Hearings.{IsHearAnswer, IsHeard, TakesUpTo}
+use Rattle.air_cli.specs.Hearings.{IsHearAnswer, IsHeardOnEar, TakesUpTo}
 use Rattle.air_cli.specs.declared.commands.hearings.HearFault.TheVariants as fault
 use Rattle.air_cli.proofs.EarLemmas.{just_taken}
 use Rattle.air_cli.proofs.commands.hearings.ear_sessions.Goals as goal
@@ -13,7 +13,7 @@ pub all_hear_ear-requires-clause-counts : goal.all_hear_ear-requires-clause-coun
 all_hear_ear-requires-clause-counts g c =
     let deck = c.args.deck.now in
     let n = c.settings.result.hears in
-    let most = c.well_made.ensures.limits.settings.hears in
+    let most = c.shows_well_made.ensures.limits.settings.hears in
     let same = ap (λ s. s.hears) c.settings.ensures in
     let few : n < 2 ^ 64 = omega (arith, same, most) in
     subst (All (HasRoom n)) (sym (c.deref_mut.ensures.value ∙ c.in_ok-listeners.ensures)) (room_at_first deck n (range_with_len 0 (length deck.readers)) few)
@@ -56,7 +56,7 @@ returns-clause-sessions g c =
     let hears = ap (λ s. s.hears) c.settings.ensures in
     record {
       heard = h.heard;
-      is = subst (λ n. IsHeard n old last h.heard) hears (subst (λ o. IsHeard c.settings.result.hears o last h.heard) c.tune_in.ensures.kept h.is);
+      is = subst (λ n. IsHeardOnEar n old last h.heard) hears (subst (λ o. IsHeardOnEar c.settings.result.hears o last h.heard) c.tune_in.ensures.kept h.is);
       verdicts_are = c.in_ok-sessions.ensures.verdicts ∙ ap (λ ls. verdict_lines (map end_state ls)) heard ∙ ap verdict_lines (sessions_are deck h.heard);
       counts_are = c.in_ok-sessions.ensures.counts ∙ ap (λ ls. counts_lines (map end_state ls)) heard ∙ ap counts_lines (sessions_are deck h.heard);
     }

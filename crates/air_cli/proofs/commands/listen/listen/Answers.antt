@@ -1,7 +1,7 @@
 use Rattle.std.proofs.Common.{ap}
-use Rattle.air_cli.specs.Given.{Given}
+use Rattle.air_cli.specs.ReportsAndTapes.{ReportAndTape}
 use Rattle.air_cli.specs.Listen.{ListenGives}
-use Rattle.air_cli.proofs.MakeFacts.{one_end}
+use Rattle.air_cli.proofs.MakeLemmas.{one_end}
 use Rattle.air_cli.proofs.commands.listen.listen.Goals as goal
 
 pub returns-clause-made : goal.returns-clause-made
@@ -10,7 +10,7 @@ returns-clause-made g c =
     let reads = c.in_ok-deck.ensures.reads in
     let given = c.in_ok-given.ensures in
     record {
-      gives = (ap (λ (g : Given). g.differs) given.gives.1.given_is, (c.in_ok-deck.deck, c.in_ok-deck.ensures.deck, c.well_made.ensures.made, c.in_ok-deck.ensures.runnable, given.gives));
+      gives = (ap (λ (g : ReportAndTape). g.differs) given.gives.1.given_is, (c.in_ok-deck.deck, c.in_ok-deck.ensures.deck, c.shows_well_made.ensures.made, c.in_ok-deck.ensures.runnable, given.gives));
       read = λ name same. one_end (g.S.Shelf.state c.read_runnable_deck.new.shelf) c.args.name.now name reads.end same;
       calm = reads.calm;
     }

@@ -7,7 +7,7 @@ use Rattle.air_cli.proofs.commands.reports.script_report.Goals as goal
 
 pub report_of-requires : goal.report_of-requires
 report_of-requires g c =
-    let few = script_starts_few c.args.deck.now c.well_made.ensures.limits.script in
+    let few = script_starts_few c.args.deck.now c.shows_well_made.ensures.limits.script in
     subst (λ events. starts events < 2 ^ 32) (sym c.in_ok-events.ensures.events) few
 
 pub returns : goal.returns

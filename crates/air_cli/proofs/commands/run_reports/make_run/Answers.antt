@@ -11,7 +11,7 @@ returns g c =
       run,
       record {
         run_is = c.in_ok-run.ensures.run;
-        true_is = c.true_run_law.ensures deck run c.well_made.ensures.made c.well_made.ensures.limits short c.in_ok-run.ensures.run;
+        true_is = c.true_run_law.ensures deck run c.shows_well_made.ensures.made c.shows_well_made.ensures.limits short c.in_ok-run.ensures.run;
         given_is = search rules;
       },
     )

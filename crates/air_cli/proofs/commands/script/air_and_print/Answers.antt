@@ -2,7 +2,7 @@ use Rattle.std.proofs.Common.{Bor, List, ℕ, ◌∙◌}
 use Rattle.std.specs.Prelude.{Option}
 use Rattle.std.specs.Option.{option_map}
 use Rattle.air_model.specs.Outputs.{script_tape}
-use Rattle.air_cli.proofs.OutputFacts.{keeps_falling, rest_printed}
+use Rattle.air_cli.proofs.OutputLemmas.{keeps_falling, rest_printed}
 use Rattle.air_cli.proofs.ScriptAirings.{printed_all, printed_part, stopped_airs, stopped_counts, stopped_rest}
 use Rattle.air_cli.proofs.commands.script.air_and_print.Goals as goal
 

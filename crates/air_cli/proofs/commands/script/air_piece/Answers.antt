@@ -1,11 +1,11 @@
 use Rattle.std.proofs.Common.{Bor, List, ℕ, rules}
 use Rattle.std.specs.Prelude.{Option}
 use Rattle.std.specs.Option.{option_map}
-use Rattle.air_devices.specs.Shelves.{Shelved}
+use Rattle.air_devices.specs.Shelves.{ShelfState}
 use Rattle.air_cli.specs.OutputPieces.{IsWritten}
 use Rattle.scripts.specs.Pieces.{piece_in, tape_so_far}
 use Rattle.air_report.specs.declared.status.Status.TheVariants as status
-use Rattle.air_cli.specs.Steps.Scripting.{IsStopped}
+use Rattle.air_cli.specs.Private.Scripting.{IsStopped}
 use Rattle.air_cli.proofs.ScriptAirings.{failed_after, wanting_after, written_on}
 use Rattle.air_cli.proofs.commands.script.air_piece.Goals as goal
 
@@ -16,7 +16,7 @@ returns-in_err-next_piece-clause-stopped g c =
     let d = c.args.deck.now in
     let now = S.state c.args.shelf.now in
     let so_far = tape_so_far d c.args.aired.now in
-    let h : (first : Shelved) → IsWritten output so_far first now → IsStopped output d first now status.NoMemory = λ first was. wanting_after output d first now so_far c.is_beginning.ensures was in
+    let h : (first : ShelfState) → IsWritten output so_far first now → IsStopped output d first now status.NoMemory = λ first was. wanting_after output d first now so_far c.shows_beginning.ensures was in
     search (rules, h)
 
 pub returns-in-Ok-clause-added : goal.returns-in-Ok-clause-added
@@ -35,5 +35,5 @@ returns-in-Err-clause-stopped g c = λ first was.
     let d = c.args.deck.now in
     let so_far = tape_so_far d c.args.aired.now in
     let aired = c.next_piece.new.self in
-    failed_after output d first (S.state c.append_piece.new.shelf) so_far (piece_in aired) c.piece.result.now (tape_so_far d aired) c.piece.ensures c.in_ok-next_piece.ensures.aired c.is_beginning-2.ensures
+    failed_after output d first (S.state c.append_piece.new.shelf) so_far (piece_in aired) c.piece.result.now (tape_so_far d aired) c.piece.ensures c.in_ok-next_piece.ensures.aired c.shows_beginning-2.ensures
     (λ rest. c.in-Err.ensures.cut first so_far rest was)

@@ -4,7 +4,7 @@ use Rattle.std.specs.Option.{option_map}
 use Rattle.air_cli.specs.OutputPieces.{IsWritten}
 use Rattle.air_model.specs.Outputs.{script_tape}
 use Rattle.air_report.specs.declared.status.Status.TheVariants as status
-use Rattle.air_cli.specs.Steps.Scripting.{IsStopped}
+use Rattle.air_cli.specs.Private.Scripting.{IsStopped}
 use Rattle.air_cli.proofs.ScriptAirings.{all_written, wanting_after, wanting_all}
 use Rattle.air_cli.proofs.commands.script.air_to_output.Goals as goal
 

@@ -1,14 +1,14 @@
 use Rattle.std.proofs.Common.{◌≡◌, ◌≤◌, refl, None, length, subst, sym, rules, arith}
 use Rattle.std.specs.Io.KnownBytes.{IsAtEnd}
 use Rattle.air_model.specs.Outputs.{script_tape}
-use Rattle.air_cli.specs.RunnableDecks.{IsShort}
-use Rattle.air_cli.specs.Given.{Given}
+use Rattle.air_cli.specs.RunnableDecks.{HasShortProgram}
+use Rattle.air_cli.specs.ReportsAndTapes.{ReportAndTape}
 use Rattle.air_cli.specs.FileLimits.{tape_limit}
-use Rattle.air_cli.specs.Steps.BeforeDelivery.{IsUnmade}
+use Rattle.air_cli.specs.Private.BeforeDelivery.{IsUnmade}
 use Rattle.air_cli.specs.Script.{HasLongTape, ScriptCause, ScriptGives, script_given, script_meaning}
 use Rattle.air_cli.specs.Truths.{IsTrueScript}
-use Rattle.air_cli.proofs.CauseFacts.{of_deck}
-use Rattle.air_cli.proofs.ScriptFacts.{unrunnable_script}
+use Rattle.air_cli.proofs.CauseLemmas.{of_deck}
+use Rattle.air_cli.proofs.ScriptLemmas.{unrunnable_script}
 use Rattle.air_cli.proofs.commands.script.read_script.Goals as goal
 
 pub returns-in_err-deck-clause-unmade : goal.returns-in_err-deck-clause-unmade
@@ -41,14 +41,14 @@ returns-clause-made g c =
     let before = S.state c.args.shelf.now in
     let now = S.state c.read_runnable_deck.new.shelf in
     let d = c.in_ok-deck.deck in
-    let work : Given = script_given d in
+    let work : ReportAndTape = script_given d in
     record {
       gives = (
         refl,
-        of_deck name before d (λ d. IsShort d × (length (script_tape d) ≤ tape_limit) × IsTrueScript d × (work ≡ script_given d)) c.in_ok-deck.ensures.deck (
+        of_deck name before d (λ d. HasShortProgram d × (length (script_tape d) ≤ tape_limit) × IsTrueScript d × (work ≡ script_given d)) c.in_ok-deck.ensures.deck (
           c.in_ok-deck.ensures.runnable,
           omega (arith, c.if-bytes.false, c.tape_len-bytes.ensures),
-          record { legal = c.script_is_true.ensures.legal; bases = c.script_is_true.ensures.bases; sessions = c.script_is_true.ensures.sessions },
+          record { legal = c.shows_script_truth.ensures.legal; bases = c.shows_script_truth.ensures.bases; sessions = c.shows_script_truth.ensures.sessions },
           refl,
         ),
       );

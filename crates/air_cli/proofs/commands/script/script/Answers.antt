@@ -2,9 +2,9 @@ use Rattle.std.proofs.Common.{Bor, List, ℕ, inl}
 use Rattle.std.specs.Prelude.{Option}
 use Rattle.std.specs.Option.{option_map}
 use Rattle.air_cli.specs.Script.{script_meaning}
-use Rattle.air_cli.proofs.RefusalFacts.{answers_refused, leaves_refused, untouched}
+use Rattle.air_cli.proofs.RefusalLemmas.{answers_refused, leaves_refused, untouched}
 use Rattle.air_cli.proofs.ScriptAirings.{answers_aired, leaves_aired}
-use Rattle.air_cli.proofs.ScriptFacts.{reads_for, script_facts, unmade_for}
+use Rattle.air_cli.proofs.ScriptLemmas.{reads_for, script_facts, unmade_for}
 use Rattle.air_cli.proofs.commands.script.script.Goals as goal
 
 pub returns-in-Ok : goal.returns-in-Ok

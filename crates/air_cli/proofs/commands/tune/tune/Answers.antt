@@ -2,16 +2,16 @@ use Rattle.std.proofs.Common.{◌≡◌, refl, ap, inl, inr, subst, sym, rules}
 use Rattle.std.specs.Io.KnownBytes.{IsAtEnd}
 use Rattle.air_report.specs.declared.status.Status.TheVariants as status
 use Rattle.air_cli.specs.FileLimits.{tape_limit}
-use Rattle.air_cli.specs.RunnableDecks.{IsShort}
-use Rattle.air_cli.specs.Steps.BeforeDelivery.{IsUnmade}
-use Rattle.air_cli.specs.Given.{Given}
+use Rattle.air_cli.specs.RunnableDecks.{HasShortProgram}
+use Rattle.air_cli.specs.Private.BeforeDelivery.{IsUnmade}
+use Rattle.air_cli.specs.ReportsAndTapes.{ReportAndTape}
 use Rattle.air_cli.specs.Truths.{IsTrueTape}
 use Rattle.air_cli.specs.Tune.{OfTape, TuneGives, tune_given, tune_meaning}
-use Rattle.air_cli.proofs.AnswerFacts.{only_text}
-use Rattle.air_cli.proofs.CauseFacts.{of_deck}
-use Rattle.air_cli.proofs.ReadFacts.{end_still}
-use Rattle.air_cli.proofs.CountFacts.{kept_twice}
-use Rattle.air_cli.proofs.TuneFacts.{heard_text, of_heard, unheard_since, unheard_tune, unrunnable_tune, wanting_tune}
+use Rattle.air_cli.proofs.AnswerLemmas.{only_text}
+use Rattle.air_cli.proofs.CauseLemmas.{of_deck}
+use Rattle.air_cli.proofs.ReadLemmas.{end_still}
+use Rattle.air_cli.proofs.CountLemmas.{kept_twice}
+use Rattle.air_cli.proofs.TuneLemmas.{heard_text, of_heard, unheard_since, unheard_tune, unrunnable_tune, wanting_tune}
 use Rattle.air_cli.proofs.commands.tune.tune.Goals as goal
 
 pub returns-in_err-deck-clause-unmade : goal.returns-in_err-deck-clause-unmade
@@ -32,7 +32,7 @@ returns-in_err-sessions-clause-unmade g c =
     let before = S.state c.args.shelf.now in
     let mid = S.state c.read_runnable_deck.new.shelf in
     let now = S.state c.file_sessions.new.shelf in
-    let can = of_deck c.args.name.now before c.in_ok-deck.deck IsShort c.in_ok-deck.ensures.deck c.in_ok-deck.ensures.runnable in
+    let can = of_deck c.args.name.now before c.in_ok-deck.deck HasShortProgram c.in_ok-deck.ensures.deck c.in_ok-deck.ensures.runnable in
     let unheard = unheard_since tape tape_limit before mid now c.in_err-sessions.field-0.0 (c.read_runnable_deck.ensures.reads.rest.files tape) c.in_ok-deck.ensures.reads.calm c.in_err-sessions.ensures.refused in
     let h : IsUnmade (tune_meaning c.args.name.now tape) before now c.in_err-sessions.field-0.0 = record {
       cause = unheard_tune c.args.name.now tape before now c.in_err-sessions.field-0.0 can unheard;
@@ -63,16 +63,16 @@ returns-clause-made g c =
     let deck = c.in_ok-deck.deck in
     let sessions = c.in_ok-sessions.sessions in
     let heard = c.in_ok-sessions.ensures.heard in
-    let work : Given = only_text c.in_ok-text.text.items in
+    let work : ReportAndTape = only_text c.in_ok-text.text.items in
     let text = heard_text tape mid deck sessions c.in_ok-text.text.items heard c.in_ok-text.ensures in
     let deck_end = end_still c.args.name.now tape mid now c.file_sessions.ensures.reads.rest c.in_ok-deck.ensures.reads.end c.in_ok-sessions.ensures.reads.end in
     record {
       gives = (
         refl,
-        of_deck c.args.name.now before deck (λ d. IsShort d × OfTape tape before (λ records. IsTrueTape d records × (work ≡ tune_given d records))) c.in_ok-deck.ensures.deck (
+        of_deck c.args.name.now before deck (λ d. HasShortProgram d × OfTape tape before (λ records. IsTrueTape d records × (work ≡ tune_given d records))) c.in_ok-deck.ensures.deck (
           c.in_ok-deck.ensures.runnable,
           of_heard tape before mid deck sessions (λ records. IsTrueTape deck records × (work ≡ tune_given deck records)) heard (c.read_runnable_deck.ensures.reads.rest.files tape)
-              (c.tapes_are_true.ensures _, ap only_text text),
+              (c.shows_tape_truth.ensures _, ap only_text text),
         ),
       );
       read = λ name input. elim input [

@@ -1,7 +1,7 @@
 use Rattle.std.proofs.Common.{Bor, List, ℕ, ap}
 use Rattle.std.specs.Prelude.{Option}
 use Rattle.std.specs.Option.{option_map}
-use Rattle.air_cli.proofs.OutputFacts.{none_added, piece_added, piece_cut}
+use Rattle.air_cli.proofs.OutputLemmas.{none_added, piece_added, piece_cut}
 use Rattle.air_cli.proofs.outputs.pieces.append_piece.Goals as goal
 
 abbrev told_name : Option (Bor (List ℕ)) → Option (List ℕ)

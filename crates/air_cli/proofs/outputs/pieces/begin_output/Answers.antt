@@ -1,7 +1,7 @@
 use Rattle.std.proofs.Common.{Bor, List, ℕ, ap}
 use Rattle.std.specs.Prelude.{Option}
 use Rattle.std.specs.Option.{option_map}
-use Rattle.air_cli.proofs.OutputFacts.{none_begun, output_begun, output_unbegun}
+use Rattle.air_cli.proofs.OutputLemmas.{none_begun, output_begun, output_unbegun}
 use Rattle.air_cli.proofs.outputs.pieces.begin_output.Goals as goal
 
 abbrev told_name : Option (Bor (List ℕ)) → Option (List ℕ)

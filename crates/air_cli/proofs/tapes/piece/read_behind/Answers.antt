@@ -1,5 +1,5 @@
 use Rattle.std.proofs.Common.{◌+◌, ◌-◌, arith}
-use Rattle.air_cli.proofs.PieceFacts.{has_come}
+use Rattle.air_cli.proofs.PieceLemmas.{has_come}
 use Rattle.air_cli.proofs.tapes.piece.read_behind.Goals as goal
 
 pub returns-clause-moved : goal.returns-clause-moved

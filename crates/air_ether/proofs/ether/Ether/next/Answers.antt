@@ -1,31 +1,31 @@
 use Rattle.std.proofs.Common.{arith, refl, sym, ap, subst, ◌∙◌, ◌≡◌, ◌+◌, ◌<◌, ℕ, List, length, map, Some, None, slice_get}
 use Rattle.std.specs.Prelude.{Contains}
-use Rattle.air_ether.specs.declared.waiting.Waiting.{Waiting}
+use Rattle.air_ether.specs.declared.waiting.QueuedPush.{QueuedPush}
 use Rattle.air_ether.specs.declared.cursor.Cursor.{Cursor}
-use Rattle.air_ether.specs.HeardPositions.{InWindow, copies_at, left_at, position}
-use Rattle.air_ether.specs.HeardSoFar.{Ether, Follows, due_of, left_of, limit_of}
+use Rattle.air_ether.specs.HeardPositions.{InWindow, left_at, position, times_heard_at}
+use Rattle.air_ether.specs.HeardSoFar.{Ether, IsEtherAfter, due_of, left_of, limit_of}
 use Rattle.air_ether.specs.KeptPushes.{Waits, push_of}
 use Rattle.air_ether.specs.PushWords.{due_in, times_in}
-use Rattle.air_ether.specs.EtherView.{ether_of}
+use Rattle.air_ether.specs.EtherView.{ether_in}
 use Rattle.air_ether.specs.LentBuckets.{Gave}
 use Rattle.air_ether.proofs.CursorLemmas.{copies_few, room_read}
 use Rattle.air_ether.proofs.EtherLemmas.{all_given, gave, gives, gives_pushed, moved}
 use Rattle.air_ether.proofs.ether.Ether.next.Goals as goal
 
 -- What `seek` says, of the ether's own rooms and limit.
-in_window : (pushes limit to : ℕ) (rooms items : List Waiting) (c : Cursor) → limit ≡ to → rooms ≡ items → InWindow pushes limit (map push_of rooms) c → InWindow pushes to (map push_of items) c
-in_window pushes limit to rooms items c e f w = subst (λ l. InWindow pushes l (map push_of items) c) e (subst (λ (r : List Waiting). InWindow pushes limit (map push_of r) c) f w)
+in_window : (pushes limit to : ℕ) (rooms items : List QueuedPush) (c : Cursor) → limit ≡ to → rooms ≡ items → InWindow pushes limit (map push_of rooms) c → InWindow pushes to (map push_of items) c
+in_window pushes limit to rooms items c e f w = subst (λ l. InWindow pushes l (map push_of items) c) e (subst (λ (r : List QueuedPush). InWindow pushes limit (map push_of r) c) f w)
 
 pub returns-then-not-seek : goal.returns-then-not-seek
 returns-then-not-seek c =
-    let e : Ether = ether_of c.self.inside in
+    let e : Ether = ether_in c.self.inside in
     let cursor = c.seek.new.cursor in
     let items = c.deref.ensures.value in
     let within = in_window e.pushes _ (limit_of e.ended e.pushes) _ _ cursor c.limit_of-limit.ensures items c.seek.ensures.within in
     let at : cursor.number ≡ limit_of e.ended e.pushes = c.seek.ensures.none c.if-not-seek.true ∙ c.limit_of-limit.ensures in
-    let same : (seed number given : ℕ) (pushed : List (List ℕ)) → Follows seed number pushed given e →
+    let same : (seed number given : ℕ) (pushed : List (List ℕ)) → IsEtherAfter seed number pushed given e →
     position (due_in seed number e.odds) (times_in seed number e.odds) e.pushes cursor ≡ position (due_in seed number e.odds) (times_in seed number e.odds) e.pushes e.cursor =
-    λ seed number given pushed f. c.seek.ensures.same _ _ (subst (λ (r : List Waiting). Waits (due_in seed number e.odds) (times_in seed number e.odds) e.pushes (map push_of r)) (sym items) f.waits) in (
+    λ seed number given pushed f. c.seek.ensures.same _ _ (subst (λ (r : List QueuedPush). Waits (due_in seed number e.odds) (times_in seed number e.odds) e.pushes (map push_of r)) (sym items) f.waits) in (
       (
         refl,
         λ _. tt,
@@ -41,7 +41,7 @@ returns-then-not-seek c =
       ),
       record {
         pushed = λ seed number given pushed f. tt;
-        given = subst (λ (s : Ether). (seed number given : ℕ) (pushed : List (List ℕ)) → Follows seed number pushed given s → given ≡ length (due_of seed number s.odds pushed s.ended)) c.self.view_is
+        given = subst (λ (s : Ether). (seed number given : ℕ) (pushed : List (List ℕ)) → IsEtherAfter seed number pushed given s → given ≡ length (due_of seed number s.odds pushed s.ended)) c.self.view_is
             (λ seed number given pushed f. all_given seed number given pushed e cursor f within (same seed number given pushed f) at);
         after = tt;
       },
@@ -52,22 +52,22 @@ overflow_add-self c =
     let items = c.deref.ensures.value in
     let few = copies_few c.self.inside.rooms.items c.seek.new.cursor c.self.invariant.count c.self.invariant.twice in
     let found = (c.seek.ensures.found c.if-not-seek.false).2 in
-    let same = ap (λ (r : List Waiting). copies_at (map push_of r) c.seek.new.cursor) items in
+    let same = ap (λ (r : List QueuedPush). times_heard_at (map push_of r) c.seek.new.cursor) items in
     omega arith
 
 pub returns : goal.returns
 returns c =
-    let e : Ether = ether_of c.self.inside in
+    let e : Ether = ether_in c.self.inside in
     let cursor = c.seek.new.cursor in
     let items = c.deref.ensures.value in
     let found = c.seek.ensures.found c.if-not-seek.false in
     let within = in_window e.pushes _ (limit_of e.ended e.pushes) _ _ cursor c.limit_of-limit.ensures items c.seek.ensures.within in
     let below : cursor.number < limit_of e.ended e.pushes = subst (λ l. cursor.number < l) c.limit_of-limit.ensures found.0 in
-    let left : cursor.copy < copies_at e.rooms cursor = subst (λ (r : List Waiting). cursor.copy < copies_at (map push_of r) cursor) items found.2 in
+    let left : cursor.copy < times_heard_at e.rooms cursor = subst (λ (r : List QueuedPush). cursor.copy < times_heard_at (map push_of r) cursor) items found.2 in
     let read = room_read c.self.inside.rooms.items cursor.place c.index.result.now c.self.invariant.count c.index.ensures in
-    let same : (seed number given : ℕ) (pushed : List (List ℕ)) → Follows seed number pushed given e →
+    let same : (seed number given : ℕ) (pushed : List (List ℕ)) → IsEtherAfter seed number pushed given e →
     position (due_in seed number e.odds) (times_in seed number e.odds) e.pushes cursor ≡ position (due_in seed number e.odds) (times_in seed number e.odds) e.pushes e.cursor =
-    λ seed number given pushed f. c.seek.ensures.same _ _ (subst (λ (r : List Waiting). Waits (due_in seed number e.odds) (times_in seed number e.odds) e.pushes (map push_of r)) (sym items) f.waits) in
+    λ seed number given pushed f. c.seek.ensures.same _ _ (subst (λ (r : List QueuedPush). Waits (due_in seed number e.odds) (times_in seed number e.odds) e.pushes (map push_of r)) (sym items) f.waits) in
     let few = copies_few c.self.inside.rooms.items cursor c.self.invariant.count c.self.invariant.twice in
     let given_one : left_of (record e { cursor = record { number = cursor.number; place = cursor.place; copy = cursor.copy + 1 } }) < left_of e =
     subst (λ l. left_at l (record { number = cursor.number; place = cursor.place; copy = cursor.copy + 1 }) < left_at l e.cursor) c.limit_of-limit.ensures (omega (arith, c.seek.ensures.fewer, left, few)) in
@@ -86,9 +86,9 @@ returns c =
         }),
       ),
       record {
-        pushed = subst (λ (s : Ether). (seed number given : ℕ) (pushed : List (List ℕ)) → Follows seed number pushed given s → Contains pushed c.bytes.result.now) c.self.view_is
+        pushed = subst (λ (s : Ether). (seed number given : ℕ) (pushed : List (List ℕ)) → IsEtherAfter seed number pushed given s → Contains pushed c.bytes.result.now) c.self.view_is
             (λ seed number given pushed f. subst (Contains pushed) (ap (λ w. w.bytes) read ∙ sym c.bytes.ensures) (gives_pushed seed number given pushed e cursor f within found.1));
-        given = subst (λ (s : Ether). (seed number given : ℕ) (pushed : List (List ℕ)) → Follows seed number pushed given s → slice_get (due_of seed number s.odds pushed s.ended) given ≡ Some c.bytes.result.now) c.self.view_is
+        given = subst (λ (s : Ether). (seed number given : ℕ) (pushed : List (List ℕ)) → IsEtherAfter seed number pushed given s → slice_get (due_of seed number s.odds pushed s.ended) given ≡ Some c.bytes.result.now) c.self.view_is
             (λ seed number given pushed f. gives seed number given pushed e cursor f within (same seed number given pushed f) below found.1 left ∙ ap (λ w. Some w.bytes) read ∙ ap Some (sym c.bytes.ensures));
         after = tt;
       },

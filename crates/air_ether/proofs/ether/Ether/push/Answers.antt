@@ -6,10 +6,10 @@ use Rattle.std.proofs.lemmas.List.Elements.{All-set}
 use Rattle.std.proofs.Common.{length-set}
 use Rattle.rand_pcg.specs.Pcg.{pcg32}
 use Rattle.air_model.specs.Draws.{generator}
-use Rattle.air_ether.specs.HeardSoFar.{Ether, Follows, limit_of}
+use Rattle.air_ether.specs.HeardSoFar.{Ether, IsEtherAfter, limit_of}
 use Rattle.air_ether.specs.KeptPushes.{Push, push_of}
 use Rattle.air_ether.specs.PushWords.{left_by}
-use Rattle.air_ether.specs.EtherView.{ether_of}
+use Rattle.air_ether.specs.EtherView.{ether_in}
 use Rattle.air_ether.proofs.EtherLemmas.{few_after_push, followed, one_more, open_after, open_window, pushed_window}
 use Rattle.air_ether.proofs.WordLemmas.{due_drawn, left_from, times_drawn}
 use Rattle.air_ether.proofs.ether.Ether.push.Goals as goal
@@ -48,15 +48,15 @@ invariant_of-self c =
 
 pub returns-clause-few : goal.returns-clause-few
 returns-clause-few c =
-    let e : Ether = ether_of c.self.inside in
+    let e : Ether = ether_in c.self.inside in
     let quiet : e.cursor.number ≡ limit_of e.ended e.pushes = subst (λ (s : Ether). s.cursor.number ≡ limit_of s.ended s.pushes) (sym c.self.view_is) c.requires.quiet in
     few_after_push e.pushes e.ended e.rooms e.cursor (ap (λ s. s.ended) c.self.view_is ∙ c.requires.open) c.self.invariant.within quiet
 
 pub returns-clause-follows : goal.returns-clause-follows
 returns-clause-follows c = λ seed number given pushed given_that.
-    let e : Ether = ether_of c.self.inside in
+    let e : Ether = ether_in c.self.inside in
     let n = e.pushes in
-    let f : Follows seed number pushed given e = subst (Follows seed number pushed given) (sym c.self.view_is) given_that in
+    let f : IsEtherAfter seed number pushed given e = subst (IsEtherAfter seed number pushed given) (sym c.self.view_is) given_that in
     let start : e.generator ≡ left_by pcg32 (3 * n) (generator seed number) = f.drawn ∙ ap (λ k. left_by pcg32 (3 * k) (generator seed number)) (sym f.pushes) in
     let due = c.draw-hearing.ensures.due ∙ due_drawn e.odds seed number n _ (ap (λ g. (pcg32 g).0) (left_from e.generator seed number n 2 start)) in
     let times = c.draw-hearing.ensures.times ∙ times_drawn e.odds seed number n _ _
@@ -66,6 +66,6 @@ returns-clause-follows c = λ seed number given pushed given_that.
     (let quiet : c.self.inside.cursor.number ≡ limit_of c.self.inside.ended n = subst (λ (s : Ether). s.cursor.number ≡ limit_of s.ended s.pushes) (sym c.self.view_is) c.requires.quiet in
     let opened : c.self.inside.ended ≡ false = ap (λ s. s.ended) c.self.view_is ∙ c.requires.open in
     let at : c.self.inside.cursor.number ≡ n = subst (λ b. c.self.inside.cursor.number ≡ limit_of b n) opened quiet in omega arith) in
-    subst (λ (r : List Push). Follows seed number (pushed ++ c.args.bytes.now ∷ []) given (record (one_more seed number given pushed c.args.bytes.now e c.draw-hearing.result.due c.draw-hearing.result.times c.draw-hearing.new.generator) { rooms = r })) (sym rooms)
+    subst (λ (r : List Push). IsEtherAfter seed number (pushed ++ c.args.bytes.now ∷ []) given (record (one_more seed number given pushed c.args.bytes.now e c.draw-hearing.result.due c.draw-hearing.result.times c.draw-hearing.new.generator) { rooms = r })) (sym rooms)
     (followed seed number given pushed c.args.bytes.now e c.draw-hearing.result.due c.draw-hearing.result.times c.draw-hearing.new.generator
     f (length-map c.self.inside.rooms.items push_of ∙ c.self.invariant.count) upto due times c.draw-hearing.ensures.after)

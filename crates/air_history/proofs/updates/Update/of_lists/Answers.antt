@@ -1,4 +1,4 @@
-use Rattle.air_history.proofs.RuleFacts.{few_reads}
+use Rattle.air_history.proofs.UpdateRuleLemmas.{few_reads}
 use Rattle.air_history.proofs.updates.Update.of_lists.Goals as goal
 
 pub inline-requires : goal.inline-requires

@@ -1,5 +1,5 @@
 use Rattle.std.proofs.Common.{sym}
-use Rattle.air_report.proofs.ReadFacts.{front_is}
+use Rattle.air_report.proofs.ReadLemmas.{front_is}
 use Rattle.air_report.proofs.reading.reads.read_front.Goals as goal
 
 pub returns : goal.returns

@@ -1,9 +1,9 @@
 use Rattle.std.proofs.Common.{◌≡◌, ◌∙◌, ◌∷◌, ◌<◌, [], ℕ, List, Option, Some, None, ap, arith, length, sym}
 use Rattle.std.proofs.lemmas.Bool.Decides.{nat_tests}
 use Rattle.std.proofs.lemmas.List.{nil_from_length}
-use Rattle.air_report.specs.LineTexts.{place_of}
-use Rattle.air_report.specs.Steps.ReadFronts.{leading_place}
-use Rattle.air_report.proofs.ReadFacts.{no_place, no_whole_place, whole_place}
+use Rattle.air_report.specs.LineTexts.{spelled_place}
+use Rattle.air_report.specs.Private.ReadFronts.{leading_place}
+use Rattle.air_report.proofs.ReadLemmas.{no_place, no_whole_place, whole_place}
 use Rattle.air_report.proofs.reading.reads.read_place.Goals as goal
 
 pub returns-in_default : goal.returns-in_default
@@ -15,7 +15,7 @@ front item cycle rest = Some (item, cycle, rest)
 pub returns-then-not-is_empty : goal.returns-then-not-is_empty
 returns-then-not-is_empty c = by c.in-Some.rest.now (sym c.in-Some.ensures) (grind (arith, nat_tests))
   where
-    by : (rest : List ℕ) → leading_place c.args.text.now ≡ front c.in-Some.item c.in-Some.cycle rest → 0 < length rest → ◌≡◌ {A = Option (ℕ × ℕ)} None (place_of c.args.text.now)
+    by : (rest : List ℕ) → leading_place c.args.text.now ≡ front c.in-Some.item c.in-Some.cycle rest → 0 < length rest → ◌≡◌ {A = Option (ℕ × ℕ)} None (spelled_place c.args.text.now)
     by [] is some = absurd (omega (arith, some))
     by (byte ∷ more) is some = no_whole_place c.args.text.now c.in-Some.item c.in-Some.cycle byte more is
 

@@ -1,6 +1,6 @@
 use Rattle.std.proofs.Common.{◌∙◌, sym}
 use Rattle.std.proofs.lemmas.List.{nil_from_length}
-use Rattle.air_report.proofs.LineFacts.{leads_none}
+use Rattle.air_report.proofs.LineRuleLemmas.{leads_none}
 use Rattle.air_report.proofs.reading.rules.leads.Goals as goal
 
 pub returns-in_default : goal.returns-in_default

@@ -1,15 +1,15 @@
 use Rattle.std.proofs.Common.{ℕ, ◌≡◌, ◌∙◌, sym, refl, subst, arith, ap, append_assoc, Some, None, ◌∷◌, [], ◌++◌, length, length-append}
 use Rattle.csv.specs.Records.{fields_of}
 use Rattle.item_catalog.specs.RecordKinds.{with_spelled}
-use Rattle.item_catalog.proofs.RowFacts.{few_records}
-use Rattle.air_report.specs.Kinds.{code_of}
-use Rattle.air_report.specs.LineTexts.{line_of}
-use Rattle.air_report.specs.ReportFaults.{lines_of}
+use Rattle.item_catalog.proofs.RowLemmas.{few_records}
+use Rattle.air_report.specs.Kinds.{report_kind_number}
+use Rattle.air_report.specs.LineTexts.{spelled_line}
+use Rattle.air_report.specs.ReportFaults.{spelled_lines}
 use Rattle.air_report.specs.ReportGrammar.{HasReportFault, IsReportAnswer, SpellsReport}
 use Rattle.air_report.specs.ReportLines.{ReportLines, sections_of}
-use Rattle.air_report.specs.Steps.RecordAnswers.{record_kind, with_line}
-use Rattle.air_report.proofs.PlaceFacts.{added, none_added}
-use Rattle.air_report.proofs.ReadingFacts.{read_all, read_fault}
+use Rattle.air_report.specs.Private.RecordAnswers.{line_record_kind, with_one_line}
+use Rattle.air_report.proofs.PlaceLemmas.{added, none_added}
+use Rattle.air_report.proofs.ReadingLemmas.{read_all, read_fault}
 use Rattle.air_report.proofs.reading.texts.read_lines.Goals as goal
 
 pub loop-row-init : goal.loop-row-init
@@ -19,11 +19,11 @@ pub loop-row-preserved : goal.loop-row-preserved
 loop-row-preserved c =
     let inv = c.loop-row.invariant in let rows = inv.0 in let row = fields_of c.next.new.row in let left = c.next.new.self in let deck = c.args.deck.now in
     let read : c.loop-row.records ≡ row ∷ left = rw c.if-not-branch.false at c.in_ok-next.ensures in
-    let none : record_kind deck (sections_of (lines_of rows)) (line_of row) ≡ None = ap (λ d. record_kind deck d (line_of row)) (sym inv.3) ∙ c.in-Ok.ensures.0 in (
+    let none : line_record_kind deck (sections_of (spelled_lines rows)) (spelled_line row) ≡ None = ap (λ d. line_record_kind deck d (spelled_line row)) (sym inv.3) ∙ c.in-Ok.ensures.0 in (
       rows ++ row ∷ [],
       inv.1 ∙ ap (λ more. rows ++ more) read ∙ sym (append_assoc rows (row ∷ []) left),
       none_added deck rows row inv.2 none,
-      c.in-Ok.ensures.1 ∙ ap (λ d. with_spelled with_line d (line_of row)) inv.3 ∙ added deck rows row none,
+      c.in-Ok.ensures.1 ∙ ap (λ d. with_spelled with_one_line d (spelled_line row)) inv.3 ∙ added deck rows row none,
       omega (arith, length-append rows (row ∷ []), inv.4),
     )
 
@@ -38,10 +38,10 @@ pub returns-in-Err-Kind-clause-fault : goal.returns-in-Err-Kind-clause-fault
 returns-in-Err-Kind-clause-fault c =
     let inv = c.loop-row.invariant in let rows = inv.0 in let row = fields_of c.next.new.row in let left = c.next.new.self in let deck = c.args.deck.now in
     let read : c.loop-row.records ≡ row ∷ left = rw c.if-not-branch.false at c.in_ok-next.ensures in
-    let told : record_kind deck c.loop-row.draft (line_of row) ≡ Some c.in-Err-Kind.kind = rw c.in-Err-Kind.field-0-is at c.in-Err-Kind.ensures in
-    let P : ℕ → Type 0 = λ r. HasReportFault deck c.args.bytes.now r (code_of c.in-Err-Kind.kind) in
+    let told : line_record_kind deck c.loop-row.draft (spelled_line row) ≡ Some c.in-Err-Kind.kind = rw c.in-Err-Kind.field-0-is at c.in-Err-Kind.ensures in
+    let P : ℕ → Type 0 = λ r. HasReportFault deck c.args.bytes.now r (report_kind_number c.in-Err-Kind.kind) in
     let fault : P c.loop-row.row = subst P (sym inv.4)
-    (read_fault deck c.args.bytes.now rows inv.2 row left c.in-Err-Kind.kind (inv.1 ∙ ap (λ more. rows ++ more) read) (ap (λ d. record_kind deck d (line_of row)) (sym inv.3) ∙ told)) in
+    (read_fault deck c.args.bytes.now rows inv.2 row left c.in-Err-Kind.kind (inv.1 ∙ ap (λ more. rows ++ more) read) (ap (λ d. line_record_kind deck d (spelled_line row)) (sym inv.3) ∙ told)) in
     subst (IsReportAnswer deck c.args.bytes.now) (sym c.at.ensures) (rw c.in-Err-Kind.kind-is fault)
 
 pub unreachable-requires : goal.unreachable-requires

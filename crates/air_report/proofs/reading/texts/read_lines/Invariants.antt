@@ -1,11 +1,11 @@
 use Rattle.std.proofs.Common.{◌≡◌, ◌+◌, ◌++◌, ℕ, List, length}
 use Rattle.item_catalog.specs.FirstFaults.{NoneBefore}
 use Rattle.item_catalog.specs.Records.{records_of}
-use Rattle.air_report.specs.ReportFaults.{kinds_at, lines_of}
+use Rattle.air_report.specs.ReportFaults.{line_kinds_at, spelled_lines}
 use Rattle.air_report.specs.ReportLines.{sections_of}
 use Rattle.air_report.proofs.reading.texts.read_lines.Given as goal
 
 -- The reader stands behind some records, no kind applies to one of them, and the draft has the lines that they spell.
 abbrev pub invariant-loop-row : goal.invariant-loop-row
-invariant-loop-row l = (rows : List (List (List ℕ))) × (records_of l.fn.bytes ≡ rows ++ l.records) × NoneBefore (kinds_at l.fn.deck rows) (length rows)
-    × (l.draft ≡ sections_of (lines_of rows)) × (l.row ≡ length rows + 1)
+invariant-loop-row l = (rows : List (List (List ℕ))) × (records_of l.fn.bytes ≡ rows ++ l.records) × NoneBefore (line_kinds_at l.fn.deck rows) (length rows)
+    × (l.draft ≡ sections_of (spelled_lines rows)) × (l.row ≡ length rows + 1)

@@ -1,8 +1,8 @@
 use Rattle.std.proofs.Common.{◌≡◌, ◌++◌, map, take}
 use Rattle.air_model.specs.Reports.{counts_row}
 use Rattle.air_model.specs.Rows.{rows_text}
-use Rattle.air_report.specs.RowWriters.{IsReady, written_text}
+use Rattle.air_report.specs.RowWriters.{IsRowWriter, written_text}
 use Rattle.air_report.proofs.writing.sections.put_all_counts.Given as goal
 
 abbrev pub invariant-loop-line : goal.invariant-loop-line
-invariant-loop-line l = IsReady l.wtr × (written_text l.wtr ≡ written_text l.fn.wtr ++ rows_text (map counts_row (take l.line-index l.lines)))
+invariant-loop-line l = IsRowWriter l.wtr × (written_text l.wtr ≡ written_text l.fn.wtr ++ rows_text (map counts_row (take l.line-index l.lines)))

@@ -1,6 +1,6 @@
 use Rattle.std.proofs.Common.{◌∙◌, ◌+◌, drop, length, arith, rules, refl, sym}
 use Rattle.std.proofs.lemmas.List.{length-drop, take_all}
-use Rattle.bucket_codec.proofs.TapeReadFacts.{cut_is, nothing_read, record_next}
+use Rattle.bucket_codec.proofs.TapeReadLemmas.{cut_is, nothing_read, record_next}
 use Rattle.bucket_codec.proofs.tape.TapeReader.next.Goals as goal
 
 pub returns-then-is_empty : goal.returns-then-is_empty

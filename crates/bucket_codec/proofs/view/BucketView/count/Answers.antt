@@ -1,6 +1,6 @@
 use Rattle.std.proofs.Common.{◌∙◌, ap, arith}
 use Rattle.air_model.specs.Buckets.{Bucket, count_of}
-use Rattle.bucket_codec.proofs.ViewFacts.{count_is, view_long}
+use Rattle.bucket_codec.proofs.ViewLemmas.{count_is, view_long}
 use Rattle.bucket_codec.proofs.view.BucketView.count.Goals as goal
 
 pub two_at-requires : goal.two_at-requires

@@ -1,6 +1,6 @@
 use Rattle.std.proofs.Common.{◌∙◌, ap, arith}
 use Rattle.air_model.specs.Buckets.{Bucket}
-use Rattle.bucket_codec.proofs.ViewFacts.{cycle_is, view_long}
+use Rattle.bucket_codec.proofs.ViewLemmas.{cycle_is, view_long}
 use Rattle.bucket_codec.proofs.view.BucketView.cycle.Goals as goal
 
 pub four_at-requires : goal.four_at-requires

@@ -1,6 +1,6 @@
 use Rattle.std.proofs.Common.{◌∙◌, ap, arith}
 use Rattle.air_model.specs.Buckets.{Bucket}
-use Rattle.bucket_codec.proofs.ViewFacts.{edition_is, view_long}
+use Rattle.bucket_codec.proofs.ViewLemmas.{edition_is, view_long}
 use Rattle.bucket_codec.proofs.view.BucketView.edition.Goals as goal
 
 pub two_at-requires : goal.two_at-requires

@@ -1,6 +1,6 @@
 use Rattle.std.proofs.Common.{◌∙◌, ap, arith, slice_index}
 use Rattle.air_model.specs.Buckets.{Bucket, count_of, entries_of, kind_of}
-use Rattle.bucket_codec.proofs.ViewFacts.{as_many, view_entry, view_room}
+use Rattle.bucket_codec.proofs.ViewLemmas.{as_many, view_entry, view_room}
 use Rattle.bucket_codec.proofs.view.BucketView.entry.Goals as goal
 
 pub entry_at-requires : goal.entry_at-requires

@@ -2,7 +2,7 @@ use Rattle.std.proofs.Common.{◌∙◌, ap}
 use Rattle.std.specs.List.{flat_map}
 use Rattle.byteorder.specs.Endian.{big_bytes}
 use Rattle.air_model.specs.Buckets.{Bucket, entries_of}
-use Rattle.bucket_codec.proofs.ViewFacts.{view_long}
+use Rattle.bucket_codec.proofs.ViewLemmas.{view_long}
 use Rattle.bucket_codec.proofs.view.BucketView.entry_bytes.Goals as goal
 
 pub entry_part-requires-clause-long : goal.entry_part-requires-clause-long

@@ -1,7 +1,7 @@
 use Rattle.std.proofs.Common.{◌≢◌, ◌<◌, ◌∙◌, length, get_or, ap, arith, below_more, get_or-set_other, get_or-set_same}
 use Rattle.std.proofs.lemmas.Grind.{same_number_lists}
 use Rattle.air_model.specs.Buckets.{Bucket, count_of, entries_of, kind_of}
-use Rattle.bucket_codec.proofs.ViewFacts.{as_many, view_entry, view_room, view_few}
+use Rattle.bucket_codec.proofs.ViewLemmas.{as_many, view_entry, view_room, view_few}
 use Rattle.bucket_codec.proofs.view.BucketView.fill.Goals as goal
 
 -- The slice has room for just the entries.

@@ -1,6 +1,6 @@
 use Rattle.std.proofs.Common.{◌∙◌, ap, arith}
 use Rattle.air_model.specs.Buckets.{Bucket, kind_of}
-use Rattle.bucket_codec.proofs.ViewFacts.{kind_is, kind_small, view_long}
+use Rattle.bucket_codec.proofs.ViewLemmas.{kind_is, kind_small, view_long}
 use Rattle.bucket_codec.proofs.view.BucketView.kind.Goals as goal
 
 pub bounds-self-inside-3 : goal.bounds-self-inside-3

@@ -1,6 +1,6 @@
 use Rattle.std.proofs.Common.{◌∙◌, ap, arith}
 use Rattle.air_model.specs.Buckets.{Bucket, value_of}
-use Rattle.bucket_codec.proofs.ViewFacts.{value_is, view_long}
+use Rattle.bucket_codec.proofs.ViewLemmas.{value_is, view_long}
 use Rattle.bucket_codec.proofs.view.BucketView.value.Goals as goal
 
 pub eight_at-requires : goal.eight_at-requires

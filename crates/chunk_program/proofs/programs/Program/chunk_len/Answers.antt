@@ -2,7 +2,7 @@ use Rattle.std.proofs.Common.{◌≡◌, List, slice_get, arith, ap, subst, ◌�
 use Rattle.std.specs.Prelude.{IfSome}
 use Rattle.air_model.specs.Disks.{Disk}
 use Rattle.air_model.specs.Programs.{chunk_len, num_minors}
-use Rattle.chunk_program.proofs.ProgramFacts.{laid_disk, of_read}
+use Rattle.chunk_program.proofs.ProgramLemmas.{laid_disk, of_read}
 use Rattle.chunk_program.proofs.programs.Program.chunk_len.Goals as goal
 
 pub chunk_len-requires-clause-some : goal.chunk_len-requires-clause-some

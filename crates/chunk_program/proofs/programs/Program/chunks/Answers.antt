@@ -2,7 +2,7 @@ use Rattle.std.proofs.Common.{◌≡◌, List, slice_get, arith, ap, subst, ◌�
 use Rattle.std.specs.Prelude.{IfSome}
 use Rattle.air_model.specs.Disks.{Disk}
 use Rattle.air_model.specs.Programs.{num_chunks, num_minors}
-use Rattle.chunk_program.proofs.ProgramFacts.{laid_disk, of_read}
+use Rattle.chunk_program.proofs.ProgramLemmas.{laid_disk, of_read}
 use Rattle.chunk_program.proofs.programs.Program.chunks.Goals as goal
 
 pub overflow_cast-result : goal.overflow_cast-result

@@ -1,7 +1,7 @@
 use Rattle.std.proofs.Common.{◌*◌, ap, subst, sym, ◌∙◌}
 use Rattle.air_model.specs.Programs.{program}
 use Rattle.air_model.specs.Airings.{ComesEvery, airings}
-use Rattle.chunk_program.proofs.ProgramFacts.{item_even, item_whole}
+use Rattle.chunk_program.proofs.ProgramLemmas.{item_even, item_whole}
 use Rattle.chunk_program.proofs.programs.Program.gap.Goals as goal
 
 pub returns-clause-even : goal.returns-clause-even

@@ -2,7 +2,7 @@ use Rattle.std.proofs.Common.{◌<◌, List, length, arith, ap, subst, sym, refl
 use Rattle.std.proofs.lemmas.Option.{slice_get_read}
 use Rattle.air_model.specs.Disks.{Disk, all_items}
 use Rattle.chunk_program.specs.Homes.{IsHome}
-use Rattle.chunk_program.proofs.ProgramFacts.{home_fits}
+use Rattle.chunk_program.proofs.ProgramLemmas.{home_fits}
 use Rattle.chunk_program.proofs.programs.Program.home.Goals as goal
 
 pub returns-clause-home : goal.returns-clause-home

@@ -1,7 +1,7 @@
 use Rattle.std.proofs.Common.{subst, sym}
 use Rattle.air_model.specs.Programs.{program}
 use Rattle.air_model.specs.Airings.{IsNextWake}
-use Rattle.chunk_program.proofs.ProgramFacts.{home_wait, item_wait}
+use Rattle.chunk_program.proofs.ProgramLemmas.{home_wait, item_wait}
 use Rattle.chunk_program.proofs.programs.Program.next_wake.Goals as goal
 
 pub returns-clause-wait : goal.returns-clause-wait

@@ -5,48 +5,48 @@ use Rattle.air_model.specs.Programs.{minor_len, num_minors, program}
 use Rattle.chunk_program.specs.declared.homes.Home.{Home}
 use Rattle.chunk_program.specs.CutConditions.{AreDeckDisks}
 use Rattle.chunk_program.specs.Homes.{IsHome}
-use Rattle.chunk_program.proofs.ProgramFacts.{minors_short, slots_are, slots_some}
+use Rattle.chunk_program.proofs.ProgramLemmas.{minors_short, slots_are, slots_some}
 use Rattle.chunk_program.proofs.programs.Program.of_cut.Goals as goal
 
 pub returns-then-slots-gt-MOST_SLOTS-clause-too_long : goal.returns-then-slots-gt-MOST_SLOTS-clause-too_long
 returns-then-slots-gt-MOST_SLOTS-clause-too_long c =
-    let cut = c.args.cut.now in let m = c.num_minors-minors.result in let row = c.front_len-minor_len.result in
+    let cut = c.args.cut.now in let m = c.num_minors-minors.result in let row = c.len_before-minor_len.result in
     let minors = c.num_minors-minors.ensures.counted ∙ ap num_minors c.disks-disks.ensures in
-    let rows = c.front_len-minor_len.ensures.counted ∙ ap (minor_len m) (take-length c.disks-disks.result.now ∙ c.disks-disks.ensures) in
+    let rows = c.len_before-minor_len.ensures.counted ∙ ap (minor_len m) (take-length c.disks-disks.result.now ∙ c.disks-disks.ensures) in
     let slots = slots_are cut m row (m * row) minors rows refl in
     record { counted = slots; above = c.if-slots-gt-MOST_SLOTS.true }
 
 pub slots_of-requires-clause-few : goal.slots_of-requires-clause-few
 slots_of-requires-clause-few c =
-    let cut = c.args.cut.now in let m = c.num_minors-minors.result in let row = c.front_len-minor_len.result in
+    let cut = c.args.cut.now in let m = c.num_minors-minors.result in let row = c.len_before-minor_len.result in
     let minors = c.num_minors-minors.ensures.counted ∙ ap num_minors c.disks-disks.ensures in
-    let rows = c.front_len-minor_len.ensures.counted ∙ ap (minor_len m) (take-length c.disks-disks.result.now ∙ c.disks-disks.ensures) in
+    let rows = c.len_before-minor_len.ensures.counted ∙ ap (minor_len m) (take-length c.disks-disks.result.now ∙ c.disks-disks.ensures) in
     let slots = slots_are cut m row (m * row) minors rows refl in
     let some = slots_some cut c.requires in
     minors_short m row (m * row) (omega arith) refl c.if-slots-gt-MOST_SLOTS.false
 
 pub homes-requires-clause-short : goal.homes-requires-clause-short
 homes-requires-clause-short c =
-    let cut = c.args.cut.now in let m = c.num_minors-minors.result in let row = c.front_len-minor_len.result in
+    let cut = c.args.cut.now in let m = c.num_minors-minors.result in let row = c.len_before-minor_len.result in
     let minors = c.num_minors-minors.ensures.counted ∙ ap num_minors c.disks-disks.ensures in
-    let rows = c.front_len-minor_len.ensures.counted ∙ ap (minor_len m) (take-length c.disks-disks.result.now ∙ c.disks-disks.ensures) in
+    let rows = c.len_before-minor_len.ensures.counted ∙ ap (minor_len m) (take-length c.disks-disks.result.now ∙ c.disks-disks.ensures) in
     let slots = slots_are cut m row (m * row) minors rows refl in
     let short = c.if-slots-gt-MOST_SLOTS.false in omega arith
 
 pub overflow_cast-result : goal.overflow_cast-result
 overflow_cast-result c =
-    let cut = c.args.cut.now in let m = c.num_minors-minors.result in let row = c.front_len-minor_len.result in
+    let cut = c.args.cut.now in let m = c.num_minors-minors.result in let row = c.len_before-minor_len.result in
     let minors = c.num_minors-minors.ensures.counted ∙ ap num_minors c.disks-disks.ensures in
-    let rows = c.front_len-minor_len.ensures.counted ∙ ap (minor_len m) (take-length c.disks-disks.result.now ∙ c.disks-disks.ensures) in
+    let rows = c.len_before-minor_len.ensures.counted ∙ ap (minor_len m) (take-length c.disks-disks.result.now ∙ c.disks-disks.ensures) in
     let slots = slots_are cut m row (m * row) minors rows refl in
     let some = slots_some cut c.requires in
     let few = minors_short m row (m * row) (omega arith) refl c.if-slots-gt-MOST_SLOTS.false in omega arith
 
 pub invariant_of-result : goal.invariant_of-result
 invariant_of-result c =
-    let cut = c.args.cut.now in let m = c.num_minors-minors.result in let row = c.front_len-minor_len.result in
+    let cut = c.args.cut.now in let m = c.num_minors-minors.result in let row = c.len_before-minor_len.result in
     let minors = c.num_minors-minors.ensures.counted ∙ ap num_minors c.disks-disks.ensures in
-    let rows = c.front_len-minor_len.ensures.counted ∙ ap (minor_len m) (take-length c.disks-disks.result.now ∙ c.disks-disks.ensures) in
+    let rows = c.len_before-minor_len.ensures.counted ∙ ap (minor_len m) (take-length c.disks-disks.result.now ∙ c.disks-disks.ensures) in
     let slots = slots_are cut m row (m * row) minors rows refl in
     let is = c.in_ok-disks.ensures ∙ c.disks-disks.ensures in
     let homes = c.in_ok-homes.homes.items in
@@ -62,9 +62,9 @@ invariant_of-result c =
 
 pub returns-clause-short : goal.returns-clause-short
 returns-clause-short c =
-    let cut = c.args.cut.now in let m = c.num_minors-minors.result in let row = c.front_len-minor_len.result in
+    let cut = c.args.cut.now in let m = c.num_minors-minors.result in let row = c.len_before-minor_len.result in
     let minors = c.num_minors-minors.ensures.counted ∙ ap num_minors c.disks-disks.ensures in
-    let rows = c.front_len-minor_len.ensures.counted ∙ ap (minor_len m) (take-length c.disks-disks.result.now ∙ c.disks-disks.ensures) in
+    let rows = c.len_before-minor_len.ensures.counted ∙ ap (minor_len m) (take-length c.disks-disks.result.now ∙ c.disks-disks.ensures) in
     let slots = slots_are cut m row (m * row) minors rows refl in
     let is = c.in_ok-disks.ensures ∙ c.disks-disks.ensures in
     let same = ap (λ (l : List Disk). length (program l)) is in let short = c.if-slots-gt-MOST_SLOTS.false in omega arith

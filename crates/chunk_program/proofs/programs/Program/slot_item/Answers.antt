@@ -3,7 +3,7 @@ use Rattle.std.specs.Prelude.{IfSome}
 use Rattle.std.specs.List.{All}
 use Rattle.air_model.specs.Disks.{Disk, all_items}
 use Rattle.air_model.specs.Programs.{program}
-use Rattle.chunk_program.proofs.ProgramFacts.{carried_items, read_slot}
+use Rattle.chunk_program.proofs.ProgramLemmas.{carried_items, read_slot}
 use Rattle.chunk_program.proofs.programs.Program.slot_item.Goals as goal
 
 pub returns-clause-within : goal.returns-clause-within

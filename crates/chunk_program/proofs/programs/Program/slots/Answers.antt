@@ -1,5 +1,5 @@
 use Rattle.std.proofs.Common.{◌≡◌, length, arith, ap, rules}
-use Rattle.chunk_program.proofs.ProgramFacts.{slots_some}
+use Rattle.chunk_program.proofs.ProgramLemmas.{slots_some}
 use Rattle.chunk_program.proofs.programs.Program.slots.Goals as goal
 
 pub returns-clause-some : goal.returns-clause-some

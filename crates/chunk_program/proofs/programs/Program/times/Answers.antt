@@ -1,4 +1,4 @@
-use Rattle.chunk_program.proofs.ProgramFacts.{item_freq}
+use Rattle.chunk_program.proofs.ProgramLemmas.{item_freq}
 use Rattle.chunk_program.proofs.programs.Program.times.Goals as goal
 
 pub returns-clause-frequency : goal.returns-clause-frequency

@@ -18,7 +18,7 @@ returns-then-is_start-clause-stepped c =
     ∙ ap (λ b. step_board b c.args.event.now) c.self.view_is
 
 pub returns-then-is_start-clause-followed : goal.returns-then-is_start-clause-followed
-returns-then-is_start-clause-followed c = board_followed c.args.self.now _ c.args.event.now c.requires.fits c.keeps_rules.ensures (returns-then-is_start-clause-stepped c)
+returns-then-is_start-clause-followed c = board_followed c.args.self.now _ c.args.event.now c.requires.fits c.shows_rules_kept.ensures (returns-then-is_start-clause-stepped c)
 
 pub returns-clause-stepped : goal.returns-clause-stepped
 returns-clause-stepped c =
@@ -47,4 +47,4 @@ returns-clause-stepped c =
     ∙ ap (λ b. step_board b e) c.self.view_is
 
 pub returns-clause-followed : goal.returns-clause-followed
-returns-clause-followed c = board_followed c.args.self.now _ c.args.event.now c.requires.fits c.keeps_rules.ensures (returns-clause-stepped c)
+returns-clause-followed c = board_followed c.args.self.now _ c.args.event.now c.requires.fits c.shows_rules_kept.ensures (returns-clause-stepped c)

@@ -1,5 +1,5 @@
 use Rattle.std.proofs.Common.{sym, ◌∙◌, ap, subst}
-use Rattle.cycle_snapshot.specs.CopyRule.{IsPublished}
+use Rattle.cycle_snapshot.specs.SideRule.{IsPublished}
 use Rattle.cycle_snapshot.proofs.SightLemmas.{first_is}
 use Rattle.cycle_snapshot.proofs.publishers.Publisher.open.Goals as goal
 

@@ -3,9 +3,9 @@ use Rattle.air_history.specs.Histories.{starts}
 use Rattle.air_model.specs.Programs.{program as slots_of}
 use Rattle.air_model.specs.Aired.{Air}
 use Rattle.air_devices.specs.Counts.{Rose}
-use Rattle.cycle_snapshot.specs.Batches.{events_in}
+use Rattle.cycle_snapshot.specs.Batches.{batch_events}
 use Rattle.deck_runs.specs.Sendings.{FailsAfter, IsAirOf, SendsCycles}
-use Rattle.deck_runs.specs.Steps.CycleSteps.{SendsInCycle}
+use Rattle.deck_runs.specs.Private.CycleSteps.{SendsInCycle}
 use Rattle.deck_runs.specs.declared.jobs.conductors.ConductFault.TheVariants as fault
 use Rattle.deck_runs.proofs.CycleLemmas.{few_starts, goes_further, goes_nowhere, on_most, on_station, on_values, publishes_further, publishes_none}
 use Rattle.deck_runs.proofs.SendLemmas.{fails_as, few_sent, fails_further, seen_bytes, sends_as, sends_further, sends_none}
@@ -19,7 +19,7 @@ loop-k-init g c =
       publisher = publishes_none f;
       step = c.requires.step;
       count = let none : length f.batches ≡ length f.batches + 0 = omega arith in none;
-      aired = λ air is. sends_none c.args.pass.now.values air (events_in f.batches) (events_in f.batches) _ _ refl refl;
+      aired = λ air is. sends_none c.args.pass.now.values air (batch_events f.batches) (batch_events f.batches) _ _ refl refl;
       calm = refl;
       port = refl;
       buffer = refl;
@@ -58,13 +58,13 @@ loop-k-preserved g c =
     let f = c.args.publisher.now in
     let l = c.loop-k.publisher in
     let values = on_values p c.loop-k.pass i.pass in
-    let one = subst (λ v. (air : Air) → IsAirOf v c.args.means.now.policy (slots_of c.args.means.now.program.now) air → SendsCycles v air 1 (events_in l.batches) (events_in c.conduct_cycle.new.publisher.batches) (g.M.Mast.state c.loop-k.mast).told (g.M.Mast.state c.conduct_cycle.new.mast).told) values c.in-Ok.ensures.aired in
+    let one = subst (λ v. (air : Air) → IsAirOf v c.args.means.now.policy (slots_of c.args.means.now.program.now) air → SendsCycles v air 1 (batch_events l.batches) (batch_events c.conduct_cycle.new.publisher.batches) (g.M.Mast.state c.loop-k.mast).told (g.M.Mast.state c.conduct_cycle.new.mast).told) values c.in-Ok.ensures.aired in
     record {
       pass = goes_further p q c.conduct_cycle.new.pass i.pass c.conduct_cycle.ensures.pass;
       publisher = publishes_further f l c.conduct_cycle.new.publisher i.publisher c.conduct_cycle.ensures.publisher;
       step = c.in-Ok.ensures.done.0;
       count = let a = i.count in let b = c.in-Ok.ensures.done.1 in omega arith;
-      aired = λ air is. sends_further p.values air c.loop-k.k 1 (events_in f.batches) (events_in l.batches) (events_in c.conduct_cycle.new.publisher.batches) _ _ _ (i.aired air is) (one air is);
+      aired = λ air is. sends_further p.values air c.loop-k.k 1 (batch_events f.batches) (batch_events l.batches) (batch_events c.conduct_cycle.new.publisher.batches) _ _ _ (i.aired air is) (one air is);
       calm = c.in-Ok.ensures.cause ∙ i.calm;
       port = c.conduct_cycle.ensures.port ∙ i.port;
       buffer = c.conduct_cycle.ensures.buffer ∙ i.buffer;
@@ -88,7 +88,7 @@ returns-in-Err-NoMemory-clause-conducted g c =
     let l = c.loop-k.publisher in
     let h = c.conduct_cycle.new.publisher in
     let values = on_values p c.loop-k.pass i.pass in
-    let none = subst (λ v. (air : Air) → IsAirOf v c.args.means.now.policy (slots_of c.args.means.now.program.now) air → SendsCycles v air 0 (events_in l.batches) (events_in h.batches) (g.M.Mast.state c.loop-k.mast).told (g.M.Mast.state c.conduct_cycle.new.mast).told) values (rw c.in-Err-NoMemory.field-0-is at c.in-Err-NoMemory.ensures.aired) in
+    let none = subst (λ v. (air : Air) → IsAirOf v c.args.means.now.policy (slots_of c.args.means.now.program.now) air → SendsCycles v air 0 (batch_events l.batches) (batch_events h.batches) (g.M.Mast.state c.loop-k.mast).told (g.M.Mast.state c.conduct_cycle.new.mast).told) values (rw c.in-Err-NoMemory.field-0-is at c.in-Err-NoMemory.ensures.aired) in
     let same : c.loop-k.k + 0 ≡ c.loop-k.k = omega arith in
     let stopped = rw c.in-Err-NoMemory.field-0-is at c.in-Err-NoMemory.ensures.stopped in
     let calm = rw c.in-Err-NoMemory.field-0-is at c.in-Err-NoMemory.ensures.cause in
@@ -102,8 +102,8 @@ returns-in-Err-NoMemory-clause-conducted g c =
       aired = λ air is. (
         c.loop-k.k,
         c.loop-k-test.true,
-        subst (λ n. SendsCycles p.values air n (events_in f.batches) (events_in h.batches) (g.M.Mast.state c.args.mast.now).told (g.M.Mast.state c.conduct_cycle.new.mast).told) same
-            (sends_further p.values air c.loop-k.k 0 (events_in f.batches) (events_in l.batches) (events_in h.batches) _ _ _ (i.aired air is) (none air is)),
+        subst (λ n. SendsCycles p.values air n (batch_events f.batches) (batch_events h.batches) (g.M.Mast.state c.args.mast.now).told (g.M.Mast.state c.conduct_cycle.new.mast).told) same
+            (sends_further p.values air c.loop-k.k 0 (batch_events f.batches) (batch_events l.batches) (batch_events h.batches) _ _ _ (i.aired air is) (none air is)),
       );
       cause = calm ∙ i.calm;
       port = c.conduct_cycle.ensures.port ∙ i.port;
@@ -122,7 +122,7 @@ returns-in-Err-Mast-clause-conducted g c =
     let now = c.conduct_cycle.new.mast in
     let sent = c.in-Err-Mast.sent in
     let values = on_values p c.loop-k.pass i.pass in
-    let cycle = subst (λ v. (air : Air) → IsAirOf v c.args.means.now.policy (slots_of c.args.means.now.program.now) air → SendsInCycle state v air (events_in l.batches) (events_in h.batches) c.loop-k.mast now (fault.Mast sent)) values (rw c.in-Err-Mast.field-0-is at c.in-Err-Mast.ensures.aired) in
+    let cycle = subst (λ v. (air : Air) → IsAirOf v c.args.means.now.policy (slots_of c.args.means.now.program.now) air → SendsInCycle state v air (batch_events l.batches) (batch_events h.batches) c.loop-k.mast now (fault.Mast sent)) values (rw c.in-Err-Mast.field-0-is at c.in-Err-Mast.ensures.aired) in
     let stopped = rw c.in-Err-Mast.field-0-is at c.in-Err-Mast.ensures.stopped in
     let rose = rw c.in-Err-Mast.field-0-is at c.in-Err-Mast.ensures.cause in
     let slots = c.slots.ensures.counted in
@@ -134,9 +134,9 @@ returns-in-Err-Mast-clause-conducted g c =
       few = let a = stopped.0 in let u = stopped.1.count in let b = i.count in let d = c.requires.step.published.count in let e = c.loop-k-test.true in omega arith;
       published = stopped.1;
       aired = λ air is.
-          let all = fails_further p.values air state c.loop-k.k sent (events_in f.batches) (events_in l.batches) (events_in h.batches) before c.loop-k.mast now (i.aired air is) i.calm i.port (cycle air is) in
+          let all = fails_further p.values air state c.loop-k.k sent (batch_events f.batches) (batch_events l.batches) (batch_events h.batches) before c.loop-k.mast now (i.aired air is) i.calm i.port (cycle air is) in
           let many : length air.slots ≡ c.from-slots.result = ap length is.slots_are ∙ sym slots ∙ sym c.from-slots.ensures in
-          let seen = fails_as p.values air state _ (events_in f.batches) (events_in h.batches) p.seen q.seen before now (seen_bytes p.values air p.seen f.batches c.requires.step.published) (seen_bytes p.values air q.seen h.batches stopped.1) all in
+          let seen = fails_as p.values air state _ (batch_events f.batches) (batch_events h.batches) p.seen q.seen before now (seen_bytes p.values air p.seen f.batches c.requires.step.published) (seen_bytes p.values air q.seen h.batches stopped.1) all in
           subst (λ n. FailsAfter state p.values air (n * c.from-slots.result + sent) p.seen q.seen before now) (sym times)
           (subst (λ n. FailsAfter state p.values air (c.loop-k.k * n + sent) p.seen q.seen before now) many seen);
       cause = subst (λ n. Rose n (state now).faults) i.calm rose;
@@ -159,7 +159,7 @@ returns-clause-conducted g c =
       few = tt;
       published = tt;
       aired = λ air is. subst (λ n. SendsCycles p.values air n p.seen q.seen (g.M.Mast.state c.args.mast.now).told (g.M.Mast.state c.loop-k.mast).told) all
-          (sends_as p.values air c.loop-k.k (events_in f.batches) (events_in l.batches) p.seen q.seen _ _ (seen_bytes p.values air p.seen f.batches c.requires.step.published) (seen_bytes p.values air q.seen l.batches i.step.published) (i.aired air is));
+          (sends_as p.values air c.loop-k.k (batch_events f.batches) (batch_events l.batches) p.seen q.seen _ _ (seen_bytes p.values air p.seen f.batches c.requires.step.published) (seen_bytes p.values air q.seen l.batches i.step.published) (i.aired air is));
       cause = i.calm;
       port = i.port;
     }

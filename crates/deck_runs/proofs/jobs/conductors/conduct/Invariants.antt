@@ -1,8 +1,8 @@
 use Rattle.std.proofs.Common.{◌≡◌, ◌+◌, length}
 use Rattle.air_model.specs.Programs.{program as slots_of}
 use Rattle.air_model.specs.Aired.{Air}
-use Rattle.cycle_snapshot.specs.Batches.{events_in}
-use Rattle.deck_runs.specs.Published.{AreInStep, GoesOn, PublishesOn}
+use Rattle.cycle_snapshot.specs.Batches.{batch_events}
+use Rattle.deck_runs.specs.PublishedBatches.{AreInStep, GoesOn, PublishesOn}
 use Rattle.deck_runs.specs.Sendings.{IsAirOf, SendsCycles}
 use Rattle.deck_runs.proofs.jobs.conductors.conduct.Given as goal
 
@@ -14,7 +14,7 @@ invariant-loop-k g l = record {
   step : AreInStep l.pass l.publisher l.board;
   count : length l.publisher.batches ≡ length l.initial.publisher.batches + l.k;
   aired : (air : Air) → IsAirOf l.initial.pass.values l.means.policy (slots_of l.means.program.now) air →
-      SendsCycles l.initial.pass.values air l.k (events_in l.initial.publisher.batches) (events_in l.publisher.batches) (g.M.Mast.state l.initial.mast).told (g.M.Mast.state l.mast).told;
+      SendsCycles l.initial.pass.values air l.k (batch_events l.initial.publisher.batches) (batch_events l.publisher.batches) (g.M.Mast.state l.initial.mast).told (g.M.Mast.state l.mast).told;
   calm : (g.M.Mast.state l.mast).faults ≡ (g.M.Mast.state l.initial.mast).faults;
   port : (g.M.Mast.state l.mast).port ≡ (g.M.Mast.state l.initial.mast).port;
   buffer : length l.buf ≡ length l.initial.buf;

@@ -3,7 +3,7 @@ use Rattle.std.proofs.lemmas.List.{drop_more, take_all}
 use Rattle.std.proofs.lemmas.List.Elements.{All-more}
 use Rattle.air_history.specs.Histories.{starts}
 use Rattle.air_history.specs.Tables.{BasesRead}
-use Rattle.cycle_snapshot.specs.Steps.BoardRuns.{step_all}
+use Rattle.cycle_snapshot.specs.Private.BoardRuns.{step_all}
 use Rattle.cycle_snapshot.proofs.BatchLemmas.{starts_append, step_sized, step_cycle}
 use Rattle.deck_runs.proofs.jobs.cycles.apply_all.Goals as goal
 
@@ -20,7 +20,7 @@ loop-event-preserved c =
       same = ap (λ x. step_all x (drop (k + 1) G)) s ∙ ap (step_all b) (sym left) ∙ i.same;
       sized = ap (λ x. length x.values) s ∙ step_sized b e ∙ i.sized;
       cycles = let a = ap (λ x. x.cycle) s ∙ step_cycle b e in let h = starts_append (e ∷ []) (drop (k + 1) G) in let f = ap starts left in let w = i.cycles in omega arith;
-      bases = All-more BasesRead G k e c.loop-event-test.true i.bases (subst BasesRead c.event-item.is c.keeps_rules.ensures);
+      bases = All-more BasesRead G k e c.loop-event-test.true i.bases (subst BasesRead c.event-item.is c.shows_rules_kept.ensures);
     }
 
 pub returns-clause-bases : goal.returns-clause-bases

@@ -3,11 +3,11 @@ use Rattle.air_history.specs.Histories.{starts, ItemsFit}
 use Rattle.air_history.specs.Tables.{BasesRead}
 use Rattle.cycle_snapshot.specs.Batches.{IsBatch}
 use Rattle.cycle_snapshot.proofs.BatchLemmas.{batch_starts}
-use Rattle.deck_runs.specs.Published.{IsUpTo}
+use Rattle.deck_runs.specs.PublishedBatches.{IsUpTo}
 use Rattle.air_sender.specs.BoardBuckets.{EntriesBelow}
 use Rattle.deck_runs.proofs.CycleLemmas.{board_cycle, board_sized, in_step}
 use Rattle.deck_runs.proofs.SendLemmas.{front, last, started}
-use Rattle.cycle_snapshot.specs.Batches.{events_in}
+use Rattle.cycle_snapshot.specs.Batches.{batch_events}
 use Rattle.std.specs.Prelude.{Result, Ok, Err, OnErr}
 use Rattle.deck_runs.proofs.jobs.cycles.begin_cycle.Goals as goal
 
@@ -21,7 +21,7 @@ apply_all-requires-clause-fits g c =
     let p = c.args.pass.now in
     let f = c.args.publisher.now in
     let s = c.in_ok-fresh.ensures.started f.batches c.requires.step.published in
-    let sized = board_sized p.values c.args.board.now (events_in f.batches) c.requires.step.board in
+    let sized = board_sized p.values c.args.board.now (batch_events f.batches) c.requires.step.board in
     subst (λ n. All (ItemsFit n) c.deref.result.now) (sym sized) (subst (All (ItemsFit (length p.values))) (sym c.deref.ensures.value) s.0.fits)
 
 pub apply_all-requires-clause-room : goal.apply_all-requires-clause-room
@@ -53,7 +53,7 @@ returns-clause-begun g c =
     let lent = c.deref.ensures.value in
     let bases = subst (All BasesRead) lent c.apply_all.ensures.bases in (
       in_step p c.start_fresh.new.pass f c.publish.new.self c.args.board.now c.apply_all.new.board fresh step c.start_fresh.ensures.on c.in_ok-publish.ensures
-          (c.apply_all.ensures.stepped ∙ ap (Rattle.cycle_snapshot.specs.Steps.BoardRuns.step_all c.args.board.now) lent) s.0 bases s.2,
+          (c.apply_all.ensures.stepped ∙ ap (Rattle.cycle_snapshot.specs.Private.BoardRuns.step_all c.args.board.now) lent) s.0 bases s.2,
       (fresh, c.in_ok-publish.ensures, subst (λ v. IsBatch (length v) fresh) (sym step.values) s.0),
     )
 

@@ -1,6 +1,6 @@
 use Rattle.std.proofs.Common.{◌∙◌, sym, subst}
 use Rattle.air_model.specs.Programs.{program as slots_of}
-use Rattle.deck_runs.specs.Published.{PublishesOn}
+use Rattle.deck_runs.specs.PublishedBatches.{PublishesOn}
 use Rattle.deck_runs.proofs.CycleLemmas.{publishes_batch, publishes_none}
 use Rattle.deck_runs.proofs.SendLemmas.{cycle_failed_by, cycle_sent, front, last_board, rose_by, within_cycle}
 use Rattle.deck_runs.proofs.jobs.cycles.conduct_cycle.Goals as goal

@@ -1,7 +1,7 @@
 use Rattle.std.proofs.Common.{[], ◌∷◌, sym, ◌∙◌, subst, length}
 use Rattle.std.proofs.lemmas.List.{append-nil}
 use Rattle.air_history.specs.declared.histories.Event.TheVariants.{Start}
-use Rattle.deck_runs.specs.Published.{IsUpTo}
+use Rattle.deck_runs.specs.PublishedBatches.{IsUpTo}
 use Rattle.station.proofs.TurnLemmas.{refused}
 use Rattle.deck_runs.proofs.CycleLemmas.{fresh_batch, goes_on, up_to_batch, up_to_on, up_to_start}
 use Rattle.deck_runs.proofs.jobs.cycles.start_fresh.Goals as goal

@@ -1,7 +1,7 @@
 use Rattle.std.proofs.Common.{◌≡◌, [], ◌∷◌, ◌++◌, length, sym, ap, subst, ◌∙◌, arith, append_assoc}
 use Rattle.std.specs.Vec.Iter.{into_iter_items}
 use Rattle.deck_runs.proofs.SightLemmas.{sights_more}
-use Rattle.deck_runs.specs.Steps.SightSteps.{AreSights}
+use Rattle.deck_runs.specs.Private.SightSteps.{AreSights}
 use Rattle.deck_runs.proofs.threads.sights.all_sights.Goals as goal
 
 pub loop-run-preserved : goal.loop-run-preserved

@@ -1,6 +1,6 @@
 use Rattle.std.proofs.Common.{◌≡◌, ◌++◌, length}
 use Rattle.std.specs.Vec.Iter.{into_iter_items, into_iter_len}
-use Rattle.deck_runs.specs.Steps.SightSteps.{AreAllSights}
+use Rattle.deck_runs.specs.Private.SightSteps.{AreAllSights}
 use Rattle.deck_runs.proofs.threads.sights.all_sights.Given as goal
 
 abbrev pub invariant-loop-run : goal.invariant-loop-run

@@ -3,7 +3,7 @@ use Rattle.std.proofs.lemmas.List.{length-map, length-set, length-take-le}
 use Rattle.std.proofs.lemmas.List.Elements.{All-set}
 use Rattle.air_history.specs.Clashes.{Heard}
 use Rattle.held_reads.specs.declared.reads.HeldRead.{HeldRead}
-use Rattle.held_reads.specs.HeardReads.{heard_of}
+use Rattle.held_reads.specs.HeardReads.{heard_of_held}
 use Rattle.air_history.specs.HeldReads.{HeldReads}
 use Rattle.held_reads.specs.HeldView.{held_reads}
 use Rattle.held_reads.specs.HeldCycles.{cycles_of, held_cycle}
@@ -25,12 +25,12 @@ invariant_of-self c =
     let n : inside.n ≡ c.args.self.now.n = ap (λ (h : HeldReads). h.n) c.self.view_is in
     let within : c.args.item < inside.n = omega (arith, c.requires.new.within) in
     let free : All (λ r. r.item ≢ c.args.item) R = subst (λ (h : HeldReads). All (λ r. r.item ≢ c.args.item) h.reads) (sym c.self.view_is) c.requires.new.free in
-    let count : length R ≡ inside.len = length-map (take inside.len inside.places.items) heard_of ∙ length-take-le inside.len inside.places.items (omega (arith, c.self.invariant.room.places, c.self.invariant.room.within)) in
+    let count : length R ≡ inside.len = length-map (take inside.len inside.places.items) heard_of_held ∙ length-take-le inside.len inside.places.items (omega (arith, c.self.invariant.room.places, c.self.invariant.room.within)) in
     let free_place : length R < 16 = subst (λ (h : HeldReads). length h.reads < 16) (sym c.self.view_is) c.requires.room in
     let place : inside.len < length inside.places.items = omega (arith, c.self.invariant.room.places) in
     let copied : c.copy_from_slice.new.self.items ≡ c.args.entries.now = search rules in
-    let same : heard_of p ≡ x = ap (λ (es : List ℕ). let y : Heard = record { item = c.args.item; cycle = c.args.cycle; entries = es } in y) copied in
-    let more : map heard_of (take (inside.len + 1) (set inside.places.items inside.len p)) ≡ R ++ x ∷ [] =
+    let same : heard_of_held p ≡ x = ap (λ (es : List ℕ). let y : Heard = record { item = c.args.item; cycle = c.args.cycle; entries = es } in y) copied in
+    let more : map heard_of_held (take (inside.len + 1) (set inside.places.items inside.len p)) ≡ R ++ x ∷ [] =
     places_put inside.places.items inside.len p place ∙ ap (λ y. R ++ y ∷ []) same in
     let wide : length c.copy_from_slice.new.self.items ≡ inside.n = ap length copied ∙ c.requires.new.sized ∙ sym n in
     record {

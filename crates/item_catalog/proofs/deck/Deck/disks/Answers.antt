@@ -1,6 +1,6 @@
 use Rattle.std.proofs.Common.{ap, arith, length}
 use Rattle.air_model.specs.Decks.{Deck}
-use Rattle.item_catalog.proofs.DiskFacts.{freqs_len}
+use Rattle.item_catalog.proofs.DiskLemmas.{freqs_len}
 use Rattle.item_catalog.proofs.deck.Deck.disks.Goals as goal
 
 pub overflow_cast-result : goal.overflow_cast-result

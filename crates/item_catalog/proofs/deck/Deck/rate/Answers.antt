@@ -3,7 +3,7 @@ use Rattle.std.proofs.lemmas.List.{length-map}
 use Rattle.air_base.specs.declared.limits.TheConstants.{MOST_RATE}
 use Rattle.air_model.specs.Decks.{Deck, Item}
 use Rattle.item_catalog.specs.Decks.{plain_item}
-use Rattle.item_catalog.proofs.DiskFacts.{all_at}
+use Rattle.item_catalog.proofs.DiskLemmas.{all_at}
 use Rattle.item_catalog.proofs.deck.Deck.rate.Goals as goal
 
 pub returns-clause-most : goal.returns-clause-most

@@ -1,7 +1,7 @@
 use Rattle.std.proofs.Common.{◌<◌, arith, ap, length, refl}
 use Rattle.air_model.specs.Decks.{Deck}
 use Rattle.item_catalog.specs.DeckLimits.{DiskWithin}
-use Rattle.item_catalog.proofs.DiskFacts.{freqs_all, freqs_at, freqs_len}
+use Rattle.item_catalog.proofs.DiskLemmas.{freqs_all, freqs_at, freqs_len}
 use Rattle.item_catalog.proofs.deck.Deck.size.Goals as goal
 use Rattle.item_catalog.proofs.deck.Deck.size.Goals.{After-index}
 

@@ -1,7 +1,7 @@
 use Rattle.std.proofs.Common.{ℕ, ◌∙◌, ap, sym}
 use Rattle.air_model.specs.Draws.{draw_each}
 use Rattle.air_model.specs.Drills.{draw_query}
-use Rattle.item_catalog.proofs.DrawFacts.{drawn_more, drawn_none}
+use Rattle.item_catalog.proofs.DrawLemmas.{drawn_more, drawn_none}
 use Rattle.item_catalog.proofs.deck.drill.draw_all_queries.Goals as goal
 
 pub loop-r-init : goal.loop-r-init

@@ -3,7 +3,7 @@ use Rattle.std.proofs.lemmas.List.{map-append}
 use Rattle.air_model.specs.Drills.{draw_item}
 use Rattle.item_catalog.specs.Decks.{plain_item}
 use Rattle.item_catalog.specs.declared.parts.ItemPart.{ItemPart}
-use Rattle.item_catalog.proofs.DrawFacts.{drawn_more, drawn_none}
+use Rattle.item_catalog.proofs.DrawLemmas.{drawn_more, drawn_none}
 use Rattle.item_catalog.proofs.deck.drill.draw_items.Goals as goal
 
 pub loop-i-init : goal.loop-i-init

@@ -1,6 +1,6 @@
 use Rattle.std.proofs.Common.{ℕ, ◌∙◌, ap, sym}
 use Rattle.air_model.specs.Drills.{draw_query}
-use Rattle.item_catalog.proofs.DrawFacts.{drawn_more, drawn_none}
+use Rattle.item_catalog.proofs.DrawLemmas.{drawn_more, drawn_none}
 use Rattle.item_catalog.proofs.deck.drill.draw_queries.Goals as goal
 
 pub loop-q-init : goal.loop-q-init

@@ -4,8 +4,8 @@ use Rattle.rand_pcg.specs.Lcg.{Lcg}
 use Rattle.air_history.specs.UpdateLists.{UpdateLists}
 use Rattle.air_model.specs.Draws.{Draw, draw_each}
 use Rattle.air_model.specs.Drills.{dealt_to, draw_update}
-use Rattle.item_catalog.proofs.DealFacts.{deal_more}
-use Rattle.item_catalog.proofs.DrawFacts.{drawn_more, drawn_none, length-draw_each}
+use Rattle.item_catalog.proofs.DealLemmas.{deal_more}
+use Rattle.item_catalog.proofs.DrawLemmas.{drawn_more, drawn_none, length-draw_each}
 use Rattle.item_catalog.proofs.deck.drill.draw_updates.Goals as goal
 
 pub loop-u-init : goal.loop-u-init

@@ -9,7 +9,7 @@ use Rattle.item_catalog.specs.DeckView.{deck_seen}
 use Rattle.item_catalog.specs.Decks.{plain_item}
 use Rattle.item_catalog.specs.Faults.{count_starts}
 use Rattle.item_catalog.specs.declared.deck.Deck.TheInside.{Inside}
-use Rattle.item_catalog.proofs.DrillFacts.{deck_drawn, same_parts}
+use Rattle.item_catalog.proofs.DrillLemmas.{deck_drawn, same_parts}
 use Rattle.item_catalog.proofs.deck.drill.drill_deck.Goals as goal
 use Rattle.item_catalog.proofs.deck.drill.drill_deck.Goals.{After-drill_settings}
 

@@ -1,7 +1,7 @@
 use Rattle.std.proofs.Common.{◌++◌, ◌∷◌, [], ◌∙◌, None, ap, arith, length, sym}
 use Rattle.std.proofs.lemmas.List.{length-append}
 use Rattle.air_model.specs.Drills.{turn_of}
-use Rattle.item_catalog.proofs.DealFacts.{start_allowed, turns_more, turns_short}
+use Rattle.item_catalog.proofs.DealLemmas.{start_allowed, turns_more, turns_short}
 use Rattle.item_catalog.proofs.deck.drill.drill_script.Goals as goal
 
 pub add_turn-requires : goal.add_turn-requires

@@ -1,4 +1,4 @@
-use Rattle.item_catalog.proofs.DrawFacts.{draw_told}
+use Rattle.item_catalog.proofs.DrawLemmas.{draw_told}
 use Rattle.item_catalog.proofs.drills.draws.draw.Goals as goal
 
 pub returns-clause-drawn : goal.returns-clause-drawn

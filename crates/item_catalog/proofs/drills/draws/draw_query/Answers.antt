@@ -1,5 +1,5 @@
 use Rattle.std.proofs.Common.{◌∙◌, ap, sym}
-use Rattle.item_catalog.proofs.DrawnFacts.{query_told}
+use Rattle.item_catalog.proofs.DrawnLemmas.{query_told}
 use Rattle.item_catalog.proofs.drills.draws.draw_query.Goals as goal
 
 pub returns : goal.returns

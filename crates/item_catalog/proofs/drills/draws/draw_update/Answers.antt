@@ -2,7 +2,7 @@ use Rattle.std.proofs.Common.{◌≡◌, ◌∙◌, List, ℕ, ap, sym}
 use Rattle.air_history.specs.UpdateLists.{UpdateLists}
 use Rattle.air_history.specs.UpdateRules.{update_fault}
 use Rattle.air_model.specs.Drills.{around, draw_update}
-use Rattle.item_catalog.proofs.DrawnFacts.{drawn_keeps, update_told}
+use Rattle.item_catalog.proofs.DrawnLemmas.{drawn_keeps, update_told}
 use Rattle.item_catalog.proofs.drills.draws.draw_update.Goals as goal
 use Rattle.item_catalog.proofs.drills.draws.draw_update.Goals.{After-deref-2}
 

@@ -1,5 +1,5 @@
 use Rattle.csv.specs.Records.{fields_of}
-use Rattle.item_catalog.proofs.RecordsFacts.{next_seen}
+use Rattle.item_catalog.proofs.RecordsLemmas.{next_seen}
 use Rattle.item_catalog.proofs.records.Records.next.Goals as goal
 use Rattle.item_catalog.proofs.records.Records.next.Goals.{in-Ok, in-Err}
 

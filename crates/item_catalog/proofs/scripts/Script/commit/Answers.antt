@@ -3,7 +3,7 @@ use Rattle.std.proofs.Common.{length-append}
 use Rattle.std.proofs.lemmas.List.{length-set}
 use Rattle.air_model.specs.Decks.{count_parts}
 use Rattle.item_catalog.specs.Faults.{count_starts}
-use Rattle.item_catalog.proofs.ScriptFacts.{commit_fits, commits_more, starts_all}
+use Rattle.item_catalog.proofs.ScriptLemmas.{commit_fits, commits_more, starts_all}
 use Rattle.item_catalog.proofs.scripts.Script.commit.Goals as goal
 
 pub invariant_of-self-2 : goal.invariant_of-self-2

@@ -2,7 +2,7 @@ use Rattle.std.proofs.Common.{◌≡◌, ◌∙◌, sym, ap, arith, get_or, leng
 use Rattle.std.proofs.lemmas.List.{get_or_default}
 use Rattle.air_base.specs.declared.limits.TheConstants.{MOST_UPDATERS}
 use Rattle.air_model.specs.Decks.{count_parts}
-use Rattle.item_catalog.proofs.ScriptFacts.{some_at, some_more, some_none}
+use Rattle.item_catalog.proofs.ScriptLemmas.{some_at, some_more, some_none}
 use Rattle.item_catalog.proofs.scripts.Script.overdraws.Goals as goal
 
 pub loop-by-init : goal.loop-by-init

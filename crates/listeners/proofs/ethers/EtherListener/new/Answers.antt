@@ -1,5 +1,5 @@
 use Rattle.std.proofs.Common.{◌≡◌, ◌+◌, ◌*◌, [], ◌∙◌, ap, subst, arith}
-use Rattle.air_ether.specs.HeardSoFar.{Follows}
+use Rattle.air_ether.specs.HeardSoFar.{IsEtherAfter}
 use Rattle.air_model.specs.declared.deck.Settings.{Settings}
 use Rattle.air_model.specs.Ethers.{Odds}
 use Rattle.receiver_core.specs.Receivers.{heard_count}
@@ -19,5 +19,5 @@ returns c =
       odds = made.odds ∙ ap (λ (s : Settings). let o : Odds = record { loss = s.loss; again = s.again; late = s.late } in o) c.settings-set.ensures;
       room = made.room ∙ ap (λ n. 24 + 4 * n) c.items.ensures.told;
       heard = none_heard deck.settings.seed c.args.number (listener_of deck c.args.number) ether c.in_ok-new-2.field-0
-          (subst (λ (s : Settings). Follows s.seed c.args.number [] 0 ether) c.settings-set.ensures made.follows) made.open.0 c.in_ok-new-2.ensures;
+          (subst (λ (s : Settings). IsEtherAfter s.seed c.args.number [] 0 ether) c.settings-set.ensures made.follows) made.open.0 c.in_ok-new-2.ensures;
     }

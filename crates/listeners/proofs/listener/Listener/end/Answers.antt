@@ -3,7 +3,7 @@ use Rattle.air_base.specs.declared.verdicts.Counts.{Counts}
 use Rattle.air_model.specs.declared.reports.CountsLine.{CountsLine}
 use Rattle.air_model.specs.Reports.{line_by}
 use Rattle.air_model.specs.Sessions.{Line}
-use Rattle.listeners.specs.Steps.Endings.{lines_and_counts}
+use Rattle.listeners.specs.Private.Endings.{lines_and_counts}
 use Rattle.listeners.specs.Listeners.{Listener, end_state}
 use Rattle.listeners.proofs.HearLemmas.{listener_ended}
 use Rattle.listeners.proofs.listener.Listener.end.Goals as goal

@@ -3,7 +3,7 @@ use Rattle.std.proofs.lemmas.List.{with_items_is}
 use Rattle.air_model.specs.Buckets.{bucket_in}
 use Rattle.air_model.specs.Tapes.{tape_read}
 use Rattle.listeners.specs.Listeners.{hears}
-use Rattle.listeners.specs.Steps.TogetherSteps.{listeners_in}
+use Rattle.listeners.specs.Private.TogetherSteps.{listeners_in}
 use Rattle.listeners.proofs.ReaderLemmas.{HasRoom}
 use Rattle.listeners.proofs.together.Together.hear.Goals as goal
 

@@ -2,7 +2,7 @@ use Rattle.std.proofs.Common.{◌∷◌, [], ◌∙◌, true, ap}
 use Rattle.std.proofs.lemmas.List.{map-append}
 use Rattle.listeners.specs.declared.together.TogetherRun.{TogetherRun}
 use Rattle.listeners.specs.Listeners.{Listener, listener_of}
-use Rattle.listeners.specs.Steps.TogetherSteps.{listeners_in}
+use Rattle.listeners.specs.Private.TogetherSteps.{listeners_in}
 use Rattle.listeners.proofs.ReaderLemmas.{one_more_reader}
 use Rattle.listeners.proofs.together.Together.new.Goals as goal
 

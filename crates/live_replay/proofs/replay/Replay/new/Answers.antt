@@ -4,8 +4,8 @@ use Rattle.air_history.specs.declared.histories.Event.TheVariants as e
 use Rattle.air_history.specs.Histories.{event_at, starts, ItemsFit}
 use Rattle.air_history.specs.UpdateRules.{UpdateFits}
 use Rattle.air_model.specs.Decks.{values_in}
-use Rattle.live_replay.specs.Steps.Runs.{IsRun}
-use Rattle.live_replay.proofs.ReplayFacts.{start_few, values_length}
+use Rattle.live_replay.specs.Private.Runs.{IsReplayOfFirst}
+use Rattle.live_replay.proofs.ReplayLemmas.{start_few, values_length}
 use Rattle.live_replay.proofs.replay.Replay.new.Goals as goal
 use Rattle.live_replay.proofs.replay.Replay.new.Goals.{in-Start, in-Commit+in_ok-commit-in-Commit}
 
@@ -32,7 +32,7 @@ loop-event-preserved c =
     let item = c.event-item.result in
     let at : event_at H n ≡ item = get_or_default H n e.Start item c.loop-event-test.true ∙ sym c.event-item.is in
     elim c.match-event.branch [
-      | in-Start w ↦ subst (IsRun V H (n + 1)) (sym w.running-is) (w.start.ensures V H n c.loop-event.invariant c.loop-event-test.true (at ∙ w.in-Start.is))
+      | in-Start w ↦ subst (IsReplayOfFirst V H (n + 1)) (sym w.running-is) (w.start.ensures V H n c.loop-event.invariant c.loop-event-test.true (at ∙ w.in-Start.is))
       | in-Commit+in_ok-commit-in-Commit w ↦
-          subst (IsRun V H (n + 1)) (sym w.running-is) (w.in_ok-commit-in-Commit.ensures V H n c.loop-event.invariant c.loop-event-test.true (at ∙ w.in-Commit.is))
+          subst (IsReplayOfFirst V H (n + 1)) (sym w.running-is) (w.in_ok-commit-in-Commit.ensures V H n c.loop-event.invariant c.loop-event-test.true (at ∙ w.in-Commit.is))
     ]

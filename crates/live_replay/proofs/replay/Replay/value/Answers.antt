@@ -2,10 +2,10 @@ use Rattle.std.proofs.Common.{◌≡◌, ◌<◌, ◌-◌, ℕ, length, get_or, 
 use Rattle.air_history.specs.Tables.{values_of}
 use Rattle.air_model.specs.Decks.{Item, values_in}
 use Rattle.live_replay.specs.declared.writes.ItemWrite.{ItemWrite}
-use Rattle.live_replay.specs.Steps.Replays.{Replayed}
-use Rattle.live_replay.specs.Steps.Writes.{count_at, writes_from}
-use Rattle.live_replay.proofs.LastFacts.{count_within, last_written, none_written}
-use Rattle.live_replay.proofs.RunFacts.{value_in}
+use Rattle.live_replay.specs.Private.Replays.{DeckAndHistory}
+use Rattle.live_replay.specs.Private.Writes.{count_at, writes_from}
+use Rattle.live_replay.proofs.LastLemmas.{count_within, last_written, none_written}
+use Rattle.live_replay.proofs.RunLemmas.{value_in}
 use Rattle.live_replay.proofs.replay.Replay.value.Goals as goal
 use Rattle.live_replay.proofs.replay.Replay.value.Goals.{After-as_slice}
 
@@ -15,8 +15,8 @@ its c = c.as_slice.ensures ∙ c.writes.ensures
 pub returns-then-before-eq0 : goal.returns-then-before-eq0
 returns-then-before-eq0 c =
     let i = c.args.item in
-    let Catalog : Replayed → ℕ = λ t. values_of (values_in t.deck) i in
-    let within : i < length c.self.inside.deck.now.items = subst (λ (t : Replayed). i < length t.deck.items) (sym c.self.view_is) c.requires in
+    let Catalog : DeckAndHistory → ℕ = λ t. values_of (values_in t.deck) i in
+    let within : i < length c.self.inside.deck.now.items = subst (λ (t : DeckAndHistory). i < length t.deck.items) (sym c.self.view_is) c.requires in
     sym (none_written (values_in c.args.self.now.deck) c.args.self.now.history i c.args.cycle (sym c.writes_before-before.ensures ∙ c.if-before-eq0.true)
     ∙ sym (ap Catalog c.self.view_is) ∙ value_in (λ (it : Item). it.value) c.self.inside.deck.now.items i c.value.result within c.value.ensures)
 

@@ -2,7 +2,7 @@ use Rattle.std.proofs.Common.{ltb, count_by, length, sym, ap, subst, ◌∙◌}
 use Rattle.std.specs.List.Sorted.{IsNonDecreasingBy}
 use Rattle.air_model.specs.Decks.{values_in}
 use Rattle.live_replay.specs.declared.writes.ItemWrite.{ItemWrite}
-use Rattle.live_replay.proofs.WriteFacts.{count_before, writes_rise}
+use Rattle.live_replay.proofs.WriteLemmas.{count_before, writes_rise}
 use Rattle.live_replay.proofs.replay.Replay.writes_before.Goals as goal
 
 pub before-requires : goal.before-requires

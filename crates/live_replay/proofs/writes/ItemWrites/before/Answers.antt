@@ -2,7 +2,7 @@ use Rattle.std.proofs.Common.{◌≡◌, ltb, sym, ap, ◌∙◌, subst, count_b
 use Rattle.std.specs.List.Sorted.{IsNonDecreasingBy}
 use Rattle.std.proofs.lemmas.List.Sorted.{IsPartitionPoint-from_clause, IsPartitionedBy-ltb}
 use Rattle.live_replay.specs.declared.writes.ItemWrite.{ItemWrite}
-use Rattle.live_replay.proofs.CountFacts.{split_count}
+use Rattle.live_replay.proofs.CountLemmas.{split_count}
 use Rattle.live_replay.proofs.writes.ItemWrites.before.Goals as goal
 
 pub returns : goal.returns

@@ -2,7 +2,7 @@ use Rattle.std.proofs.Common.{rules, ◌≡◌, ◌∙◌, ◌<◌, ℕ, List, l
 use Rattle.std.proofs.lemmas.List.{get_or-replicate, length-replicate}
 use Rattle.air_model.specs.Reads.{Read}
 use Rattle.pix_cache.specs.Caches.{Cache}
-use Rattle.pix_cache.specs.CacheFields.{copies_at, somes}
+use Rattle.pix_cache.specs.CacheFields.{copies_in_store, somes}
 use Rattle.pix_cache.proofs.AgreeLemmas.{agree_none}
 use Rattle.pix_cache.proofs.CacheLemmas.{none_at_all}
 use Rattle.pix_cache.proofs.cache.PixCache.new.Goals as goal
@@ -30,6 +30,6 @@ returns c =
     let empty : (i : ℕ) → i < length c.in_ok-vec.field-0.items → get_or c.in_ok-vec.field-0.items i None ≡ None = λ i l.
     ap (λ p. get_or p i None) places ∙ get_or-replicate (length c.args.pix.now) i None None (omega (arith, ap length places, length-replicate {A = Option ℕ} (length c.args.pix.now) None)) in
     let none = none_at_all stores c.in_ok-vec.field-0.items empty in
-    ap {B = Cache} (λ (n : ℕ). record { room = n; pix = c.in_ok-to_vec.field-0.items; copies = somes (copies_at stores c.in_ok-vec.field-0.items) }) c.in_ok-new.ensures.rooms
-    ∙ ap {B = Cache} (λ (p : List ℕ). record { room = c.args.room; pix = p; copies = somes (copies_at stores c.in_ok-vec.field-0.items) }) pix
+    ap {B = Cache} (λ (n : ℕ). record { room = n; pix = c.in_ok-to_vec.field-0.items; copies = somes (copies_in_store stores c.in_ok-vec.field-0.items) }) c.in_ok-new.ensures.rooms
+    ∙ ap {B = Cache} (λ (p : List ℕ). record { room = c.args.room; pix = p; copies = somes (copies_in_store stores c.in_ok-vec.field-0.items) }) pix
     ∙ ap {B = Cache} (λ (r : List Read). record { room = c.args.room; pix = c.args.pix.now; copies = r }) none

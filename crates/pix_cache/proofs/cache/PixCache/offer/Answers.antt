@@ -2,7 +2,7 @@ use Rattle.std.proofs.Common.{◌≡◌, ◌∙◌, ℕ, List, if◌then◌else�
 use Rattle.std.proofs.Math.ListN.{set}
 use Rattle.std.specs.Option.{is_some}
 use Rattle.std.proofs.lemmas.List.{get_or_default, with_items_is}
-use Rattle.pix_cache.specs.Stores.{Store, Stored, stored_copy}
+use Rattle.pix_cache.specs.Stores.{Store, StoredCopy, stored_copy}
 use Rattle.pix_cache.specs.Leaves.{copy_leaf}
 use Rattle.pix_cache.proofs.CacheLemmas.{read_place}
 use Rattle.pix_cache.proofs.FieldLemmas.{decline_answer, decline_form, has_copy, in_rooms, replace_form, take_agree, take_answer, take_form, within}
@@ -49,7 +49,7 @@ invariant_of-self-2 c =
     let tree = c.self.inside.tree in
     let r = c.in-Some-room_for.least in
     let room = c.in-Some-room_for.ensures in
-    let st : Stored = stored_copy c.args.cycle c.args.value c.args.column.now in
+    let st : StoredCopy = stored_copy c.args.cycle c.args.value c.args.column.now in
     let here = within c.self.inside c.self.invariant c.args.self.now c.self.view_is c.args.item c.requires.item in
     let none = read_place places c.args.item c.index.result.now None here c.index.ensures c.in_default.is in
     let number : get_or pix c.args.item 0 ≡ c.index-pix.result.now = get_or_default pix c.args.item 0 c.index-pix.result.now (omega (arith, c.self.invariant.items)) ∙ sym c.index-pix.ensures in

@@ -2,7 +2,7 @@ use Rattle.std.proofs.Common.{◌≡◌, ◌<◌, ◌+◌, ◌-◌, ◌*◌, ◌
 use Rattle.std.proofs.lemmas.List.{get_or_default}
 use Rattle.pix_cache.specs.declared.store.Slot.{Slot}
 use Rattle.pix_cache.specs.Stores.{Store, no_store, stored_copy}
-use Rattle.pix_cache.specs.Steps.StoreFields.{no_slot}
+use Rattle.pix_cache.specs.Private.StoreFields.{no_slot}
 use Rattle.pix_cache.proofs.StoreLemmas.{column_before, store_at, stores_len}
 use Rattle.pix_cache.proofs.store.Store.get.Goals as goal
 

@@ -4,8 +4,8 @@ use Rattle.std.proofs.lemmas.List.{with_items_is}
 use Rattle.pix_cache.specs.declared.store.Slot.{Slot}
 use Rattle.std.proofs.Math.ListN.{set}
 use borrow.Rule.Slice.PartMut.{put_mid}
-use Rattle.pix_cache.specs.Stores.{Store, Stored, stored_copy}
-use Rattle.pix_cache.specs.Steps.StoreFields.{stored_of}
+use Rattle.pix_cache.specs.Stores.{Store, StoredCopy, stored_copy}
+use Rattle.pix_cache.specs.Private.StoreFields.{stored_of}
 use Rattle.pix_cache.proofs.StoreLemmas.{column_before, length_put, store_put, stores_len}
 use Rattle.pix_cache.proofs.store.Store.put.Goals as goal
 
@@ -38,7 +38,7 @@ returns c =
     let long = length_put from k c.deref_mut.result.now c.copy_from_slice.new.self (omega (arith, c.self.invariant.sized, ap length c.deref_mut.ensures.value)) (omega (arith, sized)) in
     let put = with_items_is c.self.inside.entries (put_mid from k c.deref_mut.result.now c.copy_from_slice.new.self) (long ∙ ap length c.deref_mut.ensures.value ∙ sym c.self.inside.entries.ok.0)
     ∙ ap (λ xs. put_mid from k xs c.copy_from_slice.new.self) c.deref_mut.ensures.value in
-    ap (λ (stores : List Stored). let s : Store = record { width = n; stores = stores } in s)
+    ap (λ (stores : List StoredCopy). let s : Store = record { width = n; stores = stores } in s)
     (ap (stored_of n (set slots c.args.slot it)) put
     ∙ store_put n slots entries c.copy_from_slice.new.self c.args.slot k it (omega arith) within c.self.invariant.sized sized
     ∙ ap (λ xs. slice_set (stored_of n slots entries) c.args.slot (stored_copy c.args.cycle c.args.value xs)) copied)

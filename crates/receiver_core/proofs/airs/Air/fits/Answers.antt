@@ -1,7 +1,7 @@
 use Rattle.std.proofs.Common.{◌∙◌, ap, arith, false, refl, sym, true}
 use Rattle.air_model.specs.Aired.{Air, fits}
 use Rattle.air_model.specs.Buckets.{count_of}
-use Rattle.receiver_core.specs.Steps.AirView.{air_in}
+use Rattle.receiver_core.specs.Private.AirView.{air_in}
 use Rattle.receiver_core.proofs.FitLemmas.{in_slot, no_such_slot, other_edition}
 use Rattle.receiver_core.proofs.airs.Air.fits.Goals as goal
 use Rattle.receiver_core.proofs.airs.Air.fits.Goals.{then-edition-ne0-via-then-edition-ne0, then-edition-ne0-via-else-edition-ne0+then-slot-len}

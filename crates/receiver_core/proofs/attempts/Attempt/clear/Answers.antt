@@ -1,7 +1,7 @@
 use Rattle.std.proofs.Common.{[], ◌∙◌, ap}
 use Rattle.air_history.specs.HeldReads.{HeldReads}
-use Rattle.receiver_core.specs.Steps.Attempts.{HeldValues}
-use Rattle.receiver_core.specs.Steps.PolicyReads.{held_of, policy_of}
+use Rattle.receiver_core.specs.Private.Attempts.{HeldValues}
+use Rattle.receiver_core.specs.Private.PolicyReads.{held_of, policy_of}
 use Rattle.receiver_core.proofs.AttemptLemmas.{empty_is, empty_keeps}
 use Rattle.receiver_core.proofs.attempts.Attempt.clear.Goals as goal
 

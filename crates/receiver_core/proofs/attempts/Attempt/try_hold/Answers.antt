@@ -1,6 +1,6 @@
 use Rattle.std.proofs.Common.{◌∙◌, sym}
 use Rattle.air_model.specs.Judges.{place_of}
-use Rattle.receiver_core.specs.Steps.Attempts.{read}
+use Rattle.receiver_core.specs.Private.Attempts.{read}
 use Rattle.receiver_core.proofs.AttemptLemmas.{clash_at, late_after, more_is, more_keeps, new_at}
 use Rattle.receiver_core.proofs.attempts.Attempt.try_hold.Goals as goal
 

@@ -22,6 +22,6 @@ pub returns : goal.returns
 returns c =
     let r = c.self.inside in
     let wants = ap (λ (v : Receiver). wanted v.reader v.state) c.self.view_is ∙ sym c.wanted.ensures.told ∙ c.in-Some.is in
-    c.is_some.ensures ∙ some_got (λ (k : Kept). copy c.in-Some.item k.cycle k.value k.column.now) (Caches.copy_of c.in-Some.item r.copies.copies) c.get.result c.get.ensures
-    ∙ sym (ap is_some (kept_at r c.in-Some.item (Caches.copy_of c.in-Some.item r.copies.copies) wants refl))
+    c.is_some.ensures ∙ some_got (λ (k : Kept). copy c.in-Some.item k.cycle k.value k.column.now) (Caches.copy_among c.in-Some.item r.copies.copies) c.get.result c.get.ensures
+    ∙ sym (ap is_some (kept_at r c.in-Some.item (Caches.copy_among c.in-Some.item r.copies.copies) wants refl))
     ∙ ap (λ (v : Receiver). is_some (copy_of (wanted v.reader v.state) v.state)) c.self.view_is

@@ -6,7 +6,7 @@ use Rattle.air_model.specs.Buckets.{item_of}
 use Rattle.air_model.specs.Judges.{by_entries, heard_of}
 use Rattle.air_model.specs.Reads.{Read}
 use Rattle.air_model.specs.Sessions.{open_bucket, wanted}
-use Rattle.receiver_core.specs.Steps.Attempts.{columns_of, read, read_of}
+use Rattle.receiver_core.specs.Private.Attempts.{columns_of, read, read_from_bucket}
 use Rattle.receiver_core.specs.LastReads.{in_state}
 use Rattle.receiver_core.specs.Receivers.{Receiver}
 use Rattle.receiver_core.specs.ReceiverView.{IsWholeRead, receiver_in}
@@ -26,7 +26,7 @@ try_hold-clash-requires-clause-new c =
     let b = c.args.bucket.now in
     let whole = bucket_read b r.air.items c.requires.range c.requires.busy (c.requires.counted ∙ sym (ap (λ (v : Receiver). v.air.items) c.self.view_is)) in
     subst (λ x. IsNew (columns_of r.held) (heard_of x)) (read_parts c.args.bucket.now c.item-item.result c.cycle-cycle.result c.value-value.result c.fill.new.out c.item-item.ensures c.cycle-cycle.ensures c.value-value.ensures c.fill.ensures)
-    (new_read r (read_of b) c.self.invariant whole (ap (λ (v : Receiver). wanted v.reader v.state) c.self.view_is ∙ c.requires.wanted))
+    (new_read r (read_from_bucket b) c.self.invariant whole (ap (λ (v : Receiver). wanted v.reader v.state) c.self.view_is ∙ c.requires.wanted))
 
 pub offer-requires-clause-clash : goal.offer-requires-clause-clash
 offer-requires-clause-clash c =
@@ -40,7 +40,7 @@ abbrev told : After-offer → Read
 told c = read c.item-item.result c.cycle-cycle.result c.value-value.result c.fill.new.out
 
 -- It is the read of the bucket.
-told_is : (c : After-offer) → read_of c.args.bucket.now ≡ told c
+told_is : (c : After-offer) → read_from_bucket c.args.bucket.now ≡ told c
 told_is c = read_parts c.args.bucket.now c.item-item.result c.cycle-cycle.result c.value-value.result c.fill.new.out c.item-item.ensures c.cycle-cycle.ensures c.value-value.ensures c.fill.ensures
 
 -- It is whole.

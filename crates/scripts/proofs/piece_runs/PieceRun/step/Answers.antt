@@ -3,7 +3,7 @@ use Rattle.std.proofs.lemmas.List.{with_items_is}
 use Rattle.air_history.specs.Histories.{ItemsFit, starts}
 use Rattle.air_model.specs.Decks.{values_in}
 use Rattle.control_matrix.specs.declared.board.Board.{Board}
-use Rattle.scripts.specs.Steps.RunSteps.{CountsParts}
+use Rattle.scripts.specs.Private.RunSteps.{CountsParts}
 use Rattle.air_sender.proofs.AiredLemmas.{starts_more, values_kept}
 use Rattle.air_sender.proofs.RunLoops.{event_in, few_starts, next_fits}
 use Rattle.scripts.proofs.PieceLemmas.{piece_next}
@@ -15,7 +15,7 @@ apply-requires-clause-fits c =
     let s = c.args.self.now in
     let below : c.len-k.result < length deck.script = omega (arith, c.len-k.ensures, s.events.ok.0, c.requires.more) in
     subst (λ n. ItemsFit n c.in_ok-event.event) (sym (values_kept deck s.board s.events.items c.requires.kept.stepped))
-    (next_fits deck c.len-k.result c.in_ok-event.event c.well_made.ensures.made below c.in_ok-event.ensures)
+    (next_fits deck c.len-k.result c.in_ok-event.event c.shows_well_made.ensures.made below c.in_ok-event.ensures)
 
 pub apply-requires-clause-room : goal.apply-requires-clause-room
 apply-requires-clause-room c =

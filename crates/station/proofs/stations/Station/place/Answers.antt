@@ -12,7 +12,7 @@ use Rattle.air_model.specs.Decks.{is_by, count_made}
 use Rattle.air_model.specs.Closings.{GoesOnWithout}
 use Rattle.update_commit.specs.Receipts.{reply_in}
 use Rattle.update_commit.proofs.EventLemmas.{made_own}
-use Rattle.station.specs.EventEntries.{maker, entries_of, events_of}
+use Rattle.station.specs.EventEntries.{maker, event_entries, events_of}
 use Rattle.station.specs.PassStates.{PassState}
 use Rattle.station.specs.PassFields.{Base, base_in, IsPass}
 use Rattle.station.proofs.EntryLemmas.{maker_commit, count_same, lengthens}
@@ -39,11 +39,11 @@ leave-requires-clause-list g c =
     let own : List Event → Type 0 = λ more. All (λ e. Contains pass.numbers (maker old.updaters e)) more in
     let mine : own (event ∷ []) = All-push (λ e. Contains pass.numbers (maker old.updaters e)) [] event (All-nil (λ e. Contains pass.numbers (maker old.updaters e)))
     (subst (λ ns. Contains ns (maker old.updaters event)) (sym c.pass.invariant.0.numbers) (0, omega arith, sym (maker_commit old.updaters by (count_made by old.events) c.args.update))) in
-    let longer = either_way (Lengthens pass.numbers (entries_of old.updaters old.events) (entries_of new.updaters new.events)) _ _ c.add_commit-added.result
+    let longer = either_way (Lengthens pass.numbers (event_entries old.updaters old.events) (event_entries new.updaters new.events)) _ _ c.add_commit-added.result
     (λ x h. lengthens pass.numbers old.updaters new.updaters old.events new.events (event ∷ []) c.add_commit-added.ensures.kept.1 h.0 mine)
     (λ x h. lengthens pass.numbers old.updaters new.updaters old.events new.events [] c.add_commit-added.ensures.kept.1 (h ∙ sym (append-nil old.events)) (All-nil (λ e. Contains pass.numbers (maker old.updaters e))))
     c.add_commit-added.ensures.events in
-    subst (λ p. IfSome p.turn (λ given. Lengthens p.numbers given (entries_of new.updaters new.events))) (sym c.enter-locked.ensures.pass) longer
+    subst (λ p. IfSome p.turn (λ given. Lengthens p.numbers given (event_entries new.updaters new.events))) (sym c.enter-locked.ensures.pass) longer
 
 -- The turn keeps what the pass keeps, and the pass has seen the events of the core that it gave back.
 after_leaving : (g : Over) (c : After-leave g) → IsPass c.leave.new.pass c.pass.inside.by × (base_in c.leave.new.pass ≡ base_in c.pass.inside.pass) × (events_of c.leave.new.pass.seen ≡ c.add_commit-added.new.core.events)
@@ -51,7 +51,7 @@ after_leaving g c =
     let pass = c.pass.inside.pass in
     let old = c.enter-locked.result.value.core in
     let new = c.add_commit-added.new.core in
-    let turn : Turned pass c.leave.new.pass old new = record { base = c.enter-locked.ensures.base; list = c.enter-locked.ensures.list; kept = c.add_commit-added.ensures.kept; fits = c.add_commit-added.ensures.fits; back = c.leave.ensures.pass ∙ ap (λ p. after_leave p (entries_of new.updaters new.events)) c.enter-locked.ensures.pass } in
+    let turn : Turned pass c.leave.new.pass old new = record { base = c.enter-locked.ensures.base; list = c.enter-locked.ensures.list; kept = c.add_commit-added.ensures.kept; fits = c.add_commit-added.ensures.fits; back = c.leave.ensures.pass ∙ ap (λ p. after_leave p (event_entries new.updaters new.events)) c.enter-locked.ensures.pass } in
     after_turn c.pass.inside.by pass c.leave.new.pass old new c.pass.invariant.0 turn
 
 pub invariant_of-pass : goal.invariant_of-pass

@@ -9,7 +9,7 @@ use Rattle.air_history.specs.declared.histories.Event.TheVariants.{Start}
 use Rattle.air_history.specs.Histories.{is_start, starts, since_start, EventFits}
 use Rattle.air_model.specs.Closings.{GoesOnWithout}
 use Rattle.update_commit.proofs.EventLemmas.{starts_start}
-use Rattle.station.specs.EventEntries.{maker, entries_of, events_of}
+use Rattle.station.specs.EventEntries.{maker, event_entries, events_of}
 use Rattle.station.specs.PassStates.{PassState}
 use Rattle.station.specs.PassFields.{Base, base_in, IsPass}
 use Rattle.station.proofs.EntryLemmas.{maker_start, count_same, lengthens}
@@ -36,18 +36,18 @@ leave-requires-clause-list g c =
     let number : pass.numbers ≡ old.updaters ∷ [] = c.pass.invariant.0.numbers ∙ ap (λ (b : Base). b.1 ∷ []) (base_is pass old c.enter-locked.ensures.base) in
     let mine : own (Start ∷ []) = All-push (λ e. Contains pass.numbers (maker old.updaters e)) [] Start (All-nil (λ e. Contains pass.numbers (maker old.updaters e)))
     (subst (λ ns. Contains ns (maker old.updaters Start)) (sym number) (0, omega arith, sym (maker_start old.updaters))) in
-    let longer = either_way (Lengthens pass.numbers (entries_of old.updaters old.events) (entries_of new.updaters new.events)) _ _ c.add_start-started.result
+    let longer = either_way (Lengthens pass.numbers (event_entries old.updaters old.events) (event_entries new.updaters new.events)) _ _ c.add_start-started.result
     (λ x h. lengthens pass.numbers old.updaters new.updaters old.events new.events (Start ∷ []) c.add_start-started.ensures.kept.1 h.0 mine)
     (λ x h. lengthens pass.numbers old.updaters new.updaters old.events new.events [] c.add_start-started.ensures.kept.1 (h.0 ∙ sym (append-nil old.events)) (All-nil (λ e. Contains pass.numbers (maker old.updaters e))))
     c.add_start-started.ensures.events in
-    subst (λ p. IfSome p.turn (λ given. Lengthens p.numbers given (entries_of new.updaters new.events))) (sym c.enter-locked.ensures.pass) longer
+    subst (λ p. IfSome p.turn (λ given. Lengthens p.numbers given (event_entries new.updaters new.events))) (sym c.enter-locked.ensures.pass) longer
 
 pub invariant_of-pass : goal.invariant_of-pass
 invariant_of-pass g c =
     let pass = c.pass.inside.pass in
     let old = c.enter-locked.result.value.core in
     let new = c.add_start-started.new.core in
-    let turn : Turned pass c.leave.new.pass old new = record { base = c.enter-locked.ensures.base; list = c.enter-locked.ensures.list; kept = c.add_start-started.ensures.kept; fits = c.add_start-started.ensures.fits; back = c.leave.ensures.pass ∙ ap (λ p. after_leave p (entries_of new.updaters new.events)) c.enter-locked.ensures.pass } in
+    let turn : Turned pass c.leave.new.pass old new = record { base = c.enter-locked.ensures.base; list = c.enter-locked.ensures.list; kept = c.add_start-started.ensures.kept; fits = c.add_start-started.ensures.fits; back = c.leave.ensures.pass ∙ ap (λ p. after_leave p (event_entries new.updaters new.events)) c.enter-locked.ensures.pass } in
     let after = after_turn (base_in pass).1 pass c.leave.new.pass old new c.pass.invariant.0 turn in
     let same = same_starts (events_of pass.seen) old.events (no_start pass old c.pass.invariant.0 c.enter-locked.ensures.base c.enter-locked.ensures.list) in
     (subst (IsPass c.leave.new.pass) (ap (λ (b : Base). b.1) (sym after.1)) after.0, c.pass.invariant.1 ∙ sym same ∙ ap starts (sym (after.2 ∙ c.in_err-cycle.ensures.events.0)))
@@ -57,7 +57,7 @@ returns-in_err-cycle-clause-seen g c =
     let pass = c.pass.inside.pass in
     let old = c.enter-locked.result.value.core in
     let new = c.add_start-started.new.core in
-    let turn : Turned pass c.leave.new.pass old new = record { base = c.enter-locked.ensures.base; list = c.enter-locked.ensures.list; kept = c.add_start-started.ensures.kept; fits = c.add_start-started.ensures.fits; back = c.leave.ensures.pass ∙ ap (λ p. after_leave p (entries_of new.updaters new.events)) c.enter-locked.ensures.pass } in
+    let turn : Turned pass c.leave.new.pass old new = record { base = c.enter-locked.ensures.base; list = c.enter-locked.ensures.list; kept = c.add_start-started.ensures.kept; fits = c.add_start-started.ensures.fits; back = c.leave.ensures.pass ∙ ap (λ p. after_leave p (event_entries new.updaters new.events)) c.enter-locked.ensures.pass } in
     let after = after_turn (base_in pass).1 pass c.leave.new.pass old new c.pass.invariant.0 turn in
     let seen = events_of c.leave.new.pass.seen in
     let fresh = c.add_start-started.new.fresh.items in
@@ -74,7 +74,7 @@ returns-in_err-cycle-clause-fits g c =
     let pass = c.pass.inside.pass in
     let old = c.enter-locked.result.value.core in
     let new = c.add_start-started.new.core in
-    let turn : Turned pass c.leave.new.pass old new = record { base = c.enter-locked.ensures.base; list = c.enter-locked.ensures.list; kept = c.add_start-started.ensures.kept; fits = c.add_start-started.ensures.fits; back = c.leave.ensures.pass ∙ ap (λ p. after_leave p (entries_of new.updaters new.events)) c.enter-locked.ensures.pass } in
+    let turn : Turned pass c.leave.new.pass old new = record { base = c.enter-locked.ensures.base; list = c.enter-locked.ensures.list; kept = c.add_start-started.ensures.kept; fits = c.add_start-started.ensures.fits; back = c.leave.ensures.pass ∙ ap (λ p. after_leave p (event_entries new.updaters new.events)) c.enter-locked.ensures.pass } in
     let after = after_turn (base_in pass).1 pass c.leave.new.pass old new c.pass.invariant.0 turn in
     subst (λ (p : PassState). All (EventFits p.updaters (length p.values)) (events_of c.leave.new.pass.seen)) c.pass.view_is
     (subst (λ (b : Base). All (EventFits b.1 (length b.0)) (events_of c.leave.new.pass.seen)) after.1 after.0.fits)
@@ -84,7 +84,7 @@ invariant_of-pass-2 g c =
     let pass = c.pass.inside.pass in
     let old = c.enter-locked.result.value.core in
     let new = c.add_start-started.new.core in
-    let turn : Turned pass c.leave.new.pass old new = record { base = c.enter-locked.ensures.base; list = c.enter-locked.ensures.list; kept = c.add_start-started.ensures.kept; fits = c.add_start-started.ensures.fits; back = c.leave.ensures.pass ∙ ap (λ p. after_leave p (entries_of new.updaters new.events)) c.enter-locked.ensures.pass } in
+    let turn : Turned pass c.leave.new.pass old new = record { base = c.enter-locked.ensures.base; list = c.enter-locked.ensures.list; kept = c.add_start-started.ensures.kept; fits = c.add_start-started.ensures.fits; back = c.leave.ensures.pass ∙ ap (λ p. after_leave p (event_entries new.updaters new.events)) c.enter-locked.ensures.pass } in
     let after = after_turn (base_in pass).1 pass c.leave.new.pass old new c.pass.invariant.0 turn in
     let same = same_starts (events_of pass.seen) old.events (no_start pass old c.pass.invariant.0 c.enter-locked.ensures.base c.enter-locked.ensures.list) in
     let more = ap starts (after.2 ∙ c.in_ok-cycle.ensures.events.0) ∙ starts_start old.events in
@@ -95,7 +95,7 @@ returns-clause-seen g c =
     let pass = c.pass.inside.pass in
     let old = c.enter-locked.result.value.core in
     let new = c.add_start-started.new.core in
-    let turn : Turned pass c.leave.new.pass old new = record { base = c.enter-locked.ensures.base; list = c.enter-locked.ensures.list; kept = c.add_start-started.ensures.kept; fits = c.add_start-started.ensures.fits; back = c.leave.ensures.pass ∙ ap (λ p. after_leave p (entries_of new.updaters new.events)) c.enter-locked.ensures.pass } in
+    let turn : Turned pass c.leave.new.pass old new = record { base = c.enter-locked.ensures.base; list = c.enter-locked.ensures.list; kept = c.add_start-started.ensures.kept; fits = c.add_start-started.ensures.fits; back = c.leave.ensures.pass ∙ ap (λ p. after_leave p (event_entries new.updaters new.events)) c.enter-locked.ensures.pass } in
     let after = after_turn (base_in pass).1 pass c.leave.new.pass old new c.pass.invariant.0 turn in
     let added = c.in_ok-cycle.ensures.events in
     let seen = events_of c.leave.new.pass.seen in
@@ -111,7 +111,7 @@ returns-clause-fits g c =
     let pass = c.pass.inside.pass in
     let old = c.enter-locked.result.value.core in
     let new = c.add_start-started.new.core in
-    let turn : Turned pass c.leave.new.pass old new = record { base = c.enter-locked.ensures.base; list = c.enter-locked.ensures.list; kept = c.add_start-started.ensures.kept; fits = c.add_start-started.ensures.fits; back = c.leave.ensures.pass ∙ ap (λ p. after_leave p (entries_of new.updaters new.events)) c.enter-locked.ensures.pass } in
+    let turn : Turned pass c.leave.new.pass old new = record { base = c.enter-locked.ensures.base; list = c.enter-locked.ensures.list; kept = c.add_start-started.ensures.kept; fits = c.add_start-started.ensures.fits; back = c.leave.ensures.pass ∙ ap (λ p. after_leave p (event_entries new.updaters new.events)) c.enter-locked.ensures.pass } in
     let after = after_turn (base_in pass).1 pass c.leave.new.pass old new c.pass.invariant.0 turn in
     subst (λ (p : PassState). All (EventFits p.updaters (length p.values)) (events_of c.leave.new.pass.seen)) c.pass.view_is
     (subst (λ (b : Base). All (EventFits b.1 (length b.0)) (events_of c.leave.new.pass.seen)) after.1 after.0.fits)

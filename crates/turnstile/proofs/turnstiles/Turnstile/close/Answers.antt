@@ -2,8 +2,8 @@ use Rattle.std.proofs.Common.{ℕ, ◌<◌, Some, ap, ◌∙◌, sym, subst}
 use Rattle.std.specs.Prelude.{Contains}
 use Rattle.std.proofs.lemmas.Option.{none-some, same_Some}
 use mathlib.Core.Option.{some-injective}
-use Rattle.turnstile.proofs.SeatFacts.{rests_outside}
-use Rattle.turnstile.proofs.CloseFacts.{closes}
+use Rattle.turnstile.proofs.SeatLemmas.{rests_outside}
+use Rattle.turnstile.proofs.CloseLemmas.{closes}
 use Rattle.turnstile.proofs.turnstiles.Turnstile.close.Goals as goal
 
 pub unreachable-requires : goal.unreachable-requires

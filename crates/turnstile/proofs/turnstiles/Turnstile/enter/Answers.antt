@@ -1,9 +1,9 @@
 use Rattle.std.proofs.Common.{ap, ◌∙◌, sym, subst, Some, arith}
 use Rattle.turnstile.specs.PassEntries.{Continues}
-use Rattle.turnstile.proofs.SeatFacts.{rests_outside}
-use Rattle.turnstile.proofs.DrawFacts.{draws}
-use Rattle.turnstile.proofs.ServeFacts.{serves}
-use Rattle.turnstile.proofs.EnterFacts.{enters, took, slot_held}
+use Rattle.turnstile.proofs.SeatLemmas.{rests_outside}
+use Rattle.turnstile.proofs.DrawLemmas.{draws}
+use Rattle.turnstile.proofs.ServeLemmas.{serves}
+use Rattle.turnstile.proofs.EnterLemmas.{enters, took, slot_held}
 use Rattle.turnstile.proofs.turnstiles.Turnstile.enter.Goals as goal
 
 pub fetch_add-ticket-requires : goal.fetch_add-ticket-requires

@@ -2,8 +2,8 @@ use Rattle.std.proofs.Common.{ap, ◌∙◌, subst, sym, arith}
 use lib.ListN.{get_elem?}
 use Rattle.turnstile.specs.PassEntries.{Continues}
 use Rattle.turnstile.proofs.EntryLists.{longer_goes_on}
-use Rattle.turnstile.proofs.SeatFacts.{rests_outside}
-use Rattle.turnstile.proofs.JoinFacts.{joins, compares}
+use Rattle.turnstile.proofs.SeatLemmas.{rests_outside}
+use Rattle.turnstile.proofs.JoinLemmas.{joins, compares}
 use Rattle.turnstile.proofs.turnstiles.Turnstile.join.Goals as goal
 
 pub join_seat-requires : goal.join_seat-requires

@@ -1,8 +1,8 @@
 use Rattle.std.proofs.Common.{ap, ◌∙◌, subst, sym, arith}
 use Rattle.std.specs.Prelude.{IfSome}
 use Rattle.turnstile.specs.PassEntries.{Lengthens}
-use Rattle.turnstile.proofs.SeatFacts.{holds_inside, some_of}
-use Rattle.turnstile.proofs.LeaveFacts.{leaves_filled}
+use Rattle.turnstile.proofs.SeatLemmas.{holds_inside, some_of}
+use Rattle.turnstile.proofs.LeaveLemmas.{leaves_filled}
 use Rattle.turnstile.proofs.turnstiles.Turnstile.leave.Goals as goal
 
 pub fetch_add-requires : goal.fetch_add-requires

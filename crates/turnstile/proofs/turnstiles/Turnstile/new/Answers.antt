@@ -1,4 +1,4 @@
-use Rattle.turnstile.proofs.StartFacts.{starts}
+use Rattle.turnstile.proofs.StartLemmas.{starts}
 use Rattle.turnstile.proofs.turnstiles.Turnstile.new.Goals as goal
 
 pub new-requires : goal.new-requires

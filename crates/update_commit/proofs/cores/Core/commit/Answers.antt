@@ -3,7 +3,7 @@ use Rattle.std.proofs.lemmas.List.{with_items_is, get_or_default, length-set}
 use Rattle.std.proofs.lemmas.List.Elements.{All-push}
 use Rattle.air_history.specs.declared.histories.Event.{Event}
 use Rattle.air_history.specs.declared.histories.Event.TheVariants.{Commit}
-use Rattle.air_history.specs.UpdateRules.{UpdateFits, item_of}
+use Rattle.air_history.specs.UpdateRules.{UpdateFits, written_item}
 use Rattle.air_history.specs.Histories.{reads, writes_of, starts, since_start, EventFits}
 use Rattle.air_history.specs.Tables.{table, values_of}
 use Rattle.air_history.specs.Boards.{reply_of}
@@ -59,6 +59,6 @@ returns-clause-receipt c =
     let a = c.run_and_answer.ensures in
     reply_last first G event _ _ _ _ (a.kept.0 ∙ c.len.ensures ∙ c.self.inside.events.ok.0) (a.kept.1 ∙ v.cycle)
     (a.read ∙ map_same (values_of c.deref_mut.result.now) (table (values_of first) G) (reads event) was)
-    (a.written ∙ map_same (values_of c.run_and_answer.new.values) (table (values_of first) (G ++ event ∷ [])) (map item_of (writes_of event))
+    (a.written ∙ map_same (values_of c.run_and_answer.new.values) (table (values_of first) (G ++ event ∷ [])) (map written_item (writes_of event))
     (values_push first c.deref_mut.result.now c.run_and_answer.new.values G event was a.values))
     ∙ ap (λ H. reply_of first H (length G)) (sym c.push_reserved.ensures.items) ∙ ap (λ s. reply_of first c.push_reserved.new.self.items (length s.events)) c.self.view_is

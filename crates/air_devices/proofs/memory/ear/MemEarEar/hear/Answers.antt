@@ -1,6 +1,6 @@
 use Rattle.std.proofs.Common.{◌≤◌, ◌∙◌, ℕ, List, All, length, sym, ap, subst}
 use Rattle.std.proofs.lemmas.List.Elements.{All-head, All-tail}
-use Rattle.air_devices.proofs.EarFacts.{next_bytes, takes_first}
+use Rattle.air_devices.proofs.EarLemmas.{next_bytes, takes_first}
 use Rattle.air_devices.proofs.memory.ear.MemEarEar.hear.Goals as goal
 
 pub fill-count-requires-clause-some : goal.fill-count-requires-clause-some

@@ -1,6 +1,6 @@
 use Rattle.std.proofs.Common.{◌∙◌, Some, ap}
 use Rattle.air_devices.specs.Memory.{file_bytes, file_named, left_bytes, output_bytes, output_named}
-use Rattle.air_devices.proofs.MemoryFacts.{given_file, given_left, given_output}
+use Rattle.air_devices.proofs.MemoryLemmas.{given_file, given_left, given_output}
 use Rattle.air_devices.proofs.memory.shelf.MemShelf.new.Goals as goal
 
 pub returns-clause-told : goal.returns-clause-told

@@ -2,8 +2,8 @@ use Rattle.std.proofs.Common.{◌≡◌, ◌≤◌, ◌∙◌, ◌+◌, ◌-◌,
 use Rattle.std.proofs.lemmas.List.{take_all}
 use Rattle.air_devices.specs.Calls.{is_next_listed}
 use Rattle.air_devices.specs.Memory.{output_bytes, output_named, overflows, overflows_output}
-use Rattle.air_devices.proofs.CallFacts.{is_failed_call, is_next_call, keeps_but_output, output_added}
-use Rattle.air_devices.proofs.MemoryFacts.{output_absent, output_written, past_room}
+use Rattle.air_devices.proofs.CallLemmas.{is_failed_call, is_next_call, keeps_but_output, output_added}
+use Rattle.air_devices.proofs.MemoryLemmas.{output_absent, output_written, past_room}
 use Rattle.air_devices.proofs.NamedLemmas.{fails_never, fails_then}
 use Rattle.air_devices.proofs.memory.shelf.MemShelfShelf.append.Goals as goal
 

@@ -1,8 +1,8 @@
 use Rattle.std.proofs.Common.{◌∙◌, Some, refl, sym, ap}
 use Rattle.std.specs.Option.{is_none}
 use Rattle.air_devices.specs.Calls.{is_next_listed}
-use Rattle.air_devices.proofs.CallFacts.{is_next_call, keeps_but_output}
-use Rattle.air_devices.proofs.MemoryFacts.{output_absent, output_written}
+use Rattle.air_devices.proofs.CallLemmas.{is_next_call, keeps_but_output}
+use Rattle.air_devices.proofs.MemoryLemmas.{output_absent, output_written}
 use Rattle.air_devices.proofs.NamedLemmas.{fails_never, fails_then}
 use Rattle.air_devices.proofs.memory.shelf.MemShelfShelf.create.Goals as goal
 

@@ -1,7 +1,7 @@
 use Rattle.std.proofs.Common.{◌∙◌, Some, refl, sym, ap}
 use Rattle.air_devices.specs.Calls.{is_next_listed}
-use Rattle.air_devices.proofs.CallFacts.{is_next_call, keeps_but_left}
-use Rattle.air_devices.proofs.MemoryFacts.{file_absent, file_moved}
+use Rattle.air_devices.proofs.CallLemmas.{is_next_call, keeps_but_left}
+use Rattle.air_devices.proofs.MemoryLemmas.{file_absent, file_moved}
 use Rattle.air_devices.proofs.NamedLemmas.{fails_never, fails_then}
 use Rattle.air_devices.proofs.memory.shelf.MemShelfShelf.pick.Goals as goal
 

@@ -1,5 +1,5 @@
 use Rattle.std.proofs.Common.{◌≡◌, ◌+◌, ◌-◌, length, arith, min, rules}
-use Rattle.air_devices.proofs.WrittenFacts.{piece_added, piece_held}
+use Rattle.air_devices.proofs.WrittenLemmas.{piece_added, piece_held}
 use Rattle.air_devices.proofs.rooms.fixed_bytes.FixedBytes.add.Goals as goal
 
 pub returns-clause-added : goal.returns-clause-added

@@ -1,7 +1,7 @@
 use Rattle.std.proofs.Common.{◌≡◌, ◌∙◌, ◌+◌, ◌++◌, [], ◌∷◌, length, ap, arith, length-append}
 use Rattle.air_model.specs.Tapes.{tape_of, tape_read}
 use Rattle.air_devices.specs.Recordings.{Recording}
-use Rattle.air_devices.proofs.RecordFacts.{length_push, many_bytes, recording_is, tape_more, tape_room}
+use Rattle.air_devices.proofs.RecordLemmas.{length_push, many_bytes, recording_is, tape_more, tape_room}
 use Rattle.air_devices.proofs.rooms.tape_room.TapeRoom.add.Goals as goal
 
 pub overflow_add-self : goal.overflow_add-self

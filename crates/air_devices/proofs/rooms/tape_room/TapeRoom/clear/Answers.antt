@@ -2,7 +2,7 @@ use Rattle.std.proofs.Common.{[], ◌∙◌, length, refl, ap, arith}
 use Rattle.std.proofs.lemmas.List.Elements.{All-nil}
 use Rattle.air_model.specs.Tapes.{tape_of}
 use Rattle.air_devices.specs.Recordings.{Recording, no_records}
-use Rattle.air_devices.proofs.RecordFacts.{recording_is, tape_room}
+use Rattle.air_devices.proofs.RecordLemmas.{recording_is, tape_room}
 use Rattle.air_devices.proofs.rooms.tape_room.TapeRoom.clear.Goals as goal
 
 pub invariant_of-self : goal.invariant_of-self

@@ -3,7 +3,7 @@ use Rattle.std.proofs.lemmas.List.{length-set}
 use Rattle.air_base.specs.declared.limits.TheConstants.{MOST_UPDATERS}
 use Rattle.air_report.specs.ReportLines.{ReportLines, commits_by, starts_in}
 use Rattle.air_report.specs.declared.reading.lines.EventLine.TheVariants.{Commit}
-use Rattle.air_report.proofs.LineFacts.{commits_more, starts_all}
+use Rattle.air_report.proofs.LineRuleLemmas.{commits_more, starts_all}
 use Rattle.air_report.proofs.reading.draft.Draft.push_event.Goals as goal
 
 pub invariant_of-self-in-Commit : goal.invariant_of-self-in-Commit

@@ -1,8 +1,8 @@
 use Rattle.std.proofs.Common.{◌∙◌, length, All, sym, ap, subst, arith}
 use Rattle.std.proofs.lemmas.List.{with_items_is}
 use Rattle.station.specs.PassStates.{with_seen}
-use Rattle.deck_runs.specs.Crews.{EachDone, IsReady}
-use Rattle.deck_runs.specs.Steps.StageSteps.{HaveEnded}
+use Rattle.deck_runs.specs.Crews.{EachDone, HasNewPass}
+use Rattle.deck_runs.specs.Private.StageSteps.{HaveEnded}
 use Rattle.deck_runs.proofs.StageLemmas.{all_ready, have_ended}
 use Rattle.deck_runs.proofs.SentLemmas.{run_answer}
 use Rattle.deck_runs.proofs.threads.stages.Stage.play.Goals as goal
@@ -10,7 +10,7 @@ use Rattle.deck_runs.proofs.threads.stages.Stage.play.Goals as goal
 pub run_jobs-requires-clause-ready : goal.run_jobs-requires-clause-ready
 run_jobs-requires-clause-ready g c κs within =
     let s = c.args.self.now in
-    subst (All (IsReady s.station c.args.deck.now)) (sym c.deref_mut-2.ensures.value) (all_ready s.station c.args.deck.now s.updaters.items c.requires.stage.updaters)
+    subst (All (HasNewPass s.station c.args.deck.now)) (sym c.deref_mut-2.ensures.value) (all_ready s.station c.args.deck.now s.updaters.items c.requires.stage.updaters)
 
 pub returns-clause-played : goal.returns-clause-played
 returns-clause-played g c =

@@ -5,14 +5,14 @@ use Rattle.air_base.specs.NumberLists.{list_of}
 use Rattle.air_history.specs.UpdateLists.{UpdateLists}
 use Rattle.air_model.specs.Decks.{count_parts}
 use Rattle.item_catalog.specs.RecordKinds.{with_spelled}
-use Rattle.item_catalog.specs.Steps.Drafts.{DraftValue, record_kind, with_entry}
-use Rattle.item_catalog.specs.DeckEntries as e
-use Rattle.item_catalog.specs.DeckEntries.{script_by}
+use Rattle.item_catalog.specs.Private.Drafts.{DraftValue, record_kind, with_entry}
+use Rattle.item_catalog.specs.Declarations as e
+use Rattle.item_catalog.specs.Declarations.{script_by}
 use Rattle.item_catalog.specs.Faults.{script_passes, some_below}
-use Rattle.item_catalog.specs.Fields.{event_of}
+use Rattle.item_catalog.specs.Fields.{spelled_event}
 use Rattle.item_catalog.specs.declared.faults.FaultKind.TheVariants as fault
 use Rattle.air_base.specs.Pieces.{one_of}
-use Rattle.item_catalog.proofs.EntryFacts.{events_are, script_spelled}
+use Rattle.item_catalog.proofs.DeclarationLemmas.{events_are, script_spelled}
 use Rattle.item_catalog.proofs.deck.draft.Draft.add_events.Goals as goal
 use Rattle.item_catalog.proofs.deck.draft.Draft.add_events.Goals.{After-overdraws}
 
@@ -29,7 +29,7 @@ read_events c =
     let script : c.self.inside.script ≡ c.args.self.now.script = ap (λ (d : DraftValue). d.script) c.self.view_is in
     let updates : c.self.inside.updates.items ≡ c.args.self.now.updates = ap (λ (d : DraftValue). d.updates) c.self.view_is in
     let some : c.in_ok-read.field-0 ≡ Some false = c.in-Some-false.is ∙ ap Some c.in-Some-false.field-0-test in
-    let r = events_are false (list_of event_of c.in-Some.events.now) c.self.inside.script c.read.new.self (rw some at c.in_ok-read.ensures) in
+    let r = events_are false (list_of spelled_event c.in-Some.events.now) c.self.inside.script c.read.new.self (rw some at c.in_ok-read.ensures) in
     let within : script_passes c.args.self.now.script r.0 ≡ false = ap (λ s. script_passes s r.0) (sym script) ∙ sym r.2 in
     let added : c.read.new.self ≡ c.args.self.now.script ++ r.0 = r.3 (sym r.2) ∙ ap (λ s. s ++ r.0) script in
     record {

@@ -1,9 +1,9 @@
 use Rattle.std.proofs.Common.{◌≡◌, ◌∙◌, None, ap, arith, length, sym}
 use Rattle.std.proofs.lemmas.List.{length-set}
-use Rattle.item_catalog.specs.Steps.Drafts.{DraftValue, record_kind}
+use Rattle.item_catalog.specs.Private.Drafts.{DraftValue, record_kind}
 use Rattle.item_catalog.specs.RecordKinds.{first_of}
 use Rattle.item_catalog.specs.Faults.{update_tests}
-use Rattle.item_catalog.proofs.EntryFacts.{update_tested}
+use Rattle.item_catalog.proofs.DeclarationLemmas.{update_tested}
 use Rattle.item_catalog.proofs.deck.draft.Draft.add_update.Goals as goal
 
 pub invariant_of-self-2 : goal.invariant_of-self-2

@@ -3,16 +3,16 @@ use Rattle.csv.specs.Records.{fields_of}
 use Rattle.air_base.specs.Numbers.{number_of}
 use Rattle.air_base.specs.NumberLists.{list_of}
 use Rattle.item_catalog.specs.declared.faults.FaultKind.{FaultKind}
-use Rattle.item_catalog.specs.Steps.Drafts.{DraftValue, record_kind}
-use Rattle.item_catalog.specs.DeckEntries as e
-use Rattle.item_catalog.specs.DeckEntries.{Entry, query_by}
+use Rattle.item_catalog.specs.Private.Drafts.{DraftValue, record_kind}
+use Rattle.item_catalog.specs.Declarations as e
+use Rattle.item_catalog.specs.Declarations.{Declaration, query_by}
 use Rattle.item_catalog.specs.RecordKinds.{first_of}
 use Rattle.item_catalog.specs.Faults.{query_tests}
 use Rattle.air_base.specs.Pieces.{two_of}
 use Rattle.item_catalog.specs.KeptLists.{ItemsSeen, items_seen}
-use Rattle.item_catalog.specs.Steps.ListKinds.{seen_query_kind}
-use Rattle.item_catalog.proofs.EntryFacts.{query_spelled, read_is_some}
-use Rattle.item_catalog.proofs.WriteFacts.{query_kept, query_seen}
+use Rattle.item_catalog.specs.Private.ListKinds.{seen_query_kind}
+use Rattle.item_catalog.proofs.DeclarationLemmas.{query_spelled, read_is_some}
+use Rattle.item_catalog.proofs.WriteLemmas.{query_kept, query_seen}
 use Rattle.item_catalog.proofs.deck.draft.Draft.read_query.Goals as goal
 use Rattle.item_catalog.proofs.deck.draft.Draft.read_query.Goals.{After-query_kind}
 
@@ -44,7 +44,7 @@ returns-in-Some-query_kind-clause-read c =
     let l = list (goal.at.returns-in-Some-query_kind-clause-read c).After-query_kind in
     ap (record_kind c.args.self.now) l.spelled ∙ sym l.told ∙ c.in-Some-query_kind.is
 
-abbrev result_of : ℕ → List ℕ → Result Entry FaultKind
+abbrev result_of : ℕ → List ℕ → Result Declaration FaultKind
 result_of reader asked = Ok (e.Query reader asked)
 
 pub returns-clause-read : goal.returns-clause-read

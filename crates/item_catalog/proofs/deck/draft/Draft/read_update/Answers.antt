@@ -6,17 +6,17 @@ use Rattle.air_history.specs.declared.updates.Write.{Write}
 use Rattle.air_history.specs.UpdateLists.{UpdateLists}
 use Rattle.air_history.specs.UpdateRules.{update_fault}
 use Rattle.item_catalog.specs.declared.faults.FaultKind.{FaultKind}
-use Rattle.item_catalog.specs.Steps.Drafts.{DraftValue, record_kind}
-use Rattle.item_catalog.specs.DeckEntries as e
-use Rattle.item_catalog.specs.DeckEntries.{Entry, update_by}
+use Rattle.item_catalog.specs.Private.Drafts.{DraftValue, record_kind}
+use Rattle.item_catalog.specs.Declarations as e
+use Rattle.item_catalog.specs.Declarations.{Declaration, update_by}
 use Rattle.item_catalog.specs.RecordKinds.{first_of}
 use Rattle.item_catalog.specs.Faults.{update_tests}
 use Rattle.air_base.specs.Pieces.{three_of}
-use Rattle.item_catalog.specs.Writes.{write_of}
+use Rattle.item_catalog.specs.Writes.{spelled_write}
 use Rattle.item_catalog.specs.KeptLists.{ItemsSeen, WritesSeen, items_seen, writes_seen}
-use Rattle.item_catalog.specs.Steps.ListKinds.{seen_update_kind}
-use Rattle.item_catalog.proofs.EntryFacts.{read_is_some, rules_kept, update_spelled, writes_signed}
-use Rattle.item_catalog.proofs.WriteFacts.{update_kept, update_seen}
+use Rattle.item_catalog.specs.Private.ListKinds.{seen_update_kind}
+use Rattle.item_catalog.proofs.DeclarationLemmas.{read_is_some, rules_kept, update_spelled, writes_signed}
+use Rattle.item_catalog.proofs.WriteLemmas.{update_kept, update_seen}
 use Rattle.item_catalog.proofs.deck.draft.Draft.read_update.Goals as goal
 use Rattle.item_catalog.proofs.deck.draft.Draft.read_update.Goals.{After-update_kind}
 
@@ -25,7 +25,7 @@ record Lists (c : After-update_kind) : Type 0 where
   rs : List ℕ
   ws : List Write
   spelled : update_by (three_of (drop 1 (fields_of c.args.row.now))) ≡ Ok (e.Update c.in-Some-read_u64.by rs ws)
-  listed : list_of write_of c.in-Some.writes.now ≡ Some ws
+  listed : list_of spelled_write c.in-Some.writes.now ≡ Some ws
   reads : c.read.new.self ≡ items_seen (length c.args.self.now.items) rs
   writes : c.read-2.new.self ≡ writes_seen (length c.args.self.now.items) (items_seen (length c.args.self.now.items) rs).items ws
   told : c.update_kind.result ≡ first_of (update_tests (length c.args.self.now.items) c.args.self.now.update_count c.in-Some-read_u64.by rs ws)
@@ -33,7 +33,7 @@ record Lists (c : After-update_kind) : Type 0 where
 lists : (c : After-update_kind) → Lists c
 lists c =
     let r = read_is_some c.read.result (list_of number_of c.in-Some.reads.now) (λ items. c.read.new.self ≡ items_seen c.len-declared.result items) c.read.ensures c.if-not-read.false in
-    let w = read_is_some c.read-2.result (list_of write_of c.in-Some.writes.now) (λ writes. c.read-2.new.self ≡ writes_seen c.len-declared.result c.read.new.self.items writes) c.read-2.ensures c.if-not-read-2.false in
+    let w = read_is_some c.read-2.result (list_of spelled_write c.in-Some.writes.now) (λ writes. c.read-2.new.self ≡ writes_seen c.len-declared.result c.read.new.self.items writes) c.read-2.ensures c.if-not-read-2.false in
     let by = c.in-Some-read_u64.by in let n = length c.args.self.now.items in
     let same : c.len-declared.result ≡ n = omega (arith, c.len-declared.ensures, ap (λ (d : DraftValue). length d.items) c.self.view_is) in
     let reads : c.read.new.self ≡ items_seen n r.0 = r.2 ∙ ap (λ k. items_seen k r.0) same in
@@ -60,7 +60,7 @@ returns-in-Some-update_kind-clause-read c =
 abbrev lists_of : List ℕ → List Write → UpdateLists
 lists_of reads writes = record { reads = reads; writes = writes }
 
-abbrev result_of : ℕ → UpdateLists → Result Entry FaultKind
+abbrev result_of : ℕ → UpdateLists → Result Declaration FaultKind
 result_of by u = Ok (e.Update by u.reads u.writes)
 
 -- No kind applies where none was told, and the lists that were kept are those of the record.

@@ -1,6 +1,6 @@
 use Rattle.std.proofs.Common.{◌∙◌, ap, sym}
 use Rattle.air_model.specs.Drills.{draw_write}
-use Rattle.item_catalog.proofs.DrawFacts.{drawn_more, drawn_none}
+use Rattle.item_catalog.proofs.DrawLemmas.{drawn_more, drawn_none}
 use Rattle.item_catalog.proofs.drills.draws.Reach.draw_writes.Goals as goal
 
 pub loop-t-init : goal.loop-t-init

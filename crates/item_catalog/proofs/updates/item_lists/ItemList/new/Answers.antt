@@ -1,5 +1,5 @@
 use Rattle.std.proofs.Common.{arith}
-use Rattle.item_catalog.proofs.KeptOnceFacts.{kept_none}
+use Rattle.item_catalog.proofs.KeptOnceLemmas.{kept_none}
 use Rattle.item_catalog.proofs.updates.item_lists.ItemList.new.Goals as goal
 
 pub invariant_of-result : goal.invariant_of-result

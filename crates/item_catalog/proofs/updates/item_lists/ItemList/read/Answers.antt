@@ -7,7 +7,7 @@ use Rattle.item_catalog.specs.KeptLists.{items_seen, see_item}
 use Rattle.air_base.proofs.ListFronts.{after_short, list_bad, list_empty, list_last, list_more}
 use Rattle.air_base.specs.ReadParts.{part_values, prepend}
 use Rattle.air_base.proofs.PlainNumbers.{from_place}
-use Rattle.item_catalog.proofs.SeenFacts.{items_more, read_none, read_some}
+use Rattle.item_catalog.proofs.SeenLemmas.{items_more, read_none, read_some}
 use Rattle.item_catalog.proofs.updates.item_lists.ItemList.read.Goals as goal
 
 pub returns-then-is_empty : goal.returns-then-is_empty

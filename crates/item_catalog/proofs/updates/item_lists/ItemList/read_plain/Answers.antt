@@ -2,7 +2,7 @@ use Rattle.std.proofs.Common.{◌≡◌, ◌≤◌, ◌∙◌, length, ◌++◌,
 use Rattle.air_base.specs.Numbers.{number_of}
 use Rattle.item_catalog.specs.KeptLists.{items_seen, see_item}
 use Rattle.air_base.proofs.PlainLists.{plain_further, reads_more, reads_none}
-use Rattle.item_catalog.proofs.SeenFacts.{items_more}
+use Rattle.item_catalog.proofs.SeenLemmas.{items_more}
 use Rattle.item_catalog.proofs.updates.item_lists.ItemList.read_plain.Goals as goal
 
 pub returns-then-text-lt4 : goal.returns-then-text-lt4

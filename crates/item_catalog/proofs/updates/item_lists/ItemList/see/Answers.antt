@@ -2,7 +2,7 @@ use Rattle.std.proofs.Common.{◌≡◌, ◌<◌, ◌∙◌, false, true, ap, ar
 use Rattle.std.proofs.lemmas.List.{length-take-le, take_more_set}
 use Rattle.air_base.specs.declared.limits.TheConstants.{MOST_ITEMS}
 use Rattle.item_catalog.specs.KeptLists.{ItemsSeen, KeptOnce, among, see_item}
-use Rattle.item_catalog.proofs.KeptOnceFacts.{item_kept, kept_more, kept_room}
+use Rattle.item_catalog.proofs.KeptOnceLemmas.{item_kept, kept_more, kept_room}
 use Rattle.item_catalog.proofs.updates.item_lists.ItemList.see.Goals as goal
 
 pub bounds-self-inside-self-inside : goal.bounds-self-inside-self-inside

@@ -1,0 +1,59 @@
+-- The front of a text: its first part and its first digits, and what follows them.
+--
+-- The readers that go through a text part by part speak of these, here and in the crates above; what a whole text spells
+-- is said without them.
+use Rattle.std.specs.Prelude.{◌≡◌, ◌==◌, ◌<◌, ◌^◌, ℕ, List, [], ◌∷◌, Bool, true, false, not, Option, Some, None, take, if◌then◌else◌}
+use Rattle.std.specs.Char.{is_ascii_digit}
+use Rattle.std.specs.List.{list_all}
+use Rattle.std.specs.Str.Parse.{digits_value}
+
+-- What stands before the first element that doesn't pass the test.
+abbrev pub leading_part : (ℕ → Bool) → List ℕ → List ℕ
+leading_part test [] = []
+leading_part test (x ∷ xs) = if test x then x ∷ leading_part test xs else []
+
+-- What stands from the first element on that doesn't pass the test.
+abbrev pub behind : (ℕ → Bool) → List ℕ → List ℕ
+behind test [] = []
+behind test (x ∷ xs) = if test x then behind test xs else x ∷ xs
+
+-- The byte is no space.
+abbrev pub is_no_space : ℕ → Bool
+is_no_space byte = not (byte == 32)
+
+-- The first part of a list.
+unfoldable pub first_part : List ℕ → List ℕ
+first_part text = leading_part is_no_space text
+
+-- What follows the first part of a list: a space and the other parts, or nothing.
+unfoldable pub after_part : List ℕ → List ℕ
+after_part text = behind is_no_space text
+
+-- A text is empty or begins with a space.
+abbrev pub ends_part : List ℕ → Bool
+ends_part [] = true
+ends_part (byte ∷ bytes) = byte == 32
+
+-- A text begins with this byte.
+abbrev pub begins : ℕ → List ℕ → Bool
+begins byte [] = false
+begins byte (c ∷ cs) = c == byte
+
+-- The digits at the front of a text.
+unfoldable pub digits_of : List ℕ → List ℕ
+digits_of text = leading_part is_ascii_digit text
+
+-- What follows the digits at the front of a text.
+unfoldable pub after_digits : List ℕ → List ℕ
+after_digits text = behind is_ascii_digit text
+
+-- The first i bytes of a text are digits, and have this value, which has 64 bits.
+pub record DigitsRead (text : List ℕ) (i n : ℕ) : Type 0 where
+  pub digits : list_all is_ascii_digit (take i text) ≡ true
+  pub value : n ≡ digits_value 10 (take i text)
+  pub below : n < 2 ^ 64
+
+-- The value of the first part of a list, with what follows it; none where the part has no value.
+abbrev pub FrontIs : {A : Type 0} → (List ℕ → Option A) → List ℕ → Option (A × List ℕ) → Type 0
+FrontIs value text None = value (first_part text) ≡ None
+FrontIs value text (Some f) = (value (first_part text) ≡ Some f.0) × (f.1 ≡ after_part text)

@@ -1,0 +1,51 @@
+-- What is known of a named deck, and how a cause at one stage is one at the next.
+use Rattle.std.proofs.Common.{ℕ, ◌≤◌, List, length, Option, Some, None, subst}
+use Rattle.item_catalog.specs.Grammar.{Spells}
+use Rattle.air_devices.specs.Told.{ToldIs, WhereTold}
+use Rattle.air_devices.specs.Shelves.{ShelfState}
+use Rattle.chunk_program.specs.Plans.{IsTooLong}
+use Rattle.air_model.specs.Decks.{Deck, disks_in}
+use Rattle.air_report.specs.declared.status.Status.{Status}
+use Rattle.air_report.specs.declared.status.Status.TheVariants as status
+use Rattle.air_cli.specs.FileLimits.{deck_limit}
+use Rattle.air_cli.specs.NamedFiles.{UnreadCause}
+use Rattle.air_cli.specs.NamedDecks.{DeckCause, OfDeck, SpellsDeck}
+use Rattle.air_cli.specs.RunnableDecks.{LengthCause, UnrunnableCause}
+
+-- ---- told bytes
+
+-- A fact about the bytes that were read is one about the told file.
+pub where_read : (file : Option (List ℕ)) (bytes : List ℕ) (P : List ℕ → Type 0) → ToldIs file bytes → P bytes → WhereTold file P
+where_read None bytes P known p = tt
+where_read (Some xs) bytes P known p = subst P known p
+
+-- A fact about told bytes gives another one.
+pub where_so : (file : Option (List ℕ)) (P Q : List ℕ → Type 0) → ((bytes : List ℕ) → P bytes → Q bytes) → WhereTold file P → WhereTold file Q
+where_so None P Q so p = tt
+where_so (Some xs) P Q so p = so xs p
+
+-- What is so of the deck that was read is so of the named deck.
+pub of_deck : (name : List ℕ) (before : ShelfState) (d : Deck) (P : Deck → Type 0) → SpellsDeck name before d → P d → OfDeck name before P
+of_deck name before d P spells p = where_so (before.told.file name) (λ bytes. (length bytes ≤ deck_limit) × Spells bytes d)
+    (λ bytes. (length bytes ≤ deck_limit) × ((d : Deck) × Spells bytes d × P d)) (λ bytes h. (h.0, (d, h.1, p))) spells
+
+-- ---- causes
+
+-- A file that can't be read gives no deck.
+pub unread_deck : (name : List ℕ) (before now : ShelfState) (s : Status) → UnreadCause name deck_limit before now s → DeckCause name before now s
+unfolding DeckCause UnreadCause
+unread_deck name before now (status.Deck row kind) h = absurd h
+unread_deck name before now s h = h
+
+-- Where there is no deck, none can be run.
+pub deck_runs : (name : List ℕ) (before now : ShelfState) (s : Status) → DeckCause name before now s → UnrunnableCause name before now s
+unfolding UnrunnableCause DeckCause UnreadCause
+deck_runs name before now (status.PlanTooLong slots) h = absurd h
+deck_runs name before now s h = h
+
+-- Nor can a deck whose program would be too long.
+pub length_runs : (name : List ℕ) (before now : ShelfState) (d : Deck) (s : Status) → SpellsDeck name before d → LengthCause d s → UnrunnableCause name before now s
+unfolding UnrunnableCause DeckCause UnreadCause LengthCause
+length_runs name before now d status.NoMemory spells h = h
+length_runs name before now d (status.PlanTooLong slots) spells h = of_deck name before d (λ d. IsTooLong (disks_in d) slots) spells h
+length_runs name before now d s spells h = absurd h

@@ -1,0 +1,38 @@
+-- From how a command ended to what its status says, and to what the command leaves.
+use Rattle.std.proofs.Common.{ℕ, List, Option, Result, Ok, Err, sym, ◌∙◌, subst, inl, inr}
+use Rattle.std.specs.Prelude.{IfErr, IfOk, MatchResult}
+use Rattle.air_devices.specs.Shelves.{ShelfState}
+use Rattle.air_report.specs.declared.status.Status.{Status}
+use Rattle.air_cli.specs.ReportsAndTapes.{ReportAndTape}
+use Rattle.air_cli.specs.Answers.{Leaves, QuietAnswers}
+use Rattle.air_cli.specs.Meanings.{Meaning}
+use Rattle.air_cli.specs.Private.Endings.{EndsGiven, EndsUnmade}
+use Rattle.air_cli.specs.Private.BeforeDelivery.{IsMade, IsUnmade, ReadsInputs}
+use Rattle.air_cli.proofs.AnswerLemmas.{answers_made}
+use Rattle.air_cli.proofs.ReadLemmas.{falls_twice}
+use Rattle.air_cli.proofs.RefusalLemmas.{IsSound, answers_refused, leaves_refused, untouched}
+
+-- How it ended, by what was made, where its output is this.
+abbrev pub EndsAt : Option (List ℕ) → Result ReportAndTape Status → ShelfState → ShelfState → Status → Type 0
+EndsAt output made mid now s = MatchResult made (λ given. EndsGiven output given mid now s) (λ why. EndsUnmade why mid now s)
+
+pub answers_ended : (command : Meaning) → IsSound command → (made : Result ReportAndTape Status) (before mid now : ShelfState) (s : Status) → IfOk made (IsMade command before mid)
+    → IfErr made (IsUnmade command before mid) → ReadsInputs command before mid → EndsAt command.output made mid now s → QuietAnswers command before now s
+answers_ended command sound (Ok given) before mid now s made unmade reads ends = answers_made command given before mid now s made reads ends.gives ends.rest
+answers_ended command sound (Err why) before mid now s made unmade reads (inl (none, same, still)) =
+    let h = untouched command before mid reads.printed reads.outputs (inl (unmade.kept (λ e. cc (none, e)))) in
+    subst (λ shelf. QuietAnswers command before shelf s) (sym still) (subst (QuietAnswers command before mid) (sym same) h)
+answers_ended command sound (Err why) before mid now s made unmade reads (inr ends) =
+    answers_refused command sound before mid now why s ends.some reads unmade.cause unmade.kept ends.gives ends.rest ends.counts
+
+pub leaves_ended : (command : Meaning) (made : Result ReportAndTape Status) (before mid now : ShelfState) (s : Status) → ReadsInputs command before mid → EndsAt command.output made mid now s
+    → Leaves command before now
+leaves_ended command (Ok given) before mid now s reads ends = record {
+  files = λ name. ends.rest.files name ∙ reads.files name;
+  left = λ name other. ends.rest.left name ∙ reads.left name other;
+  outputs = λ name other. ends.rest.outputs name other ∙ reads.outputs name;
+  counts = falls_twice before.faults mid.faults now.faults reads.counts ends.counts;
+}
+leaves_ended command (Err why) before mid now s reads (inl (none, same, still)) =
+    subst (Leaves command before) (sym still) (record { files = reads.files; left = reads.left; outputs = λ name other. reads.outputs name; counts = reads.counts })
+leaves_ended command (Err why) before mid now s reads (inr ends) = leaves_refused command before mid now reads ends.rest ends.counts

@@ -1,0 +1,145 @@
+-- What the proofs of `tune` need of its definitions.
+use Rattle.std.proofs.Common.{◌≡◌, ℕ, ◌≤◌, List, [], length, Some, None, refl, sym, ap, ◌∙◌, subst, inl, inr}
+use Rattle.air_devices.specs.Counts.{KeepsCounts, NoCountFalls}
+use Rattle.air_devices.specs.Unchanged.{KeepsButPrinted}
+use Rattle.air_devices.specs.Shelves.{ShelfState}
+use Rattle.air_report.specs.declared.status.Status.{Status}
+use Rattle.air_report.specs.declared.status.Status.TheVariants as status
+use Rattle.air_devices.specs.Told.{ToldIs, WhereTold}
+use Rattle.air_model.specs.declared.reports.CountsLine.{CountsLine}
+use Rattle.air_model.specs.declared.reports.VerdictLine.{VerdictLine}
+use Rattle.air_model.specs.Aired.{scheme_in}
+use Rattle.air_model.specs.Decks.{Deck}
+use Rattle.air_model.specs.Judges.{by_entries}
+use Rattle.air_model.specs.Outputs.{sessions_over, tune_output}
+use Rattle.air_model.specs.Reports.{Report, report_text, verdict_lines}
+use Rattle.air_model.specs.Tapes.{tape_read}
+use Rattle.air_cli.specs.NamedDecks.{DeckCause, OfDeck}
+use Rattle.air_cli.specs.RunnableDecks.{HasShortProgram, UnrunnableCause}
+use Rattle.air_cli.specs.NamedFiles.{UnreadCause}
+use Rattle.air_cli.specs.FileLimits.{tape_limit}
+use Rattle.item_catalog.proofs.GrammarLemmas.{one_deck}
+use Rattle.air_cli.specs.Tune.{IsCutAt, OfTape, TuneCause, tune_meaning}
+use Rattle.air_cli.specs.Answers.{InputFailed}
+use Rattle.air_cli.proofs.CauseLemmas.{where_read}
+use Rattle.air_cli.proofs.ReadLemmas.{unread_since}
+use Rattle.air_cli.proofs.RefusalLemmas.{IsSound, unrunnable_still, unread_still}
+use Rattle.listeners.specs.declared.readers.Sessions.{Sessions}
+use Rattle.air_cli.specs.HeardTapes.{AreFileSessions, UnheardCause}
+use Rattle.std.specs.Prelude.{⊤}
+use Rattle.air_cli.specs.ReportsAndTapes.{ReportAndTape}
+use Rattle.air_cli.specs.Tune.{TuneGives, tune_given}
+use Rattle.air_cli.specs.Truths.{IsTrueTape}
+use Rattle.air_cli.specs.ToldInputs.{TellSameInputs, TellsInputs}
+use Rattle.air_cli.specs.Answers.{NoCountRose}
+use Rattle.air_cli.proofs.InputLemmas.{CommandFacts, deck_told, of_told, runs_fits, unread_fits}
+
+-- Nor is a tape heard.
+pub unrunnable_tune : (deck tape : List ℕ) (before now : ShelfState) (s : Status) → UnrunnableCause deck before now s → TuneCause deck tape before now s
+unfolding TuneCause UnrunnableCause DeckCause UnreadCause
+unrunnable_tune deck tape before now (status.TapeCut at) h = absurd h
+unrunnable_tune deck tape before now s h = inl h
+
+-- A tape that can't be heard gives no report.
+pub unheard_tune : (deck tape : List ℕ) (before now : ShelfState) (s : Status) → OfDeck deck before HasShortProgram → UnheardCause tape tape_limit before now s → TuneCause deck tape before now s
+unfolding TuneCause UnheardCause
+unheard_tune deck tape before now (status.TapeCut at) can h = (can, h)
+unheard_tune deck tape before now s can h = inr (can, h)
+
+-- Why a tape wasn't heard, told of the moment before the deck was read.
+pub unheard_since : (tape : List ℕ) (most : ℕ) (before mid now : ShelfState) (s : Status) → mid.told.file tape ≡ before.told.file tape → KeepsCounts before.faults mid.faults
+    → UnheardCause tape most mid now s → UnheardCause tape most before now s
+unfolding UnheardCause
+unheard_since tape most before mid now (status.TapeCut at) same calm h = subst (λ file. WhereTold file (λ bytes. (length bytes ≤ most) × ((tape_read bytes).cut ≡ Some at))) same h
+unheard_since tape most before mid now s same calm h = unread_since tape most before mid now s same calm h
+
+pub wanting_tune : (deck tape : List ℕ) (before now : ShelfState) → TuneCause deck tape before now status.NoMemory
+unfolding TuneCause UnrunnableCause DeckCause UnreadCause
+wanting_tune deck tape before now = inl tt
+
+-- What is so of the whole tape that was heard is so of the named tape.
+pub of_heard : (tape : List ℕ) (before mid : ShelfState) (d : Deck) (sessions : Sessions) (P : List (List ℕ) → Type 0) → (heard : AreFileSessions tape tape_limit mid d sessions)
+    → mid.told.file tape ≡ before.told.file tape → P (tape_read heard.bytes).records → OfTape tape before P
+of_heard tape before mid d sessions P heard same p = where_read (before.told.file tape) heard.bytes
+    (λ bytes. (length bytes ≤ tape_limit) × ((tape_read bytes).cut ≡ None) × P (tape_read bytes).records)
+    (subst (λ file. ToldIs file heard.bytes) same heard.told) (heard.fits, heard.whole, p)
+
+-- The report of the sessions over its records.
+pub heard_text : (tape : List ℕ) (shelf : ShelfState) (d : Deck) (sessions : Sessions) (text : List ℕ) → (heard : AreFileSessions tape tape_limit shelf d sessions)
+    → text ≡ report_text (record { history = []; verdicts = sessions.verdicts.items; counts = sessions.counts.items; glances = []; looks = [] })
+    → text ≡ tune_output d (tape_read heard.bytes).records
+heard_text tape shelf d sessions text heard is =
+    is ∙ ap (λ (v : List VerdictLine). let r : Report = record { history = []; verdicts = v; counts = sessions.counts.items; glances = []; looks = [] } in report_text r) heard.verdicts
+    ∙ ap (λ (n : List CountsLine). let r : Report = record { history = []; verdicts = verdict_lines (sessions_over (by_entries (scheme_in d)) d (λ r. (tape_read heard.bytes).records)); counts = n; glances = []; looks = [] } in report_text r) heard.counts
+
+tune_still : (deck tape : List ℕ) (before mid now : ShelfState) (s : Status) → KeepsButPrinted mid.told now.told → NoCountFalls mid.faults now.faults → TuneCause deck tape before mid s → TuneCause deck tape before now s
+unfolding TuneCause
+tune_still deck tape before mid now (status.TapeCut at) rest counts h = h
+tune_still deck tape before mid now s rest counts (inl h) = inl (unrunnable_still deck before mid now s rest counts h)
+tune_still deck tape before mid now s rest counts (inr h) = inr (h.0, unread_still tape tape_limit before mid now s rest counts h.1)
+
+tune_input : (deck tape : List ℕ) (before now : ShelfState) → TuneCause deck tape before now status.ReadFault → InputFailed (tune_meaning deck tape) before now
+unfolding TuneCause UnrunnableCause DeckCause UnreadCause
+tune_input deck tape before now (inl h) = record { name = deck; named = inl refl; rose = h }
+tune_input deck tape before now (inr h) = record { name = tape; named = inr refl; rose = h.1 }
+
+tune_not_done : (deck tape : List ℕ) (before now : ShelfState) → TuneCause deck tape before now status.Ok → ⊥
+unfolding TuneCause UnrunnableCause DeckCause UnreadCause
+tune_not_done deck tape before now (inl h) = h
+tune_not_done deck tape before now (inr h) = h.1
+
+tune_not_different : (deck tape : List ℕ) (before now : ShelfState) → TuneCause deck tape before now status.Differs → ⊥
+unfolding TuneCause UnrunnableCause DeckCause UnreadCause
+tune_not_different deck tape before now (inl h) = h
+tune_not_different deck tape before now (inr h) = h.1
+
+tune_not_failed : (deck tape : List ℕ) (before now : ShelfState) → TuneCause deck tape before now status.WriteFault → ⊥
+unfolding TuneCause UnrunnableCause DeckCause UnreadCause
+tune_not_failed deck tape before now (inl h) = h
+tune_not_failed deck tape before now (inr h) = h.1
+
+tune_sound : (deck tape : List ℕ) → IsSound (tune_meaning deck tape)
+tune_sound deck tape = record {
+  still = tune_still deck tape;
+  not_done = tune_not_done deck tape;
+  not_different = tune_not_different deck tape;
+  not_failed = tune_not_failed deck tape;
+  input = tune_input deck tape;
+}
+
+-- ---- what its inputs decide
+
+-- A tape that is whole isn't cut.
+tape_fits : (deck tape : List ℕ) (before now : ShelfState) (s : Status) → TellsInputs (tune_meaning deck tape) before → OfDeck deck before HasShortProgram
+    → OfTape tape before (λ records. ⊤) → NoCountRose before.faults now.faults → TuneCause deck tape before now s → s ≡ status.NoMemory
+unfolding TuneCause
+tape_fits deck tape before now (status.TapeCut at) told runs whole calm h =
+    let known = told tape (inr refl) in
+    let good = of_told (before.told.file tape) known.0 (λ bytes. (length bytes ≤ tape_limit) × ((tape_read bytes).cut ≡ None) × ⊤) known.1 whole in
+    let bad = of_told (before.told.file tape) known.0 (IsCutAt at) known.1 h.1 in
+    absurd (cc (good.1, bad.1))
+tape_fits deck tape before now s told runs whole calm (inl h) = let known = told deck (inl refl) in runs_fits deck before now s known.0 known.1 runs calm h
+tape_fits deck tape before now s told runs whole calm (inr h) =
+    let known = told tape (inr refl) in
+    let good = of_told (before.told.file tape) known.0 (λ bytes. (length bytes ≤ tape_limit) × ((tape_read bytes).cut ≡ None) × ⊤) known.1 whole in
+    unread_fits tape tape_limit before now s known.0 known.1 good.0 calm h.1
+
+tune_one : (deck tape : List ℕ) (before other : ShelfState) (a b : ReportAndTape) → TellSameInputs (tune_meaning deck tape) before other
+    → TuneGives deck tape before a → TuneGives deck tape other b → a ≡ b
+unfolding TuneGives
+tune_one deck tape before other a b same first second =
+    let told = same deck (inl refl) in
+    let x = deck_told deck before told.0 (λ d. HasShortProgram d × OfTape tape before (λ records. IsTrueTape d records × (a ≡ tune_given d records))) told.1 first.1 in
+    let y = deck_told deck other told.0 (λ d. HasShortProgram d × OfTape tape other (λ records. IsTrueTape d records × (b ≡ tune_given d records))) told.2 second.1 in
+    let heard = same tape (inr refl) in
+    let v = of_told (before.told.file tape) heard.0
+    (λ bytes. (length bytes ≤ tape_limit) × ((tape_read bytes).cut ≡ None) × (IsTrueTape x.1.0 (tape_read bytes).records × (a ≡ tune_given x.1.0 (tape_read bytes).records))) heard.1 x.1.2.1 in
+    let w = of_told (other.told.file tape) heard.0
+    (λ bytes. (length bytes ≤ tape_limit) × ((tape_read bytes).cut ≡ None) × (IsTrueTape y.1.0 (tape_read bytes).records × (b ≡ tune_given y.1.0 (tape_read bytes).records))) heard.2 y.1.2.1 in
+    v.2.1 ∙ ap (λ d. tune_given d (tape_read heard.0).records) (one_deck told.0 x.1.0 y.1.0 x.1.1 y.1.1) ∙ sym w.2.1
+
+pub tune_facts : (deck tape : List ℕ) → CommandFacts (tune_meaning deck tape)
+tune_facts deck tape = record {
+  sound = tune_sound deck tape;
+  inputs = record { fits = λ before now s told suits. tape_fits deck tape before now s told suits.0 suits.1; one = λ decided. tune_one deck tape };
+}

@@ -1,5 +1,0 @@
-use Rattle.air_cli.proofs.TruthLemmas.{true_script}
-use Rattle.air_cli.proofs.truths.script_is_true.Goals as goal
-
-pub returns : goal.returns
-returns c = true_script c.args.deck.now c.well_made.ensures.made c.well_made.ensures.limits c.requires c.script_law.ensures c.events_law.ensures c.bytes_law.ensures c.heard_was_pushed_law.ensures c.receiver_law.ensures

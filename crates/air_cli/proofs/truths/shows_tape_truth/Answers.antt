@@ -1,0 +1,5 @@
+use Rattle.air_cli.proofs.TruthLemmas.{true_tape}
+use Rattle.air_cli.proofs.truths.shows_tape_truth.Goals as goal
+
+pub returns : goal.returns
+returns c = true_tape c.args.deck.now c.shows_well_made.ensures.made c.receiver_law.ensures

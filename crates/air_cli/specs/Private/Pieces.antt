@@ -1,0 +1,47 @@
+-- For private steps alone. A piece of a tape in its buffer, what a read adds to it, and what was heard of the whole tape.
+use Rattle.std.specs.Prelude.{◌≡◌, ◌≤◌, ◌<◌, ◌-◌, ◌⊎◌, ℕ, IsTrue, List, [], ◌++◌, length, map, take, drop, None, Option}
+use Rattle.std.specs.Io.KnownBytes.{Consumes, IsAtEnd}
+use Rattle.air_devices.specs.Told.{ToldIs}
+use Rattle.air_devices.specs.Shelves.{ShelfState}
+use Rattle.air_model.specs.Buckets.{bucket_in}
+use Rattle.air_model.specs.Tapes.{IsTape, ends_inside, tape_read}
+use Rattle.air_report.specs.declared.status.Status.{Status}
+use Rattle.air_report.specs.declared.status.Status.TheVariants as status
+use Rattle.listeners.specs.Listeners.{Listener, hears}
+
+-- The bytes that were read and not let go, and how many there is room for in all.
+pub record Held : Type 0 where
+  pub bytes : List ℕ
+  pub room : ℕ
+
+-- So many bytes came behind those that were there, from the front of what was left of the file, where that is told; none only at its
+-- end.
+pub record HasCome (n : ℕ) (before after : List ℕ) (left later : Option (List ℕ)) : Type 0 where
+  pub bytes : List ℕ
+  pub count : length bytes ≡ n
+  pub behind : after ≡ before ++ bytes
+  pub taken : Consumes left later bytes
+  pub end : n ≡ 0 → IsAtEnd later
+
+-- Nothing, or what ends inside its first record: no whole record is at its front.
+abbrev pub IsRest : List ℕ → Type 0
+IsRest rest = (rest ≡ []) ⊎ IsTrue (ends_inside rest)
+
+-- The first bytes of a piece, so many, are the tape of all the records that it is read as.
+pub record AreWholeRecords (piece : List ℕ) (n : ℕ) : Type 0 where
+  pub within : n ≤ length piece
+  pub whole : IsTape (take n piece) (tape_read piece).records
+  pub rest : IsRest (drop n piece)
+
+-- There are last bytes of a tape of so many that weren't heard, and it is cut where they begin.
+abbrev pub IsCutBefore : List ℕ → ℕ → Status → Type 0
+IsCutBefore rest len s = (0 < length rest) × (s ≡ status.TapeCut (len - length rest))
+
+-- There are bytes, at most so many and those of the named file where they are told, which are a whole tape: and its records were heard
+-- by all.
+pub record HaveHeardFile (name : List ℕ) (most : ℕ) (shelf : ShelfState) (before now : List Listener) : Type 0 where
+  pub bytes : List ℕ
+  pub told : ToldIs (shelf.told.file name) bytes
+  pub fits : length bytes ≤ most
+  pub whole : (tape_read bytes).cut ≡ None
+  pub heard : now ≡ map (hears (map bucket_in (tape_read bytes).records)) before

@@ -1,0 +1,75 @@
+-- What is true of the runs of a deck, and of the tape of one. The laws and `air_run` cite these.
+use Rattle.std.proofs.Common.{◌≡◌, ℕ, ◌*◌, ◌≤◌, Some, List, ◌++◌, length, map, ◌∙◌, ap, arith}
+use Rattle.air_model.specs.Aired.{air_of, buckets_of}
+use Rattle.air_model.specs.AiredLaws.{CanAir}
+use Rattle.air_model.specs.Buckets.{bucket_in, spelling}
+use Rattle.air_model.specs.Decks.{Deck, IsDeck, IsLegal, disks_in, values_in}
+use Rattle.air_model.specs.Draws.{words_of}
+use Rattle.air_model.specs.Ethers.{heard_by}
+use Rattle.air_model.specs.Outputs.{ether_of, odds_in, run_tape}
+use Rattle.air_model.specs.Programs.{program}
+use Rattle.air_model.specs.Reports.{Report, report_text}
+use Rattle.air_model.specs.Tapes.{tape_of}
+use Rattle.air_model.proofs.DeckLemmas.{events}
+use Rattle.air_model.proofs.EtherLemmas.{heard_was_pushed}
+use Rattle.air_model.proofs.RangeLemmas.{bytes_aired}
+use Rattle.air_model.proofs.ReceiverLemmas.{receiver}
+use Rattle.air_devices.specs.Masts.{Changes, MastState, fresh_mast, nothing_sent, with_buckets}
+use Rattle.air_sender.specs.TapeMasts.{tape_mast_state, told_by_tape}
+use Rattle.air_sender.specs.declared.tape_mast.TapeMast.{TapeMast}
+use Rattle.air_sender.specs.TapeSizes.{cycle_size}
+use Rattle.air_sender.proofs.TapeLengths.{tape_size}
+use Rattle.item_catalog.specs.DeckLimits.{WithinLimits}
+use Rattle.air_model.specs.Runs.{IsRun, Run}
+use Rattle.air_model.proofs.ItemLemmas.{items_aired}
+use Rattle.listeners.specs.HistoryTapes.{HasTape}
+use Rattle.deck_runs.specs.DeckBytes.{deck_bytes}
+use Rattle.deck_runs.specs.RunTapes.{run_tape_len}
+use Rattle.deck_runs.specs.RunTruths.{IsTrueRun}
+
+-- ---- what is true
+
+-- A run's history can be aired.
+pub run_airs : (deck : Deck) (run : Run) → IsDeck deck → WithinLimits deck → length (program (disks_in deck)) ≤ 16384 → IsRun deck run → CanAir deck run.history
+run_airs deck run made within short is = record {
+  made = made;
+  legal = is.whole.legal;
+  cycles = (let all = is.whole.cycles in let few = within.settings.cycles in omega arith);
+  slots = omega arith;
+}
+
+-- The law that `one_history_law` has.
+abbrev pub OneHistoryLaw : Type 0
+OneHistoryLaw = (deck : Deck) (r s : Report) → WithinLimits deck → IsLegal deck r.history → IsLegal deck s.history → report_text r ≡ report_text s → r.history ≡ s.history
+
+pub true_run : OneHistoryLaw → (deck : Deck) (run : Run) → IsDeck deck → WithinLimits deck → length (program (disks_in deck)) ≤ 16384 → IsRun deck run → IsTrueRun deck run
+unfolding heard_by
+true_run one_history deck run made within short is =
+    let H = run.history in
+    let can = run_airs deck run made within short is in
+    let records = map spelling (buckets_of (values_in deck) (air_of deck) H) in
+    record {
+      bases = (events deck H made is.whole.legal).1;
+      items = items_aired deck H made;
+      sessions = λ r below. receiver deck H r (map bucket_in (ether_of deck H r)) made below
+          ((bytes_aired deck H (ether_of deck H r) can (heard_was_pushed (odds_in deck) (words_of deck.settings.seed r (3 * length records)) records)).0);
+      told = λ report legal same. one_history deck report _ within legal is.whole.legal same;
+    }
+
+pub run_length : (deck : Deck) (run : Run) → IsRun deck run → length (run_tape deck run.history) ≡ run_tape_len deck
+run_length deck run is = tape_size (values_in deck) (air_of deck) run.history ∙ ap (λ n. n * cycle_size (length deck.items) (program (disks_in deck))) is.whole.cycles
+
+-- ---- the tape
+
+-- What a mast that was new was sent.
+sent_all : (old new : TapeMast) (bytes : List (List ℕ)) → tape_mast_state old ≡ fresh_mast → Changes (with_buckets bytes) (tape_mast_state old).told (tape_mast_state new).told → (told_by_tape new).buckets ≡ bytes
+sent_all old new bytes fresh sent =
+    let first : Some (told_by_tape old) ≡ Some nothing_sent = ap (λ (m : MastState). m.told) fresh in
+    let was : told_by_tape old ≡ nothing_sent = cc in
+    let is : told_by_tape new ≡ with_buckets bytes (told_by_tape old) = cc in
+    ap (λ s. s.buckets) is ∙ ap (λ s. s.buckets ++ bytes) was
+
+pub has_tape : (deck : Deck) (run : Run) (old new : TapeMast) → IsDeck deck → WithinLimits deck → length (program (disks_in deck)) ≤ 16384 → IsRun deck run → tape_mast_state old ≡ fresh_mast
+    → Changes (with_buckets (deck_bytes deck run.history)) (tape_mast_state old).told (tape_mast_state new).told → HasTape deck run.history (tape_of (told_by_tape new).buckets)
+has_tape deck run old new made within short is fresh sent =
+    record { aired = run_airs deck run made within short is; same = ap tape_of (sent_all old new (deck_bytes deck run.history) fresh sent) }

@@ -1,5 +1,0 @@
-use Rattle.deck_runs.proofs.LookLemmas.{shows}
-use Rattle.deck_runs.proofs.jobs.laws.shows_law.Goals as goal
-
-pub returns : goal.returns
-returns c = shows

@@ -1,0 +1,73 @@
+-- For private steps alone. What the jobs of a run work on, before them and after.
+use Rattle.std.specs.Prelude.{◌≡◌, ℕ, ◌<◌, ◌≤◌, ◌+◌, ◌*◌, List, [], ◌++◌, length, take, slice_get, MatchBool, Some, vec_capacity}
+use Rattle.turnstile.specs.Passes.{TurnstileId}
+use Rattle.air_history.specs.declared.histories.Event.{Event}
+use Rattle.air_history.specs.Histories.{is_start, starts}
+use Rattle.air_history.specs.Boards.{board_of}
+use Rattle.air_model.specs.Closings.{GoesOnWithout}
+use Rattle.air_model.specs.Decks.{Deck, IsWhole, updates_by, values_in}
+use Rattle.air_model.specs.DeckLaws.{commits_from, made_by}
+use Rattle.air_devices.specs.Masts.{Changes, MastState, with_buckets}
+use Rattle.air_sender.specs.AirFaults.{FailedAt}
+use Rattle.bucket_codec.specs.declared.offsets.TheConstants.{ENTRY_BYTES, HEAD_BYTES}
+use Rattle.station.specs.PassStates.{new_pass, with_seen}
+use Rattle.deck_runs.specs.declared.jobs.conductors.ConductFault.{ConductFault}
+use Rattle.deck_runs.specs.declared.jobs.conductors.ConductFault.TheVariants as fault
+use Rattle.deck_runs.specs.declared.jobs.crews.UpdaterRun.{UpdaterRun}
+use Rattle.deck_runs.specs.DeckBytes.{deck_bytes}
+use Rattle.deck_runs.specs.declared.threads.stages.Stage.{Stage}
+
+-- The updaters have the new passes of the deck's station, in their order.
+pub record AreNewUpdaters (station : TurnstileId) (deck : Deck) (updaters : List UpdaterRun) : Type 0 where
+  pub count : length updaters ≡ length deck.updates
+  pub each : (by : ℕ) (run : UpdaterRun) → slice_get updaters by ≡ Some run → run.pass ≡ new_pass station deck by
+
+-- The updater has the deck's pass of this number, which made all its updates, or the first of them and not all.
+pub record HasEndedUpdates (station : TurnstileId) (deck : Deck) (by : ℕ) (run : UpdaterRun) : Type 0 where
+  pub pass : run.pass ≡ with_seen (new_pass station deck by) run.pass.seen
+  pub made : MatchBool run.done
+      (made_by by run.pass.seen ≡ commits_from by 0 (updates_by deck by))
+      ((n : ℕ) × (n < length (updates_by deck by)) × (made_by by run.pass.seen ≡ commits_from by 0 (take n (updates_by deck by))))
+
+-- Each updater has, in their order.
+pub record HaveEnded (station : TurnstileId) (deck : Deck) (updaters : List UpdaterRun) : Type 0 where
+  pub count : length updaters ≡ length deck.updates
+  pub each : (by : ℕ) (run : UpdaterRun) → slice_get updaters by ≡ Some run → HasEndedUpdates station deck by run
+
+-- A stage before the jobs.
+pub record IsStage (deck : Deck) (s : Stage) : Type 0 where
+  pub pass : s.pass ≡ new_pass s.station deck (length deck.updates)
+  pub updaters : AreNewUpdaters s.station deck s.updaters.items
+  pub room : (s.passes.items ≡ []) × (length s.updaters.items ≤ vec_capacity s.passes)
+  pub board : s.board ≡ board_of (values_in deck) []
+  pub buffer : HEAD_BYTES + ENTRY_BYTES * length deck.items ≤ length s.buf.items
+
+-- A stage after the jobs.
+pub record IsPlayed (deck : Deck) (s : Stage) : Type 0 where
+  pub pass : s.pass ≡ with_seen (new_pass s.station deck (length deck.updates)) s.pass.seen
+  pub few : starts s.pass.seen ≤ deck.settings.cycles
+  pub updaters : HaveEnded s.station deck s.updaters.items
+  pub room : (s.passes.items ≡ []) × (length s.updaters.items ≤ vec_capacity s.passes)
+
+-- What the conductor has seen begins a whole history.
+abbrev pub BeginsWhole : Deck → List Event → Type 0
+BeginsWhole deck seen = (later : List Event) × IsWhole deck (seen ++ later)
+
+-- The history of the closed station goes on from what the conductor has seen without a start, and it is whole where all cycles were
+-- started.
+pub record IsEnd (deck : Deck) (seen H : List Event) : Type 0 where
+  pub goes_on : GoesOnWithout is_start seen H
+  pub whole : starts seen ≡ deck.settings.cycles → IsWhole deck H
+
+-- Of what the conductor has seen the buckets of a beginning were sent, and no call of the mast failed.
+pub record SendsFront {M : Type 0} (state : M → MastState) (deck : Deck) (seen : List Event) (before now : M) : Type 0 where
+  pub front : List Event
+  pub later : List Event
+  pub begins : seen ≡ front ++ later
+  pub sent : Changes (with_buckets (deck_bytes deck front)) (state before).told (state now).told
+  pub calm : (state now).faults ≡ (state before).faults
+
+-- What the conductor's fault says of the mast.
+abbrev pub IsSeenAnswer : {M : Type 0} → (M → MastState) → Deck → List Event → M → M → ConductFault → Type 0
+IsSeenAnswer state deck seen before now (fault.Mast sent) = FailedAt state sent (deck_bytes deck seen) before now
+IsSeenAnswer state deck seen before now fault.NoMemory = SendsFront state deck seen before now

@@ -1,0 +1,206 @@
+-- The deck of parts to which no kind applies is well made, and within the limits.
+use Rattle.std.proofs.Common.{◌≡◌, ◌<◌, ◌≤◌, ◌+◌, ◌*◌, ◌^◌, ◌∷◌, [], ℕ, zero, suc, List, Option, Some, None, Bool, true, false, cond, not, ◌∙◌, sym, refl, ap, arith, map, get_or, length, take, nat_lt, inl, inr}
+use Rattle.std.specs.Prelude.{◌==◌, ◌||◌, All, sum_by, unwrap_or}
+use Rattle.std.specs.List.{range_with_len}
+use Rattle.std.proofs.lemmas.Bool.{cases_lt}
+use Rattle.std.proofs.lemmas.Bool.Decides.{nat_tests}
+use Rattle.std.proofs.lemmas.List.{get_or-take, length-map, length-take-le}
+use Rattle.std.proofs.lemmas.List.Elements.{All-map}
+use Rattle.std.proofs.lemmas.List.Sums.{sum_by-cons}
+use Rattle.std.proofs.lemmas.Nat.{mul-le}
+use Rattle.air_base.specs.declared.limits.TheConstants.{MOST_ASKED, MOST_DELTA, MOST_DISKS, MOST_FREQ, MOST_RATE, MOST_SIZE, MOST_UPDATERS}
+use Rattle.air_model.specs.Decks.{Deck, IsDeck, IsQuery, IsUpdate, Item, count_parts}
+use Rattle.air_history.specs.UpdateLists.{UpdateLists}
+use Rattle.air_model.specs.declared.deck.ReaderPlan.{ReaderPlan}
+use Rattle.air_model.specs.declared.deck.Settings.{Settings}
+use Rattle.item_catalog.specs.Parts.{queries_in, readers_in, updaters_in, updates_in}
+use Rattle.air_model.specs.Disks.{DiskSpec}
+use Rattle.item_catalog.specs.DeckLimits.{SettingsWithin, WithinLimits}
+use Rattle.item_catalog.specs.Decks.{deck_of, plain_item, with_freqs}
+use Rattle.item_catalog.specs.Private.Drafts.{DraftValue, deck_from, draft_of}
+use Rattle.item_catalog.specs.Declarations.{Declaration}
+use Rattle.item_catalog.specs.RecordKinds.{first_of}
+use Rattle.item_catalog.specs.Faults.{end_tests}
+use Rattle.item_catalog.specs.ListTests.{option_any}
+use Rattle.item_catalog.specs.Ranges.{outside}
+use Rattle.item_catalog.specs.Settings.{default_of, number_in, number_said, range_of, same_name, settings_in}
+use Rattle.item_catalog.specs.declared.faults.FaultKind.TheVariants as fault
+use Rattle.item_catalog.specs.declared.parts.DiskPart.{DiskPart}
+use Rattle.item_catalog.specs.declared.deck.draft.settings.Name.{Name}
+use Rattle.item_catalog.specs.declared.deck.draft.settings.Name.TheVariants as n
+use Rattle.item_catalog.specs.declared.deck.draft.settings.Setting.{Setting}
+use Rattle.item_catalog.specs.declared.deck.draft.settings.Setting.TheVariants as setting
+use Rattle.item_catalog.proofs.DiskLemmas.{freqs_len}
+use Rattle.item_catalog.proofs.DeclarationLemmas.{none_of_two, or_none}
+use Rattle.item_catalog.proofs.KeptLemmas.{DiskKept, InRange, Kept}
+
+-- ---- settings
+
+same_named : (a b : Name) → same_name a b ≡ true → range_of a ≡ range_of b
+same_named n.Delta n.Delta h = refl
+same_named n.Cycles n.Cycles h = refl
+same_named n.Seed n.Seed h = refl
+same_named n.Loss n.Loss h = refl
+same_named n.Again n.Again h = refl
+same_named n.Late n.Late h = refl
+same_named n.Monitors n.Monitors h = refl
+same_named n.Hears n.Hears h = refl
+same_named a b h = cc h
+
+default_fits : (name : Name) → ((range_of name).0 ≤ default_of name) × (default_of name ≤ (range_of name).1)
+default_fits n.Delta = (omega arith, omega arith)
+default_fits n.Cycles = (omega arith, omega arith)
+default_fits n.Seed = (omega arith, omega arith)
+default_fits n.Loss = (omega arith, omega arith)
+default_fits n.Again = (omega arith, omega arith)
+default_fits n.Late = (omega arith, omega arith)
+default_fits n.Monitors = (omega arith, omega arith)
+default_fits n.Hears = (omega arith, omega arith)
+
+pub number_fits : (name : Name) (set : List Setting) → All InRange set → ((range_of name).0 ≤ number_in name set) × (number_in name set ≤ (range_of name).1)
+number_fits name [] all = default_fits name
+number_fits name (s ∷ set) all = by s (all 0 s (omega arith)) (number_fits name set (λ k d below. all (suc k) d (omega arith)))
+  where
+    by : (s : Setting) → InRange s → ((range_of name).0 ≤ number_in name set) × (number_in name set ≤ (range_of name).1)
+        → ((range_of name).0 ≤ unwrap_or (number_said name s) (number_in name set)) × (unwrap_or (number_said name s) (number_in name set) ≤ (range_of name).1)
+    by (setting.Policy p) range more = more
+    by (setting.Number other v) range more = at (same_name name other) refl
+      where
+        at : (b : Bool) → same_name name other ≡ b
+            → ((range_of name).0 ≤ unwrap_or (cond b (Some v) None) (number_in name set)) × (unwrap_or (cond b (Some v) None) (number_in name set) ≤ (range_of name).1)
+        at true e = rw (same_named name other e) range
+        at false e = more
+
+settings_fit : (set : List Setting) → All InRange set → SettingsWithin (settings_in set)
+settings_fit set all =
+    let seed = (number_fits n.Seed set all).1 in
+    record {
+      cycles = (number_fits n.Cycles set all).1;
+      seed = omega arith;
+      loss = (number_fits n.Loss set all).1;
+      again = (number_fits n.Again set all).1;
+      late = (number_fits n.Late set all).1;
+      monitors = (number_fits n.Monitors set all).1;
+      some_hears = (number_fits n.Hears set all).0;
+      hears = (number_fits n.Hears set all).1;
+    }
+
+-- ---- disks
+
+record SpecKept (d : DiskSpec) : Type 0 where
+  some : 0 < d.size
+  few : d.size ≤ MOST_SIZE
+  often : 0 < d.freq
+  seldom : d.freq ≤ MOST_FREQ
+
+freq_fits : (after delta : ℕ) (freq : Option ℕ) → after < MOST_DISKS → delta ≤ MOST_DELTA → option_any (outside 1 MOST_FREQ) freq ≡ false → (0 < unwrap_or freq (after * delta + 1)) × (unwrap_or freq (after * delta + 1) ≤ MOST_FREQ)
+freq_fits after delta None few small h = let m = mul-le after delta 7 9 (omega (arith, few)) small in (omega arith, omega arith)
+freq_fits after delta (Some f) few small h = let both = or_none (nat_lt f 1) (nat_lt MOST_FREQ f) h in (grind (arith, nat_tests, both.0), grind (arith, nat_tests, both.1))
+
+specs_kept : (delta : ℕ) (disks : List DiskPart) → delta ≤ MOST_DELTA → length disks ≤ MOST_DISKS → All DiskKept disks → All SpecKept (with_freqs delta disks)
+specs_kept delta [] small few all k d below = absurd (omega arith)
+specs_kept delta (disk ∷ disks) small few all zero d below =
+    let one = all 0 disk (omega arith) in let f = freq_fits (length disks) delta disk.freq (omega arith) small one.freq in
+    record { some = one.some; few = one.few; often = f.0; seldom = f.1 }
+specs_kept delta (disk ∷ disks) small few all (suc k) d below = specs_kept delta disks small (omega arith) (λ i e inside. all (suc i) e (omega arith)) k d (omega arith)
+
+sizes_same : (delta : ℕ) (disks : List DiskPart) → sum_by (λ d. d.size) (with_freqs delta disks) ≡ sum_by (λ d. d.size) disks
+sizes_same delta [] = refl
+sizes_same delta (disk ∷ disks) =
+    let spec : DiskSpec = record { size = disk.size; freq = unwrap_or disk.freq (length disks * delta + 1) } in
+    omega (arith, sizes_same delta disks, sum_by-cons (λ (d : DiskSpec). d.size) spec (with_freqs delta disks), sum_by-cons (λ (d : DiskPart). d.size) disk disks)
+
+-- ---- lists of lists
+
+all_take : {A : Type 0} (P : A → Type 0) (n : ℕ) (xs : List A) → All P xs → All P (take n xs)
+all_take P zero xs all k d below = absurd (omega arith)
+all_take P (suc n) [] all k d below = absurd (omega arith)
+all_take P (suc n) (x ∷ xs) all zero d below = all 0 d (omega arith)
+all_take P (suc n) (x ∷ xs) all (suc k) d below = all_take P n xs (λ i e inside. all (suc i) e (omega arith)) k d (omega arith)
+
+sum_take : {A : Type 0} (f : A → ℕ) (n : ℕ) (xs : List A) → sum_by f (take n xs) ≤ sum_by f xs
+sum_take f zero xs = omega arith
+sum_take f (suc n) [] = omega arith
+sum_take f (suc n) (x ∷ xs) = omega (arith, sum_take f n xs, sum_by-cons f x (take n xs), sum_by-cons f x xs)
+
+take_for_each : {A : Type 0} (f : ℕ → A) (a n m : ℕ) → n ≤ m → take n (map f (range_with_len a m)) ≡ map f (range_with_len a n)
+take_for_each f a zero m less = refl
+take_for_each f a (suc n) zero less = absurd (omega arith)
+take_for_each f a (suc n) (suc m) less = ap (λ l. f a ∷ l) (take_for_each f (a + 1) n m (omega arith))
+
+-- ---- the deck
+
+-- What the end asks of the parts.
+record Ended (d : DraftValue) : Type 0 where
+  sizes : sum_by (λ x. x.size) d.disks ≡ length d.items
+  some : 0 < length d.items
+
+ended : (d : DraftValue) → first_of (end_tests (length d.items) d.disks) ≡ None → Ended d
+ended d none =
+    let t = none_of_two fault.Sizes fault.Limit (not (sum_by (λ x. x.size) d.disks == length d.items)) (length d.items == 0 || length d.disks == 0) none in
+    let items = or_none (length d.items == 0) (length d.disks == 0) t.1 in
+    record { sizes = grind (arith, nat_tests, t.0); some = grind (arith, nat_tests, items.0) }
+
+module _ (d : DraftValue) (k : Kept d) (end : first_of (end_tests (length d.items) d.disks) ≡ None) where
+  pub delta_small : number_in n.Delta d.set ≤ 9
+  delta_small = (number_fits n.Delta d.set k.set).1
+
+  specs : All SpecKept (with_freqs (number_in n.Delta d.set) d.disks)
+  specs = specs_kept (number_in n.Delta d.set) d.disks delta_small k.disks.few k.disks.each
+
+  items_len : length (map plain_item d.items) ≡ length d.items
+  items_len = length-map d.items plain_item
+
+  updaters_len : length (take d.updaters d.updates) ≡ d.updaters
+  updaters_len = length-take-le d.updaters d.updates (omega (arith, k.updates.few, k.updates.lists))
+
+  queries_len : length (take (length d.readers) d.queries) ≡ length d.readers
+  queries_len = length-take-le (length d.readers) d.queries (omega (arith, k.readers.few, k.queries.lists))
+
+  fits : (by : ℕ) → count_parts by d.script ≤ length (get_or (take d.updaters d.updates) by [])
+  fits by = elim (cases_lt by d.updaters) [
+    | inl below ↦ let same = get_or-take d.updaters d.updates by [] below in omega (arith, k.script.fits by, ap length same)
+    | inr past ↦ omega (arith, k.script.fits by, k.updates.past by past)
+  ]
+
+  pub made : IsDeck (deck_from d)
+  made =
+      let e = ended d end in
+      record {
+        some = let some = e.some in omega (arith, items_len);
+        most = let few = k.items.few in omega (arith, items_len);
+        values = All-map (λ (i : Item). i.value < 2 ^ 64) plain_item d.items (λ i x below. (k.items.each i x below).0);
+        sizes = sizes_same (number_in n.Delta d.set) d.disks ∙ e.sizes ∙ sym items_len;
+        aired = λ i x below. let s = specs i x below in (s.some, s.often);
+        updates = rw items_len (all_take (All (IsUpdate (length d.items))) d.updaters d.updates k.updates.each);
+        readers = queries_len;
+        tries = λ i x below. (k.readers.each i x below).some;
+        queries = rw items_len (all_take (All (IsQuery (length d.items))) (length d.readers) d.queries (λ i x below. λ j y inside. (k.queries.each i x below j y inside).query));
+        script = fits;
+      }
+
+  pub within : WithinLimits (deck_from d)
+  within = record {
+    rates = All-map (λ (i : Item). i.rate ≤ MOST_RATE) plain_item d.items (λ i x below. (k.items.each i x below).1);
+    disks = let few = k.disks.few in omega (arith, freqs_len (number_in n.Delta d.set) d.disks);
+    disk = λ i x below. let s = specs i x below in record { size = s.few; freq = s.seldom };
+    updaters = let few = k.updates.few in omega (arith, updaters_len);
+    updates = let all = k.updates.all in let few = k.updates.few_in_all in omega (arith, sum_take length d.updaters d.updates);
+    readers = k.readers.few;
+    reader = λ i x below. (k.readers.each i x below).within;
+    queries = let all = k.queries.all in let few = k.queries.few_in_all in omega (arith, sum_take length (length d.readers) d.queries);
+    query = all_take (All (λ items. length items ≤ MOST_ASKED)) (length d.readers) d.queries (λ i x below. λ j y inside. (k.queries.each i x below j y inside).few);
+    script = k.script.few;
+    starts = k.script.few_starts;
+    settings = settings_fit d.set k.set;
+  }
+
+-- The deck of the parts is the deck of the declarations.
+same_deck : {i j : List Item} {d e : List DiskSpec} {u v : List (List UpdateLists)} {r s : List ReaderPlan} {q p : List (List (List ℕ))} {x y : List (Option ℕ)} {t w : Settings}
+    → i ≡ j → d ≡ e → u ≡ v → r ≡ s → q ≡ p → x ≡ y → t ≡ w
+    → ◌≡◌ {A = Deck} (record { items = i; disks = d; updates = u; readers = r; queries = q; script = x; settings = t }) (record { items = j; disks = e; updates = v; readers = s; queries = p; script = y; settings = w })
+same_deck h1 h2 h3 h4 h5 h6 h7 = cc
+
+pub deck_same : (es : List Declaration) → Kept (draft_of es) → deck_from (draft_of es) ≡ deck_of es
+deck_same es k =
+    same_deck refl refl (take_for_each (updates_in es) 0 (updaters_in es) MOST_UPDATERS k.updates.few) refl (take_for_each (queries_in es) 0 (length (readers_in es)) 64 k.readers.few) refl refl

@@ -1,0 +1,26 @@
+-- For private steps alone. What the reader of a script speaks of: a start at the front, the answer for a list, and what
+-- a script keeps, its limits and its counts.
+use Rattle.std.specs.Prelude.{◌≡◌, ◌<◌, ◌≤◌, ◌==◌, ◌&&◌, ◌++◌, ℕ, List, [], ◌∷◌, Bool, false, Option, Some, None, length, get_or}
+use Rattle.air_base.specs.declared.limits.TheConstants.{MOST_EVENTS, MOST_STARTS, MOST_UPDATERS}
+use Rattle.air_base.specs.LeadingParts.{ends_part}
+use Rattle.air_model.specs.Decks.{count_parts}
+use Rattle.item_catalog.specs.Faults.{count_starts, script_passes}
+use Rattle.item_catalog.specs.declared.scripts.Script.TheInside.{Inside}
+
+-- A text's first part is the `s` of a start.
+abbrev pub begins_start : List ℕ → Bool
+begins_start [] = false
+begins_start (byte ∷ bytes) = (byte == 115) && ends_part bytes
+
+-- A reader of events answers whether they pass a limit, and has added them where they don't; none where the text spells no list.
+abbrev pub EventsRead : Option Bool → Option (List (Option ℕ)) → List (Option ℕ) → List (Option ℕ) → Type 0
+EventsRead read None old new = read ≡ None
+EventsRead read (Some events) old new = (read ≡ Some (script_passes old events)) × (script_passes old events ≡ false → new ≡ old ++ events)
+
+-- A script is within its limits, and its starts and each updater's commits are counted.
+pub record ScriptKept (s : Inside) : Type 0 where
+  pub few : length s.events.items ≤ MOST_EVENTS
+  pub starts : s.starts ≡ count_starts s.events.items
+  pub few_starts : s.starts ≤ MOST_STARTS
+  pub updaters : length s.commits ≡ MOST_UPDATERS
+  pub commits : (by : ℕ) → by < MOST_UPDATERS → get_or s.commits by 0 ≡ count_parts by s.events.items

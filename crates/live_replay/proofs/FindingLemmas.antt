@@ -1,0 +1,157 @@
+-- When a line agrees: exactly if the replay gives it, which it does for every line of a session that the history judges.
+use Rattle.std.proofs.Common.{◌≡◌, ◌↔◌, ℕ, Bool, true, false, not, ◌&&◌, ◌==◌, if◌then◌else◌, Option, Some, None, List, get_or, map, All, refl, sym, subst}
+use Rattle.std.specs.Prelude.{IsSomeAnd, IfSome}
+use Rattle.std.specs.List.{list_all}
+use Rattle.std.specs.Option.{is_some, option_map_or}
+use Rattle.std.proofs.lemmas.Bool.{and_parts, and_from, eqb-true, eq-eqb, not-true, not_from_false, false≢true}
+use Rattle.std.proofs.lemmas.List.{map_push}
+use Rattle.std.proofs.lemmas.Simd.{map-map}
+use Rattle.std.proofs.lemmas.List.Elements.{All-map}
+use Rattle.std.proofs.lemmas.List.Sums.{AllPass-from_list_all, list_all-from_AllPass}
+use Rattle.air_base.specs.declared.verdicts.Clash.{Clash}
+use Rattle.air_base.specs.declared.verdicts.Policy.{Policy}
+use Rattle.air_base.specs.declared.verdicts.VerdictKind.{VerdictKind}
+use Rattle.air_base.specs.declared.verdicts.VerdictKind.TheVariants.{Accept, Abort, Unfinished}
+use Rattle.air_history.specs.declared.histories.Event.{Event}
+use Rattle.air_history.specs.Tables.{values_of}
+use Rattle.air_history.specs.Reads.{ReadAt, read_value}
+use Rattle.air_history.specs.Clashes.{clash_by_history, is_late}
+use Rattle.air_history.specs.ClashLaws.{Accepts}
+use Rattle.air_history.proofs.AcceptedLemmas.{accepts_none, accepts_push}
+use Rattle.air_model.specs.Aired.{air_of, scheme_in}
+use Rattle.air_model.specs.Buckets.{Bucket}
+use Rattle.air_model.specs.Decks.{Deck, values_in}
+use Rattle.air_model.specs.Judges.{Judge, by_history}
+use Rattle.air_model.specs.Reads.{Read}
+use Rattle.air_model.specs.Reports.{line_by, total_at}
+use Rattle.air_model.specs.Sessions.{Line, Reader, line_of, read_in, session}
+use Rattle.air_model.specs.SessionLaws.{QueriesFilled}
+use Rattle.air_model.specs.declared.reports.LookLine.{LookLine}
+use Rattle.air_model.specs.declared.reports.VerdictLine.{VerdictLine}
+use Rattle.air_model.specs.Judges as judge
+use Rattle.air_model.proofs.MomentLemmas.{Gives, Keeps, kept}
+use Rattle.live_replay.specs.declared.findings.Cause.TheVariants as cause
+use Rattle.live_replay.specs.Findings.{all_pass, has_value, is_clash, is_refused, look_cause, place_of_line, places_of, read_in_cycle, verdict_cause}
+use Rattle.live_replay.specs.FindingLaws.{EndsSo, GivesLook, GivesVerdict}
+use Rattle.live_replay.proofs.PassLemmas.{accepts_pass, pass_accepts}
+
+-- ---- one line
+
+-- No cause applies exactly if the three tests hold.
+chosen : (a b c : Bool) → (if not a then Some cause.Value else if not b then Some cause.Verdict else if not c then Some cause.Clash else None) ≡ None → (a ≡ true) × (b ≡ true) × (c ≡ true)
+chosen true true true h = (refl, refl, refl)
+chosen true true false h = cc
+chosen true false c h = cc
+chosen false b c h = cc
+
+none_chosen : (a b c : Bool) → a ≡ true → b ≡ true → c ≡ true → (if not a then Some cause.Value else if not b then Some cause.Verdict else if not c then Some cause.Clash else None) ≡ None
+none_chosen a b c ea eb ec = rw (ea, eb, ec) refl
+
+named_so : (o : Option Clash) (clash : ℕ) → is_some o ≡ true → option_map_or (λ held. held.item == clash) o false ≡ true → IsSomeAnd o (λ held. held.item ≡ clash)
+named_so None clash s h = absurd (false≢true h)
+named_so (Some held) clash s h = eqb-true held.item clash h
+
+so_named : (o : Option Clash) (clash : ℕ) → IsSomeAnd o (λ held. held.item ≡ clash) → (is_some o ≡ true) × (option_map_or (λ held. held.item == clash) o false ≡ true)
+so_named None clash h = absurd h
+so_named (Some held) clash h = (refl, eq-eqb held.item clash h)
+
+ends_from : (policy : Policy) (H : List Event) (R : List ReadAt) (kind : VerdictKind) → is_refused policy H R kind ≡ true → is_clash policy H R kind ≡ true → EndsSo policy H R kind
+unfolding is_refused is_clash
+ends_from policy H R Accept refused clash = tt
+ends_from policy H R (Abort item cycle named) refused clash =
+    let both = and_parts (not (is_late policy R (read_in_cycle item cycle))) (is_some (clash_by_history policy H R (read_in_cycle item cycle))) refused in
+    (not-true _ both.0, named_so (clash_by_history policy H R (read_in_cycle item cycle)) named both.1 clash)
+ends_from policy H R Unfinished refused clash = tt
+
+refused_from : (policy : Policy) (H : List Event) (R : List ReadAt) (kind : VerdictKind) → EndsSo policy H R kind → (is_refused policy H R kind ≡ true) × (is_clash policy H R kind ≡ true)
+unfolding is_refused is_clash
+refused_from policy H R Accept end = (refl, refl)
+refused_from policy H R (Abort item cycle named) end =
+    let named = so_named (clash_by_history policy H R (read_in_cycle item cycle)) named end.1 in
+    (and_from _ _ (not_from_false _ end.0) named.0, named.1)
+refused_from policy H R Unfinished end = (refl, refl)
+
+module _ (deck : Deck) (H : List Event) where
+  pub agrees : (line : VerdictLine) → (verdict_cause deck H line ≡ None) ↔ GivesVerdict deck H line
+  unfolding verdict_cause
+  agrees line = (
+    λ none.
+        let R = places_of line.reads in
+        let tests = chosen (list_all (has_value (values_in deck) H) line.reads) (all_pass deck.settings.policy H R && is_refused deck.settings.policy H R line.verdict.kind) (is_clash deck.settings.policy H R line.verdict.kind) none in
+        let both = and_parts (all_pass deck.settings.policy H R) (is_refused deck.settings.policy H R line.verdict.kind) tests.1 in
+        record {
+          values = λ k d l. eqb-true _ _ (AllPass-from_list_all (has_value (values_in deck) H) line.reads tests.0 k d l);
+          accepts = pass_accepts deck.settings.policy H R both.0;
+          end = ends_from deck.settings.policy H R line.verdict.kind both.1 tests.2;
+        },
+    λ gives.
+        let R = places_of line.reads in
+        let end = refused_from deck.settings.policy H R line.verdict.kind gives.end in
+        none_chosen _ _ _
+        (list_all-from_AllPass (has_value (values_in deck) H) line.reads (λ k d l. eq-eqb _ _ (gives.values k d l)))
+        (and_from _ _ (accepts_pass deck.settings.policy H R gives.accepts) end.0) end.1,
+  )
+
+  pub look_agrees : (line : LookLine) → (look_cause deck H line ≡ None) ↔ GivesLook deck H line
+  unfolding look_cause
+  look_agrees line = (λ none. eqb-true _ _ (chosen_look (line.total == total_at (values_in deck) H line.cycle) none), λ gives. rw (eq-eqb line.total (total_at (values_in deck) H line.cycle) gives) refl)
+    where
+      chosen_look : (a : Bool) → (if a then None else Some cause.Total) ≡ None → a ≡ true
+      chosen_look true h = refl
+      chosen_look false h = cc
+
+  -- ---- the lines of a session
+
+  abbrev judging : Judge
+  judging = by_history (scheme_in deck) (values_in deck) H
+
+  places_in : (q a : ℕ) (kind : VerdictKind) (R : List Read) → places_of (line_of judging q a kind R).reads ≡ map judge.place_of R
+  unfolding line_of
+  places_in q a kind R = map-map _ _ R
+
+  gives_line : (r q a : ℕ) (kind : VerdictKind) (R : List Read) → Accepts deck.settings.policy H (map judge.place_of R) → EndsSo deck.settings.policy H (map judge.place_of R) kind →
+      verdict_cause deck H (line_by r (line_of judging q a kind R)) ≡ None
+  unfolding line_of by_history
+  gives_line r q a kind R accepts end =
+      let same : map judge.place_of R ≡ places_of (line_of judging q a kind R).reads = sym (places_in q a kind R) in
+      (agrees (line_by r (line_of judging q a kind R))).1 (record {
+        values = All-map (λ s. s.value ≡ read_value (values_of (values_in deck)) H (place_of_line s)) (λ (x : Read). record { item = x.item; cycle = x.cycle; value = read_value (values_of (values_in deck)) H (judge.place_of x) }) R (λ k d l. refl);
+        accepts = subst (Accepts deck.settings.policy H) same accepts;
+        end = subst (λ S. EndsSo deck.settings.policy H S kind) same end;
+      })
+
+  pub session_agrees : (r : ℕ) (reader : Reader) (heard : List (Option Bucket)) → QueriesFilled reader →
+      All (λ l. verdict_cause deck H (line_by r l) ≡ None) (session judging (air_of deck) reader heard).lines
+  unfolding by_history
+  session_agrees r reader heard filled = kept judging (air_of deck) reader Any K L filled rules heard (λ k d l. gives (get_or heard k d))
+    where
+      Any : Read → Type 0
+      Any x = Unit {0}
+
+      K : ℕ → ℕ → List Read → Type 0
+      K q a R = Accepts deck.settings.policy H (map judge.place_of R)
+
+      L : Line → Type 0
+      L l = verdict_cause deck H (line_by r l) ≡ None
+
+      gives : (o : Option Bucket) → Gives (air_of deck) Any o
+      gives None = tt
+      gives (Some b) = λ t. by (read_in b.cycle b.body)
+        where
+          by : (o : Option Read) → IfSome o Any
+          by None = tt
+          by (Some x) = tt
+
+      ended : (policy : Policy) (R : List ReadAt) (x : ReadAt) (c : Clash) → is_late policy R x ≡ false → clash_by_history policy H R x ≡ Some c → EndsSo policy H R (Abort x.item x.cycle c.item)
+      ended policy R x c late e = (late, subst (λ o. IsSomeAnd o (λ held. held.item ≡ c.item)) (sym e) refl)
+
+      rules : Keeps judging (air_of deck) reader Any K L
+      rules = record {
+        first = λ q. accepts_none deck.settings.policy H;
+        again = λ q a R k l. accepts_none deck.settings.policy H;
+        more = λ q a R x k any judged none. subst (Accepts deck.settings.policy H) (sym (map_push judge.place_of R x))
+            (accepts_push deck.settings.policy H (map judge.place_of R) (judge.place_of x) k judged.in_time none);
+        accepted = λ q a R k some e. gives_line r q a Accept R k tt;
+        aborted = λ q a R x c k any judged e. gives_line r q a (Abort x.item x.cycle c.item) R k (ended deck.settings.policy (map judge.place_of R) (judge.place_of x) c judged.in_time e);
+        unfinished = λ q a R k e. gives_line r q a Unfinished R k tt;
+      }

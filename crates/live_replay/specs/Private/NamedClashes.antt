@@ -1,0 +1,27 @@
+-- For private steps alone. By what a new read names held ones: the three ways of the policies.
+use Rattle.std.specs.Prelude.{◌≤◌, ℕ, ⊤, Bool, not, ◌==◌, List, [], ◌∷◌, Option, Some, None}
+use Rattle.air_base.specs.declared.verdicts.Clash.{Clash}
+use Rattle.air_history.specs.declared.histories.Event.{Event}
+use Rattle.air_history.specs.Reads.{ReadAt, stale}
+use Rattle.air_history.specs.Consistency.{consistent}
+use Rattle.air_history.specs.Clashes.{named_clash}
+use Rattle.live_replay.specs.Findings.{place_of_line}
+use Rattle.live_replay.specs.declared.policies.Naming.{Naming}
+use Rattle.live_replay.specs.declared.policies.Naming.TheVariants.{StaleAt, OfCycle, ApartFrom}
+
+-- The held read is named.
+abbrev pub named_by : List Event → Naming → ReadAt → Bool
+named_by H (StaleAt c) = λ r. stale H r c
+named_by H (OfCycle c) = λ r. r.cycle == c
+named_by H (ApartFrom x) = λ r. not (consistent H (r ∷ place_of_line x ∷ []))
+
+-- The clash where held reads are named so, or none is.
+abbrev pub clash_named : List Event → Option Naming → List ReadAt → Option Clash
+clash_named H None R = None
+clash_named H (Some naming) R = named_clash (named_by H naming) R
+
+-- The cycle at which origins are asked for is one of the first so many.
+abbrev pub NamesWithin : ℕ → Naming → Type 0
+NamesWithin starts (StaleAt c) = c ≤ starts
+NamesWithin starts (OfCycle c) = ⊤
+NamesWithin starts (ApartFrom x) = x.cycle ≤ starts

@@ -1,0 +1,114 @@
+-- What the pieces of a script's tape are, and what the sessions are of readers that heard them all.
+use Rattle.std.proofs.Common.{◌≡◌, ℕ, ◌+◌, ◌*◌, ◌<◌, ◌≤◌, None, List, [], ◌++◌, length, map, take, drop, All, refl, sym, ◌∙◌, ap, subst, arith, length-append}
+use Rattle.std.proofs.lemmas.List.{get_or-append-add, get_or_append_left, take-append-drop}
+use Rattle.std.proofs.lemmas.Grind.{flat_map-append}
+use Rattle.air_history.specs.declared.histories.Event.{Event}
+use Rattle.air_model.specs.Aired.{air_of, history_tape, scheme_in}
+use Rattle.air_model.specs.AiredLaws.{CanAir}
+use Rattle.air_model.specs.Buckets.{spelling}
+use Rattle.air_model.specs.Decks.{Deck, script_history, values_in}
+use Rattle.air_model.specs.Ethers.{heard_by}
+use Rattle.air_model.specs.Judges.{by_entries}
+use Rattle.air_model.specs.Outputs.{odds_in, script_tape, sessions_over, true_sessions}
+use Rattle.air_model.specs.Sessions.{State}
+use Rattle.air_model.specs.Tapes.{TapeRead, record_bytes, tape_of, tape_read}
+use Rattle.air_model.proofs.ReceiverLemmas.{true_sessions_are}
+use Rattle.air_model.proofs.TapeLemmas.{whole_read}
+use Rattle.listeners.specs.declared.ethers.TheConstants.{MOST_TAPE_RECORDS}
+use Rattle.listeners.specs.declared.hearers.Hearers.{Hearers}
+use Rattle.listeners.specs.Hearings.{AreHearing}
+use Rattle.listeners.proofs.ReaderLemmas.{few_records}
+use Rattle.air_sender.specs.AiredBytes.{aired_bytes}
+use Rattle.air_sender.proofs.AiredLemmas.{buckets_none, front_aired}
+use Rattle.air_sender.proofs.TapeLemmas.{records_short, tape_back}
+
+-- Two tapes one behind the other are the tape of all their records.
+pub tapes_join : (xs ys : List (List ℕ)) → tape_of (xs ++ ys) ≡ tape_of xs ++ tape_of ys
+unfolding tape_of
+tapes_join xs ys = flat_map-append record_bytes xs ys
+
+-- No event airs anything.
+pub nothing_aired : (deck : Deck) (now : List Event) → now ≡ [] → aired_bytes deck now ≡ []
+nothing_aired deck now none = ap (aired_bytes deck) none ∙ ap (map spelling) (buckets_none (values_in deck) (air_of deck))
+
+pub no_tape : (deck : Deck) (now : List Event) → now ≡ [] → history_tape (values_in deck) (air_of deck) now ≡ []
+unfolding tape_of
+no_tape deck now none = ap tape_of (nothing_aired deck now none)
+
+-- What the first events of a script's history air begins what all of them air.
+script_begins : (deck : Deck) (now : List Event) (k : ℕ) → now ≡ take k (script_history deck) → (rest : List (List ℕ)) × (aired_bytes deck (script_history deck) ≡ aired_bytes deck now ++ rest)
+script_begins deck now k is =
+    let H = script_history deck in
+    let front = front_aired deck (take k H) (drop k H) in
+    (front.0, ap (aired_bytes deck) (sym (take-append-drop k H)) ∙ front.1 ∙ ap (λ G. aired_bytes deck G ++ front.0) (sym is))
+
+-- So does their tape.
+pub tape_begins : (deck : Deck) (now : List Event) (k : ℕ) → now ≡ take k (script_history deck) → (rest : List ℕ) × (script_tape deck ≡ history_tape (values_in deck) (air_of deck) now ++ rest)
+tape_begins deck now k is =
+    let begun = script_begins deck now k is in
+    (tape_of begun.0, ap tape_of begun.1 ∙ tapes_join (aired_bytes deck now) begun.0)
+
+-- What holds of all holds of those in the middle.
+middle : (P : List ℕ → Type 0) (xs ys zs : List (List ℕ)) → All P ((xs ++ ys) ++ zs) → All P ys
+middle P xs ys zs all = λ k d below.
+    let inside : length xs + k < length (xs ++ ys) = omega (arith, below, length-append xs ys) in
+    subst P (get_or_append_left (xs ++ ys) zs d (length xs + k) inside ∙ get_or-append-add xs ys k d)
+    (all (length xs + k) d (omega (arith, inside, length-append (xs ++ ys) zs)))
+
+-- A piece of a script's tape: it is whole, its records are those aired since, few, and none is longer than a bucket.
+pub record IsPiece (deck : Deck) (before piece : List (List ℕ)) (tape : List ℕ) : Type 0 where
+  pub read : tape_read tape ≡ record { records = piece; cut = None }
+  pub short : All (λ r. length r ≤ 24 + 4 * length deck.items) piece
+  pub few : length before + length piece ≤ MOST_TAPE_RECORDS
+
+-- What a script's history airs is few records.
+pub few_aired : (deck : Deck) → length (script_tape deck) ≤ 1073741824 → length (aired_bytes deck (script_history deck)) ≤ 1073741824
+few_aired deck few =
+    let tape = script_tape deck in
+    let back = tape_back deck (script_history deck) tape refl few in
+    let count : length (aired_bytes deck (script_history deck)) ≤ length tape = subst (λ (t : TapeRead). length t.records ≤ length tape) back (few_records (length tape) 0 tape) in
+    omega (arith, count, few)
+
+pub is_piece : (deck : Deck) (before now : List Event) (piece : List (List ℕ)) (tape : List ℕ) (k : ℕ) → length (script_tape deck) ≤ 1073741824 → length deck.items ≤ 256
+    → now ≡ take k (script_history deck) → aired_bytes deck now ≡ aired_bytes deck before ++ piece → tape ≡ tape_of piece → IsPiece deck (aired_bytes deck before) piece tape
+is_piece deck before now piece tape k few items is aired same =
+    let begun = script_begins deck now k is in
+    let whole : aired_bytes deck (script_history deck) ≡ (aired_bytes deck before ++ piece) ++ begun.0 = begun.1 ∙ ap (λ l. l ++ begun.0) aired in
+    let short = middle (λ r. length r ≤ 24 + 4 * length deck.items) (aired_bytes deck before) piece begun.0
+    (subst (All (λ r. length r ≤ 24 + 4 * length deck.items)) whole (records_short deck (script_history deck))) in
+    let count = few_aired deck few in
+    record {
+      read = ap tape_read same ∙ whole_read piece (length (tape_of piece)) 0 (λ j d below. let s = short j d below in omega (arith, s, items)) (omega arith);
+      short = short;
+      few = omega (arith, count, ap length whole, length-append (aired_bytes deck before ++ piece) begun.0, length-append (aired_bytes deck before) piece);
+    }
+
+-- So readers can hear it.
+pub piece_whole : (deck : Deck) (before piece : List (List ℕ)) (tape : List ℕ) → IsPiece deck before piece tape → (tape_read tape).cut ≡ None
+piece_whole deck before piece tape p = ap (λ (t : TapeRead). t.cut) p.read
+
+pub piece_short : (deck : Deck) (before piece : List (List ℕ)) (tape : List ℕ) → IsPiece deck before piece tape → All (λ r. length r ≤ 24 + 4 * length deck.items) (tape_read tape).records
+piece_short deck before piece tape p = subst (λ (t : TapeRead). All (λ r. length r ≤ 24 + 4 * length deck.items) t.records) (sym p.read) p.short
+
+pub piece_few : (deck : Deck) (before piece : List (List ℕ)) (tape : List ℕ) → IsPiece deck before piece tape → length before + length (tape_read tape).records ≤ MOST_TAPE_RECORDS
+piece_few deck before piece tape p = subst (λ (t : TapeRead). length before + length t.records ≤ MOST_TAPE_RECORDS) (sym p.read) p.few
+
+-- And then they were given all that was aired up to here.
+pub piece_heard : (deck : Deck) (before now : List Event) (piece : List (List ℕ)) (tape : List ℕ) (hearers : Hearers) → IsPiece deck (aired_bytes deck before) piece tape
+    → aired_bytes deck now ≡ aired_bytes deck before ++ piece → AreHearing deck (aired_bytes deck before ++ (tape_read tape).records) hearers → AreHearing deck (aired_bytes deck now) hearers
+piece_heard deck before now piece tape hearers p aired hearing =
+    subst (λ rs. AreHearing deck rs hearers) (ap (λ (t : TapeRead). aired_bytes deck before ++ t.records) p.read ∙ sym aired) hearing
+
+-- Their tape is that from before with the piece's behind it.
+pub piece_joins : (deck : Deck) (before now : List Event) (piece : List (List ℕ)) → aired_bytes deck now ≡ aired_bytes deck before ++ piece
+    → history_tape (values_in deck) (air_of deck) now ≡ history_tape (values_in deck) (air_of deck) before ++ tape_of piece
+piece_joins deck before now piece aired = ap tape_of aired ∙ tapes_join (aired_bytes deck before) piece
+
+-- ---- the end
+
+-- Where all of a script was heard, its readers' sessions are those that its history judges; so is what is told of them.
+pub ended_told : {X : Type 0} (deck : Deck) (G : List Event) (tell : List State → X) (told : X) → CanAir deck (script_history deck) → G ≡ script_history deck
+    → told ≡ tell (sessions_over (by_entries (scheme_in deck)) deck (λ r. heard_by deck.settings.seed r (odds_in deck) (aired_bytes deck G))) → told ≡ tell (true_sessions deck (script_history deck))
+ended_told deck G tell told can all is =
+    is ∙ ap (λ H. tell (sessions_over (by_entries (scheme_in deck)) deck (λ r. heard_by deck.settings.seed r (odds_in deck) (aired_bytes deck H)))) all
+    ∙ ap tell (true_sessions_are deck (script_history deck) can)

@@ -1,0 +1,127 @@
+//! A deck's script on the air piece by piece, with all its readers.
+
+ghost use Rattle.std.specs.Prelude.{◌≡◌, ◌↔◌, ◌<◌, ◌≤◌, ◌+◌, ◌*◌, ◌++◌, ℕ, List, [], false, IfOk, IsTrue, OnOk, length};
+ghost use Rattle.air_base.specs.declared.limits.TheConstants.{MOST_TAPE_BYTES};
+ghost use Rattle.air_history.specs.Histories.{starts};
+ghost use Rattle.air_model.specs.Decks.{disks_in, script_history};
+ghost use Rattle.air_model.specs.Outputs.{script_tape, true_sessions};
+ghost use Rattle.air_model.specs.Programs.{program as slots_of};
+ghost use Rattle.air_model.specs.Reports.{counts_lines, verdict_lines};
+ghost use Rattle.air_sender.specs.TapeSizes.{cycle_size};
+ghost use Rattle.scripts.specs.Pieces.{IsAiring, piece_in, tape_so_far};
+
+use crate::piece_runs::PieceRun;
+use air_base::NoMemory;
+use air_history::Event;
+use air_sender::{TapeMast, tape_bytes};
+use chunk_program::Program;
+use item_catalog::Deck;
+use listeners::{Hearers, Sessions};
+use std::alloc::Global;
+use std::thread::Threads;
+
+/// The run of a deck's script so far, its readers, who heard all that was aired, and the mast that has the last piece of the tape.
+#[derive(Drop)]
+pub struct ScriptAiring {
+    pub run: PieceRun,
+    hearers: Hearers,
+    mast: TapeMast,
+    cycles: u32,
+}
+
+impl ScriptAiring {
+    /// Nothing was aired yet; a piece is to have so many cycles, and the mast has room for the tape of these. `Program::plan` makes the deck's program.
+    pub fn new(
+        alloc: Global,
+        deck: &Deck,
+        program: &Program,
+        cycles: u32,
+    ) -> Result<ScriptAiring, NoMemory>
+        requires planned { program.now ≡ disks_in deck.now }
+        requires some { 1 ≤ cycles }
+        ensures kept { IfOk result (IsAiring deck.now) }
+        ensures empty { IfOk result (λ a. a.run.events.items ≡ []) }
+        ensures nothing { IfOk result (λ a. tape_so_far deck.now a ≡ []) }
+        ensures size { IfOk result (λ a. a.cycles ≡ cycles) }
+        ensures room { IfOk result (λ a. a.mast.tape.room ≡ cycles * cycle_size (length deck.now.items) (slots_of program.now)) }
+    {
+        deck.shows_well_made();
+        Ok(ScriptAiring {
+            run: PieceRun::new(alloc, deck)?,
+            hearers: Hearers::new(alloc, deck, program)?,
+            mast: TapeMast::new(alloc, tape_bytes(program, deck.items(), cycles))?,
+            cycles,
+        })
+    }
+
+    /// Whether the whole script was aired.
+    pub fn is_done(&self, deck: &Deck) -> bool
+        requires { IsAiring deck.now self.now }
+        ensures done { IsTrue result ↔ (self.now.run.events.items ≡ script_history deck.now) }
+        ensures left { result ≡ false → length self.now.run.events.items < length deck.now.script }
+    {
+        self.run.is_done(deck)
+    }
+
+    /// The tape of the piece that was aired last.
+    pub fn piece(&self) -> &[u8]
+        ensures { result.now ≡ piece_in self.now }
+    {
+        self.mast.tape()
+    }
+
+    /// What was aired so far is a beginning of the script's tape.
+    pub fn shows_beginning(&self, deck: &Deck)
+        requires { IsAiring deck.now self.now }
+        ensures { (rest : List ℕ) × (script_tape deck.now ≡ tape_so_far deck.now self.now ++ rest) }
+    {}
+
+    /// Airs the next piece, up to the end of the script, and lets every reader hear it. It is kept from `new` on, until a call runs out
+    /// of memory.
+    pub fn next_piece<T: Threads + Sync>(
+        &mut self,
+        threads: &T,
+        alloc: Global,
+        deck: &Deck,
+        program: &Program,
+    ) -> Result<(), NoMemory>
+        requires planned { program.now ≡ disks_in deck.now }
+        requires few { length (script_tape deck.now) ≤ MOST_TAPE_BYTES }
+        requires kept { IsAiring deck.now self.old }
+        ensures kept { OnOk result (IsAiring deck.now self.new) }
+        ensures aired { OnOk result (tape_so_far deck.now self.new ≡ tape_so_far deck.now self.old ++ piece_in self.new) }
+        ensures on { OnOk result (length self.old.run.events.items < length deck.now.script → length self.old.run.events.items < length self.new.run.events.items) }
+        ensures size { OnOk result (self.new.cycles ≡ self.old.cycles) }
+        ensures cycles { OnOk result (starts self.new.run.events.items ≤ starts self.old.run.events.items + self.old.cycles) }
+        ensures full { OnOk result (length self.new.run.events.items < length deck.now.script → starts self.new.run.events.items ≡ starts self.old.run.events.items + self.old.cycles) }
+    {
+        let _items = deck.items();
+        self.run
+            .next_piece(alloc, deck, program, self.cycles, &mut self.mast)?;
+        self.hearers.hear(threads, alloc, deck, self.mast.tape())?;
+        Ok(())
+    }
+
+    /// The history and the sessions of all readers, once the whole script was aired.
+    pub fn end<T: Threads + Sync>(
+        self,
+        threads: &T,
+        alloc: Global,
+        deck: &Deck,
+        program: &Program,
+    ) -> Result<(Vec<Event>, Sessions), NoMemory>
+        requires planned { program.now ≡ disks_in deck.now }
+        requires few { length (script_tape deck.now) ≤ MOST_TAPE_BYTES }
+        requires kept { IsAiring deck.now self }
+        requires done { self.run.events.items ≡ script_history deck.now }
+        ensures events { IfOk result (λ r. r.0.items ≡ script_history deck.now) }
+        ensures verdicts { IfOk result (λ r. r.1.verdicts.items ≡ verdict_lines (true_sessions deck.now (script_history deck.now))) }
+        ensures counts { IfOk result (λ r. r.1.counts.items ≡ counts_lines (true_sessions deck.now (script_history deck.now))) }
+    {
+        deck.shows_well_made();
+        let _slots = program.slots();
+        let ScriptAiring { run, hearers, .. } = self;
+        let sessions = hearers.end(threads, alloc, deck)?;
+        Ok((run.events, sessions))
+    }
+}
