@@ -12,7 +12,7 @@ mod status;
 mod writing;
 
 pub use air_base::Rows;
-pub use air_model::{CountsLine, LookLine, VerdictLine};
+pub use air_model::reports::{CountsLine, LookLine, VerdictLine};
 pub use laws::read_back_law;
 pub use laws::reading::{
     not_both_reports_law, one_report_fault_law, one_report_law, report_or_fault_law,
