@@ -7,7 +7,7 @@ use crate::audits::add_audit;
 use crate::lines::{add_counts, add_events, add_looks, add_verdicts};
 use crate::texts::tell;
 use air_base::{NoMemory, Rows};
-use air_report::limits::MOST_REPORT_BYTES;
+use air_report::reading::limits::MOST_REPORT_BYTES;
 use air_report::{ReadReport, ReportError, read_lines, read_report, write_report};
 use case_lines::{add_line, add_number};
 use item_catalog::Deck;
