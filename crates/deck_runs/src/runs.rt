@@ -24,14 +24,14 @@ use std::thread::Threads;
 
 /// What a run comes to on the air: its history with what monitors saw, what the sessions of the deck's readers tell, and the tape.
 #[derive(Drop)]
-pub(crate) struct HeardRun {
+pub struct HeardRun {
     pub run: Run,
     pub sessions: Sessions,
     pub tape: TapeMast,
 }
 
 /// Runs a deck on threads, and lets each reader hear its own ether of the tape.
-pub(crate) fn air_run<R: Threads + Wait + Sync, G: Gate + Sync>(
+pub fn air_run<R: Threads + Wait + Sync, G: Gate + Sync>(
     rt: &R,
     alloc: Global,
     deck: &Deck,
