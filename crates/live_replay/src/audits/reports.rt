@@ -11,7 +11,7 @@ ghost use Rattle.live_replay.specs.TrueAudits.{IsTrueAudit};
 use crate::audits::audit;
 use crate::audits::texts::{differing_count, findings_text};
 use crate::findings::AuditError;
-use crate::laws::{agrees_law, rows_law, true_report_law};
+use crate::laws::{agrees_law, rows_law, session_law, true_report_law};
 use air_report::{ReadReport, ReportError, Status, read_report};
 use item_catalog::Deck;
 use std::alloc::Global;
@@ -69,5 +69,6 @@ fn shows_audit_truth(deck: &Deck)
     deck.shows_well_made();
     agrees_law();
     rows_law();
+    session_law();
     true_report_law();
 }

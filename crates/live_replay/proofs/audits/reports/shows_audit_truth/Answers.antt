@@ -10,6 +10,7 @@ returns c = λ text read is.
       verdicts = c.agrees_law.ensures.verdicts deck H;
       looks = c.agrees_law.ensures.looks deck H;
       rows = c.rows_law.ensures deck text read is;
+      judged = λ r heard k d below. (c.agrees_law.ensures.verdicts deck H _).1 (c.session_law.ensures deck H r heard c.shows_well_made.ensures.made k d below);
       sessions = λ heard same glances looks. c.true_report_law.ensures deck read heard c.shows_well_made.ensures.made same glances looks;
       none = none_differ (findings deck read);
     }
