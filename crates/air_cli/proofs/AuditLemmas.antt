@@ -13,9 +13,9 @@ use Rattle.air_report.specs.declared.reading.ReadReport.{ReadReport}
 use Rattle.live_replay.specs.AuditAnswers.{CanBeAudited, IsAudit, IsTooMuch, UnauditedCause}
 use Rattle.live_replay.specs.FindingTexts.{findings_text, some_differ}
 use Rattle.live_replay.proofs.AuditLemmas.{no_report_fault, one_report}
-use Rattle.air_cli.specs.NamedDecks.{DeckCause, OfDeck, SpellsDeck}
+use Rattle.air_cli.specs.NamedDecks.{DeckCause, HasDeck, SpellsDeck}
 use Rattle.air_cli.specs.NamedFiles.{UnreadCause}
-use Rattle.air_cli.proofs.CauseLemmas.{of_deck, where_read}
+use Rattle.air_cli.proofs.CauseLemmas.{of_bytes, of_deck}
 use Rattle.air_cli.specs.ReportsAndTapes.{ReportAndTape}
 use Rattle.air_cli.proofs.CountLemmas.{kept_twice}
 use Rattle.item_catalog.specs.Grammar.{Spells}
@@ -25,7 +25,7 @@ use Rattle.live_replay.specs.declared.findings.Finding.{Finding}
 use Rattle.live_replay.specs.declared.limits.TheConstants.{MOST_REPLAYED}
 use Rattle.air_report.specs.ReportGrammar.{HasReportFault}
 use Rattle.air_cli.specs.Answers.{InputFailed, NoCountRose}
-use Rattle.air_cli.specs.Audit.{AuditCause, AuditGives, OfReport, audit_given, audit_meaning, report_limit}
+use Rattle.air_cli.specs.Audit.{AuditCause, AuditGives, HasReport, OfReport, audit_given, audit_meaning, report_limit}
 use Rattle.air_cli.specs.Private.BeforeDelivery.{IsMade, IsUnmade, ReadsInputs}
 use Rattle.air_cli.specs.ToldInputs.{TellSameInputs, TellsInputs}
 use Rattle.air_cli.proofs.InputLemmas.{CommandFacts, deck_fits, deck_told, of_told, unread_fits}
@@ -43,7 +43,7 @@ deck_audit deck report before now (status.TooMuch product) h = absurd h
 deck_audit deck report before now s h = inl h
 
 -- A report that can't be read isn't audited.
-pub unread_audit : (deck report : List ℕ) (before now : ShelfState) (s : Status) → OfDeck deck before (λ d. ⊤) → UnreadCause report report_limit before now s → AuditCause deck report before now s
+pub unread_audit : (deck report : List ℕ) (before now : ShelfState) (s : Status) → HasDeck deck before (λ d. ⊤) → UnreadCause report report_limit before now s → AuditCause deck report before now s
 unfolding AuditCause UnreadCause
 unread_audit deck report before now (status.Report row kind) has h = absurd h
 unread_audit deck report before now (status.TooMuch product) has h = absurd h
@@ -54,38 +54,37 @@ pub told_first : (report : List ℕ) (before mid : ShelfState) (bytes read : Lis
     → ToldIs (before.told.file report) read
 told_first report before mid bytes read known same is = subst (λ file. ToldIs file read) same (subst (ToldIs (mid.told.file report)) (sym is) known)
 
--- What is so of the deck and of the report's bytes that were read is so of the named files.
-pub of_report : (deck report : List ℕ) (before : ShelfState) (d : Deck) (read : List ℕ) (P : Deck → List ℕ → Type 0) → SpellsDeck deck before d → ToldIs (before.told.file report) read
-    → length read ≤ report_limit → P d read → OfReport deck report before P
-of_report deck report before d read P spells known few p = of_deck deck before d (λ d. WhereTold (before.told.file report) (λ bytes. (length bytes ≤ report_limit) × P d bytes)) spells
-    (where_read (before.told.file report) read (λ bytes. (length bytes ≤ report_limit) × P d bytes) known (few, p))
+-- Where the files are told, what is so of the deck and of the report that there are is so of those that they spell.
+pub of_report : (deck report : List ℕ) (before : ShelfState) (P : Deck → List ℕ → Type 0) → HasReport deck report before P → OfReport deck report before P
+of_report deck report before P (d, spells, made, has) = of_deck deck before d (λ d. WhereTold (before.told.file report) (λ bytes. (length bytes ≤ report_limit) × P d bytes)) spells
+    (of_bytes report before (λ bytes. (length bytes ≤ report_limit) × P d bytes) has)
 
 -- Bytes that were read to their end and aren't audited have no audit.
-pub unaudited : (deck report : List ℕ) (before now : ShelfState) (d : Deck) (read : List ℕ) (s : Status) → IsAtEnd (now.told.left report) → SpellsDeck deck before d
+pub unaudited : (deck report : List ℕ) (before now : ShelfState) (d : Deck) (read : List ℕ) (s : Status) → IsAtEnd (now.told.left report) → SpellsDeck deck before d → IsDeck d
     → ToldIs (before.told.file report) read → length read ≤ report_limit → UnauditedCause d read s → AuditCause deck report before now s
 unfolding AuditCause DeckCause UnreadCause UnauditedCause
-unaudited deck report before now d read (status.Report row kind) end spells known few h = (end, of_report deck report before d read (λ d bytes. HasReportFault d bytes row kind) spells known few h)
-unaudited deck report before now d read (status.TooMuch product) end spells known few h = (end, of_report deck report before d read (λ d bytes. IsTooMuch d bytes product) spells known few h)
-unaudited deck report before now d read status.NoMemory end spells known few h = inl tt
-unaudited deck report before now d read s end spells known few h = absurd h
+unaudited deck report before now d read (status.Report row kind) end spells made known few h = (end, (d, spells, made, (read, known, (few, h))))
+unaudited deck report before now d read (status.TooMuch product) end spells made known few h = (end, (d, spells, made, (read, known, (few, h))))
+unaudited deck report before now d read status.NoMemory end spells made known few h = inl tt
+unaudited deck report before now d read s end spells made known few h = absurd h
 
 -- ---- the deck was read, and then the report
 
 -- The report could not be read.
-pub unread_later : (deck report : List ℕ) (before mid now : ShelfState) (d : Deck) (s : Status) → SpellsDeck deck before d → KeepsButLeft deck before.told mid.told
+pub unread_later : (deck report : List ℕ) (before mid now : ShelfState) (d : Deck) (s : Status) → SpellsDeck deck before d → IsDeck d → KeepsButLeft deck before.told mid.told
     → KeepsCounts before.faults mid.faults → UnreadCause report report_limit mid now s → (s ≢ status.ReadFault → KeepsCounts mid.faults now.faults)
     → IsUnmade (audit_meaning deck report) before now s
-unread_later deck report before mid now d s spells first calm unread kept = record {
-  cause = unread_audit deck report before now s (of_deck deck before d (λ d. ⊤) spells tt) (unread_since report report_limit before mid now s (first.files report) calm unread);
+unread_later deck report before mid now d s spells made first calm unread kept = record {
+  cause = unread_audit deck report before now s (d, spells, made, tt) (unread_since report report_limit before mid now s (first.files report) calm unread);
   kept = λ read. kept_twice before.faults mid.faults now.faults calm (kept read);
 }
 
 -- It was read, and isn't audited.
-pub unaudited_later : (deck report : List ℕ) (before mid now : ShelfState) (d : Deck) (bytes read : List ℕ) (s : Status) → SpellsDeck deck before d
+pub unaudited_later : (deck report : List ℕ) (before mid now : ShelfState) (d : Deck) (bytes read : List ℕ) (s : Status) → SpellsDeck deck before d → IsDeck d
     → KeepsButLeft deck before.told mid.told → KeepsCounts before.faults mid.faults → ToldIs (mid.told.file report) bytes → length bytes ≤ report_limit → read ≡ bytes
     → IsAtEnd (now.told.left report) → KeepsCounts mid.faults now.faults → UnauditedCause d read s → IsUnmade (audit_meaning deck report) before now s
-unaudited_later deck report before mid now d bytes read s spells first calm known few is end later cause = record {
-  cause = unaudited deck report before now d read s end spells (told_first report before mid bytes read known (first.files report) is) (subst (λ b. length b ≤ report_limit) (sym is) few) cause;
+unaudited_later deck report before mid now d bytes read s spells made first calm known few is end later cause = record {
+  cause = unaudited deck report before now d read s end spells made (told_first report before mid bytes read known (first.files report) is) (subst (λ b. length b ≤ report_limit) (sym is) few) cause;
   kept = λ none. kept_twice before.faults mid.faults now.faults calm later;
 }
 
@@ -100,7 +99,7 @@ audited_later deck report before mid now d bytes read text differs spells made f
   gives = (
     found,
     ap₂ (λ text differs. record { text = text; tape = []; differs = differs }) texts differ,
-    (d, spells, made, (read, told_first report before mid bytes read known (first.files report) is, subst (λ b. length b ≤ report_limit) (sym is) few, audit)),
+    (d, spells, made, (read, told_first report before mid bytes read known (first.files report) is, (subst (λ b. length b ≤ report_limit) (sym is) few, audit))),
   );
   read = λ name. both_ends now deck report name (end_still deck report mid now second deck_end end) end;
   calm = kept_twice before.faults mid.faults now.faults calm later;
@@ -192,12 +191,12 @@ unfolding AuditCause
 audit_fits deck report before now (status.Report row kind) told suits calm h =
     let d = told deck (inl refl) in
     let r = told report (inr refl) in
-    let two = one_told deck report before before d.0 r.0 CanBeAudited (λ d bytes. HasReportFault d bytes row kind) d.1 r.1 d.1 r.1 suits h.1 in
+    let two = one_told deck report before before d.0 r.0 CanBeAudited (λ d bytes. HasReportFault d bytes row kind) d.1 r.1 d.1 r.1 suits (of_report deck report before (λ d bytes. HasReportFault d bytes row kind) h.1) in
     absurd (can_or_faulty two.0 r.0 row kind two.1 two.2)
 audit_fits deck report before now (status.TooMuch product) told suits calm h =
     let d = told deck (inl refl) in
     let r = told report (inr refl) in
-    let two = one_told deck report before before d.0 r.0 CanBeAudited (λ d bytes. IsTooMuch d bytes product) d.1 r.1 d.1 r.1 suits h.1 in
+    let two = one_told deck report before before d.0 r.0 CanBeAudited (λ d bytes. IsTooMuch d bytes product) d.1 r.1 d.1 r.1 suits (of_report deck report before (λ d bytes. IsTooMuch d bytes product) h.1) in
     absurd (can_or_too_much two.0 r.0 product two.1 two.2)
 audit_fits deck report before now s told suits calm (inl h) =
     let d = told deck (inl refl) in
@@ -215,8 +214,7 @@ same_found d bytes a b first second = first.are ∙ ap (findings d) (one_report 
 audit_told : (deck report : List ℕ) (before : ShelfState) (given : ReportAndTape) → AuditGives deck report before given
     → (found : List Finding) × (given ≡ audit_given found) × OfReport deck report before (λ d bytes. IsAudit d bytes found)
 unfolding AuditGives
-audit_told deck report before given (found, is, (d, spells, made, (bytes, known, few, audit))) =
-    (found, is, of_report deck report before d bytes (λ d bytes. IsAudit d bytes found) spells known few audit)
+audit_told deck report before given (found, is, has) = (found, is, of_report deck report before (λ d bytes. IsAudit d bytes found) has)
 
 audit_one : (deck report : List ℕ) (before other : ShelfState) (a b : ReportAndTape) → TellSameInputs (audit_meaning deck report) before other
     → AuditGives deck report before a → AuditGives deck report other b → a ≡ b

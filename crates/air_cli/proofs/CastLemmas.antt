@@ -13,13 +13,12 @@ use Rattle.deck_runs.specs.declared.threads.RunFault.{RunFault}
 use Rattle.deck_runs.specs.declared.threads.RunFault.TheVariants as fault
 use Rattle.air_report.specs.declared.status.Status.{Status}
 use Rattle.air_report.specs.declared.status.Status.TheVariants as status
-use Rattle.deck_runs.specs.RunTapes.{IsLongRun, run_tape_len}
+use Rattle.deck_runs.specs.RunTapes.{run_tape_len}
 use Rattle.deck_runs.specs.RunTruths.{IsTrueRun, TellsHistory}
 use Rattle.air_cli.specs.FileLimits.{tape_limit}
 use Rattle.air_cli.specs.NamedDecks.{DeckCause, OfDeck, SpellsDeck}
 use Rattle.air_cli.specs.NamedFiles.{UnreadCause}
 use Rattle.air_cli.specs.RunnableDecks.{HasShortProgram, UnrunnableCause}
-use Rattle.air_cli.proofs.CauseLemmas.{of_deck}
 use Rattle.air_model.specs.Runs.{IsRun, Run}
 use Rattle.air_cli.specs.Answers.{NoCountRose}
 use Rattle.air_cli.specs.Cast.{CastCause, HasSent, IsCast, cast_meaning}
@@ -46,7 +45,7 @@ unrunnable_cast deck to mast before now s h = (unrunnable_run deck before now s 
 pub refused_cast : (deck : List ℕ) (to : ℕ) (old new : MastState) (before now : ShelfState) (d : Deck) (s : Status) → SpellsDeck deck before d → IsDeck d → HasShortProgram d
     → IsCastRefusal d to old new s → CastCause deck to old new before now s
 unfolding CastCause RunCause UnrunnableCause DeckCause UnreadCause IsCastRefusal
-refused_cast deck to old new before now d (status.TooLong bytes) spells made short h = (of_deck deck before d (λ d. HasShortProgram d × IsLongRun d bytes) spells (short, h.0), h.1)
+refused_cast deck to old new before now d (status.TooLong bytes) spells made short h = ((d, spells, made, (short, h.0)), h.1)
 refused_cast deck to old new before now d (status.AirFault at) spells made short h = (d, spells, made, (short, h.0), h.1)
 refused_cast deck to old new before now d status.NoMemory spells made short h = tt
 refused_cast deck to old new before now d s spells made short h = absurd h

@@ -3,13 +3,12 @@ use Rattle.std.proofs.Common.{ℕ, ◌≤◌, List, length, Option, Some, None, 
 use Rattle.item_catalog.specs.Grammar.{Spells}
 use Rattle.air_devices.specs.Told.{ToldIs, WhereTold}
 use Rattle.air_devices.specs.Shelves.{ShelfState}
-use Rattle.chunk_program.specs.Plans.{IsTooLong}
-use Rattle.air_model.specs.Decks.{Deck, disks_in}
+use Rattle.air_model.specs.Decks.{Deck, IsDeck}
 use Rattle.air_report.specs.declared.status.Status.{Status}
 use Rattle.air_report.specs.declared.status.Status.TheVariants as status
 use Rattle.air_cli.specs.FileLimits.{deck_limit}
-use Rattle.air_cli.specs.NamedFiles.{UnreadCause}
-use Rattle.air_cli.specs.NamedDecks.{DeckCause, OfDeck, SpellsDeck}
+use Rattle.air_cli.specs.NamedFiles.{HasBytes, UnreadCause}
+use Rattle.air_cli.specs.NamedDecks.{DeckCause, HasDeck, OfDeck, SpellsDeck}
 use Rattle.air_cli.specs.RunnableDecks.{LengthCause, UnrunnableCause}
 
 -- ---- told bytes
@@ -29,6 +28,14 @@ pub of_deck : (name : List ℕ) (before : ShelfState) (d : Deck) (P : Deck → T
 of_deck name before d P spells p = where_so (before.told.file name) (λ bytes. (length bytes ≤ deck_limit) × Spells bytes d)
     (λ bytes. (length bytes ≤ deck_limit) × ((d : Deck) × Spells bytes d × P d)) (λ bytes h. (h.0, (d, h.1, p))) spells
 
+-- Where the deck's file is told, what is so of the deck that there is is so of the one that the file spells.
+pub of_had : (name : List ℕ) (before : ShelfState) (P : Deck → Type 0) → HasDeck name before P → OfDeck name before P
+of_had name before P (d, spells, made, p) = of_deck name before d P spells p
+
+-- So it is of bytes.
+pub of_bytes : (name : List ℕ) (before : ShelfState) (P : List ℕ → Type 0) → HasBytes name before P → WhereTold (before.told.file name) P
+of_bytes name before P (bytes, known, p) = where_read (before.told.file name) bytes P known p
+
 -- ---- causes
 
 -- A file that can't be read gives no deck.
@@ -44,8 +51,8 @@ deck_runs name before now (status.PlanTooLong slots) h = absurd h
 deck_runs name before now s h = h
 
 -- Nor can a deck whose program would be too long.
-pub length_runs : (name : List ℕ) (before now : ShelfState) (d : Deck) (s : Status) → SpellsDeck name before d → LengthCause d s → UnrunnableCause name before now s
+pub length_runs : (name : List ℕ) (before now : ShelfState) (d : Deck) (s : Status) → SpellsDeck name before d → IsDeck d → LengthCause d s → UnrunnableCause name before now s
 unfolding UnrunnableCause DeckCause UnreadCause LengthCause
-length_runs name before now d status.NoMemory spells h = h
-length_runs name before now d (status.PlanTooLong slots) spells h = of_deck name before d (λ d. IsTooLong (disks_in d) slots) spells h
-length_runs name before now d s spells h = absurd h
+length_runs name before now d status.NoMemory spells made h = h
+length_runs name before now d (status.PlanTooLong slots) spells made h = (d, spells, made, h)
+length_runs name before now d s spells made h = absurd h

@@ -17,6 +17,7 @@ use Rattle.air_cli.specs.ReportsAndTapes.{ReportAndTape}
 use Rattle.air_cli.specs.Meanings.{Meaning}
 use Rattle.air_cli.specs.ToldInputs.{TellSameInputs, TellsInputs}
 use Rattle.air_cli.specs.Answers.{NoCountRose}
+use Rattle.air_cli.proofs.CauseLemmas.{of_had}
 use Rattle.air_cli.proofs.RefusalLemmas.{IsSound}
 
 -- What suits a command is not refused but for memory, and where its inputs decide what it gives, the same inputs give the same.
@@ -80,6 +81,6 @@ pub runs_fits : (name : List ℕ) (before now : ShelfState) (s : Status) (bytes 
     → NoCountRose before.faults now.faults → UnrunnableCause name before now s → s ≡ status.NoMemory
 unfolding UnrunnableCause DeckCause
 runs_fits name before now (status.PlanTooLong slots) bytes told suits calm h =
-    let two = both name before bytes HasShortProgram (λ d. IsTooLong (disks_in d) slots) told suits h in
+    let two = both name before bytes HasShortProgram (λ d. IsTooLong (disks_in d) slots) told suits (of_had name before (λ d. IsTooLong (disks_in d) slots) h) in
     absurd (too_long two.0 slots two.1 two.2)
 runs_fits name before now s bytes told suits calm h = deck_fits name before now s bytes HasShortProgram told suits calm h

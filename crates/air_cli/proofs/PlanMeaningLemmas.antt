@@ -6,13 +6,13 @@ use Rattle.air_devices.specs.Shelves.{ShelfState}
 use Rattle.air_report.specs.declared.status.Status.{Status}
 use Rattle.air_report.specs.declared.status.Status.TheVariants as status
 use Rattle.chunk_program.specs.Plans.{IsTooLong}
-use Rattle.air_model.specs.Decks.{Deck, disks_in}
+use Rattle.air_model.specs.Decks.{Deck, IsDeck, disks_in}
 use Rattle.air_cli.specs.NamedDecks.{DeckCause, SpellsDeck}
 use Rattle.air_cli.specs.NamedFiles.{UnreadCause}
 use Rattle.item_catalog.proofs.GrammarLemmas.{one_deck}
 use Rattle.air_cli.specs.Plan.{PlanCause, plan_meaning}
 use Rattle.air_cli.specs.RunnableDecks.{LengthCause}
-use Rattle.air_cli.proofs.CauseLemmas.{of_deck}
+use Rattle.air_cli.proofs.CauseLemmas.{of_deck, of_had}
 use Rattle.air_cli.proofs.RefusalLemmas.{IsSound, deck_still}
 use Rattle.air_cli.specs.ReportsAndTapes.{ReportAndTape}
 use Rattle.air_cli.specs.NamedDecks.{OfDeck}
@@ -29,11 +29,11 @@ deck_plan name before now (status.PlanTooLong slots) h = absurd h
 deck_plan name before now s h = h
 
 -- Nor is a deck whose program would be too long.
-pub length_plan : (name : List ℕ) (before now : ShelfState) (d : Deck) (s : Status) → SpellsDeck name before d → LengthCause d s → PlanCause name before now s
+pub length_plan : (name : List ℕ) (before now : ShelfState) (d : Deck) (s : Status) → SpellsDeck name before d → IsDeck d → LengthCause d s → PlanCause name before now s
 unfolding PlanCause DeckCause UnreadCause LengthCause
-length_plan name before now d status.NoMemory spells h = h
-length_plan name before now d (status.PlanTooLong slots) spells h = of_deck name before d (λ d. IsTooLong (disks_in d) slots) spells h
-length_plan name before now d s spells h = absurd h
+length_plan name before now d status.NoMemory spells made h = h
+length_plan name before now d (status.PlanTooLong slots) spells made h = (d, spells, made, h)
+length_plan name before now d s spells made h = absurd h
 
 pub wanting_plan : (name : List ℕ) (before now : ShelfState) → PlanCause name before now status.NoMemory
 unfolding PlanCause DeckCause UnreadCause
@@ -61,7 +61,7 @@ plan_fits : (deck : List ℕ) (before now : ShelfState) (s : Status) → TellsIn
 unfolding PlanCause
 plan_fits deck before now (status.PlanTooLong slots) told suits calm h =
     let known = told deck refl in
-    let two = both deck before known.0 HasShortProgram (λ d. IsTooLong (disks_in d) slots) known.1 suits h in
+    let two = both deck before known.0 HasShortProgram (λ d. IsTooLong (disks_in d) slots) known.1 suits (of_had deck before (λ d. IsTooLong (disks_in d) slots) h) in
     absurd (too_long two.0 slots two.1 two.2)
 plan_fits deck before now s told suits calm h = let known = told deck refl in deck_fits deck before now s known.0 HasShortProgram known.1 suits calm h
 

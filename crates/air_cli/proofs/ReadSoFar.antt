@@ -9,7 +9,6 @@ use Rattle.air_devices.specs.Told.{ToldIs, WhereTold}
 use Rattle.air_model.specs.Tapes.{TapeRead, ends_inside, tape_of, tape_read}
 use Rattle.air_model.proofs.TapeLemmas.{AreShort, cut_read}
 use Rattle.air_report.specs.declared.status.Status.{Status}
-use Rattle.air_cli.proofs.CauseLemmas.{where_read}
 use Rattle.air_cli.specs.HeardTapes.{UnheardCause}
 use Rattle.air_cli.specs.Private.Pieces.{AreWholeRecords, HasCome, IsCutBefore, IsRest}
 use Rattle.air_cli.proofs.TapeFronts.{tape_joined}
@@ -103,7 +102,7 @@ all_told {most} {file} {left} {later} {records} {piece} {after} {still} far come
 -- Where bytes of the piece are left, it is cut where they begin.
 pub cut_told : {most : ℕ} {file left later : Option (List ℕ)} {records : List (List ℕ)} {piece after : List ℕ} {still : ℕ} (at : ℕ)
     → IsRead most file left records piece still → IsRest piece → HasCome 0 piece after left later → 0 < length after → at ≡ most - still - length after
-    → WhereTold file (λ bytes. (length bytes ≤ most) × ((tape_read bytes).cut ≡ Some at))
+    → (bytes : List ℕ) × ToldIs file bytes × ((length bytes ≤ most) × ((tape_read bytes).cut ≡ Some at))
 cut_told {most} {file} {left} {later} {records} {piece} {after} {still} at far rest come some here =
     let tape = tape_of records in
     let size = ap length (nothing_came come) in
@@ -111,8 +110,7 @@ cut_told {most} {file} {left} {later} {records} {piece} {after} {still} at far r
     let inside : ends_inside piece ≡ true = elim rest [ inl none ↦ absurd (omega (arith, ap length none)) | inr cut ↦ cut ] in
     let read = cut_read records piece (length (tape ++ piece)) 0 far.short inside (omega arith) in
     let place : 0 + length tape ≡ at = omega arith in
-    where_read file (tape ++ piece) (λ bytes. (length bytes ≤ most) × ((tape_read bytes).cut ≡ Some at)) (all_told far come)
-    (omega (arith, length-append tape piece), ap (λ (t : TapeRead). t.cut) read ∙ ap (λ p. Some p) place)
+    (tape ++ piece, all_told far come, (omega (arith, length-append tape piece), ap (λ (t : TapeRead). t.cut) read ∙ ap (λ p. Some p) place))
 
 -- So this is why the named tape can't be heard.
 pub cut_cause : {most : ℕ} {left later : Option (List ℕ)} {records : List (List ℕ)} {piece after slice : List ℕ} {still : ℕ} (name : List ℕ) (before now : ShelfState) (s : Status)

@@ -5,12 +5,12 @@ use Rattle.air_devices.specs.Unchanged.{KeepsButPrinted}
 use Rattle.air_devices.specs.Shelves.{ShelfState}
 use Rattle.air_report.specs.declared.status.Status.{Status}
 use Rattle.air_report.specs.declared.status.Status.TheVariants as status
-use Rattle.air_model.specs.Decks.{Deck}
+use Rattle.air_model.specs.Decks.{Deck, IsDeck}
 use Rattle.air_cli.specs.FileLimits.{tape_limit}
 use Rattle.air_cli.specs.NamedDecks.{DeckCause, OfDeck, SpellsDeck}
 use Rattle.air_cli.specs.NamedFiles.{UnreadCause}
 use Rattle.air_cli.specs.RunnableDecks.{HasShortProgram, UnrunnableCause}
-use Rattle.air_cli.proofs.CauseLemmas.{of_deck, where_so}
+use Rattle.air_cli.proofs.CauseLemmas.{of_deck, of_had, where_so}
 use Rattle.air_cli.specs.ReportsAndTapes.{ReportAndTape}
 use Rattle.air_model.specs.Runs.{Run}
 use Rattle.air_cli.specs.GivenRuns.{IsGivenRun, IsRunRefusal}
@@ -28,11 +28,11 @@ unrunnable_run name before now (status.TooLong bytes) h = absurd h
 unrunnable_run name before now s h = h
 
 -- Nor has a deck whose tape would be too long.
-pub long_run_cause : (name : List ℕ) (before now : ShelfState) (d : Deck) (s : Status) → SpellsDeck name before d → HasShortProgram d → IsRunRefusal d s → RunCause name before now s
+pub long_run_cause : (name : List ℕ) (before now : ShelfState) (d : Deck) (s : Status) → SpellsDeck name before d → IsDeck d → HasShortProgram d → IsRunRefusal d s → RunCause name before now s
 unfolding RunCause UnrunnableCause DeckCause UnreadCause IsRunRefusal
-long_run_cause name before now d (status.TooLong bytes) spells short h = of_deck name before d (λ d. HasShortProgram d × IsLongRun d bytes) spells (short, h)
-long_run_cause name before now d status.NoMemory spells short h = tt
-long_run_cause name before now d s spells short h = absurd h
+long_run_cause name before now d (status.TooLong bytes) spells made short h = (d, spells, made, (short, h))
+long_run_cause name before now d status.NoMemory spells made short h = tt
+long_run_cause name before now d s spells made short h = absurd h
 
 pub run_still : (name : List ℕ) (before mid now : ShelfState) (s : Status) → KeepsButPrinted mid.told now.told → NoCountFalls mid.faults now.faults → RunCause name before mid s → RunCause name before now s
 unfolding RunCause
@@ -63,7 +63,7 @@ pub run_fits : (deck tape : List ℕ) (before now : ShelfState) (s : Status) →
 unfolding RunCause
 run_fits deck tape before now (status.TooLong bytes) told suits calm h =
     let known = told deck refl in
-    let two = both deck before known.0 CanRun (λ d. HasShortProgram d × IsLongRun d bytes) known.1 suits h in
+    let two = both deck before known.0 CanRun (λ d. HasShortProgram d × IsLongRun d bytes) known.1 suits (of_had deck before (λ d. HasShortProgram d × IsLongRun d bytes) h) in
     absurd (not_both two.0 bytes two.1.1 two.2.1)
 run_fits deck tape before now s told suits calm h =
     let known = told deck refl in

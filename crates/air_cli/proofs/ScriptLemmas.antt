@@ -16,7 +16,7 @@ use Rattle.air_cli.proofs.RefusalLemmas.{IsSound, unrunnable_still}
 use Rattle.air_cli.specs.NamedDecks.{OfDeck}
 use Rattle.air_cli.specs.RunnableDecks.{HasShortProgram}
 use Rattle.air_cli.specs.FileLimits.{tape_limit}
-use Rattle.air_cli.proofs.CauseLemmas.{where_so}
+use Rattle.air_cli.proofs.CauseLemmas.{of_had, where_so}
 use Rattle.air_model.specs.Decks.{Deck}
 use Rattle.air_model.specs.Outputs.{script_tape}
 use Rattle.air_cli.specs.Script.{HasLongTape, ScriptGives, script_given}
@@ -70,7 +70,7 @@ script_fits : (deck : List ℕ) (tape : Option (List ℕ)) (before now : ShelfSt
 unfolding ScriptCause
 script_fits deck tape before now (status.TooLong bytes) told suits calm h =
     let known = told deck refl in
-    let two = both deck before known.0 (λ d. HasShortProgram d × (length (script_tape d) ≤ tape_limit)) (λ d. HasLongTape d bytes) known.1 suits h in
+    let two = both deck before known.0 (λ d. HasShortProgram d × (length (script_tape d) ≤ tape_limit)) (λ d. HasLongTape d bytes) known.1 suits (of_had deck before (λ d. HasLongTape d bytes) h) in
     absurd (long_tape two.0 bytes two.1.1 two.2)
 script_fits deck tape before now s told suits calm h =
     let known = told deck refl in
@@ -81,8 +81,8 @@ script_one : (deck : List ℕ) (tape : Option (List ℕ)) (before other : ShelfS
 unfolding ScriptGives
 script_one deck tape before other a b same first second =
     let told = same deck refl in
-    let x = deck_told deck before told.0 (λ d. HasShortProgram d × (length (script_tape d) ≤ tape_limit) × IsTrueScript d × (a ≡ script_given d)) told.1 first.1 in
-    let y = deck_told deck other told.0 (λ d. HasShortProgram d × (length (script_tape d) ≤ tape_limit) × IsTrueScript d × (b ≡ script_given d)) told.2 second.1 in
+    let x = deck_told deck before told.0 (λ d. HasShortProgram d × (length (script_tape d) ≤ tape_limit) × IsTrueScript d × (a ≡ script_given d)) told.1 (of_had deck before _ first.1) in
+    let y = deck_told deck other told.0 (λ d. HasShortProgram d × (length (script_tape d) ≤ tape_limit) × IsTrueScript d × (b ≡ script_given d)) told.2 (of_had deck other _ second.1) in
     x.1.2.3 ∙ ap script_given (one_deck told.0 x.1.0 y.1.0 x.1.1 y.1.1) ∙ sym y.1.2.3
 
 pub script_facts : (deck : List ℕ) (tape : Option (List ℕ)) → CommandFacts (script_meaning deck tape)

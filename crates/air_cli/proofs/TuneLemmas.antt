@@ -1,11 +1,11 @@
 -- What the proofs of `tune` need of its definitions.
-use Rattle.std.proofs.Common.{◌≡◌, ℕ, ◌≤◌, List, [], length, Some, None, refl, sym, ap, ◌∙◌, subst, inl, inr}
+use Rattle.std.proofs.Common.{◌≡◌, ℕ, ◌≤◌, List, [], length, None, refl, sym, ap, ◌∙◌, subst, inl, inr}
 use Rattle.air_devices.specs.Counts.{KeepsCounts, NoCountFalls}
 use Rattle.air_devices.specs.Unchanged.{KeepsButPrinted}
 use Rattle.air_devices.specs.Shelves.{ShelfState}
 use Rattle.air_report.specs.declared.status.Status.{Status}
 use Rattle.air_report.specs.declared.status.Status.TheVariants as status
-use Rattle.air_devices.specs.Told.{ToldIs, WhereTold}
+use Rattle.air_devices.specs.Told.{ToldIs}
 use Rattle.air_model.specs.declared.reports.CountsLine.{CountsLine}
 use Rattle.air_model.specs.declared.reports.VerdictLine.{VerdictLine}
 use Rattle.air_model.specs.Aired.{scheme_in}
@@ -14,21 +14,21 @@ use Rattle.air_model.specs.Judges.{by_entries}
 use Rattle.air_model.specs.Outputs.{sessions_over, tune_output}
 use Rattle.air_model.specs.Reports.{Report, report_text, verdict_lines}
 use Rattle.air_model.specs.Tapes.{tape_read}
-use Rattle.air_cli.specs.NamedDecks.{DeckCause, OfDeck}
+use Rattle.air_cli.specs.NamedDecks.{DeckCause, HasDeck, OfDeck}
 use Rattle.air_cli.specs.RunnableDecks.{HasShortProgram, UnrunnableCause}
-use Rattle.air_cli.specs.NamedFiles.{UnreadCause}
+use Rattle.air_cli.specs.NamedFiles.{HasBytes, UnreadCause}
 use Rattle.air_cli.specs.FileLimits.{tape_limit}
 use Rattle.item_catalog.proofs.GrammarLemmas.{one_deck}
 use Rattle.air_cli.specs.Tune.{IsCutAt, OfTape, TuneCause, tune_meaning}
 use Rattle.air_cli.specs.Answers.{InputFailed}
-use Rattle.air_cli.proofs.CauseLemmas.{where_read}
+use Rattle.air_cli.proofs.CauseLemmas.{of_bytes, of_had}
 use Rattle.air_cli.proofs.ReadLemmas.{unread_since}
 use Rattle.air_cli.proofs.RefusalLemmas.{IsSound, unrunnable_still, unread_still}
 use Rattle.listeners.specs.declared.readers.Sessions.{Sessions}
 use Rattle.air_cli.specs.HeardTapes.{AreFileSessions, UnheardCause}
 use Rattle.std.specs.Prelude.{⊤}
 use Rattle.air_cli.specs.ReportsAndTapes.{ReportAndTape}
-use Rattle.air_cli.specs.Tune.{TuneGives, tune_given}
+use Rattle.air_cli.specs.Tune.{IsTuned, TuneGives, tune_given}
 use Rattle.air_cli.specs.Truths.{IsTrueTape}
 use Rattle.air_cli.specs.ToldInputs.{TellSameInputs, TellsInputs}
 use Rattle.air_cli.specs.Answers.{NoCountRose}
@@ -41,7 +41,7 @@ unrunnable_tune deck tape before now (status.TapeCut at) h = absurd h
 unrunnable_tune deck tape before now s h = inl h
 
 -- A tape that can't be heard gives no report.
-pub unheard_tune : (deck tape : List ℕ) (before now : ShelfState) (s : Status) → OfDeck deck before HasShortProgram → UnheardCause tape tape_limit before now s → TuneCause deck tape before now s
+pub unheard_tune : (deck tape : List ℕ) (before now : ShelfState) (s : Status) → HasDeck deck before HasShortProgram → UnheardCause tape tape_limit before now s → TuneCause deck tape before now s
 unfolding TuneCause UnheardCause
 unheard_tune deck tape before now (status.TapeCut at) can h = (can, h)
 unheard_tune deck tape before now s can h = inr (can, h)
@@ -50,19 +50,22 @@ unheard_tune deck tape before now s can h = inr (can, h)
 pub unheard_since : (tape : List ℕ) (most : ℕ) (before mid now : ShelfState) (s : Status) → mid.told.file tape ≡ before.told.file tape → KeepsCounts before.faults mid.faults
     → UnheardCause tape most mid now s → UnheardCause tape most before now s
 unfolding UnheardCause
-unheard_since tape most before mid now (status.TapeCut at) same calm h = subst (λ file. WhereTold file (λ bytes. (length bytes ≤ most) × ((tape_read bytes).cut ≡ Some at))) same h
+unheard_since tape most before mid now (status.TapeCut at) same calm (bytes, known, cut) = (bytes, subst (λ file. ToldIs file bytes) same known, cut)
 unheard_since tape most before mid now s same calm h = unread_since tape most before mid now s same calm h
 
 pub wanting_tune : (deck tape : List ℕ) (before now : ShelfState) → TuneCause deck tape before now status.NoMemory
 unfolding TuneCause UnrunnableCause DeckCause UnreadCause
 wanting_tune deck tape before now = inl tt
 
--- What is so of the whole tape that was heard is so of the named tape.
-pub of_heard : (tape : List ℕ) (before mid : ShelfState) (d : Deck) (sessions : Sessions) (P : List (List ℕ) → Type 0) → (heard : AreFileSessions tape tape_limit mid d sessions)
-    → mid.told.file tape ≡ before.told.file tape → P (tape_read heard.bytes).records → OfTape tape before P
-of_heard tape before mid d sessions P heard same p = where_read (before.told.file tape) heard.bytes
-    (λ bytes. (length bytes ≤ tape_limit) × ((tape_read bytes).cut ≡ None) × P (tape_read bytes).records)
-    (subst (λ file. ToldIs file heard.bytes) same heard.told) (heard.fits, heard.whole, p)
+-- The report over the whole tape that was heard is the one over the named tape.
+pub of_heard : (tape : List ℕ) (before mid : ShelfState) (d : Deck) (sessions : Sessions) (given : ReportAndTape) → (heard : AreFileSessions tape tape_limit mid d sessions)
+    → mid.told.file tape ≡ before.told.file tape → IsTrueTape d (tape_read heard.bytes).records → given ≡ tune_given d (tape_read heard.bytes).records
+    → HasBytes tape before (IsTuned d given)
+of_heard tape before mid d sessions given heard same true_is given_is = (
+  heard.bytes,
+  subst (λ file. ToldIs file heard.bytes) same heard.told,
+  record { fits = heard.fits; whole = heard.whole; true_is = true_is; given_is = given_is },
+)
 
 -- The report of the sessions over its records.
 pub heard_text : (tape : List ℕ) (shelf : ShelfState) (d : Deck) (sessions : Sessions) (text : List ℕ) → (heard : AreFileSessions tape tape_limit shelf d sessions)
@@ -116,7 +119,7 @@ unfolding TuneCause
 tape_fits deck tape before now (status.TapeCut at) told runs whole calm h =
     let known = told tape (inr refl) in
     let good = of_told (before.told.file tape) known.0 (λ bytes. (length bytes ≤ tape_limit) × ((tape_read bytes).cut ≡ None) × ⊤) known.1 whole in
-    let bad = of_told (before.told.file tape) known.0 (IsCutAt at) known.1 h.1 in
+    let bad = of_told (before.told.file tape) known.0 (IsCutAt at) known.1 (of_bytes tape before (IsCutAt at) h.1) in
     absurd (cc (good.1, bad.1))
 tape_fits deck tape before now s told runs whole calm (inl h) = let known = told deck (inl refl) in runs_fits deck before now s known.0 known.1 runs calm h
 tape_fits deck tape before now s told runs whole calm (inr h) =
@@ -129,14 +132,12 @@ tune_one : (deck tape : List ℕ) (before other : ShelfState) (a b : ReportAndTa
 unfolding TuneGives
 tune_one deck tape before other a b same first second =
     let told = same deck (inl refl) in
-    let x = deck_told deck before told.0 (λ d. HasShortProgram d × OfTape tape before (λ records. IsTrueTape d records × (a ≡ tune_given d records))) told.1 first.1 in
-    let y = deck_told deck other told.0 (λ d. HasShortProgram d × OfTape tape other (λ records. IsTrueTape d records × (b ≡ tune_given d records))) told.2 second.1 in
+    let x = deck_told deck before told.0 (λ d. HasShortProgram d × HasBytes tape before (IsTuned d a)) told.1 (of_had deck before _ first.1) in
+    let y = deck_told deck other told.0 (λ d. HasShortProgram d × HasBytes tape other (IsTuned d b)) told.2 (of_had deck other _ second.1) in
     let heard = same tape (inr refl) in
-    let v = of_told (before.told.file tape) heard.0
-    (λ bytes. (length bytes ≤ tape_limit) × ((tape_read bytes).cut ≡ None) × (IsTrueTape x.1.0 (tape_read bytes).records × (a ≡ tune_given x.1.0 (tape_read bytes).records))) heard.1 x.1.2.1 in
-    let w = of_told (other.told.file tape) heard.0
-    (λ bytes. (length bytes ≤ tape_limit) × ((tape_read bytes).cut ≡ None) × (IsTrueTape y.1.0 (tape_read bytes).records × (b ≡ tune_given y.1.0 (tape_read bytes).records))) heard.2 y.1.2.1 in
-    v.2.1 ∙ ap (λ d. tune_given d (tape_read heard.0).records) (one_deck told.0 x.1.0 y.1.0 x.1.1 y.1.1) ∙ sym w.2.1
+    let v = of_told (before.told.file tape) heard.0 (IsTuned x.1.0 a) heard.1 (of_bytes tape before (IsTuned x.1.0 a) x.1.2.1) in
+    let w = of_told (other.told.file tape) heard.0 (IsTuned y.1.0 b) heard.2 (of_bytes tape other (IsTuned y.1.0 b) y.1.2.1) in
+    v.given_is ∙ ap (λ d. tune_given d (tape_read heard.0).records) (one_deck told.0 x.1.0 y.1.0 x.1.1 y.1.1) ∙ sym w.given_is
 
 pub tune_facts : (deck tape : List ℕ) → CommandFacts (tune_meaning deck tape)
 tune_facts deck tape = record {

@@ -1,6 +1,6 @@
 -- What a deck's readers heard of a named tape, and why it couldn't be heard.
 use Rattle.std.specs.Prelude.{◌≡◌, ◌≤◌, ℕ, List, Some, None, length}
-use Rattle.air_devices.specs.Told.{ToldIs, WhereTold}
+use Rattle.air_devices.specs.Told.{ToldIs}
 use Rattle.air_devices.specs.Shelves.{ShelfState}
 use Rattle.air_model.specs.Aired.{scheme_in}
 use Rattle.air_model.specs.Decks.{Deck}
@@ -10,7 +10,7 @@ use Rattle.air_model.specs.Reports.{counts_lines, verdict_lines}
 use Rattle.air_model.specs.Tapes.{tape_read}
 use Rattle.air_report.specs.declared.status.Status.{Status}
 use Rattle.air_report.specs.declared.status.Status.TheVariants as status
-use Rattle.air_cli.specs.NamedFiles.{UnreadCause}
+use Rattle.air_cli.specs.NamedFiles.{HasBytes, UnreadCause}
 use Rattle.listeners.specs.declared.readers.Sessions.{Sessions}
 
 -- There are bytes, at most so many and those of the named file where they are told, which are a whole tape: and what the sessions tell
@@ -23,7 +23,8 @@ pub record AreFileSessions (name : List ℕ) (most : ℕ) (before : ShelfState) 
   pub verdicts : sessions.verdicts.items ≡ verdict_lines (sessions_over (by_entries (scheme_in d)) d (λ r. (tape_read bytes).records))
   pub counts : sessions.counts.items ≡ counts_lines (sessions_over (by_entries (scheme_in d)) d (λ r. (tape_read bytes).records))
 
--- Why a named tape couldn't be heard: it is cut at this byte, where it is told; or its file couldn't be read.
+-- Why a named tape couldn't be heard: there are the bytes of one that is cut at this byte, those of the named file where they are told; or
+-- its file couldn't be read.
 unfoldable pub UnheardCause : List ℕ → ℕ → ShelfState → ShelfState → Status → Type 0
-UnheardCause name most before now (status.TapeCut at) = WhereTold (before.told.file name) (λ bytes. (length bytes ≤ most) × ((tape_read bytes).cut ≡ Some at))
+UnheardCause name most before now (status.TapeCut at) = HasBytes name before (λ bytes. (length bytes ≤ most) × ((tape_read bytes).cut ≡ Some at))
 UnheardCause name most before now s = UnreadCause name most before now s

@@ -3,7 +3,7 @@ use Rattle.std.specs.Prelude.{ℕ, ◌≤◌, List, length}
 use Rattle.std.specs.Io.KnownBytes.{IsAtEnd}
 use Rattle.air_devices.specs.Told.{WhereTold}
 use Rattle.air_devices.specs.Shelves.{ShelfState}
-use Rattle.air_model.specs.Decks.{Deck}
+use Rattle.air_model.specs.Decks.{Deck, IsDeck}
 use Rattle.item_catalog.specs.Grammar.{HasFault, Spells}
 use Rattle.air_report.specs.declared.status.Status.{Status}
 use Rattle.air_report.specs.declared.status.Status.TheVariants as status
@@ -17,6 +17,10 @@ SpellsDeck name before d = WhereTold (before.told.file name) (λ bytes. (length 
 -- The named file's bytes, where they are told, spell a deck, and this is so of the deck.
 abbrev pub OfDeck : List ℕ → ShelfState → (Deck → Type 0) → Type 0
 OfDeck name before P = WhereTold (before.told.file name) (λ bytes. (length bytes ≤ deck_limit) × ((d : Deck) × Spells bytes d × P d))
+
+-- There is a well-made deck, the one that the named file spells where it is told, and this is so of it.
+abbrev pub HasDeck : List ℕ → ShelfState → (Deck → Type 0) → Type 0
+HasDeck name before P = (d : Deck) × SpellsDeck name before d × IsDeck d × P d
 
 -- The named file was read to its end, and its bytes have this fault in place of a deck.
 pub record IsFaulty (name : List ℕ) (row kind : ℕ) (before now : ShelfState) : Type 0 where

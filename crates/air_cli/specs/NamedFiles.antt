@@ -4,6 +4,7 @@ use Rattle.std.specs.Io.KnownBytes.{IsAtEnd}
 use Rattle.air_devices.specs.Counts.{KeepsCounts, NoCountFalls, Rose}
 use Rattle.air_devices.specs.Unchanged.{KeepsButLeft}
 use Rattle.air_devices.specs.Reading.{IsTooLarge}
+use Rattle.air_devices.specs.Told.{ToldIs}
 use Rattle.air_devices.specs.Shelves.{ShelfState}
 use Rattle.air_report.specs.declared.status.Status.{Status}
 use Rattle.air_report.specs.declared.status.Status.TheVariants as status
@@ -16,6 +17,10 @@ pub record ReadsInput {T : Type 0} (name : List ℕ) (result : Result T Status) 
   pub kept : IfErr result (λ s. s ≢ status.ReadFault → KeepsCounts before.faults now.faults)
   pub rest : KeepsButLeft name before.told now.told
   pub later : NoCountFalls before.faults now.faults
+
+-- There are bytes, those of the named file where they are told, and this is so of them.
+abbrev pub HasBytes : List ℕ → ShelfState → (List ℕ → Type 0) → Type 0
+HasBytes name before P = (bytes : List ℕ) × ToldIs (before.told.file name) bytes × P bytes
 
 -- Why the named file could not be read: reading it failed, or it has more bytes than the limit, and was read up to one
 -- byte more.

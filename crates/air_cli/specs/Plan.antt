@@ -6,14 +6,14 @@ use Rattle.air_model.specs.Decks.{Deck, IsDeck, disks_in}
 use Rattle.air_model.specs.Outputs.{plan_output}
 use Rattle.air_report.specs.declared.status.Status.{Status}
 use Rattle.air_report.specs.declared.status.Status.TheVariants as status
-use Rattle.air_cli.specs.NamedDecks.{DeckCause, OfDeck, SpellsDeck}
+use Rattle.air_cli.specs.NamedDecks.{DeckCause, HasDeck, OfDeck, SpellsDeck}
 use Rattle.air_cli.specs.RunnableDecks.{HasShortProgram}
 use Rattle.air_cli.specs.Meanings.{Meaning}
 use Rattle.air_cli.specs.ReportsAndTapes.{ReportAndTape}
 
--- Why it is refused: its deck, or the length of the deck's program.
+-- Why it is refused: there is no deck, or there is one and its program is too long.
 unfoldable pub PlanCause : List ℕ → ShelfState → ShelfState → Status → Type 0
-PlanCause deck before now (status.PlanTooLong slots) = OfDeck deck before (λ d. IsTooLong (disks_in d) slots)
+PlanCause deck before now (status.PlanTooLong slots) = HasDeck deck before (λ d. IsTooLong (disks_in d) slots)
 PlanCause deck before now s = DeckCause deck before now s
 
 -- The text of the deck's plan, and no tape.

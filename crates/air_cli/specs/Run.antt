@@ -5,7 +5,7 @@ use Rattle.air_model.specs.Decks.{Deck, IsDeck}
 use Rattle.air_report.specs.declared.status.Status.{Status}
 use Rattle.air_report.specs.declared.status.Status.TheVariants as status
 use Rattle.air_cli.specs.RunnableDecks.{HasShortProgram, UnrunnableCause}
-use Rattle.air_cli.specs.NamedDecks.{OfDeck, SpellsDeck}
+use Rattle.air_cli.specs.NamedDecks.{HasDeck, OfDeck, SpellsDeck}
 use Rattle.air_cli.specs.FileLimits.{tape_limit}
 use Rattle.air_cli.specs.ReportsAndTapes.{ReportAndTape}
 use Rattle.air_model.specs.Runs.{Run}
@@ -17,9 +17,9 @@ use Rattle.air_cli.specs.Meanings.{Meaning}
 abbrev pub CanRun : Deck → Type 0
 CanRun d = HasShortProgram d × (run_tape_len d ≤ tape_limit)
 
--- Why it is refused: its deck can't be run, or the tape would be too long.
+-- Why it is refused: its deck can't be run; or there is one that can, and the tape would be too long.
 unfoldable pub RunCause : List ℕ → ShelfState → ShelfState → Status → Type 0
-RunCause deck before now (status.TooLong bytes) = OfDeck deck before (λ d. HasShortProgram d × IsLongRun d bytes)
+RunCause deck before now (status.TooLong bytes) = HasDeck deck before (λ d. HasShortProgram d × IsLongRun d bytes)
 RunCause deck before now s = UnrunnableCause deck before now s
 
 -- What it gives: there is a well-made deck that can be run, the one that the named file spells where it is told; and this is report

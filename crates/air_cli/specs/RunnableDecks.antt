@@ -6,7 +6,7 @@ use Rattle.air_model.specs.Programs.{program}
 use Rattle.chunk_program.specs.Plans.{IsTooLong, most_slots}
 use Rattle.air_report.specs.declared.status.Status.{Status}
 use Rattle.air_report.specs.declared.status.Status.TheVariants as status
-use Rattle.air_cli.specs.NamedDecks.{DeckCause, OfDeck}
+use Rattle.air_cli.specs.NamedDecks.{DeckCause, HasDeck}
 
 -- The deck's program has no more slots than a program may have.
 abbrev pub HasShortProgram : Deck → Type 0
@@ -18,7 +18,7 @@ LengthCause d (status.PlanTooLong slots) = IsTooLong (disks_in d) slots
 LengthCause d status.NoMemory = ⊤
 LengthCause d other = ⊥
 
--- Why there is no deck that can be run: there is no deck, or its program would be too long.
+-- Why there is no deck that can be run: there is no deck; or there is one, and its program would be too long.
 unfoldable pub UnrunnableCause : List ℕ → ShelfState → ShelfState → Status → Type 0
-UnrunnableCause deck before now (status.PlanTooLong slots) = OfDeck deck before (λ d. IsTooLong (disks_in d) slots)
+UnrunnableCause deck before now (status.PlanTooLong slots) = HasDeck deck before (λ d. IsTooLong (disks_in d) slots)
 UnrunnableCause deck before now s = DeckCause deck before now s

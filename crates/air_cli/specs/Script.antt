@@ -6,7 +6,7 @@ use Rattle.air_model.specs.Outputs.{script_output, script_tape}
 use Rattle.air_report.specs.declared.status.Status.{Status}
 use Rattle.air_report.specs.declared.status.Status.TheVariants as status
 use Rattle.air_cli.specs.RunnableDecks.{HasShortProgram, UnrunnableCause}
-use Rattle.air_cli.specs.NamedDecks.{OfDeck}
+use Rattle.air_cli.specs.NamedDecks.{HasDeck, OfDeck}
 use Rattle.air_cli.specs.FileLimits.{tape_limit}
 use Rattle.air_cli.specs.Meanings.{Meaning}
 use Rattle.air_cli.specs.ReportsAndTapes.{ReportAndTape}
@@ -18,20 +18,20 @@ pub record HasLongTape (d : Deck) (bytes : ℕ) : Type 0 where
   pub counted : bytes ≡ length (script_tape d)
   pub above : tape_limit < bytes
 
--- Why it is refused: its deck can't be run, or the tape would be too long.
+-- Why it is refused: its deck can't be run; or there is one that can, and the tape would be too long.
 unfoldable pub ScriptCause : List ℕ → ShelfState → ShelfState → Status → Type 0
-ScriptCause deck before now (status.TooLong bytes) = OfDeck deck before (λ d. HasLongTape d bytes)
+ScriptCause deck before now (status.TooLong bytes) = HasDeck deck before (λ d. HasLongTape d bytes)
 ScriptCause deck before now s = UnrunnableCause deck before now s
 
 -- The report of the deck's script, and its tape.
 abbrev pub script_given : Deck → ReportAndTape
 script_given d = record { text = script_output d; tape = script_tape d; differs = false }
 
--- What it gives: its deck can be run, the tape is short enough, the sessions in the report are true, and this is report and tape. Nothing in it
--- differs.
+-- What it gives: there is a well-made deck that can be run and whose tape is short enough, the one that the named file spells where it
+-- is told; the sessions of its script are true, and this is its report and its tape. Nothing in it differs.
 unfoldable pub ScriptGives : List ℕ → ShelfState → ReportAndTape → Type 0
 ScriptGives deck before given =
-    (given.differs ≡ false) × OfDeck deck before (λ d. HasShortProgram d × (length (script_tape d) ≤ tape_limit) × IsTrueScript d × (given ≡ script_given d))
+    (given.differs ≡ false) × HasDeck deck before (λ d. HasShortProgram d × (length (script_tape d) ≤ tape_limit) × IsTrueScript d × (given ≡ script_given d))
 
 -- It reads its deck, which must be one that can be run and have a tape that is short enough, and writes the tape piece by piece
 -- where one is named; the deck decides report and tape.

@@ -8,8 +8,8 @@ use Rattle.air_model.specs.Tapes.{tape_read}
 use Rattle.air_report.specs.declared.status.Status.{Status}
 use Rattle.air_report.specs.declared.status.Status.TheVariants as status
 use Rattle.air_cli.specs.RunnableDecks.{HasShortProgram, UnrunnableCause}
-use Rattle.air_cli.specs.NamedDecks.{OfDeck}
-use Rattle.air_cli.specs.NamedFiles.{UnreadCause}
+use Rattle.air_cli.specs.NamedDecks.{HasDeck, OfDeck}
+use Rattle.air_cli.specs.NamedFiles.{HasBytes, UnreadCause}
 use Rattle.air_cli.specs.FileLimits.{tape_limit}
 use Rattle.air_cli.specs.Meanings.{Meaning}
 use Rattle.air_cli.specs.ReportsAndTapes.{ReportAndTape}
@@ -19,10 +19,11 @@ use Rattle.air_cli.specs.Truths.{IsTrueTape}
 abbrev pub IsCutAt : ℕ → List ℕ → Type 0
 IsCutAt at bytes = (length bytes ≤ tape_limit) × ((tape_read bytes).cut ≡ Some at)
 
--- Why it is refused: its deck can't be run, or it can, and then the tape can't be heard.
+-- Why it is refused: its deck can't be run; or there is one that can, and the tape can't be read, or there are the bytes of one that is
+-- cut.
 unfoldable pub TuneCause : List ℕ → List ℕ → ShelfState → ShelfState → Status → Type 0
-TuneCause deck tape before now (status.TapeCut at) = OfDeck deck before HasShortProgram × WhereTold (before.told.file tape) (IsCutAt at)
-TuneCause deck tape before now s = UnrunnableCause deck before now s ⊎ (OfDeck deck before HasShortProgram × UnreadCause tape tape_limit before now s)
+TuneCause deck tape before now (status.TapeCut at) = HasDeck deck before HasShortProgram × HasBytes tape before (IsCutAt at)
+TuneCause deck tape before now s = UnrunnableCause deck before now s ⊎ (HasDeck deck before HasShortProgram × UnreadCause tape tape_limit before now s)
 
 -- The named file's bytes, where they are told, are a whole tape, and this is so of its records.
 abbrev pub OfTape : List ℕ → ShelfState → (List (List ℕ) → Type 0) → Type 0
@@ -32,11 +33,17 @@ OfTape name before P = WhereTold (before.told.file name) (λ bytes. (length byte
 abbrev pub tune_given : Deck → List (List ℕ) → ReportAndTape
 tune_given d records = record { text = tune_output d records; tape = []; differs = false }
 
--- What it gives: its deck can be run, its tape is whole, the sessions in the report are true, and this is the report. Nothing in it
--- differs.
+-- These bytes are a whole tape, and this is the report of the deck's readers over its records, of which the sessions are true.
+pub record IsTuned (d : Deck) (given : ReportAndTape) (bytes : List ℕ) : Type 0 where
+  pub fits : length bytes ≤ tape_limit
+  pub whole : (tape_read bytes).cut ≡ None
+  pub true_is : IsTrueTape d (tape_read bytes).records
+  pub given_is : given ≡ tune_given d (tape_read bytes).records
+
+-- What it gives: there are a well-made deck that can be run and the bytes of a whole tape, those of the named files where they are
+-- told; and this is the report over them. Nothing in it differs.
 unfoldable pub TuneGives : List ℕ → List ℕ → ShelfState → ReportAndTape → Type 0
-TuneGives deck tape before given =
-    (given.differs ≡ false) × OfDeck deck before (λ d. HasShortProgram d × OfTape tape before (λ records. IsTrueTape d records × (given ≡ tune_given d records)))
+TuneGives deck tape before given = (given.differs ≡ false) × HasDeck deck before (λ d. HasShortProgram d × HasBytes tape before (IsTuned d given))
 
 -- It reads its deck, which must be one that can be run, and the tape, which must be whole, and writes no output; the two decide
 -- the report.

@@ -16,13 +16,17 @@ use Rattle.session_pins.proofs.SessionLemmas.{cut_cut, pair_whole}
 pub told_bytes : (file : Option (List ℕ)) (bytes tape : List ℕ) → file ≡ Some tape → ToldIs file bytes → bytes ≡ tape
 told_bytes file bytes tape is_told told = subst (λ o. ToldIs o bytes) is_told told
 
+-- What is so of the bytes that there are is so of the told ones.
+of_known : (file : Option (List ℕ)) (tape : List ℕ) (P : List ℕ → Type 0) → file ≡ Some tape → (bytes : List ℕ) × ToldIs file bytes × P bytes → P tape
+of_known file tape P is_told (bytes, known, p) = subst P (told_bytes file bytes tape is_told known) p
+
 -- A whole tape within its limit isn't heard only where it can't be read or memory runs out.
 pub unread_cause : (name : List ℕ) (most : ℕ) (before now : ShelfState) (s : Status) → before.told.file name ≡ Some pair_tape → 72 ≤ most →
     UnheardCause name most before now s → IsUnread s
 unfolding UnheardCause UnreadCause
 unread_cause name most before now (status.TapeCut at) is_told few cause =
     let cut : (72 ≤ most) × ((tape_read pair_tape).cut ≡ Some at) =
-    subst (λ o. WhereTold o (λ bytes. (length bytes ≤ most) × ((tape_read bytes).cut ≡ Some at))) is_told cause in
+    of_known (before.told.file name) pair_tape (λ bytes. (length bytes ≤ most) × ((tape_read bytes).cut ≡ Some at)) is_told cause in
     let differ : None ≡ Some at = sym pair_whole ∙ cut.1 in
     absurd (cc)
 unread_cause name most before now (status.TooLarge limit) is_told few cause =
@@ -38,7 +42,7 @@ pub cut_cause : (name : List ℕ) (before now : ShelfState) (s : Status) → bef
 unfolding UnheardCause UnreadCause
 cut_cause name before now (status.TapeCut at) is_told cause =
     let cut : (39 ≤ 72) × ((tape_read cut_tape).cut ≡ Some at) =
-    subst (λ o. WhereTold o (λ bytes. (length bytes ≤ 72) × ((tape_read bytes).cut ≡ Some at))) is_told cause in
+    of_known (before.told.file name) cut_tape (λ bytes. (length bytes ≤ 72) × ((tape_read bytes).cut ≡ Some at)) is_told cause in
     let same : Some 36 ≡ Some at = sym cut_cut ∙ cut.1 in
     cc
 cut_cause name before now (status.TooLarge limit) is_told cause =

@@ -26,8 +26,8 @@ pub(crate) fn audit<S: Shelf>(
     ensures reads { ReadsInputs (audit_meaning name.now report.now) (S.state shelf.old) (S.state shelf.new) }
 {
     let deck = read_deck_file(alloc, shelf, name)?;
-    let bytes = read_bytes(alloc, shelf, report, MOST_REPORT_BYTES)?;
     deck.shows_well_made();
+    let bytes = read_bytes(alloc, shelf, report, MOST_REPORT_BYTES)?;
     let bytes: &[u8] = &bytes;
     let audited = audit_report(alloc, &deck, bytes)?;
     Ok(ReportAndTape {

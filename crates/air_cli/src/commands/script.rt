@@ -65,6 +65,7 @@ fn read_script<S: Shelf>(
     ensures reads { ReadsInputs (script_meaning name.now None) (S.state shelf.old) (S.state shelf.new) }
 {
     let (deck, program) = read_runnable_deck(alloc, shelf, name)?;
+    deck.shows_well_made();
     let bytes = tape_len(&deck, &program);
     if bytes > MOST_TAPE_BYTES as u64 {
         return Err(Status::TooLong { bytes });

@@ -28,6 +28,7 @@ pub fn read_runnable_deck<S: Shelf>(
     ensures reads { ReadsInput name.now result (S.state shelf.old) (S.state shelf.new) }
 {
     let deck = read_deck_file(alloc, shelf, name)?;
+    deck.shows_well_made();
     let (_cut, program) = plan_deck(alloc, &deck)?;
     Ok((deck, program))
 }

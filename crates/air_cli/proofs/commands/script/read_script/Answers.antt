@@ -1,13 +1,7 @@
-use Rattle.std.proofs.Common.{◌≡◌, ◌≤◌, refl, None, length, subst, sym, rules, arith}
+use Rattle.std.proofs.Common.{refl, None, subst, sym, rules, arith}
 use Rattle.std.specs.Io.KnownBytes.{IsAtEnd}
-use Rattle.air_model.specs.Outputs.{script_tape}
-use Rattle.air_cli.specs.RunnableDecks.{HasShortProgram}
-use Rattle.air_cli.specs.ReportsAndTapes.{ReportAndTape}
-use Rattle.air_cli.specs.FileLimits.{tape_limit}
 use Rattle.air_cli.specs.Private.BeforeDelivery.{IsUnmade}
-use Rattle.air_cli.specs.Script.{HasLongTape, ScriptCause, ScriptGives, script_given, script_meaning}
-use Rattle.air_cli.specs.Truths.{IsTrueScript}
-use Rattle.air_cli.proofs.CauseLemmas.{of_deck}
+use Rattle.air_cli.specs.Script.{ScriptCause, ScriptGives, script_meaning}
 use Rattle.air_cli.proofs.ScriptLemmas.{unrunnable_script}
 use Rattle.air_cli.proofs.commands.script.read_script.Goals as goal
 
@@ -28,8 +22,12 @@ returns-then-bytes-clause-unmade g c =
     let S = g.S.Shelf in
     let before = S.state c.args.shelf.now in
     record {
-      cause = of_deck c.args.name.now before c.in_ok-deck.deck (λ d. HasLongTape d c.tape_len-bytes.result) c.in_ok-deck.ensures.deck
-          (record { runnable = c.in_ok-deck.ensures.runnable; counted = c.tape_len-bytes.ensures; above = omega (arith, c.if-bytes.true) });
+      cause = (
+        c.in_ok-deck.deck,
+        c.in_ok-deck.ensures.deck,
+        c.shows_well_made.ensures.made,
+        record { runnable = c.in_ok-deck.ensures.runnable; counted = c.tape_len-bytes.ensures; above = omega (arith, c.if-bytes.true) },
+      );
       kept = λ read. c.in_ok-deck.ensures.reads.calm;
     }
 
@@ -37,19 +35,22 @@ pub returns-clause-made : goal.returns-clause-made
 unfolding ScriptGives
 returns-clause-made g c =
     let S = g.S.Shelf in
-    let name = c.args.name.now in
     let before = S.state c.args.shelf.now in
     let now = S.state c.read_runnable_deck.new.shelf in
     let d = c.in_ok-deck.deck in
-    let work : ReportAndTape = script_given d in
     record {
       gives = (
         refl,
-        of_deck name before d (λ d. HasShortProgram d × (length (script_tape d) ≤ tape_limit) × IsTrueScript d × (work ≡ script_given d)) c.in_ok-deck.ensures.deck (
-          c.in_ok-deck.ensures.runnable,
-          omega (arith, c.if-bytes.false, c.tape_len-bytes.ensures),
-          record { legal = c.shows_script_truth.ensures.legal; bases = c.shows_script_truth.ensures.bases; sessions = c.shows_script_truth.ensures.sessions },
-          refl,
+        (
+          d,
+          c.in_ok-deck.ensures.deck,
+          c.shows_well_made.ensures.made,
+          (
+            c.in_ok-deck.ensures.runnable,
+            omega (arith, c.if-bytes.false, c.tape_len-bytes.ensures),
+            record { legal = c.shows_script_truth.ensures.legal; bases = c.shows_script_truth.ensures.bases; sessions = c.shows_script_truth.ensures.sessions },
+            refl,
+          ),
         ),
       );
       read = λ other same. subst (λ input. IsAtEnd (now.told.left input)) (sym same) c.in_ok-deck.ensures.reads.end;

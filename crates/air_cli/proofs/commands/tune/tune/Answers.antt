@@ -1,14 +1,13 @@
-use Rattle.std.proofs.Common.{◌≡◌, refl, ap, inl, inr, subst, sym, rules}
+use Rattle.std.proofs.Common.{refl, ap, inl, inr, subst, sym, rules}
 use Rattle.std.specs.Io.KnownBytes.{IsAtEnd}
 use Rattle.air_report.specs.declared.status.Status.TheVariants as status
 use Rattle.air_cli.specs.FileLimits.{tape_limit}
+use Rattle.air_cli.specs.NamedDecks.{HasDeck}
 use Rattle.air_cli.specs.RunnableDecks.{HasShortProgram}
 use Rattle.air_cli.specs.Private.BeforeDelivery.{IsUnmade}
 use Rattle.air_cli.specs.ReportsAndTapes.{ReportAndTape}
-use Rattle.air_cli.specs.Truths.{IsTrueTape}
-use Rattle.air_cli.specs.Tune.{OfTape, TuneGives, tune_given, tune_meaning}
+use Rattle.air_cli.specs.Tune.{TuneGives, tune_meaning}
 use Rattle.air_cli.proofs.AnswerLemmas.{only_text}
-use Rattle.air_cli.proofs.CauseLemmas.{of_deck}
 use Rattle.air_cli.proofs.ReadLemmas.{end_still}
 use Rattle.air_cli.proofs.CountLemmas.{kept_twice}
 use Rattle.air_cli.proofs.TuneLemmas.{heard_text, of_heard, unheard_since, unheard_tune, unrunnable_tune, wanting_tune}
@@ -32,7 +31,7 @@ returns-in_err-sessions-clause-unmade g c =
     let before = S.state c.args.shelf.now in
     let mid = S.state c.read_runnable_deck.new.shelf in
     let now = S.state c.file_sessions.new.shelf in
-    let can = of_deck c.args.name.now before c.in_ok-deck.deck HasShortProgram c.in_ok-deck.ensures.deck c.in_ok-deck.ensures.runnable in
+    let can : HasDeck c.args.name.now before HasShortProgram = (c.in_ok-deck.deck, c.in_ok-deck.ensures.deck, c.shows_well_made.ensures.made, c.in_ok-deck.ensures.runnable) in
     let unheard = unheard_since tape tape_limit before mid now c.in_err-sessions.field-0.0 (c.read_runnable_deck.ensures.reads.rest.files tape) c.in_ok-deck.ensures.reads.calm c.in_err-sessions.ensures.refused in
     let h : IsUnmade (tune_meaning c.args.name.now tape) before now c.in_err-sessions.field-0.0 = record {
       cause = unheard_tune c.args.name.now tape before now c.in_err-sessions.field-0.0 can unheard;
@@ -69,10 +68,14 @@ returns-clause-made g c =
     record {
       gives = (
         refl,
-        of_deck c.args.name.now before deck (λ d. HasShortProgram d × OfTape tape before (λ records. IsTrueTape d records × (work ≡ tune_given d records))) c.in_ok-deck.ensures.deck (
-          c.in_ok-deck.ensures.runnable,
-          of_heard tape before mid deck sessions (λ records. IsTrueTape deck records × (work ≡ tune_given deck records)) heard (c.read_runnable_deck.ensures.reads.rest.files tape)
-              (c.shows_tape_truth.ensures _, ap only_text text),
+        (
+          deck,
+          c.in_ok-deck.ensures.deck,
+          c.shows_well_made.ensures.made,
+          (
+            c.in_ok-deck.ensures.runnable,
+            of_heard tape before mid deck sessions work heard (c.read_runnable_deck.ensures.reads.rest.files tape) (c.shows_tape_truth.ensures _) (ap only_text text),
+          ),
         ),
       );
       read = λ name input. elim input [
