@@ -12,3 +12,4 @@ pub mod PlainLists
 pub mod BadParts
 pub mod NumberExamples
 pub mod ListExamples
+mod PieceExamples

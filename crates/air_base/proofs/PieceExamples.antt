@@ -1,0 +1,42 @@
+-- Digits, and lists of just so many elements, computed at their ends.
+use Rattle.std.specs.Prelude.{◌≡◌, ℕ, [], ◌∷◌, Some, None, true, false, codes, refl}
+use Rattle.air_base.specs.Numbers.{is_numeral, last_digits}
+use Rattle.air_base.specs.Pieces.{cut_at, one_of, three_of, two_of}
+
+pub record Pieces : Type 0 where
+  zero_alone : is_numeral (codes "0") ≡ true
+  zero_first : is_numeral (codes "01") ≡ false
+  no_digit : is_numeral (codes "1:") ≡ false
+  nothing : is_numeral [] ≡ false
+  -- Of more digits than are asked for the last ones.
+  last_two : last_digits 2 1234 ≡ codes "34"
+  ten : last_digits 20 10 ≡ codes "10"
+  nine : last_digits 1 9 ≡ codes "9"
+  one : one_of {A = ℕ} (7 ∷ []) ≡ Some 7
+  not_one : one_of {A = ℕ} (7 ∷ 8 ∷ []) ≡ None
+  two : two_of {A = ℕ} (7 ∷ 8 ∷ []) ≡ Some (7, 8)
+  not_two : two_of {A = ℕ} (7 ∷ []) ≡ None
+  three : three_of {A = ℕ} (7 ∷ 8 ∷ 9 ∷ []) ≡ Some (7, 8, 9)
+  not_three : three_of {A = ℕ} (7 ∷ 8 ∷ 9 ∷ 10 ∷ []) ≡ None
+  -- A byte at the front and one at the end leave empty pieces.
+  cut : cut_at 61 (codes "=a=bc=") ≡ [] ∷ codes "a" ∷ codes "bc" ∷ [] ∷ []
+  uncut : cut_at 61 (codes "abc") ≡ codes "abc" ∷ []
+
+pieces : Pieces
+pieces = record {
+  zero_alone = refl;
+  zero_first = refl;
+  no_digit = refl;
+  nothing = refl;
+  last_two = refl;
+  ten = refl;
+  nine = refl;
+  one = refl;
+  not_one = refl;
+  two = refl;
+  not_two = refl;
+  three = refl;
+  not_three = refl;
+  cut = refl;
+  uncut = refl;
+}
