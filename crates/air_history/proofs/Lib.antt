@@ -23,3 +23,4 @@ pub mod PolicyLemmas
 pub mod AcceptedLemmas
 pub mod VectorLemmas
 pub mod AloneLemmas
+mod WordExamples
