@@ -50,3 +50,6 @@ pub mod BeyondLemmas
 pub mod FrameLemmas
 pub mod ItemLemmas
 mod RunExamples
+mod PartExamples
+mod RowExamples
+mod AiredRunExamples

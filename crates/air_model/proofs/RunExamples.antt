@@ -19,32 +19,32 @@ use Rattle.air_model.specs.RunClosings.{HaveMadeAll, HaveMadeSome, IsClosing}
 use Rattle.air_model.specs.MonitorSights.{AreGlances, AreLooks, EndsAtStart, IsSeen}
 
 -- Updater 0 puts 11 into item 0, updater 1 puts 21 into item 1; there are two cycles and a monitor.
-abbrev two : Deck
+abbrev pub two : Deck
 two = record pair {
   updates = (update [] (set_to 0 11 ∷ []) ∷ []) ∷ (update [] (set_to 1 21 ∷ []) ∷ []) ∷ [];
   settings = record pair.settings { cycles = 2; monitors = 1 };
 }
 
 -- The commits of the two updaters.
-abbrev first : Event
+abbrev pub first : Event
 first = Commit 0 0 (update [] (set_to 0 11 ∷ []))
 
-abbrev second : Event
+abbrev pub second : Event
 second = Commit 1 0 (update [] (set_to 1 21 ∷ []))
 
 -- The first commit comes before the first cycle, the second before the second.
-abbrev history : List Event
+abbrev pub history : List Event
 history = first ∷ Start ∷ second ∷ Start ∷ []
 
 -- What the passes of the two updaters saw.
-abbrev passes : List (List Event)
+abbrev pub passes : List (List Event)
 passes = (first ∷ []) ∷ (first ∷ Start ∷ second ∷ []) ∷ []
 
 -- The line of monitor 0.
-abbrev line : ℕ → ℕ → LookLine
+abbrev pub line : ℕ → ℕ → LookLine
 line cycle total = record { monitor = 0; cycle = cycle; total = total }
 
-fits : (item : ℕ) → item < 2 → (value : ℕ) → UpdateFits 2 (update [] (set_to item value ∷ []))
+pub fits : (item : ℕ) → item < 2 → (value : ℕ) → UpdateFits 2 (update [] (set_to item value ∷ []))
 fits item l value = record { reads = All-nil (λ r. r < 2); writes = All-from_recursion (λ w. w.item < 2) (set_to item value ∷ []) (l, tt) }
 
 each_pass : (by : ℕ) (seen : List Event) → slice_get passes by ≡ Some seen → GoesOnWithout (is_by by) seen history
