@@ -5,3 +5,4 @@ pub mod ReadFileLemmas
 pub mod EarLemmas
 pub mod WrittenLemmas
 pub mod RecordLemmas
+mod DeviceExamples

@@ -1,0 +1,107 @@
+-- What devices tell and count, on small contents: where each relation holds, and where it doesn't.
+use Rattle.std.proofs.Common.{◌≡◌, ◌<◌, ◌≤◌, ◌^◌, ◌-◌, ℕ, List, [], ◌∷◌, Option, Some, None, refl, inl, inr, ap, arith}
+use Rattle.std.specs.Prelude.{codes, length}
+use Rattle.air_devices.specs.Contents.{Contents, nothing_told}
+use Rattle.air_devices.specs.Counts.{Faults, KeepsCounts, NoCountFalls, Rose, one_count}
+use Rattle.air_devices.specs.Masts.{Changes, SentBuckets, fresh_mast, nothing_sent, with_buckets, with_end}
+use Rattle.air_devices.specs.Reading.{IsTooLarge}
+use Rattle.air_devices.specs.Told.{AppendsPart, Becomes, ToldIs, WhereTold}
+
+-- ---- counts
+
+-- A count rises by one or more, or stands at its last value.
+rose : Rose 3 4 × Rose 3 7 × Rose (2 ^ 64 - 1) (2 ^ 64 - 1)
+rose = (inl (omega arith), inl (omega arith), inr (refl, refl))
+
+not_rose : (Rose 3 3 → ⊥) × (Rose 4 3 → ⊥) × (Rose (2 ^ 64 - 2) (2 ^ 64 - 2) → ⊥)
+not_rose = (same, fell, below_last)
+  where
+    same : Rose 3 3 → ⊥
+    same (inl less) = omega arith
+    same (inr (last, stays)) = omega (arith, last)
+
+    fell : Rose 4 3 → ⊥
+    fell (inl less) = omega arith
+    fell (inr (last, stays)) = omega (arith, last)
+
+    below_last : Rose (2 ^ 64 - 2) (2 ^ 64 - 2) → ⊥
+    below_last (inl less) = omega arith
+    below_last (inr (last, stays)) = omega (arith, last)
+
+-- Counts of which that of prints is another.
+abbrev printed_once : Faults
+printed_once = record (one_count 3) { printing = 4 }
+
+keeps : KeepsCounts (one_count 3) (one_count 3)
+keeps = record { reading = λ n. refl; writing = λ n. refl; printing = refl }
+
+not_keeps : (KeepsCounts (one_count 3) printed_once → ⊥) × (KeepsCounts printed_once (one_count 3) → ⊥)
+not_keeps = (λ h. let e : 4 ≡ 3 = h.printing in omega (arith, e), λ h. let e : 3 ≡ 4 = h.printing in omega (arith, e))
+
+no_fall : NoCountFalls (one_count 3) printed_once
+no_fall = record { reading = λ n. omega arith; writing = λ n. omega arith; printing = omega arith }
+
+falls : NoCountFalls printed_once (one_count 3) → ⊥
+falls h = let least : 4 ≤ 3 = h.printing in omega arith
+
+-- ---- what is told
+
+told_is : ToldIs (Some (codes "ab")) (codes "ab") × ToldIs None (codes "ab")
+told_is = (refl, tt)
+
+not_told : ToldIs (Some (codes "ab")) (codes "a") → ⊥
+not_told h = let n : 1 ≡ 2 = ap length h in omega (arith, n)
+
+where_told : WhereTold (Some 3) (λ n. 2 < n) × WhereTold None (λ (n : ℕ). ⊥)
+where_told = (omega arith, tt)
+
+not_where_told : WhereTold (Some 3) (λ n. 3 < n) → ⊥
+not_where_told h = omega arith
+
+becomes : Becomes (Some (codes "ab")) (Some (codes "c")) (codes "c") × Becomes None None (codes "c")
+becomes = (refl, tt)
+
+-- What was told is told again, and is these bytes alone.
+not_becomes : (Becomes (Some (codes "ab")) None (codes "c") → ⊥) × (Becomes (Some (codes "ab")) (Some (codes "abc")) (codes "c") → ⊥)
+not_becomes = (λ h. cc, λ h. let same : codes "abc" ≡ codes "c" = cc in let n : 3 ≡ 1 = ap length same in omega (arith, same))
+
+-- The first bytes of a text behind what was there.
+appends_part : AppendsPart (Some (codes "a")) (Some (codes "abc")) (codes "bcd")
+appends_part = (2, refl)
+
+-- A file of four bytes is too large where three are the most, and is read up to the last.
+abbrev with_file : List ℕ → List ℕ → Contents
+with_file bytes left = record nothing_told { file = λ _. Some bytes; left = λ _. Some left }
+
+too_large : IsTooLarge 3 (codes "deck") (with_file (codes "abcde") (codes "abcde")) (with_file (codes "abcde") (codes "e"))
+too_large = (omega arith, refl)
+
+-- One of just so many isn't, and it is read to one byte behind the most and no further.
+not_too_large : (IsTooLarge 3 (codes "deck") (with_file (codes "abc") (codes "abc")) (with_file (codes "abc") []) → ⊥)
+    × (IsTooLarge 3 (codes "deck") (with_file (codes "abcde") (codes "abcde")) (with_file (codes "abcde") []) → ⊥)
+not_too_large = (λ h. let more : 3 < 3 = h.0 in omega arith, λ h. let same : Some [] ≡ Some (codes "e") = h.1 in cc)
+
+-- ---- masts
+
+-- One bucket was sent, and then the end.
+abbrev one_sent : SentBuckets
+one_sent = record { buckets = codes "a" ∷ []; ended = Some 1 }
+
+changes : Changes (λ s. with_end (with_buckets (codes "a" ∷ []) s)) (Some nothing_sent) (Some one_sent) × Changes with_end None None
+changes = (refl, tt)
+
+-- The end that a mast tells.
+abbrev end_told : Option SentBuckets → Option ℕ
+end_told None = None
+end_told (Some s) = s.ended
+
+-- Nothing more was sent than is told.
+not_changes : (Changes (with_buckets (codes "a" ∷ [])) (Some nothing_sent) (Some one_sent) → ⊥) × (Changes with_end (Some nothing_sent) None → ⊥)
+not_changes = (
+  λ h. let same : ◌≡◌ {A = Option ℕ} (Some 1) None = ap end_told h in cc,
+  λ h. cc,
+)
+
+-- A new mast sent nothing and was not aimed.
+fresh : (fresh_mast.port ≡ None) × (fresh_mast.faults ≡ 0) × WhereTold fresh_mast.told (λ s. s ≡ nothing_sent)
+fresh = (refl, refl, refl)
