@@ -43,3 +43,6 @@ mod DeckTests
 mod SpelledDecks
 mod DrillTexts
 mod TextExamples
+mod EntryExamples
+mod TestExamples
+mod FirstFaultExamples
