@@ -7,3 +7,4 @@ pub mod Copies
 pub mod ChunkLemmas
 pub mod HomeLemmas
 pub mod ProgramLemmas
+mod LengthExamples

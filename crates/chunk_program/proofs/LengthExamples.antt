@@ -1,0 +1,27 @@
+-- When a program is too long: by its number of slots, which is told.
+use Rattle.std.proofs.Common.{◌≡◌, ◌<◌, ℕ, List, [], ◌∷◌, length, refl, sym, arith}
+use Rattle.air_model.specs.Disks.{Disk}
+use Rattle.air_model.specs.Programs.{chunk, chunk_len, least_common_multiple, minor_cycle, num_chunks, num_minors, program}
+use Rattle.chunk_program.specs.Plans.{IsTooLong, most_slots}
+
+-- Item 0 twice a cycle and item 1 once: four slots, as disk 1 has two chunks.
+abbrev small : List Disk
+small = record { items = 0 ∷ []; freq = 2 } ∷ record { items = 1 ∷ []; freq = 1 } ∷ []
+
+few_slots : length (program small) ≡ 4
+unfolding program least_common_multiple num_minors num_chunks chunk_len chunk minor_cycle
+few_slots = refl
+
+most : most_slots ≡ 16384
+most = refl
+
+-- A program of four slots isn't too long, whatever number is told.
+not_too_long : (slots : ℕ) → IsTooLong small slots → ⊥
+not_too_long slots h = omega (arith, few_slots, h.counted, h.above)
+
+-- A program of one slot more than the most is, and that number is told; with the most it isn't.
+too_long : (disks : List Disk) → length (program disks) ≡ 16385 → IsTooLong disks 16385
+too_long disks slots = record { counted = sym slots; above = omega arith }
+
+at_the_most : (disks : List Disk) → IsTooLong disks 16384 → ⊥
+at_the_most disks h = let above : 16384 < 16384 = h.above in omega arith
