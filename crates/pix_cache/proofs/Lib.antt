@@ -8,3 +8,4 @@ pub mod KeepLemmas
 pub mod FieldLemmas
 pub mod OtherLemmas
 pub mod AnswerLemmas
+mod AnswerExamples
