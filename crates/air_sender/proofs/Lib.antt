@@ -7,3 +7,4 @@ pub mod AiredLemmas
 pub mod RunLoops
 pub mod TapeLemmas
 pub mod TapeSizes
+mod LengthExamples
