@@ -18,3 +18,5 @@ pub mod LegalLines
 pub mod SameHistories
 mod TextExamples
 mod HistoryRows
+mod LineExamples
+mod SpelledExamples

@@ -16,7 +16,7 @@ abbrev Row : Type 0
 Row = List (List ℕ)
 
 -- One updater with an update, a reader of two tries that asks for the items 0 and 1, and a monitor.
-abbrev deck : Deck
+abbrev pub deck : Deck
 deck = record {
   items = record { value = 10; rate = 1 } ∷ record { value = 20; rate = 1 } ∷ [];
   disks = record { size = 2; freq = 1 } ∷ [];
