@@ -15,3 +15,5 @@ pub mod RowFindings
 pub mod TrueReports
 pub mod FindingTexts
 pub mod AuditLemmas
+pub mod AuditExamples
+mod TextExamples
