@@ -6,3 +6,4 @@ mod DrillTapes
 mod CountBounds
 mod DrillCounts
 mod DrillExamples
+mod NumberExamples
