@@ -10,3 +10,4 @@ pub mod SentLemmas
 pub mod SightLemmas
 pub mod CastLemmas
 pub mod HeardRunLemmas
+mod RunExamples

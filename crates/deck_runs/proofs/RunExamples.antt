@@ -1,0 +1,228 @@
+-- A run of a small deck, what is true of it, what is cast of one, and what jobs leave: where each relation holds, and where it doesn't.
+use Rattle.std.proofs.Common.{◌≡◌, ◌<◌, ◌≤◌, ℕ, zero, suc, Option, Some, None, List, [], ◌∷◌, ◌++◌, length, map, All, refl, sym, ap, ◌∙◌, arith}
+use Rattle.std.specs.Prelude.{slice_get}
+use Rattle.std.specs.List.{flat_map, range_with_len}
+use mathlib.Core.List.{IsPrefix}
+use Rattle.std.proofs.lemmas.List.Elements.{All-from_recursion, All-nil}
+use Rattle.air_base.specs.declared.limits.TheConstants.{MOST_ASKED, MOST_RATE}
+use Rattle.air_base.specs.declared.verdicts.VerdictKind.TheVariants.{Unfinished}
+use Rattle.air_history.specs.Histories.{is_start, starts}
+use Rattle.air_history.specs.UpdateLists.{UpdateLists}
+use Rattle.air_history.specs.declared.histories.Event.{Event}
+use Rattle.air_history.specs.declared.histories.Event.TheVariants.{Commit, Start}
+use Rattle.air_model.specs.Aired.{air_of, bucket_of, buckets_of}
+use Rattle.air_model.specs.Batches.{EndsWithStart}
+use Rattle.air_model.specs.Buckets.{spelling}
+use Rattle.air_model.specs.Decks.{Deck, IsDeck, IsWhole, disks_in, is_by, updates_by, values_in}
+use Rattle.air_model.specs.Disks.{cut, order, order_with}
+use Rattle.air_model.specs.Ethers.{due_at, due_number, heard_by, heard_list, heard_places, places_due, times_heard}
+use Rattle.air_model.specs.Draws.{words_by}
+use Rattle.air_model.specs.MonitorSights.{IsSeen}
+use Rattle.air_model.specs.Judges.{by_entries}
+use Rattle.air_model.specs.Programs.{chunk, chunk_len, least_common_multiple, minor_cycle, num_chunks, num_minors, program}
+use Rattle.air_model.specs.Reports.{Report, report_text}
+use Rattle.air_model.specs.Runs.{IsRun, Run}
+use Rattle.air_model.specs.SessionLaws.{IsOfReader}
+use Rattle.air_model.specs.Sessions.{abort, accept_if_whole, copy_of, count_copied, decide, drop_copy, end, end_query, hear, hear_all, hold, is_unusable, line_of, next_attempt, next_query, query_of, reader_of, session, settle, turn, turn_with, wanted, with_line}
+use Rattle.air_model.proofs.BatchLemmas.{airs_by_batches}
+use Rattle.air_model.proofs.RelationExamples.{pair_is_deck}
+use Rattle.air_model.proofs.SessionExamples.{line, pair}
+use Rattle.air_devices.specs.Masts.{MastState, SentBuckets, nothing_sent}
+use Rattle.cycle_snapshot.specs.SnapshotStates.{MonitorState, PublisherState}
+use Rattle.item_catalog.specs.DeckLimits.{DiskWithin, ReaderWithin, WithinLimits}
+use Rattle.station.specs.PassStates.{PassState}
+use Rattle.deck_runs.specs.Casts.{IsCastPart, all_sent, first_sent}
+use Rattle.deck_runs.specs.DeckBytes.{deck_bytes}
+use Rattle.deck_runs.specs.Looks.{LookedTimes}
+use Rattle.deck_runs.specs.RunTapes.{IsLongRun, run_tape_len}
+use Rattle.deck_runs.specs.RunTruths.{IsTrueRun, TellsHistory}
+use Rattle.deck_runs.specs.Sendings.{SendsUpTo}
+use Rattle.deck_runs.specs.declared.jobs.conductors.ConductFault.TheVariants as fault
+use Rattle.deck_runs.proofs.HeardRunLemmas.{OneHistoryLaw, true_run}
+
+-- Two items, a reader of one query, no updates; so many cycles.
+abbrev of_cycles : ℕ → Deck
+of_cycles cycles = record pair { settings = record pair.settings { cycles = cycles } }
+
+is_deck : (cycles : ℕ) → IsDeck (of_cycles cycles)
+is_deck cycles = record {
+  some = pair_is_deck.some;
+  most = pair_is_deck.most;
+  values = pair_is_deck.values;
+  sizes = refl;
+  aired = pair_is_deck.aired;
+  updates = pair_is_deck.updates;
+  readers = refl;
+  tries = pair_is_deck.tries;
+  queries = pair_is_deck.queries;
+  script = pair_is_deck.script;
+}
+
+is_within : WithinLimits (of_cycles 1)
+is_within = record {
+  rates = All-from_recursion (λ i. i.rate ≤ MOST_RATE) pair.items (omega arith, (omega arith, tt));
+  disks = omega arith;
+  disk = All-from_recursion DiskWithin pair.disks (record { size = omega arith; freq = omega arith }, tt);
+  updaters = omega arith;
+  updates = omega arith;
+  readers = omega arith;
+  reader = All-from_recursion ReaderWithin pair.readers (record { room = omega arith; age = omega arith; tries = omega arith }, tt);
+  queries = omega arith;
+  query = All-from_recursion (All (λ items. length items ≤ MOST_ASKED)) pair.queries (All-from_recursion (λ items. length items ≤ MOST_ASKED) ((0 ∷ 1 ∷ []) ∷ []) (omega arith, tt), tt);
+  script = omega arith;
+  starts = omega arith;
+  settings = record {
+    cycles = omega arith;
+    seed = omega arith;
+    loss = omega arith;
+    again = omega arith;
+    late = omega arith;
+    monitors = omega arith;
+    some_hears = omega arith;
+    hears = omega arith;
+  };
+}
+
+-- Histories of starts alone.
+abbrev one_start : List Event
+one_start = Start ∷ []
+
+abbrev two_starts : List Event
+two_starts = Start ∷ Start ∷ []
+
+none_made : (by : ℕ) → 0 ≡ length (updates_by pair by)
+none_made zero = refl
+none_made (suc by) = refl
+
+no_commit : (p by seq : ℕ) (update : UpdateLists) → slice_get one_start p ≡ Some (Commit by seq update) → ⊥
+no_commit zero by seq update e = cc
+no_commit (suc p) by seq update e = cc
+
+one_whole : IsWhole (of_cycles 1) one_start
+unfolding is_by is_start starts
+one_whole = record { legal = λ p by seq update e. absurd (no_commit p by seq update e); all = none_made; cycles = refl }
+
+-- It isn't whole where the deck has two cycles.
+not_whole : IsWhole (of_cycles 2) one_start → ⊥
+unfolding is_start starts
+not_whole h = let cycles : 1 ≡ 2 = h.cycles in omega (arith, cycles)
+
+-- ---- a run
+
+abbrev one_run : Run
+one_run = record { history = one_start; batches = one_start ∷ []; glances = []; looks = [] }
+
+one_run_is : IsRun (of_cycles 1) one_run
+unfolding is_start starts
+one_run_is = record {
+  whole = one_whole;
+  batches = airs_by_batches (of_cycles 1) (one_start ∷ []) [] (All-from_recursion EndsWithStart (one_start ∷ []) (record { commits = []; ends = refl; one = refl }, tt)) refl;
+  glances = record { numbers = refl; each = All-nil (IsSeen (values_in pair) one_start) };
+  looks = record { numbers = refl; each = All-nil (IsSeen (values_in pair) one_start); last = All-nil (λ l. l.cycle ≡ 1) };
+}
+
+slots : length (program (disks_in pair)) ≡ 2
+unfolding order order_with cut program least_common_multiple num_minors num_chunks chunk_len chunk minor_cycle
+slots = refl
+
+-- By the law of one history all is true of it that is true of a run: its deck is well made, within the limits, and short.
+true_of_one : OneHistoryLaw → IsTrueRun (of_cycles 1) one_run
+true_of_one one_history = true_run one_history (of_cycles 1) one_run (is_deck 1) is_within (omega (arith, slots)) one_run_is
+
+-- Two readers, of which the second has a query and no try.
+abbrev without_try : Deck
+without_try = record pair {
+  readers = record { room = 0; age = 0; tries = 1 } ∷ record { room = 0; age = 0; tries = 0 } ∷ [];
+  queries = ((0 ∷ []) ∷ []) ∷ ((1 ∷ []) ∷ []) ∷ [];
+}
+
+-- No run of it is true: the second reader's one line has attempt 1.
+not_true : IsTrueRun without_try (record { history = []; batches = []; glances = []; looks = [] }) → ⊥
+unfolding is_start starts buckets_of heard_by words_by heard_list heard_places places_due due_at due_number times_heard by_entries abort accept_if_whole copy_of count_copied decide drop_copy end end_query hear hear_all hold is_unusable line_of next_attempt next_query query_of session settle turn turn_with wanted with_line
+not_true h =
+    let own : IsOfReader (reader_of without_try 1) (line 0 1 Unfinished []) = (h.sessions 1 (omega arith)).own 0 (line 0 1 Unfinished []) (omega arith) in
+    let tried : 1 ≤ 0 = own.tried in
+    omega arith
+
+-- ---- what a text tells
+
+-- The report of a history alone.
+abbrev of_history : List Event → Report
+of_history H = record { history = H; verdicts = []; counts = []; glances = []; looks = [] }
+
+tells : OneHistoryLaw → TellsHistory (of_cycles 1) one_start (report_text (of_history one_start))
+tells one_history report legal same = one_history (of_cycles 1) report (of_history one_start) is_within legal one_whole.legal same
+
+-- The text of one start, which is legal for a deck of ten cycles and not whole, tells no history of two.
+not_tells : TellsHistory pair two_starts (report_text (of_history one_start)) → ⊥
+not_tells h =
+    let same : one_start ≡ two_starts = h (of_history one_start) (λ p by seq update e. absurd (no_commit p by seq update e)) refl in
+    let n : 1 ≡ 2 = ap length same in
+    omega (arith, n)
+
+-- ---- tapes
+
+-- Two cycles of two buckets.
+aired_bytes : length (deck_bytes pair two_starts) ≡ 4
+unfolding order order_with cut program least_common_multiple num_minors num_chunks chunk_len chunk minor_cycle is_start starts buckets_of
+aired_bytes = refl
+
+-- A run of one cycle has 72 bytes; a tape is too long from one byte above the most on.
+not_long : (bytes : ℕ) → IsLongRun (of_cycles 1) bytes → ⊥
+unfolding order order_with cut program least_common_multiple num_minors num_chunks chunk_len chunk minor_cycle
+not_long bytes h = let few : bytes ≡ 72 = h.counted in omega (arith, few, h.above)
+
+long : (deck : Deck) → run_tape_len deck ≡ 1073741825 → IsLongRun deck 1073741825
+long deck counted = record { counted = sym counted; above = omega arith }
+
+at_the_most : (deck : Deck) → IsLongRun deck 1073741824 → ⊥
+at_the_most deck h = let above : 1073741824 < 1073741824 = h.above in omega arith
+
+-- ---- casts
+
+sent_whole : all_sent ((7 ∷ []) ∷ (8 ∷ []) ∷ []) ≡ record { buckets = (7 ∷ []) ∷ (8 ∷ []) ∷ []; ended = Some 2 }
+sent_whole = refl
+
+sent_first : first_sent 1 ((7 ∷ []) ∷ (8 ∷ []) ∷ []) ≡ record { buckets = (7 ∷ []) ∷ []; ended = None }
+sent_first = refl
+
+-- A history without a cycle airs no bucket.
+no_bucket : (deck : Deck) (H : List Event) → starts H ≡ 0 → length (deck_bytes deck H) ≡ 0
+unfolding buckets_of
+no_bucket deck H none = ap (λ n. length (map spelling (flat_map (λ c. map (bucket_of (values_in deck) (air_of deck) H c) (range_with_len 0 (length ((air_of deck).slots)))) (range_with_len 1 n)))) none
+
+none_whole : IsWhole (of_cycles 0) []
+unfolding starts
+none_whole = record { legal = λ p by seq update e. absurd (nothing p e); all = none_made; cycles = refl }
+  where
+    nothing : {e : Event} (p : ℕ) → slice_get [] p ≡ Some e → ⊥
+    nothing p e = cc
+
+cast_part : IsCastPart (of_cycles 0) 0 (Some nothing_sent) (Some nothing_sent)
+cast_part = record { history = []; whole = none_whole; within = omega arith; sent = refl }
+
+-- The end that a mast tells.
+abbrev end_told : Option SentBuckets → Option ℕ
+end_told None = None
+end_told (Some s) = s.ended
+
+-- Of a deck without cycles no bucket is sent; and an end is no part.
+not_cast_part : (IsCastPart (of_cycles 0) 1 (Some nothing_sent) (Some nothing_sent) → ⊥) × (IsCastPart (of_cycles 0) 0 (Some nothing_sent) (Some (all_sent [])) → ⊥)
+not_cast_part = (
+  λ h. let none = no_bucket (of_cycles 0) h.history h.whole.cycles in omega (arith, none, h.within),
+  λ h. let ended : ◌≡◌ {A = Option ℕ} (Some 0) None = ap end_told h.sent in cc,
+)
+
+-- ---- jobs
+
+-- A monitor that was told of a batch and looked once has seen it.
+not_looked : (m n : MonitorState) (batch : List Event) → m.told ≡ batch ∷ [] → n.seen ≡ [] → LookedTimes 1 m n → ⊥
+not_looked m n batch told seen h = none (h.told (omega arith))
+  where
+    none : IsPrefix m.told n.seen → ⊥
+    none (rest, is) = let whole : (batch ∷ []) ++ rest ≡ [] = sym (ap (λ l. l ++ rest) told) ∙ is ∙ seen in cc
+
+-- After all of no cycles memory can't run out any more.
+not_sent : {M : Type 0} (state : M → MastState) (p q : PassState) (f g : PublisherState) (before now : M)
+    → SendsUpTo state (values_in pair) (air_of pair) 0 p q f g before now fault.NoMemory → ⊥
+not_sent state p q f g before now h = omega (arith, h.1)
