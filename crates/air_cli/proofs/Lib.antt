@@ -30,3 +30,7 @@ pub mod CountLemmas
 pub mod OutputLemmas
 pub mod DeliveryLemmas
 pub mod EarLemmas
+mod ToldExamples
+mod CommandExamples
+mod RunExamples
+mod ListenExamples
