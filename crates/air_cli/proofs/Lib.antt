@@ -31,6 +31,8 @@ pub mod OutputLemmas
 pub mod DeliveryLemmas
 pub mod EarLemmas
 mod ToldExamples
+mod WordExamples
 mod CommandExamples
 mod RunExamples
 mod ListenExamples
+mod AnswerExamples

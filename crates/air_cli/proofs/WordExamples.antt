@@ -1,0 +1,110 @@
+-- What words ask for, computed at the ends of their ranges; and what words that are no command mean.
+use Rattle.std.specs.Prelude.{◌≡◌, [], ◌∷◌, Some, None, true, false, codes, refl}
+use Rattle.air_base.specs.Numbers.{number_of}
+use Rattle.air_devices.specs.Counts.{one_count}
+use Rattle.air_devices.specs.Contents.{nothing_told}
+use Rattle.air_devices.specs.Shelves.{ShelfState}
+use Rattle.air_report.specs.declared.status.Status.TheVariants as status
+use Rattle.air_cli.specs.Commands.{meaning_of, words_meaning}
+use Rattle.air_cli.specs.ReportsAndTapes.{ReportAndTape, given_status}
+use Rattle.air_cli.specs.MainWords.{Casts, Listens, OnShelf, called_of, called_of_two, called_with, port_of}
+use Rattle.air_cli.specs.Meanings.{WordsCause, no_command}
+use Rattle.air_cli.specs.Words.{AsksAudit, AsksDrill, AsksPlan, AsksRun, AsksScript, AsksTune, asked_drill, asked_of, asked_of_one, asked_of_two}
+
+-- A shelf that tells nothing, and what words that are no command would give.
+abbrev nothing : ShelfState
+nothing = record { told = nothing_told; faults = one_count 0 }
+
+abbrev empty : ReportAndTape
+empty = record { text = []; tape = []; differs = false }
+
+pub record Words : Type 0 where
+  plan : asked_of_one (codes "plan") (codes "d") ≡ Some (AsksPlan (codes "d"))
+  script : asked_of_one (codes "script") (codes "d") ≡ Some (AsksScript (codes "d") None)
+  capital : asked_of_one (codes "Plan") (codes "d") ≡ None
+  script_of_two : asked_of_two (codes "script") (codes "d") (codes "t") ≡ Some (AsksScript (codes "d") (Some (codes "t")))
+  tune : asked_of_two (codes "tune") (codes "d") (codes "t") ≡ Some (AsksTune (codes "d") (codes "t"))
+  audit : asked_of_two (codes "audit") (codes "d") (codes "r") ≡ Some (AsksAudit (codes "d") (codes "r"))
+  no_run : asked_of_two (codes "run") (codes "d") (codes "t") ≡ None
+  -- A drill has a size from 1 to 100, and a seed of 64 bits.
+  drill : asked_of_two (codes "drill") (codes "18446744073709551615") (codes "1") ≡ Some (AsksDrill 18446744073709551615 1)
+  greatest_drill : asked_drill (Some 0) (Some 100) ≡ Some (AsksDrill 0 100)
+  too_great_drill : asked_drill (Some 0) (Some 101) ≡ None
+  no_drill : asked_drill (Some 0) (Some 0) ≡ None
+  no_seed : asked_drill None (Some 1) ≡ None
+  no_words : asked_of [] ≡ None
+  one_word : asked_of (codes "plan" ∷ []) ≡ None
+  two_words : asked_of (codes "plan" ∷ codes "d" ∷ []) ≡ Some (AsksPlan (codes "d"))
+  empty_name : asked_of (codes "plan" ∷ [] ∷ []) ≡ None
+  empty_tape : asked_of (codes "tune" ∷ codes "d" ∷ [] ∷ []) ≡ None
+  four_words : asked_of (codes "tune" ∷ codes "d" ∷ codes "t" ∷ codes "u" ∷ []) ≡ None
+  first_port : port_of (Some 1) ≡ Some 1
+  last_port : port_of (Some 65535) ≡ Some 65535
+  no_port : port_of (Some 65536) ≡ None
+  port_0 : port_of (Some 0) ≡ None
+  no_number : port_of None ≡ None
+  with_port : called_with (Casts (codes "d")) (Some 7) ≡ Casts (codes "d") 7
+  without_port : called_with (Casts (codes "d")) None ≡ OnShelf None
+  cast : called_of_two (codes "cast") (codes "d") (codes "7") ≡ Casts (codes "d") 7
+  listen : called_of_two (codes "listen") (codes "d") (codes "7") ≡ Listens (codes "d") 7
+  cast_of_no_port : called_of_two (codes "cast") (codes "d") (codes "0") ≡ OnShelf None
+  run : called_of_two (codes "run") (codes "d") (codes "t") ≡ OnShelf (Some (AsksRun (codes "d") (codes "t")))
+  called_run : called_of (codes "run" ∷ codes "d" ∷ codes "t" ∷ []) ≡ OnShelf (Some (AsksRun (codes "d") (codes "t")))
+  called_plan : called_of (codes "plan" ∷ codes "d" ∷ []) ≡ OnShelf (Some (AsksPlan (codes "d")))
+  empty_deck : called_of (codes "cast" ∷ [] ∷ codes "7" ∷ []) ≡ OnShelf None
+  -- Words that are no command have their status and no other, name no output, and give nothing.
+  of_no_command : WordsCause status.Words
+  of_a_form : WordsCause status.Ok → ⊥
+  refused : (words_meaning None).Refuses nothing nothing status.Words
+  gives_none : no_command.Gives nothing empty → ⊥
+  no_output : no_command.output ≡ None
+  run_output : (meaning_of (AsksRun (codes "d") (codes "t"))).output ≡ Some (codes "t")
+  plan_output : (meaning_of (AsksPlan (codes "d"))).output ≡ None
+  done : given_status false ≡ status.Ok
+  differs : given_status true ≡ status.Differs
+
+words : Words
+unfolding number_of WordsCause
+words = record {
+  plan = refl;
+  script = refl;
+  capital = refl;
+  script_of_two = refl;
+  tune = refl;
+  audit = refl;
+  no_run = refl;
+  drill = refl;
+  greatest_drill = refl;
+  too_great_drill = refl;
+  no_drill = refl;
+  no_seed = refl;
+  no_words = refl;
+  one_word = refl;
+  two_words = refl;
+  empty_name = refl;
+  empty_tape = refl;
+  four_words = refl;
+  first_port = refl;
+  last_port = refl;
+  no_port = refl;
+  port_0 = refl;
+  no_number = refl;
+  with_port = refl;
+  without_port = refl;
+  cast = refl;
+  listen = refl;
+  cast_of_no_port = refl;
+  run = refl;
+  called_run = refl;
+  called_plan = refl;
+  empty_deck = refl;
+  of_no_command = tt;
+  of_a_form = λ h. h;
+  refused = tt;
+  gives_none = λ h. h;
+  no_output = refl;
+  run_output = refl;
+  plan_output = refl;
+  done = refl;
+  differs = refl;
+}
