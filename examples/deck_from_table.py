@@ -1,17 +1,21 @@
 #!/usr/bin/env python3
-"""Makes a deck from a table, and puts the table's names and numbers back into a report.
+"""Makes a deck from a table, and puts the table's names and values back into a report.
 
-usage: examples/deck_from_table.py TABLE DECK NAMES [disk=SIZE,FREQ].. [query=NAME,NAME..]..
+usage: examples/deck_from_table.py TABLE DECK NAMES [disk=SIZE,FREQ].. [query=NAME,NAME..].. [--together]
        examples/deck_from_table.py REPORT NAMES
 
 TABLE is a CSV file with a header. Its first column has the names; a column with the head `rate`, if there is one, says how often each is
 asked for (a whole number, 1 if left out); each other column has values, the first of them those at the start, each further one those at a
-later moment. A value is a whole or decimal number, which may be negative.
+later moment. A value is a whole or decimal number, which may be negative, or a time of day as 07:05.
 
-Each row is an item. All values are scaled by one power of ten, so that they are whole, and a negative one is written as 2^64 less what it
-lacks, so that sums and differences stay right. Each later column is an update (or several, of 16 items at most) of those items that
-change, committed while the cycle before is on the air. Without a disk there is one for all; without a query one for each item, and they are those of one reader.
-NAMES gets the items' names and the number of decimals. Of a report the second form prints each read with its name and its value.
+Each row is an item. The values of a row are scaled by one power of ten, so that they are whole, and a negative one is written as 2^64 less
+what it lacks, so that sums and differences stay right; times are minutes. In each later column each row that changes is an update of its own,
+committed while the cycle before is on the air. With --together all that change in a column are one update (or several, of 16 items at most):
+that says that they belong together, so that a reader who has one of them from before and another from after it is refused. Take it where the
+rows make sense together alone, as the two sides of one account; else it costs attempts for nothing.
+
+Without a disk there is one for all; without a query one for each item, and they are those of one reader. NAMES gets the items' names, and how
+their values are written. Of a report the second form prints each read with its name and its value; names.py does so, and more.
 """
 import csv
 import decimal
@@ -19,25 +23,10 @@ import os
 import re
 import sys
 
-WRITES, ITEMS, WANTED, RATE, DISKS, FREQUENCY, DIGITS = 16, 256, 16, 1_000_000, 8, 64, 60
+from names import HEAD, NUMBERS, Names, read_rows, stop
+
+WRITES, ITEMS, WANTED, RATE, DISKS, FREQUENCY, DIGITS, UPDATES, STARTS = 16, 256, 16, 1_000_000, 8, 64, 60, 100_000, 10_000
 REPORT = {"start", "commit", "accept", "abort", "unfinished", "counts", "glance", "look", "fault"}
-NUMBERS = 2 ** 64
-decimal.getcontext().prec = 1000
-
-
-def stop(why):
-    sys.exit(f"deck_from_table.py: {why}")
-
-
-def read_rows(name):
-    """The rows of a CSV file, empty lines left out."""
-    try:
-        with open(name, encoding="utf-8-sig", newline="") as file:
-            return [row for row in csv.reader(file) if row]
-    except OSError as error:
-        stop(f"{name} can't be read: {error.strerror}")
-    except (UnicodeDecodeError, csv.Error) as error:
-        stop(f"{name} is no CSV text in UTF-8: {error}")
 
 
 def write_rows(name, rows):
@@ -53,59 +42,95 @@ def is_number(text, least, most):
     return re.fullmatch("[0-9]{1,9}", text) is not None and least <= int(text) <= most
 
 
-def read_table(name):
-    """The names, the rates, and the values of each moment, as decimals."""
-    table = read_rows(name)
+def value_in(text, where):
+    """The value that a cell has: a decimal number, or a time as minutes; and whether it is a time."""
+    text = text.strip()
+    if time := re.fullmatch(r"(\d{1,2}):([0-5]\d)", text):
+        return decimal.Decimal(int(time.group(1)) * 60 + int(time.group(2))), True
+    if not text:
+        stop(f"{where} is empty: each row has a value in each column")
+    if ":" in text:
+        stop(f"{where} is {text}: a time has hours and two digits of minutes, 00 to 59, as 7:05")
+    if re.fullmatch(r"[-+]?\d{1,3}(,\d{3})+(\.\d+)?", text):
+        stop(f"{where} is {text}: a number has no commas in it")
+    if re.fullmatch(r"[-+]?\d+,\d+", text):
+        stop(f"{where} is {text}: decimals stand behind a point")
+    try:
+        value = decimal.Decimal(text)
+    except decimal.InvalidOperation:
+        stop(f"{where} is {text}: neither a number nor a time")
+    if not value.is_finite():
+        stop(f"{where} is {text}: neither a number nor a time")
+    if len(value.as_tuple().digits) > DIGITS or abs(value.adjusted()) > DIGITS:
+        stop(f"{where} is {text}: it is too large, or has too many decimals")
+    return value, False
+
+
+def check_table(name, table):
+    """Stops where a table has no header, no rows, or rows of other lengths than the header."""
     if not table:
         stop(f"{name} is empty: a header and a row for each item are wanted")
     head, *rows = table
     if len(head) == 1 and re.search("[;\t]", head[0]):
         stop(f"{name}: fields are separated by commas, and the header has a semicolon or a tab in place of them")
-    columns = [at for at, word in enumerate(head) if at > 0 and word.strip() != "rate"]
-    names, rates, moments = [], [], [[] for _ in columns]
+    if not rows:
+        stop(f"{name} has a header alone: a row for each item is wanted")
+    if len(rows) > ITEMS:
+        stop(f"{name} has {len(rows)} rows, and a deck may have {ITEMS} items")
     for row in rows:
         if len(row) != len(head):
-            stop(f"{name}: the row of {row[0]} has {len(row)} fields, and the header {len(head)}")
-        names.append(row[0].strip())
-        given = dict(zip((word.strip() for word in head[1:]), row[1:])).get("rate", "1").strip()
-        if not is_number(given, 0, RATE):
-            stop(f"{name}: {names[-1]} has the rate {given}: not a whole number from 0 to {RATE}")
-        rates.append(int(given))
-        for moment, at in zip(moments, columns):
-            try:
-                value = decimal.Decimal(row[at].strip())
-            except decimal.InvalidOperation:
-                value = decimal.Decimal("NaN")
-            if not value.is_finite():
-                stop(f"{name}: {names[-1]} has the value {row[at]} in column {head[at]}: not a number")
-            if len(value.as_tuple().digits) > DIGITS or abs(value.adjusted()) > DIGITS:
-                stop(f"{name}: {names[-1]} has a value in column {head[at]} that is too large or has too many decimals")
-            moment.append(value)
-    if not columns or not 1 <= len(names) <= ITEMS or len(set(names)) < len(names):
-        stop(f"{name}: there have to be 1 to {ITEMS} rows, each with a name of its own, and a column of values")
-    return names, rates, moments
+            stop(f"{name}: the row of {row[0] or 'an empty name'} has {len(row)} fields, and the header {len(head)}")
+    heads = [word.strip() for word in head]
+    if heads[1:].count("rate") > 1:
+        stop(f"{name} has two columns rate")
+    if not [word for word in heads[1:] if word != "rate"]:
+        stop(f"{name} has no column of values behind that of the names")
+    return heads, rows
 
 
-def scaled(value, decimals):
+def read_table(name):
+    """The names, the rates, the form of each row's values, and these: of each row those of all moments."""
+    heads, rows = check_table(name, read_rows(name))
+    columns = [at for at, word in enumerate(heads) if at > 0 and word != "rate"]
+    names, rates, forms, values = [], [], [], []
+    for row in rows:
+        called = row[0].strip()
+        if not called:
+            stop(f"{name}: a row has an empty name: {','.join(row)}")
+        if called in names:
+            stop(f"{name} has two rows of {called}: each row has a name of its own")
+        names.append(called)
+        rate = row[heads.index("rate", 1)].strip() if "rate" in heads[1:] else "1"
+        if not is_number(rate, 0, RATE):
+            stop(f"{name}: {called} has the rate {rate or '(empty)'}: not a whole number from 0 to {RATE}")
+        rates.append(int(rate))
+        cells = [value_in(row[at], f"{name}: {called} in column {heads[at]}") for at in columns]
+        if len({is_time for _, is_time in cells}) > 1:
+            stop(f"{name}: the row of {called} has times and other numbers: it has one of both alone")
+        decimals = max(0, *(-value.normalize().as_tuple().exponent for value, _ in cells), 0)
+        forms.append("time" if cells[0][1] else str(decimals))
+        values.append([scaled(value, decimals, f"{name}: {called}") for value, _ in cells])
+    return names, rates, forms, values
+
+
+def scaled(value, decimals, where):
     """The number that stands for a value; there is one of so many decimals within 63 bits either way."""
     whole = int(value.scaleb(decimals))
     if not -NUMBERS // 2 <= whole < NUMBERS // 2:
-        stop(f"{value} is too large with {decimals} decimals")
+        stop(f"{where}: {value} is too large with {decimals} decimals")
     return whole % NUMBERS
-
-
-def value_of(number, decimals):
-    """The value that a number stands for."""
-    whole = number - NUMBERS if number >= NUMBERS // 2 else number
-    return decimal.Decimal(whole).scaleb(-decimals)
 
 
 def read_disks(wishes, items):
     """The disks that are wished for, or one for all items."""
     disks = [[word.strip() for word in wish[5:].split(",")] for wish in wishes if wish.startswith("disk=")]
     for disk in disks:
-        if len(disk) != 2 or not is_number(disk[0], 1, ITEMS) or not (disk[1] == "-" or is_number(disk[1], 1, FREQUENCY)):
-            stop(f"disk={','.join(disk)}: a size from 1 to {ITEMS} and a frequency from 1 to {FREQUENCY} are wanted, as in disk=2,1")
+        if len(disk) != 2:
+            stop(f"disk={','.join(disk)} has {len(disk)} parts: a size and a frequency are wanted, as in disk=2,1")
+        if not is_number(disk[0], 1, ITEMS):
+            stop(f"disk={','.join(disk)} has the size {disk[0] or '(empty)'}: 1 to {ITEMS}")
+        if not (disk[1] == "-" or is_number(disk[1], 1, FREQUENCY)):
+            stop(f"disk={','.join(disk)} has the frequency {disk[1] or '(empty)'}: 1 to {FREQUENCY}, or -")
     if len(disks) > DISKS:
         stop(f"there are {len(disks)} disks, and a deck may have {DISKS}")
     if disks and sum(int(size) for size, _ in disks) != items:
@@ -127,80 +152,69 @@ def read_queries(table, wishes, names):
     return [[names.index(name) for name in query] for query in queries] or [[item] for item in range(len(names))]
 
 
+def updates_of(values, together):
+    """The updates of each later moment: each a list of writes."""
+    moments = []
+    for at in range(1, len(values[0])):
+        changed = [f"{item}={row[at]}" for item, row in enumerate(values) if row[at] != row[at - 1]]
+        size = WRITES if together else 1
+        moments.append([changed[front:front + size] for front in range(0, len(changed), size)])
+    return moments
+
+
 def is_same(a, b):
     """Whether two names are of one file, however it is linked."""
     return os.path.realpath(a) == os.path.realpath(b) or os.path.exists(a) and os.path.exists(b) and os.path.samefile(a, b)
 
 
-def make(table, deck, names_file, wishes):
+def make(table, deck, names_file, wishes, together):
     for one, other in ((table, deck), (table, names_file), (deck, names_file)):
         if is_same(one, other):
             stop(f"{one} and {other} are one file: TABLE, DECK and NAMES have to be three")
-    names, rates, moments = read_table(table)
-    decimals = max(0, *(-value.normalize().as_tuple().exponent for moment in moments for value in moment))
-    first, *later = [[scaled(value, decimals) for value in moment] for moment in moments]
-    lines = [["item", item, value, rate] for item, (value, rate) in enumerate(zip(first, rates))]
+    names, rates, forms, values = read_table(table)
+    lines = [["item", item, row[0], rate] for item, (row, rate) in enumerate(zip(values, rates))]
     lines += [["disk", *disk] for disk in read_disks(wishes, len(names))]
-    script, before = ["s"], first
-    for moment in later:
-        changed = [f"{item}={value}" for item, value in enumerate(moment) if value != before[item]]
-        for at in range(0, len(changed), WRITES):
-            lines.append(["update", 0, "", " ".join(changed[at:at + WRITES])])
-            script.append("0")
-        script.append("s")
-        before = moment
+    moments = updates_of(values, together)
+    count = sum(map(len, moments))
+    if count > UPDATES:
+        stop(f"{table} has {count} changes, and a deck may have {UPDATES} updates: take fewer columns, or --together")
+    if len(moments) >= STARTS:
+        stop(f"{table} has {len(moments) + 1} columns of values, and a script may start {STARTS} cycles")
+    lines += [["update", 0, "", " ".join(writes)] for updates in moments for writes in updates]
     lines.append(["reader", 0, 0, 3])
     lines += [["query", 0, " ".join(map(str, query))] for query in read_queries(table, wishes, names)]
-    lines.append(["script", " ".join(script)])
+    lines.append(["script", " ".join(["s"] + [event for updates in moments for event in ["0"] * len(updates) + ["s"]])])
     write_rows(deck, lines)
-    write_rows(names_file, [["item", "name", "decimals"]] + [[item, name, decimals] for item, name in enumerate(names)])
-
-
-def read_names(name):
-    """The names and the decimals of the items."""
-    if not os.path.exists(name):
-        stop(f"there is no file {name}: to make a deck, name three files, TABLE, DECK and NAMES; for a report, the NAMES that were made with its deck")
-    head, *rows = read_rows(name) or [[]]
-    if head != ["item", "name", "decimals"] or not all(len(row) == 3 and is_number(row[0], 0, ITEMS) and is_number(row[2], 0, 999) for row in rows):
-        stop(f"{name} isn't the file of names that was made with a deck: to make a deck, name three files, TABLE, DECK and NAMES")
-    return {int(item): (name, int(decimals)) for item, name, decimals in rows}
+    write_rows(names_file, [HEAD] + [[item, name, form] for item, (name, form) in enumerate(zip(names, forms))])
 
 
 def tell(report, names_file):
-    names = read_names(names_file)
-
-    def named(part):
-        item, cycle, value = re.fullmatch(r"(\d+)@(\d+)(?:=(\d+))?", part).groups()
-        name, decimals = names[int(item)]
-        return f"{name}@{cycle}" + (f"={value_of(int(value), decimals)}" if value else "")
-
-    lines = []
+    if not os.path.exists(names_file):
+        stop(f"there is no file {names_file}: to make a deck, name three files, TABLE, DECK and NAMES; for a report, the NAMES that were made with its deck")
+    names, lines = Names(names_file), []
     for row in read_rows(report):
         try:
             if row[0] not in REPORT:
                 raise ValueError
-            if row[0] in ("accept", "abort", "unfinished"):
-                row[4] = " ".join(named(part) for part in row[4].split())
-                if row[0] == "abort":
-                    row[5:] = [named(row[5]), names[int(row[6])][0]]
-        except KeyError as item:
-            stop(f"{report} has item {item}, and {names_file} hasn't: it goes with another deck")
-        except (ValueError, IndexError, AttributeError):
+            lines.append(",".join(names.row(row)))
+        except (ValueError, AttributeError):
             stop(f"{report} isn't a report: it has the line {','.join(row)}")
-        lines.append(",".join(row))
     for line in lines:
         print(line)
 
 
 def main(words):
+    together = "--together" in words
     wishes = [word for word in words if word.startswith(("disk=", "query="))]
-    words = [word for word in words if word not in wishes]
-    unknown = [word for word in words if re.match("[A-Za-z]+=", word)]
-    if unknown:
-        stop(f"{unknown[0]}: there are disk=SIZE,FREQ and query=NAME,NAME alone (for a file of such a name put ./ before it)")
+    words = [word for word in words if word not in wishes and word != "--together"]
+    for word in words:
+        if re.match("[A-Za-z]+=", word):
+            stop(f"{word}: there are disk=SIZE,FREQ and query=NAME,NAME alone (for a file of such a name put ./ before it)")
+        if re.match("--.", word):
+            stop(f"{word}: there is --together alone (for a file of such a name put ./ before it)")
     if len(words) == 3:
-        make(*words, wishes)
-    elif len(words) == 2 and wishes:
+        make(*words, wishes, together)
+    elif len(words) == 2 and (wishes or together):
         stop("a deck is made from three files' names, TABLE, DECK and NAMES, and there are two")
     elif len(words) == 2:
         tell(*words)

@@ -7,6 +7,7 @@ usage: examples/listener.py DECK PORT    hears datagrams at 127.0.0.1:PORT, and 
 
 An empty datagram is the end mark; an interrupt (Ctrl-C) sends one.
 """
+import re
 import signal
 import socket
 import sys
@@ -15,11 +16,21 @@ from receiver import decode, report
 from receiver_deck import IDLE, read_deck
 
 
+def port_of(word):
+    """The port that a word spells."""
+    if not re.fullmatch("[0-9]{1,5}", word) or not 1 <= int(word) <= 65535:
+        sys.exit(f"listener.py: the port is {word}: a number from 1 to 65535 is wanted")
+    return int(word)
+
+
 def datagrams(port, most):
     """What comes to the port, as it comes, up to the end mark or to so many datagrams; each is cut to 2,048 bytes."""
     with socket.socket(socket.AF_INET, socket.SOCK_DGRAM) as ear:
         ear.setsockopt(socket.SOL_SOCKET, socket.SO_RCVBUF, 1 << 22)
-        ear.bind(("127.0.0.1", port))
+        try:
+            ear.bind(("127.0.0.1", port))
+        except OSError as error:
+            sys.exit(f"listener.py: port {port} can't be had: {error.strerror}: does another program listen there?")
         signal.signal(signal.SIGINT, lambda *_: ear.sendto(b"", ear.getsockname()))
         while most > 0 and (data := ear.recv(2048)):
             yield data
@@ -45,9 +56,9 @@ def heard(deck, port):
 def main(words):
     if len(words) == 2:
         deck = read_deck(words[0])
-        report(deck, heard(deck, int(words[1])))
+        report(deck, heard(deck, port_of(words[1])))
     elif len(words) == 1:
-        list(heard(None, int(words[0])))
+        list(heard(None, port_of(words[0])))
     else:
         sys.exit(__doc__)
 

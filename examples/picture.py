@@ -1,21 +1,25 @@
 #!/usr/bin/env python3
 """Draws what `airdisk` printed as one SVG picture, which any browser shows and which needs nothing else.
 
-usage: examples/picture.py TEXT.. >picture.svg      each TEXT is a file with a plan or a report as it was printed
+usage: examples/picture.py [--names NAMES] TEXT.. >picture.svg      each TEXT is a file with a plan or a report as it was printed
 
-Of a plan: the slots of a cycle from left to right, a row for each disk; the darker an item, the higher its rate; idle slots are
-empty. Of a report: what was committed in each cycle, and a row for each attempt of each reader: what it read in which
-cycle, whether it was accepted, and why it was not. Where there are too many to draw, the picture says how many it left out.
+Of a plan: the slots of a cycle from left to right, a row for each disk, or, where they are too many for one line, line below line with a strip of
+its disk's colour over each; the darker an item, the higher its rate. Of a report: what was committed in each cycle, and a row for each attempt of
+each reader: what it read in which cycle, whether it was accepted, and why it was not. Behind a plan each read stands at the slot of its item. NAMES
+is the file that deck_from_table.py makes: with it items have their names and values. What is too much to draw is left out, and counted.
 """
 import csv
 import math
 import re
 import sys
-from xml.sax.saxutils import escape
 
-LEFT, ROW, MOST = 150, 26, 400
-INK, FAINT, RULE = "#1b1f24", "#57606a", "#d0d7de"
+from names import Names
+from shapes import FAINT, INK, RULE, Picture, cut, shade, width_of
+
+LEFT, ROW, WIDE, MOST, MOST_SLOTS = 150, 26, 1100, 400, 2048
+YELLOW, GOLD = "#fff8c5", "#d4a72c"
 COLOURS = {"accept": "#1a7f37", "abort": "#cf222e", "unfinished": "#8c959f"}
+DISKS = ["#d29922", "#1a7f37", "#8250df", "#cf222e", "#0969da", "#bf3989", "#57606a", "#1b7c83"]
 # the lines of a plan and of a report: a tag, so many numbers, and lists
 READS = r"(\d+@\d+=\d+( \d+@\d+=\d+)*)?"
 PLAN = re.compile(r"program(,\d+){3}|disk(,\d+){4}|minor,\d+,(\d+|-)( (\d+|-))*|item(,\d+){6}", re.ASCII)
@@ -23,85 +27,74 @@ REPORT = re.compile(rf"start|commit(,\d+){{2}}|(accept|unfinished)(,\d+){{3}},{R
                     r"|(glance|look)(,\d+){3}", re.ASCII)
 
 
-class Picture:
-    """Shapes, and how far they reach."""
+class Plan:
+    """A plan's numbers: the item of each slot, or a dash, with its disk; and of each item what its line says."""
 
-    def __init__(self):
-        self.shapes, self.width, self.height = [], 0, 16
+    def __init__(self, rows):
+        self.count, self.minors, self.length = map(int, rows[0][1:])
+        self.disks = [[int(field) for field in row[1:]] for row in rows if row[0] == "disk"]
+        self.items = {int(row[1]): [int(field) for field in row[2:]] for row in rows if row[0] == "item"}
+        self.rates = {item: pix // self.disks[disk][2] for item, (disk, _, _, _, pix) in self.items.items()}
+        owners = [disk for disk, _, _, places in self.disks for _ in range(places)]
+        self.slots = [(item, disk) for row in rows if row[0] == "minor" for item, disk in zip(row[2].split(" "), owners)]
+        self.top = max(self.rates.values())
+        self.aired = {}
+        for slot, (item, _) in enumerate(self.slots):
+            if item != "-":
+                self.aired.setdefault(int(item), []).append(slot)
 
-    def rect(self, x, y, w, h, fill, tip="", edge="none"):
-        self.width = max(self.width, x + w)
-        self.shapes.append(f'<rect x="{x:.1f}" y="{y:.1f}" width="{w:.1f}" height="{h:.1f}" rx="2" fill="{fill}" stroke="{edge}">'
-                           f"<title>{escape(tip)}</title></rect>")
-
-    def text(self, x, y, words, fill=INK, anchor="start", size=12, weight="normal"):
-        reach = 0.62 * size * len(words)
-        self.width = max(self.width, x + (reach if anchor == "start" else 0))
-        self.shapes.append(f'<text x="{x:.1f}" y="{y:.1f}" fill="{fill}" text-anchor="{anchor}" font-size="{size}" '
-                           f'font-weight="{weight}">{escape(words)}</text>')
-
-    def line(self, points, stroke, width=1.0):
-        self.width = max([self.width] + [x for x, _ in points])
-        path = " ".join(f"{x:.1f},{y:.1f}" for x, y in points)
-        self.shapes.append(f'<polyline points="{path}" fill="none" stroke="{stroke}" stroke-width="{width}"/>')
-
-    def dot(self, x, y, fill, tip):
-        self.shapes.append(f'<circle cx="{x:.1f}" cy="{y:.1f}" r="4" fill="{fill}"><title>{escape(tip)}</title></circle>')
-
-    def heading(self, words, more):
-        self.text(16, self.height + 18, words, size=16, weight="bold")
-        self.text(16, self.height + 38, more, FAINT)
-        self.height += 56
-
-    def whole(self):
-        size = f'width="{self.width + 16:.0f}" height="{self.height:.0f}"'
-        return (f'<svg xmlns="http://www.w3.org/2000/svg" {size} font-family="DejaVu Sans, Verdana, sans-serif">\n'
-                f'<rect width="100%" height="100%" fill="white"/>\n' + "\n".join(self.shapes) + "\n</svg>\n")
+    def share(self, item):
+        return math.log1p(self.rates[item]) / math.log1p(self.top) if self.top else 0
 
 
-def shade(share):
-    """A fill for a share from 0 to 1, and what can be read on it."""
-    low, high = (221, 235, 252), (10, 60, 130)
-    fill = [round(a + (b - a) * share) for a, b in zip(low, high)]
-    return "#%02x%02x%02x" % tuple(fill), INK if share < 0.5 else "white"
+def draw_slot(picture, plan, slot, x, y, wide):
+    item, _ = plan.slots[slot]
+    if item == "-":
+        picture.rect(x + 1, y, wide - 2, ROW - 6, "white", f"slot {slot}: idle", RULE)
+        return
+    fill, ink = shade(plan.share(int(item)))
+    _, _, gap, _, pix = plan.items[int(item)]
+    called = picture.called(int(item))
+    picture.rect(x + 0.5, y, max(wide - 1, 1), ROW - 6, fill, f"slot {slot}: item {item}{f' ({called})' if picture.names else ''}, "
+                 f"rate {plan.rates[int(item)]}, every {gap} slots; PIX {pix}")
+    picture.text(x + wide / 2, y + 14, cut(called, wide - 2), ink, "middle", 11)
 
 
 def draw_plan(picture, rows):
-    """Time to the right, a row for each disk."""
-    slots, minors, length = map(int, rows[0][1:])
-    disks = [[int(field) for field in row[1:]] for row in rows if row[0] == "disk"]
-    items = {int(row[1]): [int(field) for field in row[2:]] for row in rows if row[0] == "item"}
-    rates = {item: pix // disks[disk][2] for item, (disk, _, _, _, pix) in items.items()}
-    top = max(rates.values())
-    wide = min(30.0, max(3.0, 1100 / slots))
-    picture.heading(f"A cycle of {slots} slots", f"{minors} minor cycles of {length} slots; the darker, the more often asked for (rates up to {top})")
-    base = picture.height
-    for disk, frequency, chunks, _ in disks:
-        y = base + disk * ROW
-        picture.text(16, y + 17, f"disk {disk}, {frequency} a cycle")
-        picture.rect(LEFT, y + 2, slots * wide, ROW - 4, "#f6f8fa")
-    for row in rows:
-        if row[0] != "minor":
-            continue
-        minor, aired = int(row[1]), row[2].split(" ")
-        at = LEFT + minor * length * wide
-        if wide * length >= 24:
-            picture.text(at + 1, base + len(disks) * ROW + 14, str(minor * length), FAINT, size=10)
-        picture.line([(at, base), (at, base + len(disks) * ROW)], RULE)
-        owners = [disk for disk, _, _, places in disks for _ in range(places)]
-        for place, (item, disk) in enumerate(zip(aired, owners)):
-            x, y, slot = at + place * wide, base + disk * ROW + 3, minor * length + place
-            if item == "-":
-                picture.rect(x + 1, y, wide - 2, ROW - 6, "white", f"slot {slot}: idle", RULE)
-                continue
-            rate = rates[int(item)]
-            fill, ink = shade(math.log1p(rate) / math.log1p(top) if top else 0)
-            _, times, gap, _, pix = items[int(item)]
-            picture.rect(x + 0.5, y, max(wide - 1, 1), ROW - 6, fill, f"slot {slot}: item {item}, rate {rate}, every {gap} slots; PIX {pix}")
-            if wide >= 8 * len(item) + 2:
-                picture.text(x + wide / 2, y + 14, item, ink, "middle", 11)
-    picture.text(LEFT - 8, base + len(disks) * ROW + 14, "slot", FAINT, "end", 10)
-    picture.height = base + len(disks) * ROW + 30
+    """Time to the right: a row for each disk, or, where the slots are too many for one line, line below line."""
+    plan = Plan(rows)
+    longest = max(len(picture.called(item)) for item in plan.items)
+    wide = max(30.0, min(96.0, 0.62 * 11 * longest + 8))
+    shown = min(plan.count, MOST_SLOTS)
+    is_long = plan.count * wide > WIDE
+    picture.heading(f"A cycle of {plan.count} slots", f"{plan.minors} minor cycles of {plan.length} slots"
+                    + (f"; {plan.count - shown} slots aren't drawn" if shown < plan.count else ""))
+    signs = [(picture.box(shade(share)[0]), words) for share, words in ((0, "rate 0"), (1, f"rate {plan.top}"))] + [(picture.box("white", RULE), "idle")]
+    if is_long:
+        signs += [(picture.box(DISKS[disk]), f"disk {disk}, {frequency} a cycle") for disk, frequency, _, _ in plan.disks]
+    picture.legend(signs)
+    per = int(WIDE // wide) if is_long else plan.count
+    if is_long and plan.length <= per:
+        per -= per % plan.length
+    lanes = 1 if is_long else len(plan.disks)
+    for front in range(0, shown, per):
+        base, slots = picture.height, range(front, min(front + per, shown))
+        for lane in range(lanes):
+            picture.text(16, base + lane * ROW + 17, f"slots {slots[0]} to {slots[-1]}" if is_long else f"disk {lane}, {plan.disks[lane][1]} a cycle")
+            picture.rect(LEFT, base + lane * ROW + 2, len(slots) * wide, ROW - 4, "#f6f8fa")
+        for slot in slots:
+            x, disk = LEFT + (slot - front) * wide, plan.slots[slot][1]
+            if slot % plan.length == 0:
+                picture.line([(x, base), (x, base + lanes * ROW + 4)], FAINT)
+            draw_slot(picture, plan, slot, x, base + 3 + (0 if is_long else disk * ROW), wide)
+            if is_long:
+                picture.rect(x + 1, base + 1, wide - 2, 3, DISKS[disk])
+            if (slot - front) % math.ceil(24 / wide) == 0:
+                picture.text(x + wide / 2, base + lanes * ROW + 12, str(slot), FAINT, "middle", 9)
+        picture.height = base + lanes * ROW + 20
+    picture.text(16, picture.height - 8, "slot", FAINT, size=10)
+    picture.height += 14
+    picture.slots = plan
 
 
 def places(field):
@@ -124,45 +117,92 @@ def draw_history(picture, commits, columns, wide):
     picture.text(16, picture.height + 17, "commits")
     for cycle, names in commits.items():
         shown, x = " ".join(names), LEFT + columns[cycle] * wide
-        words = shown if 7 * len(shown) < wide - 8 else str(len(names))
+        words = shown if width_of(shown) < wide - 8 else str(len(names))
         when = f"while cycle {cycle} is on the air" if cycle else "before the first cycle"
-        picture.rect(x + wide * 0.02, picture.height + 3, wide * 0.96, ROW - 6, "#fff8c5", f"{when}: {shown}", "#d4a72c")
-        if 7 * len(words) < wide - 4:
+        picture.rect(x + wide * 0.02, picture.height + 3, wide * 0.96, ROW - 6, YELLOW, f"{when}: {shown}", GOLD)
+        if width_of(words) < wide - 4:
             picture.text(x + wide / 2, picture.height + 17, words, anchor="middle", size=11)
     picture.height += ROW
 
 
-def draw_attempt(picture, row, columns, wide):
+def spots(picture, reads, after):
+    """Where in its cycle each read stands, as a share of it: at its item's next slot, where the plan is known; else one beside the other."""
+    if picture.slots is None:
+        total = {cycle: sum(other == cycle for _, other, _ in reads) for _, cycle, _ in reads}
+        seen, found = {}, []
+        for _, cycle, _ in reads:
+            seen[cycle] = seen.get(cycle, 0) + 1
+            found.append(seen[cycle] / (total[cycle] + 1))
+        return found, after
+    found = []
+    for item, cycle, _ in reads:
+        aired = picture.slots.aired[item]
+        slot = next((slot for slot in aired if (cycle, slot) > after), aired[0])
+        after = max(after, (cycle, slot))
+        found.append((slot + 0.5) / picture.slots.count)
+    return found, after
+
+
+def draw_attempt(picture, row, columns, wide, after):
     """The reads of an attempt over the cycles, and what came of it."""
     kind, _, query, attempt, reads = row[:5]
     held = places(reads)
     refused = places(row[5])[0] if kind == "abort" else None
-    seen, points = {}, []
-    total = {}
-    for _, cycle, _ in held + [refused] * bool(refused):
-        total[cycle] = total.get(cycle, 0) + 1
-    y = picture.height + ROW / 2
-    for item, cycle, value in held + [refused] * bool(refused):
-        seen[cycle] = seen.get(cycle, 0) + 1
-        points.append((LEFT + (columns[cycle] + seen[cycle] / (total[cycle] + 1)) * wide, y, item, cycle, value))
-    colour = COLOURS[kind]
+    every = held + [refused] * bool(refused)
+    shares, after = spots(picture, every, after)
+    y, colour = picture.height + ROW / 2, COLOURS[kind]
+    points = [(LEFT + (columns[cycle] + share) * wide, y) for (_, cycle, _), share in zip(every, shares)]
     picture.text(28, y + 4, f"query {query}, try {attempt}")
-    picture.line([(x, y) for x, y, _, _, _ in points], colour, 2)
-    for at, (x, _, item, cycle, value) in enumerate(points):
-        if at < len(held):
-            picture.dot(x, y, colour, f"item {item} of cycle {cycle}: {value}")
-        else:
-            picture.line([(x - 5, y - 5), (x + 5, y + 5)], colour, 2.5)
-            picture.line([(x - 5, y + 5), (x + 5, y - 5)], colour, 2.5)
-    values = ", ".join(f"{item}={value}" for item, _, value in held)
+    picture.line(points, colour, 2)
+    for (x, _), (item, cycle, value) in zip(points, held):
+        picture.dot(x, y, colour, f"{picture.called(item)} of cycle {cycle}: {picture.value(item, value)}")
+    values = ", ".join(f"{picture.called(item)}={picture.value(item, value)}" for item, _, value in held)
     said = {"accept": f"accepted: {values}", "unfinished": f"unfinished: {values}" if held else "unfinished: nothing read"}
     if refused:
-        said["abort"] = f"aborted: item {refused[0]} of cycle {refused[1]} doesn't go with item {row[6]} ({values})"
-    return said[kind], colour
+        picture.cross(*points[-1], colour)
+        item = "" if picture.names else "item "
+        said["abort"] = (f"aborted: {item}{picture.called(refused[0])} of cycle {refused[1]} doesn't go with {item}{picture.called(int(row[6]))} ({values})")
+    return said[kind], colour, after
+
+
+def draw_axis(picture, columns, wide):
+    """The number of each cycle, and, where the plan is known and there is room, that of slots in it."""
+    for cycle, at in columns.items():
+        if at % math.ceil(24 / wide) == 0:
+            picture.text(LEFT + (at + 0.5) * wide, picture.height + 10, f"cycle {cycle}" if wide >= 60 else str(cycle), FAINT, "middle", 10)
+    picture.height += 16
+    if picture.slots is None or wide < 60:
+        return
+    step = max(1, math.ceil(picture.slots.count * 24 / wide))
+    picture.text(LEFT - 8, picture.height + 8, "slot", FAINT, "end", 9)
+    for at in columns.values():
+        for slot in range(0, picture.slots.count, step):
+            picture.text(LEFT + (at + (slot + 0.5) / picture.slots.count) * wide, picture.height + 8, str(slot), FAINT, "middle", 9)
+    picture.height += 14
+
+
+def draw_readers(picture, rows, columns, wide):
+    """A band for each reader, a row for each of its attempts; the notes behind them."""
+    notes = []
+    for counts in (row for row in rows if row[0] == "counts"):
+        opened, dozed, late, refused, foreign, copied = counts[2:]
+        picture.text(16, picture.height + 18, f"reader {counts[1]}", weight="bold")
+        words = f"opened {opened}, slept through {dozed}, from copies {copied}, late {late}, refused {refused}, foreign {foreign}"
+        notes.append((picture.height + 18, words, FAINT))
+        picture.height += ROW
+        mine, after = [row for row in rows if row[0] in COLOURS and row[1] == counts[1]], (0, 0)
+        for row in mine[:MOST]:
+            words, colour, after = draw_attempt(picture, row, columns, wide, after)
+            notes.append((picture.height + ROW / 2 + 4, words, colour))
+            picture.height += ROW
+        if len(mine) > MOST:
+            notes.append((picture.height + 17, f"and {len(mine) - MOST} more, which aren't drawn", FAINT))
+            picture.height += ROW
+    return notes
 
 
 def draw_report(picture, rows):
-    """A band for each reader, a row for each of its attempts."""
+    """The history over the cycles, and below it the readers."""
     verdicts = [row for row in rows if row[0] in COLOURS]
     commits, starts = committed(rows), sum(row[0] == "start" for row in rows)
     cycles = {cycle for row in verdicts for _, cycle, _ in places(row[4]) + (places(row[5]) if row[0] == "abort" else [])}
@@ -170,30 +210,17 @@ def draw_report(picture, rows):
     # all cycles from the first to the last, or, where these are too many, those in which something was read or committed
     every = range(min(cycles), max(cycles) + 1)
     columns = {cycle: at for at, cycle in enumerate(every if len(every) <= MOST else sorted(cycles))}
-    wide = min(120.0, max(3.0, 1100 / len(columns)))
+    wide = min(240.0 if picture.slots else 120.0, max(3.0, WIDE / len(columns)))
     left_out = f"; {len(every) - len(columns)} cycles in which nothing was read or committed aren't drawn" if len(columns) < len(every) else ""
-    picture.heading("What the readers made of it", f"a dot is a read, in the cycle in which it was aired; a cross one that was refused{left_out}")
-    for cycle, at in columns.items():
-        if at % math.ceil(24 / wide) == 0:
-            picture.text(LEFT + (at + 0.5) * wide, picture.height + 10, f"cycle {cycle}" if wide >= 60 else str(cycle), FAINT, "middle", 10)
-    picture.height += 16
-    begin, notes = picture.height, []
+    picture.heading("What the readers made of it", "time to the right, a row for each attempt" + (", each read at the next slot of its item" if picture.slots else "") + left_out)
+    picture.legend([(lambda x, y, colour=colour: picture.dot(x, y, colour), f"a read of an attempt that was {words}")
+                    for colour, words in zip(COLOURS.values(), ("accepted", "aborted", "left unfinished"))]
+                   + [(lambda x, y: picture.cross(x, y, COLOURS["abort"]), "the read that was refused"), (picture.box(YELLOW, GOLD), "commits")])
+    draw_axis(picture, columns, wide)
+    begin = picture.height
     if commits:
         draw_history(picture, commits, columns, wide)
-    for counts in (row for row in rows if row[0] == "counts"):
-        opened, dozed, late, refused, foreign, copied = counts[2:]
-        picture.text(16, picture.height + 18, f"reader {counts[1]}", weight="bold")
-        words = f"opened {opened}, slept through {dozed}, from copies {copied}, late {late}, refused {refused}, foreign {foreign}"
-        notes.append((picture.height + 18, words, FAINT))
-        picture.height += ROW
-        mine = [row for row in verdicts if row[1] == counts[1]]
-        for row in mine[:MOST]:
-            words, colour = draw_attempt(picture, row, columns, wide)
-            notes.append((picture.height + ROW / 2 + 4, words, colour))
-            picture.height += ROW
-        if len(mine) > MOST:
-            notes.append((picture.height + 17, f"and {len(mine) - MOST} more, which aren't drawn", FAINT))
-            picture.height += ROW
+    notes = draw_readers(picture, rows, columns, wide)
     grid = Picture()
     for at in range(0, len(columns) + 1, math.ceil(12 / wide)):
         grid.line([(LEFT + at * wide, begin), (LEFT + at * wide, picture.height)], RULE)
@@ -228,16 +255,19 @@ def read_rows(name):
     return rows, draw
 
 
-def main(names):
-    if not names or names[0].startswith("-"):
+def main(words):
+    names = None
+    if len(words) >= 2 and words[0] == "--names":
+        names, words = Names(words[1]), words[2:]
+    if not words or words[0].startswith("-"):
         sys.exit(__doc__)
-    picture = Picture()
-    for name in names:
-        rows, draw = read_rows(name)
+    picture = Picture(names)
+    for word in words:
+        rows, draw = read_rows(word)
         try:
             draw(picture, rows)
         except (LookupError, ValueError, ArithmeticError):
-            stop(f"{name} has lines that don't go together: it isn't as it was printed")
+            stop(f"{word} has lines that don't go together: it isn't as it was printed")
     sys.stdout.write(picture.whole())
 
 

@@ -2,9 +2,11 @@
 //!
 //! It tells nothing of what is still to be heard, since no contract can say what a socket gives; what the system said of the
 //! last failure is kept. A datagram that is longer than the buffer is cut to it, and an empty one is the
-//! end mark.
+//! end mark. For the first datagram it waits without a limit; from then on a silence of some seconds is the end, too, since the end
+//! mark may be lost.
 
 ghost use Rattle.std.specs.Prelude.{◌≡◌, ◌≤◌, ◌<◌, None, Some, length, IfOk};
+ghost use Rattle.std.specs.Io.{ReadsAtMost};
 ghost use Rattle.std.specs.Option.{option_map};
 ghost use Rattle.air_devices.specs.Counts.{HasCause, Rose};
 ghost use Rattle.air_devices.specs.Ears.{Hears};
@@ -17,15 +19,36 @@ use crate::system::net_failures::{NetCall, NetFailure};
 use crate::system::udp_mast::loopback;
 use std::io;
 use std::net::{Net, UdpSocket};
+use std::time::Duration;
 
-/// A socket that hears, and its port.
+/// After how many seconds of silence an ear ends where nothing else is asked for.
+pub const SILENCE: u32 = 30;
+
+/// A socket that hears, and its port; after how many seconds of silence it ends, and whether it does so yet.
 #[derive(Drop)]
 pub struct UdpEar<R: Net + Drop> {
     net: R,
     socket: Option<UdpSocket>,
     port: Option<u16>,
+    silence: u32,
+    is_limited: bool,
     faults: u64,
     last: Option<NetFailure>,
+}
+
+/// How many bytes a datagram put into the buffer, and 0 where there is a limit to the wait and none came. A stop of the process can end
+/// such a wait early; then it goes on.
+fn receive_some(socket: &UdpSocket, buf: &mut [u8], is_limited: bool) -> io::Result<usize>
+    ensures { ReadsAtMost result buf.new }
+{
+    for _ in 0..u64::MAX {
+        match socket.recv(buf) {
+            Err(error) if error.kind() == io::ErrorKind::Interrupted => {}
+            Err(error) if is_limited && error.kind() == io::ErrorKind::WouldBlock => return Ok(0),
+            received => return received,
+        }
+    }
+    Err(io::Error::from(io::ErrorKind::Interrupted))
 }
 
 impl<R: Net + Drop> UdpEar<R> {
@@ -35,10 +58,21 @@ impl<R: Net + Drop> UdpEar<R> {
         ensures port { result.port ≡ None }
         ensures last { result.last ≡ None }
     {
+        UdpEar::with_silence(net, SILENCE)
+    }
+
+    /// An ear that wasn't tuned, and ends after so many seconds of silence once it has heard a datagram; with 0 it doesn't.
+    pub fn with_silence(net: R, silence: u32) -> Self
+        ensures counts { result.faults ≡ 0 }
+        ensures port { result.port ≡ None }
+        ensures last { result.last ≡ None }
+    {
         UdpEar {
             net,
             socket: None,
             port: None,
+            silence,
+            is_limited: false,
             faults: 0,
             last: None,
         }
@@ -64,15 +98,21 @@ impl<R: Net + Drop> UdpEar<R> {
         Failed
     }
 
-    /// Hears a datagram; it fails where no tuning in has succeeded. One that fails leaves the socket of an earlier one.
-    fn receive(&self, buf: &mut [u8]) -> io::Result<Heard>
+    /// Hears a datagram, or a silence; it fails where no tuning in has succeeded. One that fails leaves the socket of an earlier one.
+    fn receive(&mut self, buf: &mut [u8]) -> io::Result<Heard>
         requires { 0 < length buf.old }
-        ensures { IfOk result (Hears None None buf.new) }
+        ensures heard { IfOk result (Hears None None buf.new) }
+        ensures rest { self.new ≡ record self.old { is_limited = self.new.is_limited } }
     {
         let Some(socket) = &self.socket else {
             return Err(io::Error::other("there is nothing to hear with"));
         };
-        Ok(match socket.recv(buf)? {
+        let len = receive_some(socket, buf, self.is_limited)?;
+        if !self.is_limited {
+            let silence = Duration::from_secs(u64::from(self.silence));
+            self.is_limited = socket.set_read_timeout(Some(silence)).is_ok();
+        }
+        Ok(match len {
             0 => Heard::Over,
             len => Heard::Bucket(len),
         })
@@ -91,6 +131,7 @@ impl<R: Net + Drop> Ear for UdpEar<R> {
         match UdpSocket::bind(&self.net, loopback(port)) {
             Ok(socket) => {
                 self.socket = Some(socket);
+                self.is_limited = false;
                 Ok(())
             }
             Err(error) => Err(self.fault(NetCall::TuneIn, error)),
@@ -102,7 +143,7 @@ impl<R: Net + Drop> Ear for UdpEar<R> {
         ensures heard { IfOk result (Hears None None buf.new) }
         ensures cause { HasCause self.old.faults self.new.faults result }
         ensures last { KeepsLastOf NetCall.Hear self.old.port self.old.last self.new.last result }
-        ensures rest { self.new ≡ record self.old { faults = self.new.faults; last = self.new.last } }
+        ensures rest { self.new ≡ record self.old { is_limited = self.new.is_limited; faults = self.new.faults; last = self.new.last } }
     {
         match self.receive(buf) {
             Ok(heard) => Ok(heard),

@@ -2,7 +2,8 @@
 //!
 //! It tells nothing of what it sent, since no contract can say what a socket takes; what the system said of the last failure is
 //! kept. It sends from a socket that isn't connected, so that no send fails because nobody listens. The end mark is an empty
-//! datagram.
+//! datagram, which is sent three times. It waits between datagrams (`paces`), and before the end, so that whoever listens on this
+//! machine can hear them all; no clause speaks of time.
 
 ghost use Rattle.std.specs.Prelude.{◌≡◌, ◌≤◌, ◌<◌, [], None, Some, length, IsErr};
 ghost use Rattle.std.specs.Option.{option_map};
@@ -11,37 +12,59 @@ ghost use Rattle.air_devices.specs.NetFailures.{IsLastOf, KeepsLastOf};
 ghost use Rattle.air_devices.specs.Untold.{untold_mast};
 
 use crate::masts::Mast;
+use crate::paces::Pace;
 use crate::shelves::Failed;
 use crate::system::net_failures::{NetCall, NetFailure};
-use std::io;
 use std::net::{Net, SocketAddr, UdpSocket};
+use std::time::{Clock, Duration};
+use std::{io, thread};
+
+/// How long it waits before the end, in milliseconds: a full buffer is read in less.
+const REST_BEFORE_END: u64 = 100;
+
+/// How often the end mark is sent, since a datagram may be lost.
+const END_MARKS: u32 = 3;
+
+/// How long it waits between two of these, in milliseconds.
+const REST_BETWEEN_MARKS: u64 = 20;
 
 /// The address on this machine with this port.
 pub(crate) fn loopback(port: u16) -> SocketAddr {
     SocketAddr::from(([127, 0, 0, 1], port))
 }
 
-/// A socket that sends, and the port that it sends to.
+/// A socket that sends, the port that it sends to, and how fast it sends.
 #[derive(Drop)]
-pub struct UdpMast<R: Net + Drop> {
-    net: R,
+pub struct UdpMast<R: Net + Clock + Drop> {
+    rt: R,
     socket: Option<UdpSocket>,
     port: Option<u16>,
+    pace: Pace,
     faults: u64,
     last: Option<NetFailure>,
 }
 
-impl<R: Net + Drop> UdpMast<R> {
-    /// A mast that wasn't aimed, over the runtime's network.
-    pub fn new(net: R) -> Self
+impl<R: Net + Clock + Drop> UdpMast<R> {
+    /// A mast that wasn't aimed, over the runtime's network and clock.
+    pub fn new(rt: R) -> Self
+        ensures counts { result.faults ≡ 0 }
+        ensures port { result.port ≡ None }
+        ensures last { result.last ≡ None }
+    {
+        UdpMast::with_rate(rt, None)
+    }
+
+    /// A mast that wasn't aimed, and sends so many datagrams a second as far as it can, where a rate is given; 0 counts as 1.
+    pub fn with_rate(rt: R, rate: Option<u32>) -> Self
         ensures counts { result.faults ≡ 0 }
         ensures port { result.port ≡ None }
         ensures last { result.last ≡ None }
     {
         UdpMast {
-            net,
+            rt,
             socket: None,
             port: None,
+            pace: Pace::new(rate),
             faults: 0,
             last: None,
         }
@@ -79,9 +102,22 @@ impl<R: Net + Drop> UdpMast<R> {
         }
         Ok(())
     }
+
+    /// Sends the end mark, and some time later twice more; it fails where the first fails.
+    fn send_end(&self) -> io::Result<()>
+        ensures { self.now.port ≡ None → IsErr result }
+    {
+        thread::sleep(&self.rt, Duration::from_millis(REST_BEFORE_END));
+        self.send_all(&[])?;
+        for _ in 1..END_MARKS {
+            thread::sleep(&self.rt, Duration::from_millis(REST_BETWEEN_MARKS));
+            let _ = self.send_all(&[]);
+        }
+        Ok(())
+    }
 }
 
-impl<R: Net + Drop> Mast for UdpMast<R> {
+impl<R: Net + Clock + Drop> Mast for UdpMast<R> {
     ghost state = { λ mast. untold_mast mast.faults mast.port };
 
     fn aim(&mut self, port: u16) -> Result<(), Failed>
@@ -90,7 +126,7 @@ impl<R: Net + Drop> Mast for UdpMast<R> {
         ensures last { KeepsLastOf NetCall.Aim (Some port) self.old.last self.new.last result }
     {
         self.port = Some(port);
-        match UdpSocket::bind(&self.net, loopback(0)) {
+        match UdpSocket::bind(&self.rt, loopback(0)) {
             Ok(socket) => {
                 self.socket = Some(socket);
                 Ok(())
@@ -103,8 +139,9 @@ impl<R: Net + Drop> Mast for UdpMast<R> {
         ensures unaimed { self.old.port ≡ None → IsErr result }
         ensures cause { HasCause self.old.faults self.new.faults result }
         ensures last { KeepsLastOf NetCall.Send self.old.port self.old.last self.new.last result }
-        ensures rest { self.new ≡ record self.old { faults = self.new.faults; last = self.new.last } }
+        ensures rest { self.new ≡ record self.old { pace = self.new.pace; faults = self.new.faults; last = self.new.last } }
     {
+        self.pace.wait(&self.rt);
         match self.send_all(bytes) {
             Ok(()) => Ok(()),
             Err(error) => Err(self.fault(NetCall::Send, error)),
@@ -117,7 +154,7 @@ impl<R: Net + Drop> Mast for UdpMast<R> {
         ensures last { KeepsLastOf NetCall.Finish self.old.port self.old.last self.new.last result }
         ensures rest { self.new ≡ record self.old { faults = self.new.faults; last = self.new.last } }
     {
-        match self.send_all(&[]) {
+        match self.send_end() {
             Ok(()) => Ok(()),
             Err(error) => Err(self.fault(NetCall::Finish, error)),
         }

@@ -1,0 +1,75 @@
+//! How fast a mast sends: how long it waits before each datagram.
+//!
+//! A mast that wasn't given a rate rests after each few datagrams, so that a listener on the same machine takes them out of its
+//! buffer meanwhile. One that was keeps to the rate as far as it can. No clause speaks of time. Where the clock fails nothing waits.
+
+use std::thread;
+use std::time::{Clock, Duration, Instant};
+
+/// After so many datagrams a mast without a rate rests.
+const BURST: u64 = 16;
+
+/// How long it rests, in milliseconds.
+const REST: u64 = 1;
+
+/// The shortest wait, in milliseconds: the system can't keep a shorter one.
+const SHORTEST_WAIT: u64 = 1;
+
+/// The nanoseconds of a second.
+const SECOND: u64 = 1_000_000_000;
+
+/// How many datagrams were sent, and at a rate how many nanoseconds each has, and when the first was sent.
+#[derive(Drop)]
+pub(crate) struct Pace {
+    step: Option<u64>,
+    since: Option<Instant>,
+    sent: u64,
+}
+
+/// Waits until so much time has gone since then. A wait of less than a millisecond is left out.
+pub(crate) fn wait_until<R: Clock>(clock: &R, since: Instant, due: Duration) {
+    let Ok(gone) = since.elapsed(clock) else {
+        return;
+    };
+    let ahead = due.saturating_sub(gone);
+    if Duration::from_millis(SHORTEST_WAIT) <= ahead {
+        thread::sleep(clock, ahead);
+    }
+}
+
+impl Pace {
+    /// So many datagrams a second, where a rate is given; 0 counts as 1.
+    pub fn new(rate: Option<u32>) -> Pace {
+        let step = match rate {
+            Some(rate) => Some(SECOND / u64::from(rate.max(1))),
+            None => None,
+        };
+        Pace {
+            step,
+            since: None,
+            sent: 0,
+        }
+    }
+
+    /// Waits until the next datagram may be sent, and counts it.
+    pub fn wait<R: Clock>(&mut self, clock: &R) {
+        let sent = self.sent;
+        self.sent = sent.saturating_add(1);
+        match self.step {
+            Some(step) => self.wait_for_turn(
+                clock,
+                Duration::from_nanos(sent.saturating_mul(step)),
+            ),
+            None if sent % BURST == BURST - 1 => thread::sleep(clock, Duration::from_millis(REST)),
+            None => {}
+        }
+    }
+
+    /// Waits until so much time has gone since the first datagram.
+    fn wait_for_turn<R: Clock>(&mut self, clock: &R, due: Duration) {
+        match self.since {
+            Some(since) => wait_until(clock, since, due),
+            None => self.since = Instant::now(clock).ok(),
+        }
+    }
+}
