@@ -1,5 +1,5 @@
 //! A monitor's job, and its last look.
-ghost use Rattle.std.specs.Prelude.{◌≡◌, ℕ, ◌<◌, ◌≤◌, MatchResult};
+ghost use Rattle.std.specs.Prelude.{◌≡◌, ℕ, ◌<◌, ◌≤◌, IfOk, MatchResult};
 ghost use Rattle.cycle_snapshot.specs.SnapshotStates.{HasLooked};
 ghost use mathlib.Core.List.{IsPrefix};
 ghost use Rattle.deck_runs.specs.Looks.{IsLineOf, LookedTimes};
@@ -30,6 +30,7 @@ pub fn monitor_job<G: Gate>(
 ) -> Result<LookLine, NoMemory>
     requires some { 1 ≤ looks }
     ensures looked { MatchResult result (λ line. LookedTimes looks monitor.old monitor.new × IsLineOf monitor.new line) (λ _. (n : ℕ) × (n < looks) × LookedTimes n monitor.old monitor.new) }
+    ensures number { IfOk result (λ line. line.monitor ≡ 0) }
 {
     let _before = monitor.looks();
     for look in 0..looks {
@@ -40,11 +41,12 @@ pub fn monitor_job<G: Gate>(
     Ok(line_of(monitor))
 }
 
-/// Looks once more, after the monitor learned what is published: its look goes on from all of it.
+/// Looks once more, after the monitor learned what is published: its look goes on from all of it. The line has the monitor's number 0.
 pub fn last_look(monitor: &mut Monitor, publisher: &Publisher) -> Result<LookLine, NoMemory>
     requires own { monitor.old.publisher ≡ publisher.now.id }
     ensures told { IsPrefix publisher.now.batches monitor.new.told × IsPrefix monitor.old.told monitor.new.told }
     ensures looked { MatchResult result (λ line. HasLooked (record monitor.old { told = monitor.new.told }) monitor.new × IsLineOf monitor.new line) (λ _. monitor.new ≡ record monitor.old { told = monitor.new.told }) }
+    ensures number { IfOk result (λ line. line.monitor ≡ 0) }
 {
     monitor.learn(publisher.tell());
     monitor.look()?;

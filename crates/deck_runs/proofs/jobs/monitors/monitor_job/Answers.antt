@@ -10,10 +10,11 @@ loop-look-init g c = looked_none c.args.monitor.now (subst (λ n. n < 1844674407
 pub loop-look-preserved : goal.loop-look-preserved
 loop-look-preserved g c = looked_more c.args.monitor.now c.loop-look.monitor c.look.new.self c.loop-look.look c.loop-look.invariant c.in_ok-look.ensures
 
-pub returns-in_err-look : goal.returns-in_err-look
-returns-in_err-look g c = record { looked = refused _ _ c.from_residual.result c.from_residual.ensures.0 (c.loop-look.look, c.loop-look-test.true, subst (LookedTimes c.loop-look.look c.args.monitor.now) (sym c.in_err-look.ensures) c.loop-look.invariant) }
+pub returns-in_err-look-clause-looked : goal.returns-in_err-look-clause-looked
+returns-in_err-look-clause-looked g c =
+    refused _ _ c.from_residual.result c.from_residual.ensures.0 (c.loop-look.look, c.loop-look-test.true, subst (LookedTimes c.loop-look.look c.args.monitor.now) (sym c.in_err-look.ensures) c.loop-look.invariant)
 
-pub returns : goal.returns
-returns g c =
+pub returns-clause-looked : goal.returns-clause-looked
+returns-clause-looked g c =
     let all : c.loop-look.look ≡ c.args.looks = omega arith in
-    record { looked = (subst (λ n. LookedTimes n c.args.monitor.now c.loop-look.monitor) all c.loop-look.invariant, c.line_of.ensures.line) }
+    (subst (λ n. LookedTimes n c.args.monitor.now c.loop-look.monitor) all c.loop-look.invariant, c.line_of.ensures.line)
