@@ -7,13 +7,16 @@ use Rattle.std.proofs.lemmas.List.Elements.{All-map}
 use Rattle.turnstile.specs.Passes.{TurnstileId}
 use Rattle.air_history.specs.declared.histories.Event.{Event}
 use Rattle.air_history.specs.Boards.{board_of}
+use Rattle.air_history.specs.Histories.{starts}
 use Rattle.air_model.specs.Decks.{Deck, updates_by, values_in}
 use Rattle.air_model.specs.DeckLaws.{commits_from, made_by}
 use Rattle.bucket_codec.specs.declared.offsets.TheConstants.{ENTRY_BYTES, HEAD_BYTES}
 use Rattle.station.specs.PassStates.{PassState, new_pass, numbers_of, with_seen}
+use Rattle.deck_runs.specs.declared.jobs.crews.ConductorRun.{ConductorRun}
 use Rattle.deck_runs.specs.declared.jobs.crews.UpdaterRun.{UpdaterRun}
-use Rattle.deck_runs.specs.Crews.{EachDone, HasMadeUpdates, HasNewPass, passes_of}
-use Rattle.deck_runs.specs.Private.StageSteps.{AreNewUpdaters, HasEndedUpdates, HaveEnded, IsStage}
+use Rattle.deck_runs.specs.Crews.{CanConduct, EachDone, HasMadeUpdates, HasNewPass, passes_of}
+use Rattle.deck_runs.specs.PublishedBatches.{GoesOn}
+use Rattle.deck_runs.specs.Private.StageSteps.{AreNewUpdaters, HasEndedUpdates, HaveEnded, IsPlayed}
 use Rattle.deck_runs.specs.declared.threads.stages.Stage.{Stage}
 
 pub all_ready : (station : TurnstileId) (deck : Deck) (runs : List UpdaterRun) → AreNewUpdaters station deck runs → All (HasNewPass station deck) runs
@@ -83,13 +86,17 @@ new_updaters station deck runs ps same count each = record {
     pass : UpdaterRun → PassState
     pass run = run.pass
 
--- A stage of such parts.
-pub stage_is : (deck : Deck) (s : Stage) (station : TurnstileId) (pass : PassState) → s.station ≡ station → s.pass ≡ pass → pass ≡ new_pass station deck (length deck.updates) → AreNewUpdaters station deck s.updaters.items
-    → s.passes.items ≡ [] → length s.updaters.items ≤ vec_capacity s.passes → s.board ≡ board_of (values_in deck) [] → HEAD_BYTES + ENTRY_BYTES * length deck.items ≤ length s.buf.items → IsStage deck s
-stage_is deck s station pass at is new updaters none room board buffer = record {
-  pass = is ∙ new ∙ ap (λ t. new_pass t deck (length deck.updates)) (sym at);
-  updaters = subst (λ t. AreNewUpdaters t deck s.updaters.items) (sym at) updaters;
-  room = (none, room);
-  board = board;
-  buffer = buffer;
+-- The conductor of such parts.
+pub can_conduct : (deck : Deck) (at : TurnstileId) (run : ConductorRun) (station : TurnstileId) (pass : PassState) → at ≡ station → run.pass ≡ pass → pass ≡ new_pass station deck (length deck.updates)
+    → run.board ≡ board_of (values_in deck) [] → HEAD_BYTES + ENTRY_BYTES * length deck.items ≤ length run.buf.items → CanConduct at deck run
+can_conduct deck at run station pass same is new board buffer = record { pass = is ∙ new ∙ ap (λ t. new_pass t deck (length deck.updates)) (sym same); board = board; buffer = buffer }
+
+-- A stage after the jobs.
+pub is_played : (deck : Deck) (s t : Stage) → CanConduct s.station deck s.conductor → AreNewUpdaters s.station deck s.updaters.items → s.passes.items ≡ [] → length s.updaters.items ≤ vec_capacity s.passes
+    → GoesOn s.conductor.pass t.conductor.pass → starts t.conductor.pass.seen ≤ deck.settings.cycles → EachDone deck s.updaters.items t.updaters.items → t.station ≡ s.station → t.passes ≡ s.passes → IsPlayed deck t
+is_played deck s t can new empty room on few done station passes = record {
+  pass = on.same ∙ ap (λ p. with_seen p t.conductor.pass.seen) (can.pass ∙ ap (λ at. new_pass at deck (length deck.updates)) (sym station));
+  few = few;
+  updaters = subst (λ at. HaveEnded at deck t.updaters.items) (sym station) (have_ended s.station deck s.updaters.items t.updaters.items new done);
+  room = (ap (λ p. p.items) passes ∙ empty, let size = ap vec_capacity passes in let count = done.0 in omega arith);
 }

@@ -1,11 +1,14 @@
 -- Jobs before and after they ran side by side.
-use Rattle.std.specs.Prelude.{◌≡◌, ℕ, ◌<◌, List, length, map, take, get_or, MatchBool, Option, Some, None}
+use Rattle.std.specs.Prelude.{◌≡◌, ℕ, ◌+◌, ◌*◌, ◌<◌, ◌≤◌, List, [], length, map, take, get_or, MatchBool, Option, Some, None}
 use Rattle.turnstile.specs.Passes.{TurnstileId}
-use Rattle.air_model.specs.Decks.{Deck, updates_by}
+use Rattle.air_history.specs.Boards.{board_of}
+use Rattle.air_model.specs.Decks.{Deck, updates_by, values_in}
 use Rattle.air_model.specs.DeckLaws.{commits_from, made_by}
 use Rattle.air_model.specs.declared.reports.LookLine.{LookLine}
+use Rattle.bucket_codec.specs.declared.offsets.TheConstants.{ENTRY_BYTES, HEAD_BYTES}
 use Rattle.station.specs.PassStates.{PassState, new_pass, with_seen}
 use Rattle.cycle_snapshot.specs.SnapshotStates.{MonitorState}
+use Rattle.deck_runs.specs.declared.jobs.crews.ConductorRun.{ConductorRun}
 use Rattle.deck_runs.specs.declared.jobs.crews.UpdaterRun.{UpdaterRun}
 use Rattle.deck_runs.specs.declared.jobs.crews.MonitorRun.{MonitorRun}
 use Rattle.deck_runs.specs.Looks.{IsLineOf, LookedTimes}
@@ -17,6 +20,12 @@ passes_of updaters = map (λ run. run.pass) updaters
 -- The monitors of watchers.
 abbrev pub monitors_of : List MonitorRun → List MonitorState
 monitors_of watchers = map (λ run. run.monitor) watchers
+
+-- The pass is the new one of the station's and the deck's conductor, the board is that of the first values, and there is room for a bucket.
+pub record CanConduct (station : TurnstileId) (deck : Deck) (run : ConductorRun) : Type 0 where
+  pub pass : run.pass ≡ new_pass station deck (length deck.updates)
+  pub board : run.board ≡ board_of (values_in deck) []
+  pub buffer : HEAD_BYTES + ENTRY_BYTES * length deck.items ≤ length run.buf.items
 
 -- The pass is a new one of the station and the deck.
 unfoldable pub HasNewPass : TurnstileId → Deck → UpdaterRun → Type 0

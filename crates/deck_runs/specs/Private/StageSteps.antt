@@ -1,20 +1,21 @@
 -- For private steps alone. What the jobs of a run work on, before them and after.
-use Rattle.std.specs.Prelude.{◌≡◌, ℕ, ◌<◌, ◌≤◌, ◌+◌, ◌*◌, List, [], ◌++◌, length, take, slice_get, MatchBool, Some, vec_capacity}
+use Rattle.std.specs.Prelude.{◌≡◌, ℕ, ◌<◌, ◌≤◌, List, [], ◌++◌, length, take, slice_get, MatchBool, MatchResult, OnOk, Result, Some, vec_capacity}
 use Rattle.turnstile.specs.Passes.{TurnstileId}
 use Rattle.air_history.specs.declared.histories.Event.{Event}
 use Rattle.air_history.specs.Histories.{is_start, starts}
-use Rattle.air_history.specs.Boards.{board_of}
+use Rattle.air_model.specs.Batches.{AirsByBatches}
 use Rattle.air_model.specs.Closings.{GoesOnWithout}
-use Rattle.air_model.specs.Decks.{Deck, IsWhole, updates_by, values_in}
+use Rattle.air_model.specs.Decks.{Deck, IsWhole, updates_by}
 use Rattle.air_model.specs.DeckLaws.{commits_from, made_by}
 use Rattle.air_devices.specs.Masts.{Changes, MastState, with_buckets}
 use Rattle.air_sender.specs.AirFaults.{FailedAt}
-use Rattle.bucket_codec.specs.declared.offsets.TheConstants.{ENTRY_BYTES, HEAD_BYTES}
-use Rattle.station.specs.PassStates.{new_pass, with_seen}
+use Rattle.cycle_snapshot.specs.SnapshotStates.{PublisherState}
+use Rattle.station.specs.PassStates.{PassState, new_pass, with_seen}
 use Rattle.deck_runs.specs.declared.jobs.conductors.ConductFault.{ConductFault}
 use Rattle.deck_runs.specs.declared.jobs.conductors.ConductFault.TheVariants as fault
 use Rattle.deck_runs.specs.declared.jobs.crews.UpdaterRun.{UpdaterRun}
 use Rattle.deck_runs.specs.DeckBytes.{deck_bytes}
+use Rattle.deck_runs.specs.PublishedBatches.{GoesOn, IsUpTo, PublishesOn}
 use Rattle.deck_runs.specs.declared.threads.stages.Stage.{Stage}
 
 -- The updaters have the new passes of the deck's station, in their order.
@@ -34,18 +35,10 @@ pub record HaveEnded (station : TurnstileId) (deck : Deck) (updaters : List Upda
   pub count : length updaters ≡ length deck.updates
   pub each : (by : ℕ) (run : UpdaterRun) → slice_get updaters by ≡ Some run → HasEndedUpdates station deck by run
 
--- A stage before the jobs.
-pub record IsStage (deck : Deck) (s : Stage) : Type 0 where
-  pub pass : s.pass ≡ new_pass s.station deck (length deck.updates)
-  pub updaters : AreNewUpdaters s.station deck s.updaters.items
-  pub room : (s.passes.items ≡ []) × (length s.updaters.items ≤ vec_capacity s.passes)
-  pub board : s.board ≡ board_of (values_in deck) []
-  pub buffer : HEAD_BYTES + ENTRY_BYTES * length deck.items ≤ length s.buf.items
-
 -- A stage after the jobs.
 pub record IsPlayed (deck : Deck) (s : Stage) : Type 0 where
-  pub pass : s.pass ≡ with_seen (new_pass s.station deck (length deck.updates)) s.pass.seen
-  pub few : starts s.pass.seen ≤ deck.settings.cycles
+  pub pass : s.conductor.pass ≡ with_seen (new_pass s.station deck (length deck.updates)) s.conductor.pass.seen
+  pub few : starts s.conductor.pass.seen ≤ deck.settings.cycles
   pub updaters : HaveEnded s.station deck s.updaters.items
   pub room : (s.passes.items ≡ []) × (length s.updaters.items ≤ vec_capacity s.passes)
 
@@ -71,3 +64,18 @@ pub record SendsFront {M : Type 0} (state : M → MastState) (deck : Deck) (seen
 abbrev pub IsSeenAnswer : {M : Type 0} → (M → MastState) → Deck → List Event → M → M → ConductFault → Type 0
 IsSeenAnswer state deck seen before now (fault.Mast sent) = FailedAt state sent (deck_bytes deck seen) before now
 IsSeenAnswer state deck seen before now fault.NoMemory = SendsFront state deck seen before now
+
+-- What a deck's conductor leaves, said at once: what was sent are the buckets of the history that its pass has seen, which the batches
+-- that were published air, one a cycle.
+pub record AirsDeck {M : Type 0} (state : M → MastState) (deck : Deck) (p q : PassState) (f g : PublisherState) (before now : M) (result : Result (Unit {0}) ConductFault) : Type 0 where
+  pub pass : GoesOn p q
+  pub publisher : PublishesOn f g
+  pub whole : OnOk result (IsUpTo 0 q.seen g.batches × (starts q.seen ≡ deck.settings.cycles))
+  pub batches : OnOk result (AirsByBatches deck q.seen g.batches)
+  pub few : starts q.seen ≤ deck.settings.cycles
+  pub aired : MatchResult result (λ _. Changes (with_buckets (deck_bytes deck q.seen)) (state before).told (state now).told × ((state now).faults ≡ (state before).faults)) (IsSeenAnswer state deck q.seen before now)
+  pub port : (state now).port ≡ (state before).port
+
+-- The same, which proofs of what runs beside it needn't look into.
+unfoldable pub HasAired : {M : Type 0} → (M → MastState) → Deck → PassState → PassState → PublisherState → PublisherState → M → M → Result (Unit {0}) ConductFault → Type 0
+HasAired state deck p q f g before now result = AirsDeck state deck p q f g before now result

@@ -85,7 +85,7 @@ pub fn conductor_job<R: Wait, M: Mast, G: Gate>(
 }
 
 /// The conductor's job, with all that it leaves said at once.
-pub fn conduct<R: Wait, M: Mast, G: Gate>(
+fn conduct<R: Wait, M: Mast, G: Gate>(
     means: &Means<'_, R>,
     pass: &mut ConductorPass,
     publisher: &mut Publisher,

@@ -1,26 +1,21 @@
-//! The jobs side by side: the conductor's beside those of all updaters and all monitors.
+//! Who does the jobs of a run: the conductor, the updaters and the monitors, each with what its job works on.
 //!
 //! Each job's clause is carried out, whatever the schedule: a job that ends out of memory, or since the mast failed, leaves
 //! the others to go on to their own ends.
-ghost use Rattle.std.specs.Prelude.{◌≡◌, ◌<◌, ◌≤◌, ◌+◌, ◌*◌, ◌^◌, length, All};
+ghost use Rattle.std.specs.Prelude.{◌≡◌, ◌≤◌, All};
 ghost use Rattle.std.specs.Thread.{IsSync};
-ghost use Rattle.air_history.specs.Histories.{starts};
-ghost use Rattle.air_model.specs.Disks.{all_items};
-ghost use Rattle.air_model.specs.Programs.{program as slots_of};
-ghost use Rattle.bucket_codec.specs.declared.offsets.TheConstants.{ENTRY_BYTES, HEAD_BYTES};
-ghost use Rattle.deck_runs.specs.PublishedBatches.{AreInStep};
-ghost use Rattle.deck_runs.specs.Private.CycleSteps.{HasConducted};
-ghost use Rattle.deck_runs.specs.declared.jobs.TheConstants.{LOOKS};
-ghost use Rattle.deck_runs.specs.Crews.{EachDone, EachWatched, HasMadeUpdates, HasNewPass, IsWatched};
+ghost use Rattle.air_model.specs.Decks.{disks_in, values_in};
+ghost use Rattle.cycle_snapshot.specs.SnapshotStates.{new_publisher};
+ghost use Rattle.deck_runs.specs.Crews.{CanConduct, EachDone, EachWatched, HasMadeUpdates, HasNewPass, IsWatched};
+ghost use Rattle.deck_runs.specs.Private.StageSteps.{HasAired};
 
-use crate::jobs::LOOKS;
-use crate::jobs::conductors::{ConductFault, conduct};
-use crate::jobs::means::Means;
+use crate::jobs::conductors::{ConductFault, conductor_job};
 use crate::jobs::monitors::monitor_job;
 use crate::jobs::updaters::updater_job;
 use air_base::limits::{MOST_MONITORS, MOST_UPDATERS};
 use air_devices::{Gate, Mast};
 use air_model::reports::LookLine;
+use chunk_program::Program;
 use control_matrix::Board;
 use cycle_snapshot::{Monitor, Publisher};
 use item_catalog::Deck;
@@ -29,6 +24,52 @@ use std::alloc::Global;
 use std::sync::Wait;
 use std::thread;
 use std::thread::{Threads, join_mut};
+
+/// The conductor: its pass, its board, and room for the bytes of a bucket.
+#[derive(Drop)]
+pub struct ConductorRun {
+    pub pass: ConductorPass,
+    pub board: Board,
+    pub buf: Vec<u8>,
+}
+
+impl ConductorRun {
+    /// Airs the deck's cycles: what was sent are the buckets of the history that the pass has seen, which is aired by the batches that
+    /// the publisher has then, one a cycle.
+    pub(crate) fn work<R: Wait, M: Mast, G: Gate>(
+        &mut self,
+        wait: &R,
+        alloc: Global,
+        station: &Station,
+        deck: &Deck,
+        program: &Program,
+        publisher: &mut Publisher,
+        mast: &mut M,
+        gate: &G,
+    ) -> Result<(), ConductFault>
+        requires ready { CanConduct station.now deck.now self.old }
+        requires publisher { publisher.old ≡ new_publisher publisher.old.id (values_in deck.now) deck.now.settings.cycles }
+        requires program { program.now ≡ disks_in deck.now }
+        ensures { HasAired M.state deck.now self.old.pass self.new.pass publisher.old publisher.new mast.old mast.new result }
+    {
+        deck.shows_well_made();
+        let settings = deck.settings();
+        conductor_job(
+            wait,
+            alloc,
+            station,
+            &mut self.pass,
+            publisher,
+            &mut self.board,
+            program,
+            settings.policy,
+            settings.cycles,
+            mast,
+            &mut self.buf,
+            gate,
+        )
+    }
+}
 
 /// An updater: its pass, and whether all of its updates were committed.
 #[derive(Drop)]
@@ -121,7 +162,7 @@ fn watch_all<R: Threads + Sync, G: Gate + Sync>(
 }
 
 /// All updaters beside all monitors.
-fn update_and_watch<R: Threads + Wait + Sync, G: Gate + Sync>(
+pub(crate) fn update_and_watch<R: Threads + Wait + Sync, G: Gate + Sync>(
     rt: &R,
     alloc: Global,
     station: &Station,
@@ -147,43 +188,4 @@ fn update_and_watch<R: Threads + Wait + Sync, G: Gate + Sync>(
             ensures { EachDone deck.entry.now updaters.entry.now updaters.exit.now }
         { update_all(rt, alloc, station, deck, updaters, gate) },
     );
-}
-
-/// The conductor beside all updaters and all monitors. It answers as the conductor's job does; each updater tells whether it
-/// committed all of its updates, and each monitor its last look.
-pub fn run_beside<R: Threads + Wait + Sync, M: Mast + Send, G: Gate + Sync>(
-    means: &Means<'_, R>,
-    deck: &Deck,
-    pass: &mut ConductorPass,
-    publisher: &mut Publisher,
-    board: &mut Board,
-    mast: &mut M,
-    buf: &mut [u8],
-    updaters: &mut [UpdaterRun],
-    monitors: &mut [MonitorRun],
-    gate: &G,
-) -> Result<(), ConductFault>
-    requires own { pass.old.station ≡ means.now.station.now }
-    requires step { AreInStep pass.old publisher.old board.old }
-    requires room { (starts pass.old.seen + deck.now.settings.cycles ≤ publisher.old.most) × (starts pass.old.seen + deck.now.settings.cycles + 1 < 2 ^ 32) }
-    requires items { length (all_items means.now.program.now) ≡ length pass.old.values }
-    requires buffer { HEAD_BYTES + ENTRY_BYTES * length pass.old.values ≤ length buf.old }
-    requires ready { All (HasNewPass means.now.station.now deck.now) updaters.old }
-    ensures conducted { HasConducted M.state means.now.policy (slots_of means.now.program.now) deck.now.settings.cycles pass.old pass.new publisher.old publisher.new board.new mast.old mast.new result }
-    ensures updaters { EachDone deck.now updaters.old updaters.new }
-    ensures monitors { EachWatched LOOKS monitors.old monitors.new }
-{
-    let rt = means.wait;
-    let alloc = means.alloc;
-    let station = means.station;
-    let cycles = deck.settings().cycles;
-    let (conducted, _) = join_mut(
-        rt,
-        &mut || conduct(means, pass, publisher, board, cycles, mast, buf, gate),
-        &mut ||
-            requires { IsSync R.row × IsSync G.row × All (HasNewPass station.now deck.now) updaters.now }
-            ensures { EachDone deck.entry.now updaters.entry.now updaters.exit.now × EachWatched LOOKS monitors.entry.now monitors.exit.now }
-        { update_and_watch(rt, alloc, station, deck, updaters, monitors, LOOKS, gate) },
-    );
-    conducted
 }

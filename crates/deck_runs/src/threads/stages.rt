@@ -6,18 +6,19 @@ ghost use Rattle.air_model.specs.Decks.{disks_in, values_in};
 ghost use Rattle.air_devices.specs.Masts.{Changes, with_buckets};
 ghost use Rattle.air_model.specs.Batches.{AirsByBatches};
 ghost use Rattle.cycle_snapshot.specs.SnapshotStates.{new_monitor, new_publisher};
-ghost use Rattle.deck_runs.specs.Crews.{EachWatched, passes_of};
+ghost use Rattle.std.specs.Thread.{IsSync};
+ghost use Rattle.deck_runs.specs.Crews.{CanConduct, EachDone, EachWatched, HasNewPass, passes_of};
 ghost use Rattle.deck_runs.specs.PublishedBatches.{IsUpTo, PublishesOn};
 ghost use Rattle.deck_runs.specs.declared.jobs.crews.MonitorRun.{MonitorRun as Watcher};
 ghost use Rattle.deck_runs.specs.declared.jobs.crews.UpdaterRun.{UpdaterRun as Updater};
 ghost use Rattle.deck_runs.specs.declared.jobs.TheConstants.{LOOKS};
 ghost use Rattle.deck_runs.specs.DeckBytes.{deck_bytes};
-ghost use Rattle.deck_runs.specs.Private.StageSteps.{BeginsWhole, IsEnd, IsPlayed, IsSeenAnswer, IsStage};
+ghost use Rattle.deck_runs.specs.Private.StageSteps.{HasAired, AreNewUpdaters, BeginsWhole, IsEnd, IsPlayed};
 
+use crate::jobs::LOOKS;
 use crate::jobs::conductors::ConductFault;
-use crate::jobs::crews::{MonitorRun, UpdaterRun};
+use crate::jobs::crews::{ConductorRun, MonitorRun, UpdaterRun, update_and_watch};
 use crate::jobs::openings::{first_values, updaters_of, watchers_of};
-use crate::jobs::run_jobs;
 use air_base::NoMemory;
 use air_devices::{Gate, Mast};
 use air_history::History;
@@ -26,26 +27,27 @@ use chunk_program::Program;
 use control_matrix::Board;
 use cycle_snapshot::{Publisher, publisher};
 use item_catalog::Deck;
-use station::{ConductorPass, Station, UpdaterPass};
+use station::{Station, UpdaterPass};
 use std::alloc::Global;
 use std::sync::Wait;
-use std::thread::Threads;
+use std::thread::{Threads, join_mut};
 
-/// The station with its passes, the conductor's board, and room for a bucket's bytes. The passes of the updaters come back into `passes`,
-/// which has the room from the beginning.
+/// The station, and those who work at it. The passes of the updaters come back into `passes`, which has the room from the beginning.
 #[derive(Drop)]
 pub(crate) struct Stage {
     pub station: Station,
-    pub pass: ConductorPass,
+    pub conductor: ConductorRun,
     pub updaters: Vec<UpdaterRun>,
     pub passes: Vec<UpdaterPass>,
-    pub board: Board,
-    pub buf: Vec<u8>,
 }
 
 /// A stage of the deck, before all events.
 pub(crate) fn open_stage(alloc: Global, deck: &Deck) -> Result<Stage, NoMemory>
-    ensures { IfOk result (IsStage deck.now) }
+    ensures conductor { IfOk result (λ s. CanConduct s.station deck.now s.conductor) }
+    ensures updaters { IfOk result (λ s. AreNewUpdaters s.station deck.now s.updaters.items) }
+    ensures ready { IfOk result (λ s. All (HasNewPass s.station deck.now) s.updaters.items) }
+    ensures empty { IfOk result (λ s. s.passes.items ≡ []) }
+    ensures room { IfOk result (λ s. length s.updaters.items ≤ vec_capacity s.passes) }
 {
     deck.shows_well_made();
     let (station, passes, pass) = Station::new(alloc, deck)?;
@@ -53,11 +55,13 @@ pub(crate) fn open_stage(alloc: Global, deck: &Deck) -> Result<Stage, NoMemory>
     let values = first_values(alloc, deck)?;
     Ok(Stage {
         station,
-        pass,
+        conductor: ConductorRun {
+            pass,
+            board: Board::new(alloc, &values)?,
+            buf: vec![in alloc; 0; HEAD_BYTES + ENTRY_BYTES * deck.items() as usize]?,
+        },
         passes: Vec::with_capacity(alloc, updaters.len())?,
         updaters,
-        board: Board::new(alloc, &values)?,
-        buf: vec![in alloc; 0; HEAD_BYTES + ENTRY_BYTES * deck.items() as usize]?,
     })
 }
 
@@ -85,7 +89,9 @@ pub(crate) fn open_publisher<R: Wait>(
 }
 
 impl Stage {
-    /// Runs the deck's jobs side by side.
+    /// Runs the conductor beside all updaters and all monitors, on threads where there are some. Whatever the schedule, each updater
+    /// committed its updates in order, or the first of them; each monitor made its looks, or the first of them; and what was sent are
+    /// the buckets of the history that the conductor has seen. A job that ends before its time leaves the others to go on.
     pub(crate) fn play<R: Threads + Wait + Sync, M: Mast + Send, G: Gate + Sync>(
         &mut self,
         rt: &R,
@@ -97,47 +103,60 @@ impl Stage {
         mast: &mut M,
         gate: &G,
     ) -> Result<(), ConductFault>
-        requires stage { IsStage deck.now self.old }
+        requires conductor { CanConduct self.old.station deck.now self.old.conductor }
+        requires updaters { All (HasNewPass self.old.station deck.now) self.old.updaters.items }
         requires publisher { source.old ≡ new_publisher source.old.id (values_in deck.now) deck.now.settings.cycles }
         requires program { program.now ≡ disks_in deck.now }
-        ensures played { IsPlayed deck.now self.new }
-        ensures publisher { PublishesOn source.old source.new }
-        ensures whole { OnOk result (IsUpTo 0 self.new.pass.seen source.new.batches × (starts self.new.pass.seen ≡ deck.now.settings.cycles)) }
-        ensures batches { OnOk result (AirsByBatches deck.now self.new.pass.seen source.new.batches) }
-        ensures aired { MatchResult result (λ _. Changes (with_buckets (deck_bytes deck.now self.new.pass.seen)) (M.state mast.old).told (M.state mast.new).told × ((M.state mast.new).faults ≡ (M.state mast.old).faults)) (IsSeenAnswer M.state deck.now self.new.pass.seen mast.old mast.new) }
-        ensures port { (M.state mast.new).port ≡ (M.state mast.old).port }
+        ensures conducted { HasAired M.state deck.now self.old.conductor.pass self.new.conductor.pass source.old source.new mast.old mast.new result }
+        ensures updaters { EachDone deck.now self.old.updaters.items self.new.updaters.items }
         ensures watched { EachWatched LOOKS watchers.old watchers.new }
+        ensures station { self.new.station ≡ self.old.station }
+        ensures passes { self.new.passes ≡ self.old.passes }
     {
-        run_jobs(
+        let (conducted, _) = join_mut(
             rt,
-            alloc,
-            deck,
-            program,
-            &self.station,
-            &mut self.pass,
-            source,
-            &mut self.board,
-            mast,
-            &mut self.buf,
-            &mut self.updaters,
-            watchers,
-            gate,
-        )
+            &mut || self.conductor.work(
+                rt,
+                alloc,
+                &self.station,
+                deck,
+                program,
+                source,
+                mast,
+                gate,
+            ),
+            &mut ||
+                requires { IsSync R.row × IsSync G.row × All (HasNewPass self.now.station deck.now) self.now.updaters.items }
+                ensures { EachDone deck.entry.now self.entry.now.updaters.items self.exit.now.updaters.items × EachWatched LOOKS watchers.entry.now watchers.exit.now }
+            {
+                update_and_watch(
+                    rt,
+                    alloc,
+                    &self.station,
+                    deck,
+                    &mut self.updaters,
+                    watchers,
+                    LOOKS,
+                    gate,
+                )
+            },
+        );
+        conducted
     }
 
     /// Closes the station. The answer is `NoMemory` where an updater ended before its time.
     pub(crate) fn end(self, deck: &Deck) -> Result<History, NoMemory>
         requires { IsPlayed deck.now self }
-        ensures begins { BeginsWhole deck.now self.pass.seen }
-        ensures end { IfOk result (IsEnd deck.now self.pass.seen) }
+        ensures begins { BeginsWhole deck.now self.conductor.pass.seen }
+        ensures end { IfOk result (IsEnd deck.now self.conductor.pass.seen) }
     {
         let Stage {
             station,
-            pass,
+            conductor,
             updaters,
             mut passes,
-            ..
         } = self;
+        let ConductorRun { pass, .. } = conductor;
         let done = are_done(&updaters);
         hand_in(updaters, &mut passes);
         let history = station.close(passes, pass);

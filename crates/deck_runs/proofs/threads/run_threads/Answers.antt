@@ -11,9 +11,11 @@ use Rattle.air_model.proofs.BatchLemmas.{airs_further}
 use Rattle.deck_runs.specs.DeckBytes.{deck_bytes}
 use Rattle.deck_runs.specs.RunAnswers.{IsRunAnswer, run_fault}
 use Rattle.deck_runs.specs.Private.SightSteps.{AreAllSights}
+use Rattle.deck_runs.specs.Private.StageSteps.{HasAired}
 use Rattle.deck_runs.specs.declared.threads.RunFault.TheVariants as fault
 use Rattle.deck_runs.proofs.SentLemmas.{all_sent, fault_answer, same_bytes, sends_first, sends_nothing}
 use Rattle.deck_runs.proofs.SightLemmas.{glances_are, keep_publisher, looks_are}
+use Rattle.deck_runs.proofs.StageLemmas.{is_played}
 use Rattle.deck_runs.proofs.threads.run_threads.Goals as goal
 
 pub returns-in_err-stage-clause-fault : goal.returns-in_err-stage-clause-fault
@@ -30,7 +32,15 @@ returns-in_err-source-clause-fault g c =
     let h : IsRunAnswer state c.args.deck.now m m fault.NoMemory = sends_nothing state c.args.deck.now m in
     search (rules, h)
 
+pub end-history-requires : goal.end-history-requires
+unfolding HasAired
+end-history-requires g c =
+    let new = c.in_ok-stage.ensures in
+    let played = c.play-conducted.ensures in
+    is_played c.args.deck.now c.in_ok-stage.stage c.play-conducted.new.self new.conductor new.updaters new.empty new.room played.conducted.pass played.conducted.few played.updaters played.station played.passes
+
 pub all_sights-sights-requires-clause-own : goal.all_sights-sights-requires-clause-own
+unfolding HasAired
 all_sights-sights-requires-clause-own g c =
     let runs = c.in_ok-source.watchers in
     let now = c.play-conducted.new.watchers in
@@ -38,7 +48,7 @@ all_sights-sights-requires-clause-own g c =
     let h = c.play-conducted.new.source in
     let watched = subst (λ old. EachWatched LOOKS old now) c.deref_mut.ensures.value c.play-conducted.ensures.watched in
     subst (All (λ (run : MonitorRun). run.monitor.publisher ≡ h.id)) (sym (with_items_is runs now (watched.0 ∙ sym runs.ok.0)))
-    (keep_publisher f h runs.items now c.in_ok-source.ensures.each c.play-conducted.ensures.publisher watched)
+    (keep_publisher f h runs.items now c.in_ok-source.ensures.each c.play-conducted.ensures.conducted.publisher watched)
 
 pub all_sights-sights-requires-clause-few : goal.all_sights-sights-requires-clause-few
 all_sights-sights-requires-clause-few g c =
@@ -52,67 +62,92 @@ all_sights-sights-requires-clause-few g c =
     omega (arith, same, kept, count, few)
 
 pub returns-in_err-conducted-clause-fault : goal.returns-in_err-conducted-clause-fault
+unfolding HasAired
 returns-in_err-conducted-clause-fault g c =
     let state = g.M.Mast.state in
     let deck = c.args.deck.now in
     let old = c.args.mast.now in
     let new = c.play-conducted.new.mast in
-    let seen = c.play-conducted.new.self.pass.seen in
+    let seen = c.play-conducted.new.self.conductor.pass.seen in
     let e = c.in_err-conducted.field-0.0 in
-    let h : IsRunAnswer state deck old new (run_fault e) = fault_answer state deck old new seen e c.end-history.ensures.begins c.in_err-conducted.ensures.aired in
+    let h : IsRunAnswer state deck old new (run_fault e) = fault_answer state deck old new seen e c.end-history.ensures.begins c.in_err-conducted.ensures.conducted.aired in
     search (rules, h)
 
 pub returns-in_err-history-clause-fault : goal.returns-in_err-history-clause-fault
+unfolding HasAired
 returns-in_err-history-clause-fault g c =
     let state = g.M.Mast.state in
     let deck = c.args.deck.now in
     let old = c.args.mast.now in
     let new = c.play-conducted.new.mast in
-    let seen = c.play-conducted.new.self.pass.seen in
-    let aired = c.in_ok-conducted.ensures.aired in
+    let seen = c.play-conducted.new.self.conductor.pass.seen in
+    let aired = c.in_ok-conducted.ensures.conducted.aired in
     let h : IsRunAnswer state deck old new fault.NoMemory = sends_first state deck old new seen c.end-history.ensures.begins (all_sent state deck old new seen aired.0 aired.1) in
     search (rules, h)
 
 pub returns-in_err-sights-clause-fault : goal.returns-in_err-sights-clause-fault
+unfolding HasAired
 returns-in_err-sights-clause-fault g c =
     let state = g.M.Mast.state in
     let deck = c.args.deck.now in
     let old = c.args.mast.now in
     let new = c.play-conducted.new.mast in
-    let seen = c.play-conducted.new.self.pass.seen in
-    let aired = c.in_ok-conducted.ensures.aired in
+    let seen = c.play-conducted.new.self.conductor.pass.seen in
+    let aired = c.in_ok-conducted.ensures.conducted.aired in
     let h : IsRunAnswer state deck old new fault.NoMemory = sends_first state deck old new seen c.end-history.ensures.begins (all_sent state deck old new seen aired.0 aired.1) in
     search (rules, h)
 
 pub returns-clause-run : goal.returns-clause-run
+unfolding HasAired
 returns-clause-run g c =
     let deck = c.args.deck.now in
     let runs = c.in_ok-source.watchers in
     let now = c.play-conducted.new.watchers in
     let f = c.in_ok-source.source in
     let h = c.play-conducted.new.source in
-    let seen = c.play-conducted.new.self.pass.seen in
+    let seen = c.play-conducted.new.self.conductor.pass.seen in
     let H = c.in_ok-history.history in
     let given = c.in_ok-source.ensures in
-    let on = c.play-conducted.ensures.publisher in
+    let on = c.play-conducted.ensures.conducted.publisher in
     let watched = subst (λ old. EachWatched LOOKS old now) c.deref_mut.ensures.value c.play-conducted.ensures.watched in
     let glances = c.in_ok-sights.sights.glances.items in
     let looks = c.in_ok-sights.sights.looks.items in
     let sights = subst (λ l. AreAllSights h l glances looks) (with_items_is runs now (watched.0 ∙ sym runs.ok.0)) c.in_ok-sights.ensures in
-    let whole = c.in_ok-conducted.ensures.whole in
+    let whole = c.in_ok-conducted.ensures.conducted.whole in
     let ended = c.in_ok-history.ensures.end in
     subst (IsRun deck) (sym c.new.ensures) (record {
       whole = ended.whole whole.1;
-      batches = subst (AirsByBatches deck H) (sym (ap (λ (l : Beginning). l.batches) c.tell-note.ensures)) (airs_further deck seen H h.batches ended.goes_on c.in_ok-conducted.ensures.batches);
+      batches = subst (AirsByBatches deck H) (sym (ap (λ (l : Beginning). l.batches) c.tell-note.ensures)) (airs_further deck seen H h.batches ended.goes_on c.in_ok-conducted.ensures.conducted.batches);
       glances = glances_are deck f h runs.items now glances looks seen H given.publisher given.count given.each on watched sights whole.0 whole.1 ended.goes_on;
       looks = looks_are deck f h runs.items now glances looks seen H given.publisher given.count given.each on watched sights whole.0 whole.1 ended.goes_on;
     })
 
 pub returns-clause-aired : goal.returns-clause-aired
+unfolding HasAired
 returns-clause-aired g c =
     let state = g.M.Mast.state in
     let deck = c.args.deck.now in
-    let seen = c.play-conducted.new.self.pass.seen in
+    let seen = c.play-conducted.new.self.conductor.pass.seen in
     let H = c.in_ok-history.history in
     let same = ap (λ (run : Run). deck_bytes deck run.history) c.new.ensures ∙ same_bytes deck seen H c.in_ok-history.ensures.end.goes_on in
-    subst (λ l. Changes (with_buckets l) (state c.args.mast.now).told (state c.play-conducted.new.mast).told) (sym same) c.in_ok-conducted.ensures.aired.0
+    subst (λ l. Changes (with_buckets l) (state c.args.mast.now).told (state c.play-conducted.new.mast).told) (sym same) c.in_ok-conducted.ensures.conducted.aired.0
+
+pub returns-in_err-conducted-clause-port : goal.returns-in_err-conducted-clause-port
+unfolding HasAired
+returns-in_err-conducted-clause-port g c = c.play-conducted.ensures.conducted.port
+
+pub returns-in_err-history-clause-port : goal.returns-in_err-history-clause-port
+unfolding HasAired
+returns-in_err-history-clause-port g c = c.play-conducted.ensures.conducted.port
+
+pub returns-in_err-sights-clause-port : goal.returns-in_err-sights-clause-port
+unfolding HasAired
+returns-in_err-sights-clause-port g c = c.play-conducted.ensures.conducted.port
+
+pub returns-clause-port : goal.returns-clause-port
+unfolding HasAired
+returns-clause-port g c = c.play-conducted.ensures.conducted.port
+
+pub returns-clause-calm : goal.returns-clause-calm
+unfolding HasAired
+returns-clause-calm g c = c.in_ok-conducted.ensures.conducted.aired.1

@@ -23,17 +23,17 @@ pub returns-then-not-done-clause-begins : goal.returns-then-not-done-clause-begi
 returns-then-not-done-clause-begins c =
     let s = c.args.self in
     let e = c.close-history.ensures in
-    begins s.station c.args.deck.now s.updaters.items c.requires.updaters s.pass c.close-history.result c.hand_in.new.passes.items c.requires.pass c.hand_in.ensures e.each e.conductor e.fits c.requires.few
+    begins s.station c.args.deck.now s.updaters.items c.requires.updaters s.conductor.pass c.close-history.result c.hand_in.new.passes.items c.requires.pass c.hand_in.ensures e.each e.conductor e.fits c.requires.few
 
 pub returns-clause-begins : goal.returns-clause-begins
 returns-clause-begins c =
     let s = c.args.self in
     let e = c.close-history.ensures in
-    begins s.station c.args.deck.now s.updaters.items c.requires.updaters s.pass c.close-history.result c.hand_in.new.passes.items c.requires.pass c.hand_in.ensures e.each e.conductor e.fits c.requires.few
+    begins s.station c.args.deck.now s.updaters.items c.requires.updaters s.conductor.pass c.close-history.result c.hand_in.new.passes.items c.requires.pass c.hand_in.ensures e.each e.conductor e.fits c.requires.few
 
 pub returns-clause-end : goal.returns-clause-end
 returns-clause-end c =
     let s = c.args.self in
     let e = c.close-history.ensures in
-    ends s.station c.args.deck.now s.updaters.items c.requires.updaters s.pass c.close-history.result c.hand_in.new.passes.items c.requires.pass c.hand_in.ensures e.each e.conductor e.fits
+    ends s.station c.args.deck.now s.updaters.items c.requires.updaters s.conductor.pass c.close-history.result c.hand_in.new.passes.items c.requires.pass c.hand_in.ensures e.each e.conductor e.fits
     (subst (All (λ (run : UpdaterRun). IsTrue run.done)) c.deref.ensures.value (c.are_done-done.ensures.0 c.if-not-done.false))
