@@ -3,7 +3,7 @@
 //! Other jobs may commit at the same time, so they say what every order of events must keep.
 #![tactic(auto, unfolding(air_model::specs::DeckLaws::made_by, air_model::specs::DeckLaws::commits_from))]
 
-ghost use Rattle.std.specs.Prelude.{◌≡◌, ◌≤◌, ◌<◌, ◌+◌, ◌*◌, ◌^◌, ◌++◌, ℕ, List, [], ◌∷◌, length, All, Err, OnErr, OnOk};
+ghost use Rattle.std.specs.Prelude.{◌≡◌, ◌≤◌, ◌<◌, ◌+◌, ◌*◌, ◌^◌, ◌++◌, ℕ, List, [], ◌∷◌, length, All, Err, IfOk, OnErr, OnOk};
 ghost use Rattle.air_history.specs.Histories.{starts};
 ghost use Rattle.air_history.specs.UpdateRules.{UpdateFits};
 ghost use Rattle.air_history.specs.declared.histories.Event.{Event};
@@ -23,7 +23,7 @@ use air_model::reports::LookLine;
 use chunk_program::Program;
 use control_matrix::Board;
 use cycle_snapshot::{Monitor, Publisher};
-use deck_runs::{ConductFault, conductor_job, monitor_job, updater_job};
+use deck_runs::{ConductFault, conductor_job, last_look, monitor_job, updater_job};
 use station::{ConductorPass, Station, UpdaterPass};
 use std::alloc::Global;
 use std::sync::Wait;
@@ -65,6 +65,27 @@ pub fn look_of_less_than_was_told<G: Gate>(
     ensures { OnOk result (1 ≤ length monitor.new.seen) }
 {
     monitor_job(monitor, 1, gate)
+}
+
+/// The line of a job has the number 0, which the caller replaces.
+pub fn line_of_another_number<G: Gate>(
+    monitor: &mut Monitor,
+    gate: &G,
+) -> Result<LookLine, NoMemory>
+    ensures { IfOk result (λ line. line.monitor ≡ 0) }
+{
+    monitor_job(monitor, 1, gate)
+}
+
+/// So has the line of a last look.
+pub fn last_line_of_another_number(
+    monitor: &mut Monitor,
+    publisher: &Publisher,
+) -> Result<LookLine, NoMemory>
+    requires { monitor.old.publisher ≡ publisher.now.id }
+    ensures { IfOk result (λ line. line.monitor ≡ 0) }
+{
+    last_look(monitor, publisher)
 }
 
 /// A first job of two cycles starts two, and publishes two batches: one a cycle, each ending with its start, and together all that was
