@@ -22,7 +22,7 @@ use Rattle.air_cli.specs.RunnableDecks.{HasShortProgram, UnrunnableCause}
 use Rattle.air_model.specs.Runs.{IsRun, Run}
 use Rattle.air_cli.specs.Answers.{NoCountRose}
 use Rattle.air_cli.specs.Cast.{CastCause, HasSent, IsCast, cast_meaning}
-use Rattle.air_cli.specs.MainWords.{Casts}
+use Rattle.air_cli.specs.Words.{AsksCast}
 use Rattle.air_cli.specs.OnAir.{LeavesMast}
 use Rattle.air_cli.specs.Run.{CanRun, RunCause}
 use Rattle.air_cli.specs.Private.Airing.{IsCastRefusal, cast_status}
@@ -106,7 +106,7 @@ fault_refused d to before now fault.NoMemory few h port = tt
 
 -- What a cast leaves of the mast.
 pub leaves_cast : (deck : List ℕ) (to : ℕ) (shelf : ShelfState) (before now : MastState) (d : Deck) → SpellsDeck deck shelf d → IsDeck d
-    → (now ≡ before) ⊎ HasSent d to before now → LeavesMast (Casts deck to) shelf before now
+    → (now ≡ before) ⊎ HasSent d to before now → LeavesMast (Some (AsksCast deck to)) shelf before now
 leaves_cast deck to shelf before now d spells made (inl same) = inl same
 leaves_cast deck to shelf before now d spells made (inr sent) = inr (d, spells, made, sent)
 

@@ -1,29 +1,38 @@
--- The facts of each command.
-use Rattle.std.proofs.Common.{◌≡◌, Bor, ℕ, false, List, Option, refl}
-use Rattle.air_cli.specs.Commands.{asked_by, meaning_of}
-use Rattle.air_cli.specs.declared.words.Command.{Command}
-use Rattle.air_cli.specs.declared.words.Command.TheVariants as command
-use Rattle.air_cli.specs.Words.{Asked, AsksAudit, AsksDrill, AsksPlan, AsksRun, AsksScript, AsksTune}
+-- The facts of each command, by what words ask for.
+use Rattle.std.proofs.Common.{Option, Some}
+use Rattle.air_devices.specs.Ears.{EarState}
+use Rattle.air_devices.specs.Masts.{MastState}
+use Rattle.air_cli.specs.Commands.{quiet_meaning}
+use Rattle.air_cli.specs.Meanings.{no_command}
+use Rattle.air_cli.specs.OnAir.{words_meaning}
+use Rattle.air_cli.specs.Words.{Request, AsksAudit, AsksCast, AsksDrill, AsksListen, AsksPlan, AsksRun, AsksScript, AsksTune}
 use Rattle.air_cli.proofs.InputLemmas.{CommandFacts}
 use Rattle.air_cli.proofs.AuditLemmas.{audit_facts}
+use Rattle.air_cli.proofs.CastLemmas.{cast_facts}
 use Rattle.air_cli.proofs.DrillLemmas.{drill_facts}
+use Rattle.air_cli.proofs.ListenLemmas.{listen_facts}
 use Rattle.air_cli.proofs.PlanMeaningLemmas.{plan_facts}
+use Rattle.air_cli.proofs.RefusalLemmas.{no_command_sound}
 use Rattle.air_cli.proofs.RunMeaningLemmas.{run_facts}
 use Rattle.air_cli.proofs.ScriptLemmas.{script_facts}
 use Rattle.air_cli.proofs.TuneLemmas.{tune_facts}
 
-pub facts_of : (asked : Asked) → CommandFacts (meaning_of asked)
-facts_of (AsksPlan deck) = plan_facts deck
-facts_of (AsksScript deck tape) = script_facts deck tape
-facts_of (AsksTune deck tape) = tune_facts deck tape
-facts_of (AsksDrill seed size) = drill_facts seed size
-facts_of (AsksAudit deck report) = audit_facts deck report
-facts_of (AsksRun deck tape) = run_facts deck tape
+no_command_facts : CommandFacts no_command
+no_command_facts = record {
+  sound = no_command_sound;
+  inputs = record { fits = λ before now s told suits calm h. absurd suits; one = λ decided before other a b same first second. absurd first };
+}
 
--- Every command but `script` makes all that it gives before it writes.
-pub made_whole : (c : Command) → ((deck : Bor (List ℕ)) (tape : Option (Bor (List ℕ))) → c ≡ command.Script deck tape → ⊥) → (meaning_of (asked_by c)).by_pieces ≡ false
-made_whole (command.Plan deck) other = refl
-made_whole (command.Script deck tape) other = absurd (other deck tape refl)
-made_whole (command.Tune deck tape) other = refl
-made_whole (command.Drill seed size) other = refl
-made_whole (command.Audit deck report) other = refl
+pub quiet_facts : (asked : Option Request) → CommandFacts (quiet_meaning asked)
+quiet_facts (Some (AsksPlan deck)) = plan_facts deck
+quiet_facts (Some (AsksScript deck tape)) = script_facts deck tape
+quiet_facts (Some (AsksTune deck tape)) = tune_facts deck tape
+quiet_facts (Some (AsksDrill seed size)) = drill_facts seed size
+quiet_facts (Some (AsksAudit deck report)) = audit_facts deck report
+quiet_facts other = no_command_facts
+
+pub words_facts : (asked : Option Request) (mast mast_now : MastState) (ear ear_now : EarState) → CommandFacts (words_meaning asked mast mast_now ear ear_now)
+words_facts (Some (AsksRun deck tape)) mast mast_now ear ear_now = run_facts deck tape
+words_facts (Some (AsksCast deck port)) mast mast_now ear ear_now = cast_facts deck port mast mast_now
+words_facts (Some (AsksListen deck port)) mast mast_now ear ear_now = listen_facts deck port ear ear_now
+words_facts other mast mast_now ear ear_now = quiet_facts other

@@ -1,5 +1,6 @@
 -- What the proofs of `drill` need of its definitions.
-use Rattle.std.proofs.Common.{◌≡◌, ℕ, refl, sym, ◌∙◌}
+use Rattle.std.proofs.Common.{◌≡◌, ℕ, Result, Ok, Err, refl, sym, ◌∙◌}
+use Rattle.std.specs.Prelude.{IfErr, IfOk}
 use Rattle.air_devices.specs.Shelves.{ShelfState}
 use Rattle.air_report.specs.declared.status.Status.{Status}
 use Rattle.air_report.specs.declared.status.Status.TheVariants as status
@@ -10,11 +11,13 @@ use Rattle.air_cli.proofs.InputLemmas.{CommandFacts}
 use Rattle.air_cli.proofs.RefusalLemmas.{IsSound, keeps_all}
 
 -- It is made, or refused, with nothing read.
-pub made_drill : (seed size : ℕ) (before : ShelfState) (given : ReportAndTape) → DrillGives seed size given → IsMade (drill_meaning seed size) before before given
-made_drill seed size before given gives = record { gives = gives; read = λ name input. absurd input; calm = keeps_all before }
+pub drill_made : (seed size : ℕ) (before : ShelfState) (made : Result ReportAndTape Status) → IfOk made (DrillGives seed size) → IfOk made (IsMade (drill_meaning seed size) before before)
+drill_made seed size before (Ok given) gives = record { gives = gives; read = λ name input. absurd input; calm = keeps_all before }
+drill_made seed size before (Err s) none = tt
 
-pub unmade_drill : (seed size : ℕ) (before : ShelfState) (s : Status) → DrillCause s → IsUnmade (drill_meaning seed size) before before s
-unmade_drill seed size before s cause = record { cause = cause; kept = λ read. keeps_all before }
+pub drill_unmade : (seed size : ℕ) (before : ShelfState) (made : Result ReportAndTape Status) → IfErr made DrillCause → IfErr made (IsUnmade (drill_meaning seed size) before before)
+drill_unmade seed size before (Ok given) none = tt
+drill_unmade seed size before (Err s) cause = record { cause = cause; kept = λ read. keeps_all before }
 
 drill_sound : (seed size : ℕ) → IsSound (drill_meaning seed size)
 unfolding DrillCause

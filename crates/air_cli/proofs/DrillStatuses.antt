@@ -10,13 +10,11 @@ use Rattle.air_report.specs.declared.status.Status.{Status}
 use Rattle.air_report.specs.declared.status.Status.TheVariants as status
 use Rattle.item_catalog.specs.declared.deck.drill.TheConstants.{MOST_DRILL_SIZE}
 use Rattle.air_cli.specs.Answers.{QuietAnswers}
-use Rattle.air_cli.specs.Commands.{words_meaning}
 use Rattle.air_cli.specs.ReportsAndTapes.{ReportAndTape, given_status}
 use Rattle.air_cli.specs.Drill.{DrillCause, DrillGives}
-use Rattle.air_cli.specs.Meanings.{Meaning, WordsCause}
-use Rattle.air_cli.specs.MainWords.{OnShelf, called_of}
-use Rattle.air_cli.specs.OnAir.{called_meaning}
-use Rattle.air_cli.specs.Words.{AsksDrill, asked_drill, asked_of_one}
+use Rattle.air_cli.specs.Meanings.{Meaning, WordsCause, no_command}
+use Rattle.air_cli.specs.OnAir.{words_meaning}
+use Rattle.air_cli.specs.Words.{AsksDrill, asked_drill, asked_of, asked_of_one}
 
 -- The status is one of these.
 abbrev IsAmong : Status → Type 0
@@ -51,32 +49,33 @@ unfolding DrillGives
 drill_same seed size given h = ap (λ given. given.differs) h.1
 
 -- Words that ask for nothing, or for a drill.
-none_few : RefusesFew (words_meaning None)
+none_few : RefusesFew no_command
 none_few = record { refuses = λ before now s h. words_among s h; same = λ before given h. absurd h }
 
-drill_few : (seed size : Option ℕ) → RefusesFew (words_meaning (asked_drill seed size))
-drill_few None size = none_few
-drill_few (Some seed) None = none_few
-drill_few (Some seed) (Some size) = by (nat_le 1 size && nat_le size MOST_DRILL_SIZE)
-  where
-    by : (fits : Bool) → RefusesFew (words_meaning (if fits then Some (AsksDrill seed size) else None))
-    by true = record { refuses = λ before now s h. drill_among s h; same = λ before given h. drill_same seed size given h }
-    by false = none_few
+module _ (mast mast_now : MastState) (ear ear_now : EarState) where
+  drill_few : (seed size : Option ℕ) → RefusesFew (words_meaning (asked_drill seed size) mast mast_now ear ear_now)
+  drill_few None size = none_few
+  drill_few (Some seed) None = none_few
+  drill_few (Some seed) (Some size) = by (nat_le 1 size && nat_le size MOST_DRILL_SIZE)
+    where
+      by : (fits : Bool) → RefusesFew (words_meaning (if fits then Some (AsksDrill seed size) else None) mast mast_now ear ear_now)
+      by true = record { refuses = λ before now s h. drill_among s h; same = λ before given h. drill_same seed size given h }
+      by false = none_few
 
-words_few : (words : List (List ℕ)) (mast mast_now : MastState) (ear ear_now : EarState) → RefusesFew (called_meaning (called_of (codes "drill" ∷ words)) mast mast_now ear ear_now)
-words_few [] mast mast_now ear ear_now = none_few
-words_few (first ∷ []) mast mast_now ear ear_now = by (length first == 0)
-  where
-    by : (empty : Bool) → RefusesFew (words_meaning (if empty then None else asked_of_one (codes "drill") first))
-    by true = none_few
-    by false = none_few
-words_few (first ∷ second ∷ []) mast mast_now ear ear_now = by (length first == 0 || length second == 0)
-  where
-    by : (empty : Bool) → RefusesFew (called_meaning (if empty then OnShelf None else OnShelf (asked_drill (number_of first) (number_of second))) mast mast_now ear ear_now)
-    by true = none_few
-    by false = drill_few (number_of first) (number_of second)
-words_few (first ∷ second ∷ more ∷ words) mast mast_now ear ear_now = none_few
+  words_few : (words : List (List ℕ)) → RefusesFew (words_meaning (asked_of (codes "drill" ∷ words)) mast mast_now ear ear_now)
+  words_few [] = none_few
+  words_few (first ∷ []) = by (length first == 0)
+    where
+      by : (empty : Bool) → RefusesFew (words_meaning (if empty then None else asked_of_one (codes "drill") first) mast mast_now ear ear_now)
+      by true = none_few
+      by false = none_few
+  words_few (first ∷ second ∷ []) = by (length first == 0 || length second == 0)
+    where
+      by : (empty : Bool) → RefusesFew (words_meaning (if empty then None else asked_drill (number_of first) (number_of second)) mast mast_now ear ear_now)
+      by true = none_few
+      by false = drill_few (number_of first) (number_of second)
+  words_few (first ∷ second ∷ more ∷ words) = none_few
 
 pub drill_ends : (words : List (List ℕ)) (mast mast_now : MastState) (ear ear_now : EarState) (before now : ShelfState) (s : Status)
-    → QuietAnswers (called_meaning (called_of (codes "drill" ∷ words)) mast mast_now ear ear_now) before now s → IsAmong s
-drill_ends words mast mast_now ear ear_now = ends_among (called_meaning (called_of (codes "drill" ∷ words)) mast mast_now ear ear_now) (words_few words mast mast_now ear ear_now)
+    → QuietAnswers (words_meaning (asked_of (codes "drill" ∷ words)) mast mast_now ear ear_now) before now s → IsAmong s
+drill_ends words mast mast_now ear ear_now = ends_among (words_meaning (asked_of (codes "drill" ∷ words)) mast mast_now ear ear_now) (words_few mast mast_now ear ear_now words)

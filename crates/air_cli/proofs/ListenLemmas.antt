@@ -19,7 +19,7 @@ use Rattle.air_cli.specs.NamedFiles.{UnreadCause}
 use Rattle.air_cli.specs.RunnableDecks.{HasShortProgram, UnrunnableCause}
 use Rattle.air_cli.specs.Answers.{NoCountRose}
 use Rattle.air_cli.specs.Listen.{HasHeardPort, IsListening, ListenCause, listen_meaning}
-use Rattle.air_cli.specs.MainWords.{Listens}
+use Rattle.air_cli.specs.Words.{AsksListen}
 use Rattle.air_cli.specs.OnAir.{LeavesEar}
 use Rattle.air_cli.specs.Private.Airing.{IsListenRefusal, hear_status}
 use Rattle.air_cli.specs.ToldInputs.{TellsInputs}
@@ -105,7 +105,7 @@ fault_refused d on before now fault.NoMemory h port = tt
 
 -- What listening leaves of the ear.
 pub leaves_listen : (deck : List ℕ) (on : ℕ) (shelf : ShelfState) (before now : EarState) (d : Deck) → SpellsDeck deck shelf d → IsDeck d
-    → (now ≡ before) ⊎ HasHeardPort d on before now → LeavesEar (Listens deck on) shelf before now
+    → (now ≡ before) ⊎ HasHeardPort d on before now → LeavesEar (Some (AsksListen deck on)) shelf before now
 leaves_listen deck on shelf before now d spells made (inl same) = inl same
 leaves_listen deck on shelf before now d spells made (inr heard) = inr (d, spells, made, heard)
 

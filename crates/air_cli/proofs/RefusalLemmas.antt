@@ -129,9 +129,9 @@ answers_refused command sound before mid now s answer some reads cause kept refu
       (counts_wanting command sound before mid now s kept cause none.2))
 ]
 
--- Words that are no command read nothing.
-pub reads_nothing : (before : ShelfState) → ReadsInputs no_command before before
-reads_nothing before = record {
+-- Where nothing is read all is as it was.
+pub reads_nothing : (command : Meaning) (before : ShelfState) → ReadsInputs command before before
+reads_nothing command before = record {
   files = λ name. refl;
   left = λ name other. refl;
   outputs = λ name. refl;

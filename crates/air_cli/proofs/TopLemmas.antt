@@ -1,5 +1,5 @@
--- What the top call answers, by the facts of the command that the words ask for.
-use Rattle.std.proofs.Common.{◌≡◌, true, Option, Some, None, refl, ap, sym, ◌∙◌, subst, inl, inr}
+-- What the top calls answer, by the facts of the command that the words ask for.
+use Rattle.std.proofs.Common.{◌≡◌, ℕ, true, List, Option, Some, refl, ap, sym, ◌∙◌, subst, inl, inr}
 use Rattle.air_devices.specs.Ears.{EarState}
 use Rattle.air_devices.specs.Masts.{MastState}
 use Rattle.air_devices.specs.Shelves.{ShelfState}
@@ -7,23 +7,14 @@ use Rattle.air_report.specs.declared.status.Status.{Status}
 use Rattle.air_report.specs.declared.status.Status.TheVariants as status
 use Rattle.air_cli.specs.ReportsAndTapes.{ReportAndTape, given_status}
 use Rattle.air_cli.specs.Deliveries.{IsGiven}
-use Rattle.air_cli.specs.Words.{Asked}
-use Rattle.air_cli.specs.Cast.{cast_meaning}
-use Rattle.air_cli.specs.Listen.{listen_meaning}
-use Rattle.air_cli.specs.MainWords.{Called, Casts, Listens, OnShelf}
-use Rattle.air_cli.specs.OnAir.{called_meaning}
+use Rattle.air_cli.specs.Words.{Request, AsksCast, AsksListen, asked_of}
+use Rattle.air_cli.specs.OnAir.{words_meaning}
 use Rattle.air_cli.specs.Meanings.{Meaning}
-use Rattle.air_cli.specs.Commands.{words_meaning}
+use Rattle.air_cli.specs.Commands.{quiet_meaning}
 use Rattle.air_cli.specs.ToldInputs.{TellSameInputs}
 use Rattle.air_cli.specs.Answers.{Completes, IsDone, IsSuccess, QuietAnswers}
 use Rattle.air_cli.proofs.InputLemmas.{GoesByInputs}
-use Rattle.air_cli.proofs.CastLemmas.{cast_facts}
-use Rattle.air_cli.proofs.CommandLemmas.{facts_of}
-use Rattle.air_cli.proofs.ListenLemmas.{listen_facts}
-
-words_inputs : (asked : Option Asked) → GoesByInputs (words_meaning asked)
-words_inputs None = record { fits = λ before now s told suits calm h. absurd suits; one = λ decided before other a b same first second. absurd first }
-words_inputs (Some asked) = (facts_of asked).inputs
+use Rattle.air_cli.proofs.CommandLemmas.{quiet_facts, words_facts}
 
 -- An answer that is no refusal, or one that can't be given.
 completes : (command : Meaning) → GoesByInputs command → (before now : ShelfState) (s : Status) → QuietAnswers command before now s → Completes command before now s
@@ -35,15 +26,13 @@ completes command by before now status.WriteFault (inl failed) told suits calm =
 completes command by before now status.WriteFault (inr failed) told suits calm = absurd (calm.printing failed.rose)
 completes command by before now s h told suits calm = inr (by.fits before now s told suits calm h.0)
 
-pub words_complete : (asked : Option Asked) (before now : ShelfState) (s : Status) → QuietAnswers (words_meaning asked) before now s → Completes (words_meaning asked) before now s
-words_complete asked = completes (words_meaning asked) (words_inputs asked)
+pub quiet_complete : (asked : Option Request) (before now : ShelfState) (s : Status) → QuietAnswers (quiet_meaning asked) before now s → Completes (quiet_meaning asked) before now s
+quiet_complete asked = completes (quiet_meaning asked) (quiet_facts asked).inputs
 
 -- So with a mast and an ear.
-pub call_complete : (called : Called) (mast mast_now : MastState) (ear ear_now : EarState) (before now : ShelfState) (s : Status)
-    → QuietAnswers (called_meaning called mast mast_now ear ear_now) before now s → Completes (called_meaning called mast mast_now ear ear_now) before now s
-call_complete (OnShelf asked) mast mast_now ear ear_now = words_complete asked
-call_complete (Casts deck port) mast mast_now ear ear_now = completes (cast_meaning deck port mast mast_now) (cast_facts deck port mast mast_now).inputs
-call_complete (Listens deck port) mast mast_now ear ear_now = completes (listen_meaning deck port ear ear_now) (listen_facts deck port ear ear_now).inputs
+pub words_complete : (asked : Option Request) (mast mast_now : MastState) (ear ear_now : EarState) (before now : ShelfState) (s : Status)
+    → QuietAnswers (words_meaning asked mast mast_now ear ear_now) before now s → Completes (words_meaning asked mast mast_now ear ear_now) before now s
+words_complete asked mast mast_now ear ear_now = completes (words_meaning asked mast mast_now ear ear_now) (words_facts asked mast mast_now ear ear_now).inputs
 
 -- What a call that succeeded says, with either status.
 done : (command : Meaning) (before now : ShelfState) (s : Status) → IsSuccess s → QuietAnswers command before now s → IsDone command before now s
@@ -51,15 +40,38 @@ unfolding QuietAnswers
 done command before now s (inl good) h = subst (λ s. QuietAnswers command before now s → IsDone command before now s) (sym good) (λ h. h) h
 done command before now s (inr good) h = subst (λ s. QuietAnswers command before now s → IsDone command before now s) (sym good) (λ h. h) h
 
--- Two calls that succeeded gave one text and tape, with one status.
-pub one_given : (asked : Option Asked) (before now before2 now2 : ShelfState) (s s2 : Status) → (words_meaning asked).decided ≡ true → TellSameInputs (words_meaning asked) before before2
-    → IsSuccess s → IsSuccess s2 → QuietAnswers (words_meaning asked) before now s → QuietAnswers (words_meaning asked) before2 now2 s2
-    → (s ≡ s2) × ((given : ReportAndTape) × IsGiven (words_meaning asked).output given before now × IsGiven (words_meaning asked).output given before2 now2)
-one_given asked before now before2 now2 s s2 decided same good good2 first second =
-    let command = words_meaning asked in
+-- Two calls of one command that succeeded gave one text and tape, with one status.
+abbrev GaveOne : Meaning → ShelfState → ShelfState → ShelfState → ShelfState → Status → Status → Type 0
+GaveOne command before now before2 now2 s s2 = (s ≡ s2) × ((given : ReportAndTape) × IsGiven command.output given before now × IsGiven command.output given before2 now2)
+
+one_given : (command : Meaning) → GoesByInputs command → (before now before2 now2 : ShelfState) (s s2 : Status) → command.decided ≡ true → TellSameInputs command before before2
+    → IsSuccess s → IsSuccess s2 → QuietAnswers command before now s → QuietAnswers command before2 now2 s2 → GaveOne command before now before2 now2 s s2
+one_given command by before now before2 now2 s s2 decided same good good2 first second =
     let a = (done command before now s good first).gives in
     let b = (done command before2 now2 s2 good2 second).gives in
-    let e : a.0 ≡ b.0 = (words_inputs asked).one decided before before2 a.0 b.0 same a.1 b.1 in (
+    let e : a.0 ≡ b.0 = by.one decided before before2 a.0 b.0 same a.1 b.1 in (
       a.2 ∙ ap (λ given. given_status given.differs) e ∙ sym b.2,
       (a.0, a.3, subst (λ given. IsGiven command.output given before2 now2) (sym e) b.3),
     )
+
+pub quiet_given : (words : List (List ℕ)) (before now before2 now2 : ShelfState) (s s2 : Status) → (quiet_meaning (asked_of words)).decided ≡ true → TellSameInputs (quiet_meaning (asked_of words)) before before2
+    → IsSuccess s → IsSuccess s2 → QuietAnswers (quiet_meaning (asked_of words)) before now s → QuietAnswers (quiet_meaning (asked_of words)) before2 now2 s2
+    → GaveOne (quiet_meaning (asked_of words)) before now before2 now2 s s2
+quiet_given words = one_given (quiet_meaning (asked_of words)) (quiet_facts (asked_of words)).inputs
+
+-- Where its inputs decide what a command gives, it means the same over every mast and ear.
+same_meaning : (asked : Option Request) (mast mast_now mast2 mast_now2 : MastState) (ear ear_now ear2 ear_now2 : EarState) → (words_meaning asked mast mast_now ear ear_now).decided ≡ true
+    → words_meaning asked mast2 mast_now2 ear2 ear_now2 ≡ words_meaning asked mast mast_now ear ear_now
+same_meaning (Some (AsksCast deck port)) mast mast_now mast2 mast_now2 ear ear_now ear2 ear_now2 decided = absurd (cc decided)
+same_meaning (Some (AsksListen deck port)) mast mast_now mast2 mast_now2 ear ear_now ear2 ear_now2 decided = absurd (cc decided)
+same_meaning other mast mast_now mast2 mast_now2 ear ear_now ear2 ear_now2 decided = refl
+
+pub words_given : (words : List (List ℕ)) (mast mast_now mast2 mast_now2 : MastState) (ear ear_now ear2 ear_now2 : EarState) (before now before2 now2 : ShelfState) (s s2 : Status)
+    → (words_meaning (asked_of words) mast mast_now ear ear_now).decided ≡ true → TellSameInputs (words_meaning (asked_of words) mast mast_now ear ear_now) before before2 → IsSuccess s → IsSuccess s2
+    → QuietAnswers (words_meaning (asked_of words) mast mast_now ear ear_now) before now s → QuietAnswers (words_meaning (asked_of words) mast2 mast_now2 ear2 ear_now2) before2 now2 s2
+    → GaveOne (words_meaning (asked_of words) mast mast_now ear ear_now) before now before2 now2 s s2
+words_given words mast mast_now mast2 mast_now2 ear ear_now ear2 ear_now2 before now before2 now2 s s2 decided same good good2 first second =
+    let asked = asked_of words in
+    let command = words_meaning asked mast mast_now ear ear_now in
+    let one = subst (λ meaning. QuietAnswers meaning before2 now2 s2) (same_meaning asked mast mast_now mast2 mast_now2 ear ear_now ear2 ear_now2 decided) second in
+    one_given command (words_facts asked mast mast_now ear ear_now).inputs before now before2 now2 s s2 decided same good good2 first one

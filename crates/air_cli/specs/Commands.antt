@@ -1,4 +1,4 @@
--- The commands: what a command of the code asks for, and what each means.
+-- The commands: what a command of the code asks for, and what words mean to `air_quiet`.
 use Rattle.std.specs.Prelude.{Option, Some, None}
 use Rattle.std.specs.Option.{option_map}
 use Rattle.air_cli.specs.declared.words.Command.{Command}
@@ -7,29 +7,26 @@ use Rattle.air_cli.specs.Audit.{audit_meaning}
 use Rattle.air_cli.specs.Drill.{drill_meaning}
 use Rattle.air_cli.specs.Meanings.{Meaning, no_command}
 use Rattle.air_cli.specs.Plan.{plan_meaning}
-use Rattle.air_cli.specs.Run.{run_meaning}
 use Rattle.air_cli.specs.Script.{script_meaning}
 use Rattle.air_cli.specs.Tune.{tune_meaning}
-use Rattle.air_cli.specs.Words.{Asked, AsksAudit, AsksDrill, AsksPlan, AsksRun, AsksScript, AsksTune}
+use Rattle.air_cli.specs.Words.{Request, AsksAudit, AsksCast, AsksDrill, AsksListen, AsksPlan, AsksRun, AsksScript, AsksTune}
 
 -- What this command of the code asks for, each file by the bytes of its name.
-abbrev pub asked_by : Command → Asked
+abbrev pub asked_by : Command → Request
 asked_by (command.Plan deck) = AsksPlan deck.now
 asked_by (command.Script deck tape) = AsksScript deck.now (option_map (λ name. name.now) tape)
 asked_by (command.Tune deck tape) = AsksTune deck.now tape.now
 asked_by (command.Drill seed size) = AsksDrill seed size
 asked_by (command.Audit deck report) = AsksAudit deck.now report.now
+asked_by (command.Run deck tape) = AsksRun deck.now tape.now
+asked_by (command.Cast deck port) = AsksCast deck.now port
+asked_by (command.Listen deck port) = AsksListen deck.now port
 
--- What each command means.
-abbrev pub meaning_of : Asked → Meaning
-meaning_of (AsksPlan deck) = plan_meaning deck
-meaning_of (AsksScript deck tape) = script_meaning deck tape
-meaning_of (AsksTune deck tape) = tune_meaning deck tape
-meaning_of (AsksDrill seed size) = drill_meaning seed size
-meaning_of (AsksAudit deck report) = audit_meaning deck report
-meaning_of (AsksRun deck tape) = run_meaning deck tape
-
--- What words mean that ask for this, or for nothing.
-abbrev pub words_meaning : Option Asked → Meaning
-words_meaning None = no_command
-words_meaning (Some asked) = meaning_of asked
+-- What words mean to `air_quiet` that ask for this, or for nothing. A command that waits is none of its own: the words are no command.
+abbrev pub quiet_meaning : Option Request → Meaning
+quiet_meaning (Some (AsksPlan deck)) = plan_meaning deck
+quiet_meaning (Some (AsksScript deck tape)) = script_meaning deck tape
+quiet_meaning (Some (AsksTune deck tape)) = tune_meaning deck tape
+quiet_meaning (Some (AsksDrill seed size)) = drill_meaning seed size
+quiet_meaning (Some (AsksAudit deck report)) = audit_meaning deck report
+quiet_meaning other = no_command

@@ -8,7 +8,6 @@ pub mod Script
 pub mod Tune
 pub mod Drill
 pub mod Audit
-pub mod MainWords
 pub mod Run
 pub mod Cast
 pub mod Listen

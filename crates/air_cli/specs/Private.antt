@@ -2,7 +2,6 @@
 pub mod BeforeDelivery
 pub mod Endings
 pub mod Airing
-pub mod CalledWords
 pub mod Scripting
 pub mod Pieces
 pub mod EarSteps

@@ -1,49 +1,66 @@
 -- The forms of the words of a command: which of them the words are, if they are one. A name is the list of its bytes; a
--- file's name is any word that isn't empty. A seed and a size are spelled as numbers are.
+-- file's name is any word that isn't empty. A seed, a size and a port are spelled as numbers are.
 use Rattle.std.specs.Prelude.{ℕ, ◌≤◌, ◌||◌, ◌&&◌, ◌==◌, nat_le, if◌then◌else◌, List, [], ◌∷◌, length, Option, Some, None, codes, nat_eq, ⊤}
+use Rattle.std.specs.Option.{option_map}
 use Rattle.std.specs.Cmp.Lexicographic.{pointwise}
 use Rattle.air_base.specs.Numbers.{number_of}
+use Rattle.air_cli.specs.declared.words.ports.TheConstants.{LAST_PORT}
 use Rattle.item_catalog.specs.declared.deck.drill.TheConstants.{MOST_DRILL_SIZE}
 
 -- What is asked for: to plan a deck; to run a deck's script, and to write its tape where one is named; to let a deck's
 -- readers hear a tape; to run the drill of a seed and a size; to audit a report by a deck; to run a deck on threads, and to
--- write its tape, which `MainWords` has.
-pub data Asked : Type 0 where
-  AsksPlan : List ℕ → Asked
-  AsksScript : List ℕ → Option (List ℕ) → Asked
-  AsksTune : List ℕ → List ℕ → Asked
-  AsksDrill : ℕ → ℕ → Asked
-  AsksAudit : List ℕ → List ℕ → Asked
-  AsksRun : List ℕ → List ℕ → Asked
+-- write its tape; to cast such a run to a port; to let a deck's readers listen on a port.
+pub data Request : Type 0 where
+  AsksPlan : List ℕ → Request
+  AsksScript : List ℕ → Option (List ℕ) → Request
+  AsksTune : List ℕ → List ℕ → Request
+  AsksDrill : ℕ → ℕ → Request
+  AsksAudit : List ℕ → List ℕ → Request
+  AsksRun : List ℕ → List ℕ → Request
+  AsksCast : List ℕ → ℕ → Request
+  AsksListen : List ℕ → ℕ → Request
 
 -- The size of a drill that is asked for is one that a drill may have.
-abbrev pub HasSize : Asked → Type 0
+abbrev pub HasSize : Request → Type 0
 HasSize (AsksDrill seed size) = (1 ≤ size) × (size ≤ MOST_DRILL_SIZE)
 HasSize other = ⊤
 
 -- A seed and a size ask for a drill where they are numbers, and the size is one that a drill may have.
-abbrev pub asked_drill : Option ℕ → Option ℕ → Option Asked
+abbrev pub asked_drill : Option ℕ → Option ℕ → Option Request
 asked_drill (Some seed) (Some size) = if nat_le 1 size && nat_le size MOST_DRILL_SIZE then Some (AsksDrill seed size) else None
 asked_drill seed size = None
 
+-- The port of a number, where it is one: from 1 to 65,535.
+abbrev pub port_of : Option ℕ → Option ℕ
+port_of (Some n) = if nat_le 1 n && nat_le n LAST_PORT then Some n else None
+port_of None = None
+
 -- What a command's name and one file ask for.
-abbrev pub asked_of_one : List ℕ → List ℕ → Option Asked
+abbrev pub asked_of_one : List ℕ → List ℕ → Option Request
 asked_of_one name deck =
     if pointwise nat_eq name (codes "plan") then Some (AsksPlan deck)
     else if pointwise nat_eq name (codes "script") then Some (AsksScript deck None)
     else None
 
+-- What a command's name and two words more ask for where the last of them is a number.
+abbrev pub asked_of_numbers : List ℕ → List ℕ → List ℕ → Option Request
+asked_of_numbers name first second =
+    if pointwise nat_eq name (codes "drill") then asked_drill (number_of first) (number_of second)
+    else if pointwise nat_eq name (codes "cast") then option_map (AsksCast first) (port_of (number_of second))
+    else if pointwise nat_eq name (codes "listen") then option_map (AsksListen first) (port_of (number_of second))
+    else None
+
 -- What a command's name and two words more ask for.
-abbrev pub asked_of_two : List ℕ → List ℕ → List ℕ → Option Asked
+abbrev pub asked_of_two : List ℕ → List ℕ → List ℕ → Option Request
 asked_of_two name first second =
     if pointwise nat_eq name (codes "script") then Some (AsksScript first (Some second))
     else if pointwise nat_eq name (codes "tune") then Some (AsksTune first second)
-    else if pointwise nat_eq name (codes "drill") then asked_drill (number_of first) (number_of second)
     else if pointwise nat_eq name (codes "audit") then Some (AsksAudit first second)
-    else None
+    else if pointwise nat_eq name (codes "run") then Some (AsksRun first second)
+    else asked_of_numbers name first second
 
 -- What the words ask for; None where they are no command.
-abbrev pub asked_of : List (List ℕ) → Option Asked
+abbrev pub asked_of : List (List ℕ) → Option Request
 asked_of [] = None
 asked_of (name ∷ []) = None
 asked_of (name ∷ deck ∷ []) = if length deck == 0 then None else asked_of_one name deck

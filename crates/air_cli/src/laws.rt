@@ -1,6 +1,6 @@
-//! The laws of the top call: of two calls, and of drills. The bodies are empty.
+//! The laws of the top calls: of two calls, and of drills. The bodies are empty.
 
-ghost use Rattle.std.specs.Prelude.{◌≡◌, ℕ, true, List, [], ◌∷◌, Option, codes, Contains};
+ghost use Rattle.std.specs.Prelude.{◌≡◌, ℕ, true, List, [], ◌∷◌, codes, Contains};
 ghost use Rattle.air_devices.specs.Ears.{EarState};
 ghost use Rattle.air_devices.specs.Masts.{MastState};
 ghost use Rattle.air_devices.specs.Shelves.{ShelfState};
@@ -8,29 +8,36 @@ ghost use Rattle.air_report.specs.Statuses.{status_number};
 ghost use Rattle.air_report.specs.declared.status.Status.{Status};
 ghost use Rattle.air_cli.specs.Deliveries.{IsGiven};
 ghost use Rattle.air_cli.specs.ReportsAndTapes.{ReportAndTape};
-ghost use Rattle.air_cli.specs.Commands.{words_meaning};
-ghost use Rattle.air_cli.specs.MainWords.{OnShelf, called_of};
-ghost use Rattle.air_cli.specs.OnAir.{called_meaning};
-ghost use Rattle.air_cli.specs.Words.{Asked};
+ghost use Rattle.air_cli.specs.Commands.{quiet_meaning};
+ghost use Rattle.air_cli.specs.OnAir.{words_meaning};
+ghost use Rattle.air_cli.specs.Words.{asked_of};
 ghost use Rattle.air_cli.specs.ToldInputs.{TellSameInputs};
 ghost use Rattle.air_cli.specs.Answers.{IsSuccess, QuietAnswers};
 
 /// Two calls of a command that its inputs decide, on the same words and over shelves that tell the same inputs, print one
-/// text and write one tape where both succeed, and end with one status.
+/// text and write one tape where both succeed, and end with one status: calls of `air_main`, over any masts and ears, and calls of
+/// `air_quiet`.
 pub fn one_output_law()
-    ensures { (words : List (List ℕ)) (asked : Option Asked) (before now other_before other_now : ShelfState) (s other : Status) →
-        called_of words ≡ OnShelf asked →
-        (words_meaning asked).decided ≡ true →
-        TellSameInputs (words_meaning asked) before other_before →
+    ensures words { (words : List (List ℕ)) (mast mast_now other_mast other_mast_now : MastState) (ear ear_now other_ear other_ear_now : EarState) (before now other_before other_now : ShelfState) (s other : Status) →
+        (words_meaning (asked_of words) mast mast_now ear ear_now).decided ≡ true →
+        TellSameInputs (words_meaning (asked_of words) mast mast_now ear ear_now) before other_before →
         IsSuccess s → IsSuccess other →
-        QuietAnswers (words_meaning asked) before now s →
-        QuietAnswers (words_meaning asked) other_before other_now other →
-        (s ≡ other) × ((given : ReportAndTape) × IsGiven (words_meaning asked).output given before now
-        × IsGiven (words_meaning asked).output given other_before other_now) }
+        QuietAnswers (words_meaning (asked_of words) mast mast_now ear ear_now) before now s →
+        QuietAnswers (words_meaning (asked_of words) other_mast other_mast_now other_ear other_ear_now) other_before other_now other →
+        (s ≡ other) × ((given : ReportAndTape) × IsGiven (words_meaning (asked_of words) mast mast_now ear ear_now).output given before now
+        × IsGiven (words_meaning (asked_of words) mast mast_now ear ear_now).output given other_before other_now) }
+    ensures quiet { (words : List (List ℕ)) (before now other_before other_now : ShelfState) (s other : Status) →
+        (quiet_meaning (asked_of words)).decided ≡ true →
+        TellSameInputs (quiet_meaning (asked_of words)) before other_before →
+        IsSuccess s → IsSuccess other →
+        QuietAnswers (quiet_meaning (asked_of words)) before now s →
+        QuietAnswers (quiet_meaning (asked_of words)) other_before other_now other →
+        (s ≡ other) × ((given : ReportAndTape) × IsGiven (quiet_meaning (asked_of words)).output given before now
+        × IsGiven (quiet_meaning (asked_of words)).output given other_before other_now) }
 {}
 
 /// Words that begin with `drill` end with status 0, 1, 4 or 5: no file is read for them, and no deck is refused.
 pub fn drill_statuses_law()
     ensures { (words : List (List ℕ)) (mast mast_now : MastState) (ear ear_now : EarState) (before now : ShelfState) (s : Status) →
-        QuietAnswers (called_meaning (called_of (codes "drill" ∷ words)) mast mast_now ear ear_now) before now s → Contains (0 ∷ 1 ∷ 4 ∷ 5 ∷ []) (status_number s) }
+        QuietAnswers (words_meaning (asked_of (codes "drill" ∷ words)) mast mast_now ear ear_now) before now s → Contains (0 ∷ 1 ∷ 4 ∷ 5 ∷ []) (status_number s) }
 {}

@@ -4,7 +4,6 @@
 //! `files` what they read, `tapes` the readers' hearing of a tape that is read piece by piece, `outputs` what they leave outside.
 #![tactic(auto)]
 
-mod calls;
 mod commands;
 mod endings;
 mod files;
@@ -19,6 +18,7 @@ pub mod words;
 pub use air_report::Status;
 pub use commands::hearings::{HearFault, ear_sessions};
 pub use commands::run_on_air::run_on_air;
+pub use deck_runs::{ConductFault, conductor_job, monitor_job, updater_job};
 pub use files::decks::read_deck_file;
 pub use files::plans::plan_deck;
 pub use files::read_bytes;

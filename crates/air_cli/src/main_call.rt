@@ -3,23 +3,22 @@
 //! `run`, `cast` and `listen` are done here; whatever else the words are, they are left to `air_quiet`. What these three print and write
 //! is made, or why they are refused is known, before anything is printed or written.
 
-ghost use Rattle.std.specs.Prelude.{◌≡◌, map, string_bytes, None};
+ghost use Rattle.std.specs.Prelude.{◌≡◌, map, string_bytes, None, Some};
 ghost use Rattle.air_devices.specs.Masts.{nothing_sent};
 ghost use Rattle.air_devices.specs.Told.{WhereTold};
 ghost use Rattle.air_cli.specs.Answers.{Completes, Leaves, QuietAnswers};
-ghost use Rattle.air_cli.specs.Private.CalledWords.{called_by};
 ghost use Rattle.air_cli.specs.Cast.{cast_meaning};
 ghost use Rattle.air_cli.specs.Listen.{listen_meaning};
-ghost use Rattle.air_cli.specs.MainWords.{Casts, Listens, called_of};
-ghost use Rattle.air_cli.specs.OnAir.{LeavesEar, LeavesMast, called_meaning};
+ghost use Rattle.air_cli.specs.OnAir.{LeavesEar, LeavesMast, words_meaning};
 ghost use Rattle.air_cli.specs.Run.{run_meaning};
+ghost use Rattle.air_cli.specs.Words.{AsksCast, AsksListen, asked_of};
 
-use crate::calls::{Call, call_of};
 use crate::commands::cast::cast;
 use crate::commands::listen::listen;
 use crate::commands::run::run;
 use crate::endings::give_or_refuse;
 use crate::quiet::air_quiet;
+use crate::words::{Command, command_of};
 use air_devices::{Ear, Gate, Mast, Shelf};
 use air_report::Status;
 use std::alloc::Global;
@@ -40,40 +39,17 @@ pub fn air_main<R: Threads + Wait + Sync, S: Shelf, M: Mast + Send, E: Ear, G: G
     requires unaimed { (M.state mast.old).port ≡ None }
     requires unsent { WhereTold (M.state mast.old).told (λ s. s ≡ nothing_sent) }
     requires untuned { (E.state ear.old).port ≡ None }
-    ensures answers { QuietAnswers (called_meaning (called_of (map (λ w. string_bytes w) words.now)) (M.state mast.old) (M.state mast.new) (E.state ear.old) (E.state ear.new)) (S.state shelf.old) (S.state shelf.new) result }
-    ensures complete { Completes (called_meaning (called_of (map (λ w. string_bytes w) words.now)) (M.state mast.old) (M.state mast.new) (E.state ear.old) (E.state ear.new)) (S.state shelf.old) (S.state shelf.new) result }
-    ensures leaves { Leaves (called_meaning (called_of (map (λ w. string_bytes w) words.now)) (M.state mast.old) (M.state mast.new) (E.state ear.old) (E.state ear.new)) (S.state shelf.old) (S.state shelf.new) }
-    ensures mast { LeavesMast (called_of (map (λ w. string_bytes w) words.now)) (S.state shelf.old) (M.state mast.old) (M.state mast.new) }
-    ensures ear { LeavesEar (called_of (map (λ w. string_bytes w) words.now)) (S.state shelf.old) (E.state ear.old) (E.state ear.new) }
+    ensures answers { QuietAnswers (words_meaning (asked_of (map (λ w. string_bytes w) words.now)) (M.state mast.old) (M.state mast.new) (E.state ear.old) (E.state ear.new)) (S.state shelf.old) (S.state shelf.new) result }
+    ensures complete { Completes (words_meaning (asked_of (map (λ w. string_bytes w) words.now)) (M.state mast.old) (M.state mast.new) (E.state ear.old) (E.state ear.new)) (S.state shelf.old) (S.state shelf.new) result }
+    ensures leaves { Leaves (words_meaning (asked_of (map (λ w. string_bytes w) words.now)) (M.state mast.old) (M.state mast.new) (E.state ear.old) (E.state ear.new)) (S.state shelf.old) (S.state shelf.new) }
+    ensures mast { LeavesMast (asked_of (map (λ w. string_bytes w) words.now)) (S.state shelf.old) (M.state mast.old) (M.state mast.new) }
+    ensures ear { LeavesEar (asked_of (map (λ w. string_bytes w) words.now)) (S.state shelf.old) (E.state ear.old) (E.state ear.new) }
 {
-    match call_of(words) {
-        Some(call) => make_call(rt, alloc, shelf, mast, ear, &call, gate),
-        None => air_quiet(rt, alloc, words, shelf),
-    }
-}
-
-/// Runs a command that waits.
-fn make_call<R: Threads + Wait + Sync, S: Shelf, M: Mast + Send, E: Ear, G: Gate + Sync>(
-    rt: &R,
-    alloc: Global,
-    shelf: &mut S,
-    mast: &mut M,
-    ear: &mut E,
-    call: &Call,
-    gate: &G,
-) -> Status
-    requires unaimed { (M.state mast.old).port ≡ None }
-    requires unsent { WhereTold (M.state mast.old).told (λ s. s ≡ nothing_sent) }
-    requires untuned { (E.state ear.old).port ≡ None }
-    ensures answers { QuietAnswers (called_meaning (called_by call.now) (M.state mast.old) (M.state mast.new) (E.state ear.old) (E.state ear.new)) (S.state shelf.old) (S.state shelf.new) result }
-    ensures leaves { Leaves (called_meaning (called_by call.now) (M.state mast.old) (M.state mast.new) (E.state ear.old) (E.state ear.new)) (S.state shelf.old) (S.state shelf.new) }
-    ensures mast { LeavesMast (called_by call.now) (S.state shelf.old) (M.state mast.old) (M.state mast.new) }
-    ensures ear { LeavesEar (called_by call.now) (S.state shelf.old) (E.state ear.old) (E.state ear.new) }
-{
-    match call {
-        Call::Run { deck, tape } => run_deck(rt, alloc, shelf, deck, tape, gate),
-        Call::Cast { deck, port } => cast_deck(rt, alloc, shelf, mast, deck, *port, gate),
-        Call::Listen { deck, port } => listen_deck(alloc, shelf, ear, deck, *port),
+    match command_of(words) {
+        Some(Command::Run { deck, tape }) => run_deck(rt, alloc, shelf, deck, tape, gate),
+        Some(Command::Cast { deck, port }) => cast_deck(rt, alloc, shelf, mast, deck, port, gate),
+        Some(Command::Listen { deck, port }) => listen_deck(alloc, shelf, ear, deck, port),
+        _ => air_quiet(rt, alloc, words, shelf),
     }
 }
 
@@ -107,7 +83,7 @@ fn cast_deck<R: Threads + Wait + Sync, S: Shelf, M: Mast + Send, G: Gate + Sync>
     requires unsent { WhereTold (M.state mast.old).told (λ s. s ≡ nothing_sent) }
     ensures answers { QuietAnswers (cast_meaning deck.now port (M.state mast.old) (M.state mast.new)) (S.state shelf.old) (S.state shelf.new) result }
     ensures leaves { Leaves (cast_meaning deck.now port (M.state mast.old) (M.state mast.new)) (S.state shelf.old) (S.state shelf.new) }
-    ensures mast { LeavesMast (Casts deck.now port) (S.state shelf.old) (M.state mast.old) (M.state mast.new) }
+    ensures mast { LeavesMast (Some (AsksCast deck.now port)) (S.state shelf.old) (M.state mast.old) (M.state mast.new) }
 {
     let made = cast(rt, alloc, shelf, mast, deck, port, gate);
     give_or_refuse(alloc, shelf, None, made)
@@ -124,7 +100,7 @@ fn listen_deck<S: Shelf, E: Ear>(
     requires untuned { (E.state ear.old).port ≡ None }
     ensures answers { QuietAnswers (listen_meaning deck.now port (E.state ear.old) (E.state ear.new)) (S.state shelf.old) (S.state shelf.new) result }
     ensures leaves { Leaves (listen_meaning deck.now port (E.state ear.old) (E.state ear.new)) (S.state shelf.old) (S.state shelf.new) }
-    ensures ear { LeavesEar (Listens deck.now port) (S.state shelf.old) (E.state ear.old) (E.state ear.new) }
+    ensures ear { LeavesEar (Some (AsksListen deck.now port)) (S.state shelf.old) (E.state ear.old) (E.state ear.new) }
 {
     let made = listen(alloc, shelf, ear, deck, port);
     give_or_refuse(alloc, shelf, None, made)

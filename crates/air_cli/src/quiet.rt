@@ -3,11 +3,16 @@
 //! Whatever a command prints and writes is made before anything is printed or written, but that `script` writes its tape while it
 //! airs it. The contract is one definition by cases of the status: its cause, what was printed and written, and what is left.
 
-ghost use Rattle.std.specs.Prelude.{◌≡◌, false, map, string_bytes, IfErr, IfOk};
-ghost use Rattle.air_cli.specs.Words.{HasSize, asked_of};
-ghost use Rattle.air_cli.specs.Commands.{asked_by, meaning_of, words_meaning};
-ghost use Rattle.air_cli.specs.Private.BeforeDelivery.{IsMade, IsUnmade, ReadsInputs};
+ghost use Rattle.std.specs.Prelude.{◌≤◌, map, string_bytes, Some};
 ghost use Rattle.air_cli.specs.Answers.{Completes, Leaves, QuietAnswers};
+ghost use Rattle.air_cli.specs.Audit.{audit_meaning};
+ghost use Rattle.air_cli.specs.Commands.{asked_by, quiet_meaning};
+ghost use Rattle.air_cli.specs.Drill.{drill_meaning};
+ghost use Rattle.air_cli.specs.Meanings.{no_command};
+ghost use Rattle.air_cli.specs.Plan.{plan_meaning};
+ghost use Rattle.air_cli.specs.Tune.{tune_meaning};
+ghost use Rattle.air_cli.specs.Words.{HasSize, asked_of};
+ghost use Rattle.item_catalog.specs.declared.deck.drill.TheConstants.{MOST_DRILL_SIZE};
 
 use crate::commands::audit::audit;
 use crate::commands::drill::drill;
@@ -16,7 +21,6 @@ use crate::commands::script::script;
 use crate::commands::tune::tune;
 use crate::endings::give_or_refuse;
 use crate::outputs::refusals::refuse;
-use crate::outputs::report_and_tape::ReportAndTape;
 use crate::words::{Command, command_of};
 use air_devices::Shelf;
 use air_report::Status;
@@ -31,17 +35,17 @@ pub fn air_quiet<T: Threads + Sync, S: Shelf>(
     words: &[String],
     shelf: &mut S,
 ) -> Status
-    ensures answers { QuietAnswers (words_meaning (asked_of (map (λ w. string_bytes w) words.now))) (S.state shelf.old) (S.state shelf.new) result }
-    ensures complete { Completes (words_meaning (asked_of (map (λ w. string_bytes w) words.now))) (S.state shelf.old) (S.state shelf.new) result }
-    ensures leaves { Leaves (words_meaning (asked_of (map (λ w. string_bytes w) words.now))) (S.state shelf.old) (S.state shelf.new) }
+    ensures answers { QuietAnswers (quiet_meaning (asked_of (map (λ w. string_bytes w) words.now))) (S.state shelf.old) (S.state shelf.new) result }
+    ensures complete { Completes (quiet_meaning (asked_of (map (λ w. string_bytes w) words.now))) (S.state shelf.old) (S.state shelf.new) result }
+    ensures leaves { Leaves (quiet_meaning (asked_of (map (λ w. string_bytes w) words.now))) (S.state shelf.old) (S.state shelf.new) }
 {
     match command_of(words) {
         Some(command) => run(threads, alloc, shelf, &command),
-        None => refuse(alloc, shelf, Status::Words),
+        None => refuse_words(alloc, shelf),
     }
 }
 
-/// Runs a command.
+/// Runs a command. One that waits is none of these, and is refused as words that are no command are.
 fn run<T: Threads + Sync, S: Shelf>(
     threads: &T,
     alloc: Global,
@@ -49,50 +53,75 @@ fn run<T: Threads + Sync, S: Shelf>(
     command: &Command,
 ) -> Status
     requires { HasSize (asked_by command.now) }
-    ensures answers { QuietAnswers (meaning_of (asked_by command.now)) (S.state shelf.old) (S.state shelf.new) result }
-    ensures leaves { Leaves (meaning_of (asked_by command.now)) (S.state shelf.old) (S.state shelf.new) }
+    ensures answers { QuietAnswers (quiet_meaning (Some (asked_by command.now))) (S.state shelf.old) (S.state shelf.new) result }
+    ensures leaves { Leaves (quiet_meaning (Some (asked_by command.now))) (S.state shelf.old) (S.state shelf.new) }
 {
     match command {
+        Command::Plan { deck } => give_plan(alloc, shelf, deck),
         Command::Script { deck, tape } => script(threads, alloc, shelf, deck, *tape),
-        _ => give(threads, alloc, shelf, command),
+        Command::Tune { deck, tape } => give_tuning(threads, alloc, shelf, deck, tape),
+        Command::Drill { seed, size } => give_drill(threads, alloc, shelf, *seed, *size),
+        Command::Audit { deck, report } => give_audit(alloc, shelf, deck, report),
+        Command::Run { .. } | Command::Cast { .. } | Command::Listen { .. } => {
+            refuse_words(alloc, shelf)
+        }
     }
 }
 
-/// Makes what a command gives, and delivers it; or refuses.
-fn give<T: Threads + Sync, S: Shelf>(
+/// Refuses words that are no command.
+fn refuse_words<S: Shelf>(alloc: Global, shelf: &mut S) -> Status
+    ensures answers { QuietAnswers no_command (S.state shelf.old) (S.state shelf.new) result }
+    ensures leaves { Leaves no_command (S.state shelf.old) (S.state shelf.new) }
+{
+    refuse(alloc, shelf, Status::Words)
+}
+
+/// Plans a deck, and delivers what that gives; or refuses.
+fn give_plan<S: Shelf>(alloc: Global, shelf: &mut S, deck: &str) -> Status
+    ensures answers { QuietAnswers (plan_meaning deck.now) (S.state shelf.old) (S.state shelf.new) result }
+    ensures leaves { Leaves (plan_meaning deck.now) (S.state shelf.old) (S.state shelf.new) }
+{
+    let made = plan(alloc, shelf, deck);
+    give_or_refuse(alloc, shelf, None, made)
+}
+
+/// Lets a deck's readers hear a tape, and delivers what that gives; or refuses.
+fn give_tuning<T: Threads + Sync, S: Shelf>(
     threads: &T,
     alloc: Global,
     shelf: &mut S,
-    command: &Command,
+    deck: &str,
+    tape: &str,
 ) -> Status
-    requires size { HasSize (asked_by command.now) }
-    requires whole { (meaning_of (asked_by command.now)).by_pieces ≡ false }
-    ensures answers { QuietAnswers (meaning_of (asked_by command.now)) (S.state shelf.old) (S.state shelf.new) result }
-    ensures leaves { Leaves (meaning_of (asked_by command.now)) (S.state shelf.old) (S.state shelf.new) }
+    ensures answers { QuietAnswers (tune_meaning deck.now tape.now) (S.state shelf.old) (S.state shelf.new) result }
+    ensures leaves { Leaves (tune_meaning deck.now tape.now) (S.state shelf.old) (S.state shelf.new) }
 {
-    let made = make(threads, alloc, shelf, command);
-    give_or_refuse(alloc, shelf, command.output(), made)
+    let made = tune(threads, alloc, shelf, deck, tape);
+    give_or_refuse(alloc, shelf, None, made)
 }
 
-/// What a command gives; nothing is printed or written yet.
-#[tactic(auto, using(crate::proofs::DrillLemmas::made_drill, crate::proofs::DrillLemmas::unmade_drill))]
-fn make<T: Threads + Sync, S: Shelf>(
+/// Runs the drill of a seed and a size, and delivers what that gives; or refuses.
+fn give_drill<T: Threads + Sync, S: Shelf>(
     threads: &T,
     alloc: Global,
     shelf: &mut S,
-    command: &Command,
-) -> Result<ReportAndTape, Status>
-    requires size { HasSize (asked_by command.now) }
-    requires whole { (meaning_of (asked_by command.now)).by_pieces ≡ false }
-    ensures made { IfOk result (IsMade (meaning_of (asked_by command.now)) (S.state shelf.old) (S.state shelf.new)) }
-    ensures unmade { IfErr result (IsUnmade (meaning_of (asked_by command.now)) (S.state shelf.old) (S.state shelf.new)) }
-    ensures reads { ReadsInputs (meaning_of (asked_by command.now)) (S.state shelf.old) (S.state shelf.new) }
+    seed: u64,
+    size: u32,
+) -> Status
+    requires some { 1 ≤ size }
+    requires few { size ≤ MOST_DRILL_SIZE }
+    ensures answers { QuietAnswers (drill_meaning seed size) (S.state shelf.old) (S.state shelf.new) result }
+    ensures leaves { Leaves (drill_meaning seed size) (S.state shelf.old) (S.state shelf.new) }
 {
-    match command {
-        Command::Plan { deck } => plan(alloc, shelf, deck),
-        Command::Script { .. } => unreachable!(),
-        Command::Tune { deck, tape } => tune(threads, alloc, shelf, deck, tape),
-        Command::Drill { seed, size } => drill(threads, alloc, *seed, *size),
-        Command::Audit { deck, report } => audit(alloc, shelf, deck, report),
-    }
+    let made = drill(threads, alloc, seed, size);
+    give_or_refuse(alloc, shelf, None, made)
+}
+
+/// Audits a report by a deck, and delivers what that gives; or refuses.
+fn give_audit<S: Shelf>(alloc: Global, shelf: &mut S, deck: &str, report: &str) -> Status
+    ensures answers { QuietAnswers (audit_meaning deck.now report.now) (S.state shelf.old) (S.state shelf.new) result }
+    ensures leaves { Leaves (audit_meaning deck.now report.now) (S.state shelf.old) (S.state shelf.new) }
+{
+    let made = audit(alloc, shelf, deck, report);
+    give_or_refuse(alloc, shelf, None, made)
 }

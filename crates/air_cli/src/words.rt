@@ -1,9 +1,12 @@
 //! The words of a command, and the help on them.
 
 ghost use Rattle.std.specs.Prelude.{◌≡◌, option_map, map, string_bytes, IfSome};
-ghost use Rattle.air_cli.specs.Words.{HasSize, asked_drill, asked_of, asked_of_one, asked_of_two};
-ghost use Rattle.air_cli.specs.Commands.{asked_by, meaning_of};
+ghost use Rattle.air_cli.specs.Words.{HasSize, asked_drill, asked_of, asked_of_numbers, asked_of_one, asked_of_two};
+ghost use Rattle.air_cli.specs.Commands.{asked_by};
 
+pub(crate) mod ports;
+
+use crate::words::ports::port_of;
 use air_base::read_u64;
 use item_catalog::MOST_DRILL_SIZE;
 
@@ -25,7 +28,7 @@ pub const HELP: &str = "airdisk: data on air, proved
 The manual is docs/GUIDE.md in the repository.
 ";
 
-/// What the words ask for.
+/// What the words ask for: each of their forms is one of these.
 #[derive(Clone, Copy, Debug)]
 pub enum Command<'a> {
     /// To plan a deck.
@@ -52,21 +55,21 @@ pub enum Command<'a> {
         deck: &'a str,
         report: &'a str,
     },
-}
-
-impl<'a> Command<'a> {
-    /// The output that is named, if one is.
-    pub fn output(&self) -> Option<&'a str>
-        ensures { option_map (λ name. name.now) result ≡ (meaning_of (asked_by self.now)).output }
-    {
-        match self {
-            Command::Script { tape, .. } => *tape,
-            Command::Plan { .. }
-            | Command::Tune { .. }
-            | Command::Drill { .. }
-            | Command::Audit { .. } => None,
-        }
-    }
+    /// To run a deck on threads, and to write its tape.
+    Run {
+        deck: &'a str,
+        tape: &'a str,
+    },
+    /// To cast such a run to a port.
+    Cast {
+        deck: &'a str,
+        port: u16,
+    },
+    /// To let a deck's readers listen on a port.
+    Listen {
+        deck: &'a str,
+        port: u16,
+    },
 }
 
 /// What the words ask for, and `None` exactly if they are no command.
@@ -112,13 +115,38 @@ fn command_of_two<'a>(name: &str, first: &'a str, second: &'a str) -> Option<Com
             deck: first,
             tape: second,
         })
-    } else if name == "drill" {
-        drill_of(read_u64(first.as_bytes()), read_u64(second.as_bytes()))
     } else if name == "audit" {
         Some(Command::Audit {
             deck: first,
             report: second,
         })
+    } else if name == "run" {
+        Some(Command::Run {
+            deck: first,
+            tape: second,
+        })
+    } else {
+        command_of_numbers(name, first, second)
+    }
+}
+
+/// What a command's name and two words more ask for where the last of them is a number.
+fn command_of_numbers<'a>(name: &str, first: &'a str, second: &str) -> Option<Command<'a>>
+    ensures asked { option_map asked_by result ≡ asked_of_numbers name.now first.now second.now }
+    ensures sized { IfSome result (λ c. HasSize (asked_by c)) }
+{
+    if name == "drill" {
+        drill_of(read_u64(first.as_bytes()), read_u64(second.as_bytes()))
+    } else if name == "cast" {
+        match port_of(second) {
+            Some(port) => Some(Command::Cast { deck: first, port }),
+            None => None,
+        }
+    } else if name == "listen" {
+        match port_of(second) {
+            Some(port) => Some(Command::Listen { deck: first, port }),
+            None => None,
+        }
     } else {
         None
     }

@@ -1,6 +1,6 @@
 //! The command `cast`: a run of a named deck on threads, sent to a port.
 
-ghost use Rattle.std.specs.Prelude.{◌≡◌, ◌≤◌, ◌⊎◌, None, IfErr, IfOk};
+ghost use Rattle.std.specs.Prelude.{◌≡◌, ◌≤◌, ◌⊎◌, None, Some, IfErr, IfOk};
 ghost use Rattle.air_devices.specs.Masts.{nothing_sent};
 ghost use Rattle.air_devices.specs.Told.{WhereTold};
 ghost use Rattle.air_model.specs.Decks.{disks_in};
@@ -9,7 +9,7 @@ ghost use Rattle.air_cli.specs.FileLimits.{tape_limit};
 ghost use Rattle.air_cli.specs.RunnableDecks.{HasShortProgram};
 ghost use Rattle.air_model.specs.Runs.{Run};
 ghost use Rattle.air_cli.specs.Cast.{HasSent, IsCast, cast_meaning};
-ghost use Rattle.air_cli.specs.MainWords.{Casts};
+ghost use Rattle.air_cli.specs.Words.{AsksCast};
 ghost use Rattle.air_cli.specs.OnAir.{LeavesMast};
 ghost use Rattle.air_cli.specs.Private.Airing.{IsCastRefusal, cast_status};
 ghost use Rattle.air_cli.specs.Private.BeforeDelivery.{IsMade, IsUnmade, ReadsInputs};
@@ -43,7 +43,7 @@ pub(crate) fn cast<R: Threads + Wait + Sync, S: Shelf, M: Mast + Send, G: Gate +
     ensures made { IfOk result (IsMade (cast_meaning name.now port (M.state mast.old) (M.state mast.new)) (S.state shelf.old) (S.state shelf.new)) }
     ensures unmade { IfErr result (IsUnmade (cast_meaning name.now port (M.state mast.old) (M.state mast.new)) (S.state shelf.old) (S.state shelf.new)) }
     ensures reads { ReadsInputs (cast_meaning name.now port (M.state mast.old) (M.state mast.new)) (S.state shelf.old) (S.state shelf.new) }
-    ensures mast { LeavesMast (Casts name.now port) (S.state shelf.old) (M.state mast.old) (M.state mast.new) }
+    ensures mast { LeavesMast (Some (AsksCast name.now port)) (S.state shelf.old) (M.state mast.old) (M.state mast.new) }
 {
     let (deck, program) = read_runnable_deck(alloc, shelf, name)?;
     deck.shows_well_made();

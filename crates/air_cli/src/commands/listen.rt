@@ -1,9 +1,9 @@
 //! The command `listen`: what a named deck's readers hear on a port.
 
-ghost use Rattle.std.specs.Prelude.{◌≡◌, ◌⊎◌, ℕ, List, None, IfErr, IfOk};
+ghost use Rattle.std.specs.Prelude.{◌≡◌, ◌⊎◌, ℕ, List, None, Some, IfErr, IfOk};
 ghost use Rattle.air_model.specs.Decks.{disks_in};
 ghost use Rattle.air_cli.specs.Listen.{HasHeardPort, IsListening, listen_meaning};
-ghost use Rattle.air_cli.specs.MainWords.{Listens};
+ghost use Rattle.air_cli.specs.Words.{AsksListen};
 ghost use Rattle.air_cli.specs.OnAir.{LeavesEar};
 ghost use Rattle.air_cli.specs.Private.Airing.{IsListenRefusal, hear_status};
 ghost use Rattle.air_cli.specs.Private.BeforeDelivery.{IsMade, IsUnmade, ReadsInputs};
@@ -32,7 +32,7 @@ pub(crate) fn listen<S: Shelf, E: Ear>(
     ensures made { IfOk result (IsMade (listen_meaning name.now port (E.state ear.old) (E.state ear.new)) (S.state shelf.old) (S.state shelf.new)) }
     ensures unmade { IfErr result (IsUnmade (listen_meaning name.now port (E.state ear.old) (E.state ear.new)) (S.state shelf.old) (S.state shelf.new)) }
     ensures reads { ReadsInputs (listen_meaning name.now port (E.state ear.old) (E.state ear.new)) (S.state shelf.old) (S.state shelf.new) }
-    ensures ear { LeavesEar (Listens name.now port) (S.state shelf.old) (E.state ear.old) (E.state ear.new) }
+    ensures ear { LeavesEar (Some (AsksListen name.now port)) (S.state shelf.old) (E.state ear.old) (E.state ear.new) }
 {
     let (deck, program) = read_runnable_deck(alloc, shelf, name)?;
     deck.shows_well_made();

@@ -1,6 +1,9 @@
-use Rattle.air_cli.proofs.TopLemmas.{one_given}
+use Rattle.air_cli.proofs.TopLemmas.{quiet_given, words_given}
 use Rattle.air_cli.proofs.laws.one_output_law.Goals as goal
 
 pub returns : goal.returns
-returns c = λ words asked before now other_before other_now s other called decided same good other_good first second.
-    one_given asked before now other_before other_now s other decided same good other_good first second
+returns c = record {
+  words = λ words mast mast_now mast2 mast_now2 ear ear_now ear2 ear_now2 before now before2 now2 s s2.
+      words_given words mast mast_now mast2 mast_now2 ear ear_now ear2 ear_now2 before now before2 now2 s s2;
+  quiet = λ words before now before2 now2 s s2. quiet_given words before now before2 now2 s s2;
+}
