@@ -1,2 +1,3 @@
 mod DrillLemmas
 mod RowLemmas
+mod WordLemmas

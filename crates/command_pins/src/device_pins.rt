@@ -1,21 +1,23 @@
 //! These pins say what `air_devices` reads of short files up to a limit, when it tells that one is too large or that a read failed, and
 //! how much it leaves. They also say which failure a shelf over files keeps.
 
-ghost use Rattle.std.specs.Prelude.{◌≡◌, ◌≢◌, ◌≤◌, [], ◌∷◌, Err, Some, IfOk, OnErr, option_map};
+ghost use Rattle.std.specs.Prelude.{◌≡◌, ◌≢◌, ◌≤◌, [], ◌∷◌, Err, Some, IfOk, OnErr, OnOk, option_map};
 ghost use Rattle.air_devices.specs.Memory.{told_by};
 
 use air_devices::{Failed, FileCall, FileShelf, MemShelf, ReadFileError, Shelf, read_file};
 use std::alloc::Global;
 use std::rt::Files;
 
-/// Of a file that is past the limit, one byte more than the limit is read, and the rest is left.
+/// Of a file that is past the limit, one byte more than the limit is read, and the rest is left. It isn't read as if the limit were its
+/// end.
 pub fn read_past_the_limit_goes_on(
     alloc: Global,
     shelf: &mut MemShelf,
     name: &str,
 ) -> Result<Vec<u8>, ReadFileError>
     requires { (told_by shelf.old).file name.now ≡ Some (1 ∷ 2 ∷ 3 ∷ 4 ∷ []) }
-    ensures { result ≡ Err ReadFileError.TooLarge → (told_by shelf.new).left name.now ≡ Some (4 ∷ []) }
+    ensures left { result ≡ Err ReadFileError.TooLarge → (told_by shelf.new).left name.now ≡ Some (4 ∷ []) }
+    ensures refused { OnOk result ⊥ }
 {
     read_file(alloc, shelf, name, 2)
 }

@@ -41,6 +41,17 @@ pub fn another_limit_told(
     read_bytes(alloc, shelf, name, 10)
 }
 
+/// A deck that is too large is refused with the limit of decks.
+pub fn limit_of_another_kind_told(
+    alloc: Global,
+    shelf: &mut MemShelf,
+    name: &str,
+) -> Result<Deck, Status>
+    ensures { (limit : ℕ) → result ≡ Err (Status.TooLarge limit) → limit ≡ 67_108_864 }
+{
+    read_deck_file(alloc, shelf, name)
+}
+
 /// A deck is given only where no read failed, and so is each refusal but that of a read: out of memory, a file that is too large, and a
 /// fault of the deck. So none of them comes of a second reading after one that failed.
 pub fn reads_again_after_a_read_fault(

@@ -1,8 +1,9 @@
-//! These pins say what `air_main` of `air_cli` does for a command's words, over devices in memory: what it prints, writes and reads.
+//! These pins say what `air_main` of `air_cli` does for a command's words, over devices in memory: what it prints, writes and reads, and
+//! that `air_quiet` does no command that waits.
 //! Where a command is done, the answer is the definition of its output; the other clauses say what each status leaves as it was.
 #![tactic(auto, unfolding(air_base::specs::Numbers::number_of, air_cli::specs::NamedDecks::DeckCause, air_cli::specs::Answers::QuietAnswers, air_cli::specs::Plan::PlanCause, air_cli::specs::Plan::PlanGives, air_cli::specs::Drill::DrillGives, air_cli::specs::Script::ScriptCause, air_cli::specs::Script::ScriptGives, air_cli::specs::Audit::AuditGives, air_cli::specs::Cast::CastCause))]
 
-ghost use Rattle.std.specs.Prelude.{◌≡◌, ◌≤◌, ◌<◌, ℕ, List, false, [], ◌∷◌, None, Some, codes, map, string_bytes};
+ghost use Rattle.std.specs.Prelude.{◌≡◌, ◌⊎◌, ◌≤◌, ◌<◌, ℕ, List, false, [], ◌∷◌, None, Some, codes, map, string_bytes};
 ghost use Rattle.air_model.specs.Decks.{Deck};
 ghost use Rattle.air_model.specs.Outputs.{plan_output, script_tape};
 ghost use Rattle.air_devices.specs.Masts.{nothing_sent};
@@ -14,7 +15,7 @@ ghost use Rattle.live_replay.specs.FindingTexts.{findings_text, some_differ};
 ghost use Rattle.item_catalog.specs.Grammar.{Spells};
 ghost use Rattle.live_replay.specs.declared.findings.Finding.{Finding};
 
-use air_cli::air_main;
+use air_cli::{air_main, air_quiet};
 use air_devices::{Gate, MemEar, MemMast, MemShelf};
 use air_report::Status;
 use std::alloc::Global;
@@ -167,4 +168,17 @@ pub fn always_an_air_fault<R: Threads + Wait + Sync, G: Gate + Sync>(
     ensures refused { (row kind : ℕ) → result ≡ Status.Deck row kind → memory_mast_state mast.new ≡ memory_mast_state mast.old }
 {
     air_main(rt, alloc, words, shelf, mast, ear, gate)
+}
+
+/// `run d t` is refused by `air_quiet` as words of no form, or memory ran out.
+pub fn waiting_command_done_quietly<T: Threads + Sync>(
+    threads: &T,
+    alloc: Global,
+    words: &[String],
+    shelf: &mut MemShelf,
+) -> Status
+    requires words { map (λ w. string_bytes w) words.now ≡ codes "run" ∷ codes "d" ∷ codes "t" ∷ [] }
+    ensures { (result ≡ Status.Words) ⊎ (result ≡ Status.NoMemory) }
+{
+    air_quiet(threads, alloc, words, shelf)
 }
