@@ -18,7 +18,6 @@ use Rattle.live_replay.proofs.AuditExamples.{small}
 use Rattle.air_cli.specs.Answers.{Completes, HasBegun, InputFailed, IsDone, IsWanting, Leaves, NoCountRose, OutputFailed, PrintFailed, QuietAnswers, Succeeds}
 use Rattle.air_cli.specs.Deliveries.{IsGiven, IsGivenInPart}
 use Rattle.air_cli.specs.ReportsAndTapes.{given_status}
-use Rattle.air_cli.specs.MainWords.{Casts, Listens, OnShelf}
 use Rattle.air_cli.specs.Meanings.{Meaning}
 use Rattle.air_cli.specs.NamedDecks.{DeckCause}
 use Rattle.air_cli.specs.NamedFiles.{UnreadCause}
@@ -27,6 +26,7 @@ use Rattle.air_cli.specs.Outputs.{OutputHolds, OutputHoldsPart}
 use Rattle.air_cli.specs.Plan.{PlanCause, plan_given, plan_meaning}
 use Rattle.air_cli.specs.Refusals.{IsSteady, PrintsUnlessFailed}
 use Rattle.air_cli.specs.Script.{script_given, script_meaning}
+use Rattle.air_cli.specs.Words.{AsksCast, AsksListen}
 use Rattle.air_cli.specs.Untouched.{IsRefusal, IsUntouched, KeepsOutputs}
 use Rattle.air_cli.proofs.CommandExamples.{plan_gives, script_gives}
 use Rattle.air_cli.proofs.ToldExamples.{files, its_deck, plan_suits, shelf, tells_plan}
@@ -256,15 +256,15 @@ fresh_ear = record { told = Some []; faults = 0; port = None }
 abbrev tuned : EarState
 tuned = record fresh_ear { port = Some 7 }
 
-leaves_mast : LeavesMast (OnShelf None) shelf fresh_mast fresh_mast × LeavesMast (Casts (codes "d") 7) shelf fresh_mast fresh_mast
+leaves_mast : LeavesMast None shelf fresh_mast fresh_mast × LeavesMast (Some (AsksCast (codes "d") 7)) shelf fresh_mast fresh_mast
 leaves_mast = (refl, inl refl)
 
 -- No other call than `cast` aims a mast, and `listen` alone tunes an ear.
-not_leaves_mast : (LeavesMast (OnShelf None) shelf fresh_mast aimed → ⊥) × (LeavesMast (Listens (codes "d") 7) shelf fresh_mast aimed → ⊥)
+not_leaves_mast : (LeavesMast None shelf fresh_mast aimed → ⊥) × (LeavesMast (Some (AsksListen (codes "d") 7)) shelf fresh_mast aimed → ⊥)
 not_leaves_mast = (λ h. let port : ◌≡◌ {A = Option ℕ} (Some 7) None = ap (λ (m : MastState). m.port) h in cc, λ h. let port : ◌≡◌ {A = Option ℕ} (Some 7) None = ap (λ (m : MastState). m.port) h in cc)
 
-leaves_ear : LeavesEar (OnShelf None) shelf fresh_ear fresh_ear × LeavesEar (Listens (codes "d") 7) shelf fresh_ear fresh_ear
+leaves_ear : LeavesEar None shelf fresh_ear fresh_ear × LeavesEar (Some (AsksListen (codes "d") 7)) shelf fresh_ear fresh_ear
 leaves_ear = (refl, inl refl)
 
-not_leaves_ear : (LeavesEar (OnShelf None) shelf fresh_ear tuned → ⊥) × (LeavesEar (Casts (codes "d") 7) shelf fresh_ear tuned → ⊥)
+not_leaves_ear : (LeavesEar None shelf fresh_ear tuned → ⊥) × (LeavesEar (Some (AsksCast (codes "d") 7)) shelf fresh_ear tuned → ⊥)
 not_leaves_ear = (λ h. let port : ◌≡◌ {A = Option ℕ} (Some 7) None = ap (λ (e : EarState). e.port) h in cc, λ h. let port : ◌≡◌ {A = Option ℕ} (Some 7) None = ap (λ (e : EarState). e.port) h in cc)

@@ -5,11 +5,11 @@ use Rattle.air_devices.specs.Counts.{one_count}
 use Rattle.air_devices.specs.Contents.{nothing_told}
 use Rattle.air_devices.specs.Shelves.{ShelfState}
 use Rattle.air_report.specs.declared.status.Status.TheVariants as status
-use Rattle.air_cli.specs.Commands.{meaning_of, words_meaning}
+use Rattle.air_cli.specs.Commands.{quiet_meaning}
 use Rattle.air_cli.specs.ReportsAndTapes.{ReportAndTape, given_status}
-use Rattle.air_cli.specs.MainWords.{Casts, Listens, OnShelf, called_of, called_of_two, called_with, port_of}
 use Rattle.air_cli.specs.Meanings.{WordsCause, no_command}
-use Rattle.air_cli.specs.Words.{AsksAudit, AsksDrill, AsksPlan, AsksRun, AsksScript, AsksTune, asked_drill, asked_of, asked_of_one, asked_of_two}
+use Rattle.air_cli.specs.Run.{run_meaning}
+use Rattle.air_cli.specs.Words.{AsksAudit, AsksCast, AsksDrill, AsksListen, AsksPlan, AsksRun, AsksScript, AsksTune, asked_drill, asked_of, asked_of_numbers, asked_of_one, asked_of_two, port_of}
 
 -- A shelf that tells nothing, and what words that are no command would give.
 abbrev nothing : ShelfState
@@ -25,7 +25,7 @@ pub record Words : Type 0 where
   script_of_two : asked_of_two (codes "script") (codes "d") (codes "t") ≡ Some (AsksScript (codes "d") (Some (codes "t")))
   tune : asked_of_two (codes "tune") (codes "d") (codes "t") ≡ Some (AsksTune (codes "d") (codes "t"))
   audit : asked_of_two (codes "audit") (codes "d") (codes "r") ≡ Some (AsksAudit (codes "d") (codes "r"))
-  no_run : asked_of_two (codes "run") (codes "d") (codes "t") ≡ None
+  no_name : asked_of_two (codes "Run") (codes "d") (codes "t") ≡ None
   -- A drill has a size from 1 to 100, and a seed of 64 bits.
   drill : asked_of_two (codes "drill") (codes "18446744073709551615") (codes "1") ≡ Some (AsksDrill 18446744073709551615 1)
   greatest_drill : asked_drill (Some 0) (Some 100) ≡ Some (AsksDrill 0 100)
@@ -43,23 +43,20 @@ pub record Words : Type 0 where
   no_port : port_of (Some 65536) ≡ None
   port_0 : port_of (Some 0) ≡ None
   no_number : port_of None ≡ None
-  with_port : called_with (Casts (codes "d")) (Some 7) ≡ Casts (codes "d") 7
-  without_port : called_with (Casts (codes "d")) None ≡ OnShelf None
-  cast : called_of_two (codes "cast") (codes "d") (codes "7") ≡ Casts (codes "d") 7
-  listen : called_of_two (codes "listen") (codes "d") (codes "7") ≡ Listens (codes "d") 7
-  cast_of_no_port : called_of_two (codes "cast") (codes "d") (codes "0") ≡ OnShelf None
-  run : called_of_two (codes "run") (codes "d") (codes "t") ≡ OnShelf (Some (AsksRun (codes "d") (codes "t")))
-  called_run : called_of (codes "run" ∷ codes "d" ∷ codes "t" ∷ []) ≡ OnShelf (Some (AsksRun (codes "d") (codes "t")))
-  called_plan : called_of (codes "plan" ∷ codes "d" ∷ []) ≡ OnShelf (Some (AsksPlan (codes "d")))
-  empty_deck : called_of (codes "cast" ∷ [] ∷ codes "7" ∷ []) ≡ OnShelf None
+  cast : asked_of_two (codes "cast") (codes "d") (codes "7") ≡ Some (AsksCast (codes "d") 7)
+  listen : asked_of_two (codes "listen") (codes "d") (codes "7") ≡ Some (AsksListen (codes "d") 7)
+  cast_of_no_port : asked_of_numbers (codes "cast") (codes "d") (codes "0") ≡ None
+  run : asked_of_two (codes "run") (codes "d") (codes "t") ≡ Some (AsksRun (codes "d") (codes "t"))
+  empty_deck : asked_of (codes "cast" ∷ [] ∷ codes "7" ∷ []) ≡ None
   -- Words that are no command have their status and no other, name no output, and give nothing.
   of_no_command : WordsCause status.Words
   of_a_form : WordsCause status.Ok → ⊥
-  refused : (words_meaning None).Refuses nothing nothing status.Words
+  refused : (quiet_meaning None).Refuses nothing nothing status.Words
+  no_waiting : (quiet_meaning (Some (AsksRun (codes "d") (codes "t")))).Refuses nothing nothing status.Words
   gives_none : no_command.Gives nothing empty → ⊥
   no_output : no_command.output ≡ None
-  run_output : (meaning_of (AsksRun (codes "d") (codes "t"))).output ≡ Some (codes "t")
-  plan_output : (meaning_of (AsksPlan (codes "d"))).output ≡ None
+  run_output : (run_meaning (codes "d") (codes "t")).output ≡ Some (codes "t")
+  plan_output : (quiet_meaning (Some (AsksPlan (codes "d")))).output ≡ None
   done : given_status false ≡ status.Ok
   differs : given_status true ≡ status.Differs
 
@@ -72,7 +69,7 @@ words = record {
   script_of_two = refl;
   tune = refl;
   audit = refl;
-  no_run = refl;
+  no_name = refl;
   drill = refl;
   greatest_drill = refl;
   too_great_drill = refl;
@@ -89,18 +86,15 @@ words = record {
   no_port = refl;
   port_0 = refl;
   no_number = refl;
-  with_port = refl;
-  without_port = refl;
   cast = refl;
   listen = refl;
   cast_of_no_port = refl;
   run = refl;
-  called_run = refl;
-  called_plan = refl;
   empty_deck = refl;
   of_no_command = tt;
   of_a_form = λ h. h;
   refused = tt;
+  no_waiting = tt;
   gives_none = λ h. h;
   no_output = refl;
   run_output = refl;
