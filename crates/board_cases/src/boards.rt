@@ -1,19 +1,21 @@
 //! Cases of boards: all that the board of a history says.
+//!
+//! It is stepped by one event after another from the values before the first.
 
 use crate::scans::add_entries;
-use air_base::NoMemory;
 use air_base::limits::MOST_VALUES;
+use air_base::{NoMemory, write_u64};
 use air_history::History;
-use case_lines::{add_line, add_number};
+use case_lines::{BadCase, Parts, add_line};
 use control_matrix::Board;
 use std::alloc::Global;
 
 /// Adds for each item its value and its column.
 fn add_items(board: &Board, out: &mut Vec<u8>) -> Result<(), NoMemory> {
     for item in 0..board.n() {
-        add_number(u64::from(item), out)?;
+        write_u64(u64::from(item), out)?;
         out.extend_from_slice(b" has value ")?;
-        add_number(board.value(item), out)?;
+        write_u64(board.value(item), out)?;
         out.extend_from_slice(b", column")?;
         add_entries(board.column(item), out)?;
     }
@@ -25,15 +27,18 @@ pub fn tell_board(
     alloc: Global,
     history: &History,
     first: &[u64],
+    parts: &mut Parts<'_>,
     came: &mut Vec<u8>,
 ) -> Result<(), NoMemory> {
     if first.is_empty() || first.len() > MOST_VALUES {
-        return add_line(b"not a call", &[], came);
+        parts.refuse(BadCase::NoCall);
+        return Ok(());
     }
     let mut board = Board::new(alloc, first)?;
     for event in history.events() {
         if !event.fits(board.n()) || board.cycle() == u32::MAX {
-            return add_line(b"not a call", &[], came);
+            parts.refuse(BadCase::NoCall);
+            return Ok(());
         }
         board.apply(event);
     }

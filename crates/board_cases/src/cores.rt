@@ -1,11 +1,13 @@
 //! Cases of a core: what each event of a history is answered, and what the core then has.
+//!
+//! The core is of a number of updaters. An event that it can't have is told `not a call`.
 
 ghost use Rattle.std.specs.Prelude.{◌≡◌, ◌+◌, ◌<◌, ◌≤◌, length};
 
-use air_base::NoMemory;
 use air_base::limits::{MOST_EVENTS, MOST_UPDATERS, MOST_VALUES};
+use air_base::{NoMemory, write_u64};
 use air_history::{Event, History};
-use case_lines::{add_line, add_number};
+use case_lines::{BadCase, Parts, add_line};
 use std::alloc::Global;
 use update_commit::{Core, Receipt};
 
@@ -59,36 +61,32 @@ fn add_state(core: &Core, items: u16, out: &mut Vec<u8>) -> Result<(), NoMemory>
     out.extend_from_slice(b"values")?;
     for item in 0..items {
         out.push(b' ')?;
-        add_number(core.value(item), out)?;
+        write_u64(core.value(item), out)?;
     }
     out.push(b'\n')?;
     Ok(())
 }
 
-/// What a core of this many updaters answers to the history's events, and what it has after them.
+/// What a core of a number of updaters answers to the history's events, and what it has after them.
 pub fn tell_core(
     alloc: Global,
     history: &History,
-    updaters: u64,
     first: &[u64],
+    parts: &mut Parts<'_>,
     came: &mut Vec<u8>,
 ) -> Result<(), NoMemory> {
-    if first.len() > MOST_VALUES || updaters > MOST_UPDATERS as u64 {
-        return add_line(b"not a call", &[], came);
+    let updaters = parts.narrow();
+    if first.len() > MOST_VALUES || updaters > MOST_UPDATERS as u32 {
+        parts.refuse(BadCase::NoCall);
+        return Ok(());
     }
-    let mut core = Core::new(alloc, first, updaters as u32)?;
+    let mut core = Core::new(alloc, first, updaters)?;
     for (place, event) in history.events().iter().enumerate() {
         if place >= MOST_EVENTS {
-            return add_line(b"not a call", &[], came);
+            parts.refuse(BadCase::NoCall);
+            return Ok(());
         }
-        add_event(
-            alloc,
-            &mut core,
-            updaters as u32,
-            first.len() as u16,
-            event,
-            came,
-        )?;
+        add_event(alloc, &mut core, updaters, first.len() as u16, event, came)?;
     }
     add_state(&core, first.len() as u16, came)?;
     add_fresh(alloc, &core, came)?;

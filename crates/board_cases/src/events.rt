@@ -1,121 +1,116 @@
-//! Updates and events as their texts say them, and the history of lines of events.
+//! Updates and events as cases spell them, and the history of events.
 //!
-//! An update is spelled as in a deck: the items that it reads, a comma, and its writes. A number that is none is 0.
+//! An update is spelled as in a deck: the items that it reads, a comma, and its writes, with a space between each two. Before it stand a
+//! number and a comma: how many items there are, or the updater that commits it.
 
-use air_base::limits::{MOST_DECK_BYTES, MOST_EVENTS};
-use air_base::{NoMemory, read_list};
+use air_base::limits::MOST_EVENTS;
+use air_base::{NoMemory, after_byte, leading_number, read_u64};
 use air_history::{Event, History, Update, UpdateFault, Write};
-use case_lines::{first_word, number};
+use case_lines::{BadCase, Parts, first_part};
 use std::alloc::Global;
 
-/// The number with one digit more.
-fn with_digit(number: u64, byte: u8) -> u64 {
-    number
-        .wrapping_mul(10)
-        .wrapping_add(u64::from(byte.wrapping_sub(b'0')))
-}
-
-/// An item of this number.
-fn item(number: u64) -> u16 {
-    u16::try_from(number).unwrap_or(0)
-}
-
-/// The numbers that the text lists; more than a line's, and a list that is none, count as out of memory.
-pub fn numbers_of(alloc: Global, text: &[u8]) -> Result<Vec<u64>, NoMemory> {
-    if text.len() > MOST_DECK_BYTES {
-        return Err(NoMemory);
-    }
-    match read_list(alloc, text) {
-        Ok(numbers) => Ok(numbers),
-        Err(_) => Err(NoMemory),
-    }
-}
-
-/// The items that the text lists.
-fn items_of(alloc: Global, text: &[u8]) -> Result<Vec<u16>, NoMemory> {
-    let numbers = numbers_of(alloc, text)?;
+/// The items that a text lists.
+fn items_of(alloc: Global, text: &[u8], parts: &mut Parts<'_>) -> Result<Vec<u16>, NoMemory> {
     let mut items = Vec::new(alloc);
-    for number in &numbers {
-        items.push(item(*number))?;
+    let mut rest = text;
+    for _ in 0..text.len() {
+        if !rest.is_empty() {
+            let (item, more) = first_part(rest, b' ');
+            items.push(parts.small_of(item))?;
+            rest = more;
+        }
     }
     Ok(items)
 }
 
-/// The writes that the text lists, as `3=7`, `3=0+7` or `3=0-7` with a space between each two.
-fn writes_of(alloc: Global, text: &[u8]) -> Result<Vec<Write>, NoMemory> {
-    let none = Write {
-        item: 0,
-        base: None,
-        minus: false,
-        amount: 0,
-    };
-    let mut writes = Vec::new(alloc);
-    let mut write = none;
-    for byte in text {
-        match *byte {
-            b' ' => {
-                writes.push(write)?;
-                write = none;
-            }
-            b'=' => {
-                write.item = item(write.amount);
-                write.amount = 0;
-            }
-            b'+' | b'-' => {
-                write.base = Some(item(write.amount));
-                write.minus = *byte == b'-';
-                write.amount = 0;
-            }
-            _ => write.amount = with_digit(write.amount, *byte),
+/// The write that a text spells, as `3=7`, `3=0+7` or `3=0-7`.
+fn write_of(text: &[u8]) -> Option<Write> {
+    let (item, rest) = leading_number(text)?;
+    let (first, rest) = leading_number(after_byte(rest, b'=')?)?;
+    let item = u16::try_from(item).ok()?;
+    let (minus, amount) = match rest {
+        [] => {
+            return Some(Write {
+                item,
+                base: None,
+                minus: false,
+                amount: first,
+            });
         }
-    }
-    if !text.is_empty() {
-        writes.push(write)?;
+        [b'+', amount @ ..] => (false, amount),
+        [b'-', amount @ ..] => (true, amount),
+        _ => return None,
+    };
+    Some(Write {
+        item,
+        base: Some(u16::try_from(first).ok()?),
+        minus,
+        amount: read_u64(amount)?,
+    })
+}
+
+/// The writes that a text lists.
+fn writes_of(alloc: Global, text: &[u8], parts: &mut Parts<'_>) -> Result<Vec<Write>, NoMemory> {
+    let mut writes = Vec::new(alloc);
+    let mut rest = text;
+    for _ in 0..text.len() {
+        if !rest.is_empty() {
+            let (write, more) = first_part(rest, b' ');
+            match write_of(write) {
+                Some(write) => writes.push(write)?,
+                None => parts.refuse(BadCase::NoWrite),
+            }
+            rest = more;
+        }
     }
     Ok(writes)
 }
 
 /// The number before the first comma, and the update of the lists after it.
-pub fn update_of(alloc: Global, text: &[u8]) -> Result<(u64, Update), UpdateFault> {
-    let mut parts = text.split(|byte| *byte == b',');
-    let first = number(parts.next().unwrap_or(&[]));
-    let Ok(reads) = items_of(alloc, parts.next().unwrap_or(&[])) else {
+pub fn update_of(alloc: Global, parts: &mut Parts<'_>) -> Result<(u16, Update), UpdateFault> {
+    let (number, lists) = first_part(parts.rest(), b',');
+    let (reads, writes) = first_part(lists, b',');
+    let number = parts.small_of(number);
+    let Ok(reads) = items_of(alloc, reads, parts) else {
         return Err(UpdateFault::NoMemory);
     };
-    let Ok(writes) = writes_of(alloc, parts.next().unwrap_or(&[])) else {
+    let Ok(writes) = writes_of(alloc, writes, parts) else {
         return Err(UpdateFault::NoMemory);
     };
-    Ok((first, Update::new(alloc, &reads, &writes)?))
+    Ok((number, Update::new(alloc, &reads, &writes)?))
 }
 
-/// The event of a line: a start, or the commit of an updater.
-pub fn event_of(alloc: Global, word: &[u8], about: &[u8]) -> Result<Event, UpdateFault> {
-    if word == b"start".as_slice() {
-        return Ok(Event::Start);
-    }
-    let (by, update) = update_of(alloc, about)?;
+/// The commit of an updater.
+pub fn commit_of(alloc: Global, parts: &mut Parts<'_>) -> Result<Event, UpdateFault> {
+    let (by, update) = update_of(alloc, parts)?;
     Ok(Event::Commit {
-        by: u32::try_from(by).unwrap_or(0),
+        by: u32::from(by),
         seq: 0,
         update,
     })
 }
 
-/// The history of the lines. More events than a script has count as out of memory.
+/// The history of the events; none where they are more than a script has.
 #[tactic(auto, using(crate::proofs::Starts::starts_within))]
-pub fn history_of(alloc: Global, lines: &[u8]) -> Result<History, NoMemory> {
-    let mut events = Vec::new(alloc);
-    for line in lines.split(|byte| *byte == b'\n') {
-        if !line.is_empty() {
-            let (word, about) = first_word(line);
-            match event_of(alloc, word, about) {
-                Ok(event) => events.push(event)?,
-                Err(_) => return Err(NoMemory),
-            }
-        }
+pub fn history_of(alloc: Global, events: &[Event]) -> Result<Option<History>, NoMemory> {
+    let mut copies = Vec::new(alloc);
+    for event in events {
+        copies.push(copy_of(alloc, event)?)?;
     }
-    if events.len() > MOST_EVENTS {
-        return Err(NoMemory);
+    if copies.len() > MOST_EVENTS {
+        return Ok(None);
     }
-    Ok(History::from_events(events))
+    Ok(Some(History::from_events(copies)))
+}
+
+/// An equal event.
+fn copy_of(alloc: Global, event: &Event) -> Result<Event, NoMemory> {
+    match event {
+        Event::Start => Ok(Event::Start),
+        Event::Commit { by, seq, update } => Ok(Event::Commit {
+            by: *by,
+            seq: *seq,
+            update: update.copy(alloc)?,
+        }),
+    }
 }

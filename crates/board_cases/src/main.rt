@@ -1,7 +1,7 @@
 //! Plays cases of histories: their updates, what the slow programs find in one, what its board says, and what a core answers.
 //!
-//! `values` begins a history over these values, and each `start` and `commit` goes on with it. Its events are kept as lines of
-//! text, and each question after them reads them again.
+//! `values` begins a history over these values, and each `start` and `commit` goes on with it. `history`, `descents` and `board` ask for all
+//! of it, `table` has a number of events, `scan` a cycle, and `core` a number of updaters. `update` makes an update alone.
 #![tactic(auto)]
 
 mod boards;
@@ -11,60 +11,38 @@ mod scans;
 mod updates;
 
 use air_base::NoMemory;
-use case_lines::{Player, add_line, number, play_stdin};
+use air_history::Event;
+use case_lines::{BadCase, Parts, Player, play_stdin};
 use std::alloc::Global;
 use std::io;
 
-/// The values before a history's first event, and the lines of its events.
+/// The values before a history's first event, and its events.
 #[derive(Drop)]
 struct HistoryPlayer {
     values: Vec<u64>,
-    lines: Vec<u8>,
+    events: Vec<Event>,
 }
 
 impl HistoryPlayer {
-    /// Begins a history over these values.
-    fn begin(&mut self, alloc: Global, about: &[u8]) -> Result<(), NoMemory> {
-        self.values = events::numbers_of(alloc, about)?;
-        self.lines = Vec::new(alloc);
-        Ok(())
-    }
-
-    /// Goes on with the event, where its lists make an update.
-    fn go_on(
-        &mut self,
-        alloc: Global,
-        word: &[u8],
-        about: &[u8],
-        came: &mut Vec<u8>,
-    ) -> Result<(), NoMemory> {
-        if let Err(fault) = events::event_of(alloc, word, about) {
-            return updates::tell_fault(alloc, &fault, came);
-        }
-        self.lines.extend_from_slice(word)?;
-        self.lines.push(b' ')?;
-        self.lines.extend_from_slice(about)?;
-        self.lines.push(b'\n')?;
-        Ok(())
-    }
-
     /// Answers a question about the history.
     fn ask(
         &self,
         alloc: Global,
         word: &[u8],
-        about: &[u8],
+        parts: &mut Parts<'_>,
         came: &mut Vec<u8>,
     ) -> Result<(), NoMemory> {
-        let history = events::history_of(alloc, &self.lines)?;
+        let Some(history) = events::history_of(alloc, &self.events)? else {
+            parts.refuse(BadCase::NoCall);
+            return Ok(());
+        };
         match word {
             b"history" => scans::tell_history(&history, came),
             b"descents" => scans::tell_descents(alloc, &history, came),
-            b"table" => scans::tell_table(alloc, &history, number(about), &self.values, came),
-            b"scan" => scans::tell_scan(alloc, &history, number(about), &self.values, came),
-            b"board" => boards::tell_board(alloc, &history, &self.values, came),
-            b"core" => cores::tell_core(alloc, &history, number(about), &self.values, came),
-            _ => add_line(b"no such word", &[], came),
+            b"table" => scans::tell_table(alloc, &history, &self.values, parts, came),
+            b"scan" => scans::tell_scan(alloc, &history, &self.values, parts, came),
+            b"board" => boards::tell_board(alloc, &history, &self.values, parts, came),
+            _ => cores::tell_core(alloc, &history, &self.values, parts, came),
         }
     }
 }
@@ -74,22 +52,33 @@ impl Player for HistoryPlayer {
         &mut self,
         alloc: Global,
         word: &[u8],
-        about: &[u8],
+        parts: &mut Parts<'_>,
         came: &mut Vec<u8>,
     ) -> Result<(), NoMemory> {
         match word {
-            b"update" => updates::tell_update(alloc, about, came),
-            b"values" => self.begin(alloc, about),
-            b"start" | b"commit" => self.go_on(alloc, word, about, came),
-            _ => self.ask(alloc, word, about, came),
+            b"update" => updates::tell_update(alloc, parts, came)?,
+            b"values" => {
+                self.values = parts.numbers(alloc)?;
+                self.events = Vec::new(alloc);
+            }
+            b"start" => self.events.push(Event::Start)?,
+            b"commit" => match events::commit_of(alloc, parts) {
+                Ok(event) => self.events.push(event)?,
+                Err(fault) => updates::tell_fault(alloc, &fault, came)?,
+            },
+            b"history" | b"descents" | b"table" | b"scan" | b"board" | b"core" => {
+                self.ask(alloc, word, parts, came)?;
+            }
+            _ => parts.refuse(BadCase::NoSuchWord),
         }
+        Ok(())
     }
 }
 
 fn main(rt: HostRuntime) -> io::Result<()> {
     let mut player = HistoryPlayer {
         values: Vec::new(rt.alloc()),
-        lines: Vec::new(rt.alloc()),
+        events: Vec::new(rt.alloc()),
     };
     play_stdin(&rt, &mut player)
 }

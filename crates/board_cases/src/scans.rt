@@ -1,8 +1,10 @@
 //! Cases of the slow programs: what they find in a history.
+//!
+//! A column is told by its entries that aren't 0, each with its item: ` 3=7`.
 
-use air_base::NoMemory;
+use air_base::{NoMemory, write_u64};
 use air_history::{History, column_scan, descends, table_of, writer_at};
-use case_lines::{add_line, add_number};
+use case_lines::{BadCase, Parts, add_line};
 use std::alloc::Global;
 
 /// Adds each entry that is not 0, with the item whose place it is.
@@ -10,9 +12,9 @@ pub fn add_entries(entries: &[u32], out: &mut Vec<u8>) -> Result<(), NoMemory> {
     for (item, entry) in entries.iter().enumerate() {
         if *entry > 0 {
             out.push(b' ')?;
-            add_number(item as u64, out)?;
+            write_u64(item as u64, out)?;
             out.push(b'=')?;
-            add_number(u64::from(*entry), out)?;
+            write_u64(u64::from(*entry), out)?;
         }
     }
     out.push(b'\n')?;
@@ -24,7 +26,7 @@ fn add_marked(marks: &[bool], out: &mut Vec<u8>) -> Result<(), NoMemory> {
     for (place, marked) in marks.iter().enumerate() {
         if *marked {
             out.push(b' ')?;
-            add_number(place as u64, out)?;
+            write_u64(place as u64, out)?;
         }
     }
     out.push(b'\n')?;
@@ -46,23 +48,25 @@ pub fn tell_history(history: &History, came: &mut Vec<u8>) -> Result<(), NoMemor
 /// For each place, the places from which its event descends.
 pub fn tell_descents(alloc: Global, history: &History, came: &mut Vec<u8>) -> Result<(), NoMemory> {
     for place in 0..history.len() {
-        add_number(place, came)?;
+        write_u64(place, came)?;
         came.extend_from_slice(b" descends from")?;
         add_marked(&descends(alloc, history, place)?, came)?;
     }
     Ok(())
 }
 
-/// The values after the first events, this many.
+/// The values after the first events.
 pub fn tell_table(
     alloc: Global,
     history: &History,
-    upto: u64,
     first: &[u64],
+    parts: &mut Parts<'_>,
     came: &mut Vec<u8>,
 ) -> Result<(), NoMemory> {
+    let upto = parts.number();
     if first.len() > 1000 || !history.fits(first.len() as u16) || upto > history.len() {
-        return add_line(b"not a call", &[], came);
+        parts.refuse(BadCase::NoCall);
+        return Ok(());
     }
     let mut values = first.to_vec(alloc)?;
     table_of(history, upto, &mut values);
@@ -73,27 +77,26 @@ pub fn tell_table(
 pub fn tell_scan(
     alloc: Global,
     history: &History,
-    cycle: u64,
     first: &[u64],
+    parts: &mut Parts<'_>,
     came: &mut Vec<u8>,
 ) -> Result<(), NoMemory> {
-    if first.len() > 1000
-        || !history.fits(first.len() as u16)
-        || cycle > u64::from(history.starts())
-    {
-        return add_line(b"not a call", &[], came);
+    let cycle = parts.narrow();
+    if first.len() > 1000 || !history.fits(first.len() as u16) || cycle > history.starts() {
+        parts.refuse(BadCase::NoCall);
+        return Ok(());
     }
     for item in 0..first.len() as u16 {
-        add_number(u64::from(item), came)?;
-        match writer_at(history, cycle as u32, item) {
+        write_u64(u64::from(item), came)?;
+        match writer_at(history, cycle, item) {
             Some(place) => {
                 came.extend_from_slice(b" last written at ")?;
-                add_number(place, came)?;
+                write_u64(place, came)?;
             }
             None => came.extend_from_slice(b" not written")?,
         }
         let mut column = vec![in alloc; 7; first.len()]?;
-        column_scan(alloc, history, cycle as u32, item, &mut column)?;
+        column_scan(alloc, history, cycle, item, &mut column)?;
         came.extend_from_slice(b", column")?;
         add_entries(&column, came)?;
     }

@@ -1,13 +1,15 @@
 //! Buckets read from their bytes, and written again.
+//!
+//! `bucket` has the bytes in hexadecimal digits, and `edited` reads the last ones again: the length to which they are cut or filled up with
+//! zeros, and then the place and the byte of each that is replaced.
 
 ghost use Rattle.std.specs.Prelude.{◌≡◌, IfOk, IsTrue};
 ghost use Rattle.air_model.specs.Buckets.{IsInRange, entries_of, kind_of};
 ghost use Rattle.bucket_codec.specs.BucketsToAir.{body_to_air};
 
-use crate::texts::numbers;
-use air_base::NoMemory;
+use air_base::{NoMemory, write_u64};
 use bucket_codec::{Body, Bucket, BucketView, ViewKind, decode, encode, size_of};
-use case_lines::{add_line, add_number};
+use case_lines::{BadCase, Parts, add_line};
 use std::alloc::Global;
 
 /// What a slice has at each place before anything is written.
@@ -101,7 +103,7 @@ fn add_view(view: &BucketView<'_>, came: &mut Vec<u8>) -> Result<(), NoMemory> {
     if view.kind() != ViewKind::Idle {
         for item in 0..view.count() {
             came.push(b' ')?;
-            add_number(u64::from(view.entry(item)), came)?;
+            write_u64(u64::from(view.entry(item)), came)?;
         }
     }
     came.push(b'\n')?;
@@ -122,31 +124,27 @@ pub fn read_bucket(alloc: Global, bytes: &[u8], came: &mut Vec<u8>) -> Result<()
                 add_line(b"written otherwise", &[], came)
             }
         }
-        Err(fault) => {
-            let text = format!(in alloc; "{fault}\n")?;
-            came.extend_from_slice(text.as_bytes())?;
-            Ok(())
-        }
+        Err(fault) => add_line(fault.to_string(alloc)?.as_bytes(), &[], came),
     }
 }
 
-/// Reads the bytes, cut or with zeros after them to a length, and with some bytes replaced: the length, and then the
-/// place and the byte of each that is replaced.
+/// Reads the bytes, cut or with zeros after them to a length, and with some bytes replaced.
 pub fn edited(
     alloc: Global,
     bytes: &[u8],
-    about: &[u8],
+    parts: &mut Parts<'_>,
     came: &mut Vec<u8>,
 ) -> Result<(), NoMemory> {
-    let numbers = numbers(alloc, about)?;
-    let mut edited = Vec::new(alloc);
-    let mut edits = numbers.iter();
-    for place in 0..edits.next().copied().unwrap_or(0) {
-        edited.push(bytes.get(place as usize).copied().unwrap_or(0))?;
-    }
-    while let (Some(place), Some(byte)) = (edits.next(), edits.next()) {
-        if let Some(old) = edited.get_mut(*place as usize) {
-            *old = u8::try_from(*byte).unwrap_or(0);
+    let mut edited = bytes.to_vec(alloc)?;
+    edited.resize(parts.number() as usize, 0)?;
+    for _ in 0..parts.left() {
+        if parts.left() > 0 {
+            let place = parts.number() as usize;
+            let byte = parts.byte();
+            match edited.get_mut(place) {
+                Some(old) => *old = byte,
+                None => parts.refuse(BadCase::NoCall),
+            }
         }
     }
     read_bucket(alloc, &edited, came)

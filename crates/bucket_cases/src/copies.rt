@@ -1,12 +1,12 @@
 //! A cache of copies.
 //!
-//! The value and the column of a copy are made of its item and its cycle.
+//! `cache` has a room and the PIX number of each item, `keep` an item and a cycle, of which the value and the column of the copy are made,
+//! `drop` an item, and `reorder` other PIX numbers.
 
 ghost use Rattle.std.specs.Prelude.{◌≡◌, length};
 
-use crate::texts::{add_entries, narrow, numbers};
 use air_base::NoMemory;
-use case_lines::add_line;
+use case_lines::{BadCase, Parts, add_entries, add_line};
 use pix_cache::{KeepAnswer, PixCache};
 use std::alloc::Global;
 
@@ -18,18 +18,16 @@ pub struct Copies {
     ghost same: { length cache.pix ≡ n },
 }
 
-/// A cache with no copies: its room, and the PIX number of each item.
-pub fn new_copies(alloc: Global, about: &[u8]) -> Result<Option<Copies>, NoMemory> {
-    let numbers = numbers(alloc, about)?;
-    let Some((room, pix)) = numbers.split_first() else {
-        return Ok(None);
-    };
-    let room = narrow(*room);
+/// A cache with no copies.
+pub fn new_copies(alloc: Global, parts: &mut Parts<'_>) -> Result<Option<Copies>, NoMemory> {
+    let room = parts.narrow();
+    let pix = parts.numbers(alloc)?;
     if room > 256 || pix.len() > 256 {
+        parts.refuse(BadCase::NoCall);
         return Ok(None);
     }
     let n = pix.len() as u16;
-    let cache = PixCache::new(alloc, room, pix)?;
+    let cache = PixCache::new(alloc, room, &pix)?;
     Ok(Some(Copies { n, cache }))
 }
 
@@ -38,17 +36,19 @@ impl Copies {
     fn keep(
         &mut self,
         alloc: Global,
-        item: u16,
-        cycle: u32,
+        parts: &mut Parts<'_>,
         came: &mut Vec<u8>,
     ) -> Result<(), NoMemory> {
+        let item = parts.small();
+        let cycle = parts.narrow();
         if item >= self.n {
-            return add_line(b"not a call", &[], came);
+            parts.refuse(BadCase::NoCall);
+            return Ok(());
         }
         let value = (1 << 40) + 1000 * u64::from(cycle) + u64::from(item);
         let mut column = vec![in alloc; u32::from(item); self.n as usize]?;
         for (place, entry) in column.iter_mut().enumerate() {
-            *entry = cycle.wrapping_mul(100).wrapping_add(narrow(place as u64));
+            *entry = cycle.wrapping_mul(100).wrapping_add(place as u32);
         }
         match self.cache.keep(item, cycle, value, &column) {
             KeepAnswer::Replaced => add_line(b"replaced", &[], came),
@@ -70,34 +70,42 @@ impl Copies {
         Ok(())
     }
 
+    /// Drops the copy of an item.
+    fn drop_copy(&mut self, parts: &mut Parts<'_>) {
+        let item = parts.small();
+        if item < self.n {
+            self.cache.drop_copy(item);
+        } else {
+            parts.refuse(BadCase::NoCall);
+        }
+    }
+
+    /// Orders the copies anew.
+    fn reorder(&mut self, alloc: Global, parts: &mut Parts<'_>) -> Result<(), NoMemory> {
+        let pix = parts.numbers(alloc)?;
+        if pix.len() == self.n as usize {
+            self.cache.reorder(&pix);
+        } else {
+            parts.refuse(BadCase::NoCall);
+        }
+        Ok(())
+    }
+
     /// A case about the cache.
     pub fn call(
         &mut self,
         alloc: Global,
         word: &[u8],
-        about: &[u8],
+        parts: &mut Parts<'_>,
         came: &mut Vec<u8>,
     ) -> Result<(), NoMemory> {
-        let numbers = numbers(alloc, about)?;
-        match (word, numbers.as_slice()) {
-            (b"keep", [item, cycle]) => {
-                self.keep(
-                    alloc,
-                    u16::try_from(*item).unwrap_or(0),
-                    narrow(*cycle),
-                    came,
-                )
-            }
-            (b"drop", [item]) if *item < u64::from(self.n) => {
-                self.cache.drop_copy(*item as u16);
-                Ok(())
-            }
-            (b"reorder", pix) if pix.len() == self.n as usize => {
-                self.cache.reorder(pix);
-                Ok(())
-            }
-            (b"kept", []) => self.add_kept(came),
-            _ => add_line(b"not a call", &[], came),
+        match word {
+            b"keep" => self.keep(alloc, parts, came)?,
+            b"drop" => self.drop_copy(parts),
+            b"reorder" => self.reorder(alloc, parts)?,
+            b"kept" => self.add_kept(came)?,
+            _ => parts.refuse(BadCase::NoCall),
         }
+        Ok(())
     }
 }

@@ -1,12 +1,14 @@
 //! What a reader hears of the ether, and the words that it draws.
+//!
+//! `ether` has the seed, the reader's number, how many of a hundred are lost, heard again and late, and the number of pushes; `words` has
+//! a seed and a stream.
 
 ghost use Rattle.std.specs.Prelude.{◌≡◌, OnOk};
 ghost use Rattle.air_ether.specs.HeardSoFar.{IsQuiet};
 
-use crate::texts::{add_hex, narrow, numbers};
 use air_base::NoMemory;
 use air_ether::Ether;
-use case_lines::add_line;
+use case_lines::{BadCase, Parts, add_hex};
 use rand_core::utils::NextWord;
 use rand_pcg::Lcg64Xsh32;
 use std::alloc::Global;
@@ -19,25 +21,24 @@ fn add_heard(ether: &mut Ether, came: &mut Vec<u8>) -> Result<(), NoMemory>
     ensures ended { OnOk result (ether.new.ended ≡ ether.old.ended) }
 {
     while let Some(bytes) = ether.next() {
+        came.push(b' ')?;
         add_hex(bytes, came)?;
     }
     came.push(b'\n')?;
     Ok(())
 }
 
-/// Pushes buckets of one byte, 0, 1, 2 and so on, and adds what is heard after each push, after the end, and once more:
-/// the case has the seed, the reader's number, how many of a hundred are lost, heard again and late, and the number of pushes.
-pub fn ether(alloc: Global, about: &[u8], came: &mut Vec<u8>) -> Result<(), NoMemory> {
-    let numbers = numbers(alloc, about)?;
-    let [seed, number, loss, again, late, pushes] = numbers.as_slice() else {
-        return add_line(b"not a call", &[], came);
-    };
-    let (loss, again, late) = (narrow(*loss), narrow(*again), narrow(*late));
+/// Pushes buckets of one byte, 0, 1, 2 and so on, and adds what is heard after each push, after the end, and once more.
+pub fn ether(alloc: Global, parts: &mut Parts<'_>, came: &mut Vec<u8>) -> Result<(), NoMemory> {
+    let (seed, number) = (parts.number(), parts.narrow());
+    let (loss, again, late) = (parts.narrow(), parts.narrow(), parts.narrow());
+    let pushes = parts.byte();
     if loss > 100 || again > 100 || late > 100 {
-        return add_line(b"not a call", &[], came);
+        parts.refuse(BadCase::NoCall);
+        return Ok(());
     }
-    let mut ether = Ether::new(alloc, *seed, narrow(*number), loss, again, late, 1)?;
-    for place in 0..u8::try_from(*pushes).unwrap_or(0) {
+    let mut ether = Ether::new(alloc, seed, number, loss, again, late, 1)?;
+    for place in 0..pushes {
         ether.push(&[place]);
         came.extend_from_slice(b"heard")?;
         add_heard(&mut ether, came)?;
@@ -50,14 +51,12 @@ pub fn ether(alloc: Global, about: &[u8], came: &mut Vec<u8>) -> Result<(), NoMe
 }
 
 /// Adds six words of the generator of a seed and a stream.
-pub fn words(alloc: Global, about: &[u8], came: &mut Vec<u8>) -> Result<(), NoMemory> {
-    let numbers = numbers(alloc, about)?;
-    let [seed, stream] = numbers.as_slice() else {
-        return add_line(b"not a call", &[], came);
-    };
+pub fn words(parts: &mut Parts<'_>, came: &mut Vec<u8>) -> Result<(), NoMemory> {
+    let seed = parts.number();
+    let mut generator = Lcg64Xsh32::new(seed, parts.number());
     came.extend_from_slice(b"drawn")?;
-    let mut generator = Lcg64Xsh32::new(*seed, *stream);
     for _ in 0..6 {
+        came.push(b' ')?;
         add_hex(&generator.next_word().to_be_bytes(), came)?;
     }
     Ok(())

@@ -1,9 +1,10 @@
 //! The kernels over rows, each beside a plain loop.
+//!
+//! They are called with `row` and `other`, which have to be of one length. `stamped` has a cycle, and its marks are `other`.
 
-use crate::texts::add_entries;
 use air_base::NoMemory;
 use air_lanes::{first_not_below, max_into, stamp};
-use case_lines::add_line;
+use case_lines::{BadCase, Parts, add_entries, add_line};
 use std::alloc::Global;
 
 /// Adds the row, where it is short, and whether it is the one that a plain loop leaves.
@@ -23,11 +24,13 @@ pub fn greater(
     alloc: Global,
     dst: &[u32],
     src: &[u32],
+    parts: &mut Parts<'_>,
     came: &mut Vec<u8>,
 ) -> Result<(), NoMemory> {
     let mut left = dst.to_vec(alloc)?;
     if left.len() != src.len() {
-        return add_line(b"not a call", &[], came);
+        parts.refuse(BadCase::NoCall);
+        return Ok(());
     }
     max_into(&mut left, src);
     let mut plain = Vec::new(alloc);
@@ -40,14 +43,16 @@ pub fn greater(
 /// A row with a cycle stamped into it where a mark isn't 0.
 pub fn stamped(
     alloc: Global,
-    cycle: u32,
     dst: &[u32],
     marks: &[u32],
+    parts: &mut Parts<'_>,
     came: &mut Vec<u8>,
 ) -> Result<(), NoMemory> {
+    let cycle = parts.narrow();
     let mut left = dst.to_vec(alloc)?;
     if left.len() != marks.len() {
-        return add_line(b"not a call", &[], came);
+        parts.refuse(BadCase::NoCall);
+        return Ok(());
     }
     stamp(&mut left, marks, cycle);
     let mut plain = Vec::new(alloc);
@@ -58,9 +63,15 @@ pub fn stamped(
 }
 
 /// The first place at which a column isn't below what is held.
-pub fn find(column: &[u32], held: &[u32], came: &mut Vec<u8>) -> Result<(), NoMemory> {
+pub fn find(
+    column: &[u32],
+    held: &[u32],
+    parts: &mut Parts<'_>,
+    came: &mut Vec<u8>,
+) -> Result<(), NoMemory> {
     if column.len() != held.len() {
-        return add_line(b"not a call", &[], came);
+        parts.refuse(BadCase::NoCall);
+        return Ok(());
     }
     let mut plain = None;
     for (place, (entry, cycle)) in column.iter().zip(held).enumerate() {

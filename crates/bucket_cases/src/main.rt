@@ -11,7 +11,6 @@ mod lanes;
 mod player;
 mod rows;
 mod tapes;
-mod texts;
 
 use crate::player::Cases;
 use case_lines::play_stdin;

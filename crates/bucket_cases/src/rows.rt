@@ -1,8 +1,9 @@
 //! The rows that the kernels go over: spelled entry by entry, or made.
+//!
+//! `drawn LENGTH SEED FROM` draws the entries from a place on, and `rising LENGTH FIRST PERIOD` counts up.
 
-use crate::texts::{narrow, numbers};
 use air_base::NoMemory;
-use case_lines::first_word;
+use case_lines::Parts;
 use std::alloc::Global;
 
 /// A row of that many entries by a linear congruence, half of them from 2^31 on; those before a place are 0.
@@ -30,21 +31,13 @@ fn rising(alloc: Global, length: u64, first: u32, period: u32) -> Result<Vec<u32
     Ok(row)
 }
 
-/// The row that a text spells: `drawn LENGTH SEED FROM`, `rising LENGTH FIRST PERIOD`, or its entries.
-pub fn row(alloc: Global, text: &[u8]) -> Result<Vec<u32>, NoMemory> {
-    let (word, about) = first_word(text);
-    let told = numbers(alloc, about)?;
-    match (word, told.as_slice()) {
-        (b"drawn", [length, seed, from]) => drawn(alloc, *length, narrow(*seed), *from),
-        (b"rising", [length, first, period]) => {
-            rising(alloc, *length, narrow(*first), narrow(*period))
-        }
-        _ => {
-            let mut row = Vec::new(alloc);
-            for entry in numbers(alloc, text)?.iter() {
-                row.push(narrow(*entry))?;
-            }
-            Ok(row)
-        }
+/// The row that a case spells.
+pub fn row(alloc: Global, parts: &mut Parts<'_>) -> Result<Vec<u32>, NoMemory> {
+    if parts.takes(b"drawn") {
+        return drawn(alloc, parts.number(), parts.narrow(), parts.number());
     }
+    if parts.takes(b"rising") {
+        return rising(alloc, parts.number(), parts.narrow(), parts.narrow());
+    }
+    parts.entries(alloc)
 }

@@ -1,9 +1,10 @@
 //! Tapes written record by record, and read from each of their fronts.
+//!
+//! A tape and a record are spelled in hexadecimal digits. `fronts` tells what a reader of each front of the last tape answers.
 
-use crate::texts::add_hex;
-use air_base::NoMemory;
+use air_base::{NoMemory, write_u64};
 use bucket_codec::{TapeFault, TapeReader, check_tape, tape_record};
-use case_lines::{add_number, bytes_of_hex};
+use case_lines::{Parts, add_hex, add_line};
 use std::alloc::Global;
 
 /// What a slice has at each place before anything is written.
@@ -25,15 +26,15 @@ fn on_tape(alloc: Global, record: &[u8], more: u8) -> Result<Vec<u8>, NoMemory> 
 /// Writes the record to the end of the tape, and adds the tape. Adds the record also as it is written to a longer slice.
 pub fn write_record(
     alloc: Global,
-    about: &[u8],
+    parts: &mut Parts<'_>,
     tape: &mut Vec<u8>,
     came: &mut Vec<u8>,
 ) -> Result<(), NoMemory> {
-    let record = bytes_of_hex(alloc, about)?;
+    let record = parts.bytes(alloc)?;
     tape.extend_from_slice(&on_tape(alloc, &record, 0)?)?;
-    came.extend_from_slice(b"tape")?;
+    came.extend_from_slice(b"tape ")?;
     add_hex(tape, came)?;
-    came.extend_from_slice(b"\nlonger")?;
+    came.extend_from_slice(b"\nlonger ")?;
     add_hex(&on_tape(alloc, &record, 36)?, came)
 }
 
@@ -43,21 +44,21 @@ pub fn read_tape(alloc: Global, tape: &[u8], came: &mut Vec<u8>) -> Result<(), N
     for _ in 0..4 {
         match reader.next() {
             Ok(Some(record)) => {
-                came.extend_from_slice(b" record")?;
+                came.extend_from_slice(b" record ")?;
                 add_hex(record, came)?;
             }
             Ok(None) => came.extend_from_slice(b" end")?,
             Err(TapeFault::Cut { at }) => {
                 came.extend_from_slice(b" cut at ")?;
-                add_number(at, came)?;
+                write_u64(at, came)?;
             }
         }
     }
     match check_tape(tape) {
         Ok(()) => came.extend_from_slice(b"; whole\n")?,
         Err(fault) => {
-            let text = format!(in alloc; "; {fault}\n")?;
-            came.extend_from_slice(text.as_bytes())?;
+            came.extend_from_slice(b"; ")?;
+            add_line(fault.to_string(alloc)?.as_bytes(), &[], came)?;
         }
     }
     Ok(())
@@ -66,7 +67,7 @@ pub fn read_tape(alloc: Global, tape: &[u8], came: &mut Vec<u8>) -> Result<(), N
 /// Reads each front of the tape.
 pub fn read_fronts(alloc: Global, tape: &[u8], came: &mut Vec<u8>) -> Result<(), NoMemory> {
     for len in 0..=tape.len() {
-        add_number(len as u64, came)?;
+        write_u64(len as u64, came)?;
         read_tape(alloc, &tape[..len], came)?;
     }
     Ok(())

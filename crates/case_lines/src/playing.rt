@@ -1,30 +1,38 @@
 //! Plays the cases of a text one after another, and writes the transcript.
+//!
+//! What came of a case is told four spaces in; of a case that is mistyped only what is wrong with it.
 
-use crate::texts::first_word;
+use crate::adding::add_lines;
+use crate::reading::{BadCase, Parts, first_part};
 use air_base::NoMemory;
 use std::alloc::Global;
 use std::io::{self, Read, Write};
 
 /// What plays cases. It may keep what earlier cases set.
 pub trait Player {
-    /// Plays a case and adds the lines that came of it, each ended by a line feed.
+    /// What is asked of the runtime that a player holds, such as that threads may share it.
+    ghost needs: { Type 0 } = { Unit {0} };
+
+    /// Plays the case of a word, takes its parts, and adds the lines that came of it.
     fn play(
         &mut self,
         alloc: Global,
         word: &[u8],
-        about: &[u8],
+        parts: &mut Parts<'_>,
         came: &mut Vec<u8>,
-    ) -> Result<(), NoMemory>;
+    ) -> Result<(), NoMemory>
+        requires { needs };
 }
 
-/// Adds each line of the text, four spaces in.
-fn add_indented(text: &[u8], out: &mut Vec<u8>) -> Result<(), NoMemory> {
-    for line in text.split(|byte| *byte == b'\n') {
-        if !line.is_empty() {
-            out.extend_from_slice(b"    ")?;
-            out.extend_from_slice(line)?;
-            out.push(b'\n')?;
-        }
+/// Adds what is wrong with a case, if something is. A part that is left is too many.
+fn add_bad(parts: &mut Parts<'_>, out: &mut Vec<u8>) -> Result<(), NoMemory> {
+    if parts.left() > 0 {
+        parts.refuse(BadCase::TooMany);
+    }
+    if let Some(bad) = parts.bad() {
+        out.extend_from_slice(b"    bad case: ")?;
+        out.extend_from_slice(bad.as_text())?;
+        out.push(b'\n')?;
     }
     Ok(())
 }
@@ -35,25 +43,38 @@ fn play_line<P: Player>(
     player: &mut P,
     line: &[u8],
     out: &mut Vec<u8>,
-) -> Result<(), NoMemory> {
+) -> Result<(), NoMemory>
+    requires { P.needs }
+{
     out.extend_from_slice(line)?;
     out.push(b'\n')?;
     if line.is_empty() || line[0] == b'#' {
         return Ok(());
     }
-    let (word, about) = first_word(line);
+    let (word, about) = first_part(line, b' ');
+    let mut parts = Parts::new(about);
     let mut came = Vec::new(alloc);
-    player.play(alloc, word, about, &mut came)?;
-    add_indented(&came, out)
+    player.play(alloc, word, &mut parts, &mut came)?;
+    if parts.bad().is_none() {
+        add_lines(b"    ", &came, out)?;
+    }
+    add_bad(&mut parts, out)
 }
 
-/// The transcript of the cases.
-pub fn play<P: Player>(alloc: Global, player: &mut P, cases: &[u8]) -> Result<Vec<u8>, NoMemory> {
+/// The transcript of the cases, each line ended by a line feed.
+fn play<P: Player>(alloc: Global, player: &mut P, cases: &[u8]) -> Result<Vec<u8>, NoMemory>
+    requires { P.needs }
+{
     let mut out = Vec::new(alloc);
-    for line in cases.split(|byte| *byte == b'\n') {
+    let mut rest = cases;
+    for _ in 0..cases.len() {
+        if rest.is_empty() {
+            break;
+        }
+        let (line, more) = first_part(rest, b'\n');
         play_line(alloc, player, line, &mut out)?;
+        rest = more;
     }
-    let _last = out.pop();
     Ok(out)
 }
 
@@ -61,11 +82,13 @@ pub fn play<P: Player>(alloc: Global, player: &mut P, cases: &[u8]) -> Result<Ve
 pub fn play_stdin<R: Input + Print + AllocGlobal, P: Player>(
     rt: &R,
     player: &mut P,
-) -> io::Result<()> {
+) -> io::Result<()>
+    requires { P.needs }
+{
     let mut cases = Vec::new(rt.alloc());
     rt.reader().read_to_end(&mut cases)?;
-    let transcript = play(rt.alloc(), player, &cases).map_err(|_error| io::Error::from(
-        io::ErrorKind::OutOfMemory,
-    ))?;
+    let Ok(transcript) = play(rt.alloc(), player, &cases) else {
+        return Err(io::Error::from(io::ErrorKind::OutOfMemory));
+    };
     io::writer(rt).write_all(&transcript)
 }

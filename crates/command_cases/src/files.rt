@@ -1,14 +1,13 @@
-//! The files of a case, and what else a shelf, a mast and an ear are made with.
+//! The files of the cases: a deck, and a tape or a report.
+//!
+//! `deck` and `report` have a text, `tape` its bytes in hexadecimal digits; `more`, `bytes` and `repeat` go on with the file that was begun
+//! last, and `name` is the name by which notes call it.
 
-ghost use Rattle.std.specs.Prelude.{◌≤◌, length, All, IfOk};
-
-use air_base::{NoMemory, write_u64};
+use crate::settings::Settings;
+use air_base::NoMemory;
 use air_devices::MemShelf;
-use case_lines::{bytes_of_hex, first_word, number, text_of};
+use case_lines::Parts;
 use std::alloc::Global;
-
-/// The room that a printed text, an output and a mast have where nothing else is set.
-const ROOM: usize = 2_000;
 
 /// The files of the shelf, and the name by which notes call them. The second is a tape or a report; on the shelf its name is `tape`, and
 /// so is that of the one output.
@@ -20,42 +19,8 @@ pub struct Files {
     to_deck: bool,
 }
 
-/// What is set for the next command alone: the room, the calls of the shelf and those of the mast and the ear that fail, at which byte the
-/// tape is cut, at which its highest bit is changed, and the datagrams that wait for the ear, a line of hexadecimal digits each.
-#[derive(Drop)]
-pub struct Settings {
-    pub room: usize,
-    fail: Vec<u64>,
-    pub air_fail: Vec<u64>,
-    cut: Option<usize>,
-    flip: Option<usize>,
-    pub heard: Vec<u8>,
-    /// Whether only what no schedule changes is told.
-    pub brief: bool,
-}
-
-/// Adds a row: the text, in which each `#` is the row's number.
-fn add_row(text: &[u8], row: u64, bytes: &mut Vec<u8>) -> Result<(), NoMemory> {
-    for (place, part) in text.split(|byte| *byte == b'#').enumerate() {
-        if place > 0 {
-            write_u64(row, bytes)?;
-        }
-        bytes.extend_from_slice(part)?;
-    }
-    Ok(())
-}
-
-/// This number of rows of the text.
-fn rows(alloc: Global, count: u64, spelled: &[u8]) -> Result<Vec<u8>, NoMemory> {
-    let text = text_of(alloc, spelled)?;
-    let mut bytes = Vec::new(alloc);
-    for row in 0..count {
-        add_row(&text, row, &mut bytes)?;
-    }
-    Ok(bytes)
-}
-
 impl Files {
+    /// Two empty files.
     pub fn new(alloc: Global) -> Files {
         Files {
             deck: Vec::new(alloc),
@@ -87,18 +52,20 @@ impl Files {
     }
 
     /// Begins a file or goes on with one, where the word says so, and tells whether it does.
-    pub fn put(&mut self, alloc: Global, word: &[u8], about: &[u8]) -> Result<bool, NoMemory> {
+    pub fn put(
+        &mut self,
+        alloc: Global,
+        word: &[u8],
+        parts: &mut Parts<'_>,
+    ) -> Result<bool, NoMemory> {
         match word {
-            b"deck" => self.begin(true, text_of(alloc, about)?),
-            b"report" => self.begin(false, text_of(alloc, about)?),
-            b"tape" => self.begin(false, bytes_of_hex(alloc, about)?),
-            b"name" => self.name = text_of(alloc, about)?,
-            b"more" => self.add(&text_of(alloc, about)?)?,
-            b"bytes" => self.add(&bytes_of_hex(alloc, about)?)?,
-            b"repeat" => {
-                let (count, text) = first_word(about);
-                self.add(&rows(alloc, number(count), text)?)?;
-            }
+            b"deck" => self.begin(true, parts.text(alloc)?),
+            b"report" => self.begin(false, parts.text(alloc)?),
+            b"tape" => self.begin(false, parts.bytes(alloc)?),
+            b"name" => self.name = parts.text(alloc)?,
+            b"more" => self.add(&parts.text(alloc)?)?,
+            b"bytes" => self.add(&parts.bytes(alloc)?)?,
+            b"repeat" => self.add(&parts.rows(alloc)?)?,
             _ => return Ok(false),
         }
         Ok(true)
@@ -127,73 +94,4 @@ impl Files {
         outputs.push(String::from_str(alloc, "tape")?)?;
         MemShelf::new(alloc, files, outputs, settings.room, settings.fail.clone()?)
     }
-}
-
-/// The numbers that the words of the text spell.
-fn numbers(alloc: Global, text: &[u8]) -> Result<Vec<u64>, NoMemory> {
-    let mut all = Vec::new(alloc);
-    for word in text.split(|byte| *byte == b' ') {
-        all.push(number(word))?;
-    }
-    Ok(all)
-}
-
-impl Settings {
-    /// Nothing is set.
-    pub fn new(alloc: Global) -> Settings {
-        Settings {
-            room: ROOM,
-            fail: Vec::new(alloc),
-            air_fail: Vec::new(alloc),
-            cut: None,
-            flip: None,
-            heard: Vec::new(alloc),
-            brief: false,
-        }
-    }
-
-    /// Sets what the word says, and tells whether it says something.
-    pub fn set(&mut self, alloc: Global, word: &[u8], about: &[u8]) -> Result<bool, NoMemory> {
-        match word {
-            b"room" => self.room = number(about) as usize,
-            b"fail" => self.fail = numbers(alloc, about)?,
-            b"air_fail" => self.air_fail = numbers(alloc, about)?,
-            b"cut" => self.cut = Some(number(about) as usize),
-            b"flip" => self.flip = Some(number(about) as usize),
-            b"hears" => {
-                self.heard.extend_from_slice(about)?;
-                self.heard.push(b'\n')?;
-            }
-            b"brief" => self.brief = true,
-            _ => return Ok(false),
-        }
-        Ok(true)
-    }
-}
-
-/// The datagrams of these lines, each of one byte at least.
-pub fn datagrams(alloc: Global, lines: &[u8]) -> Result<Vec<Vec<u8>>, NoMemory>
-    ensures { IfOk result (λ all. All (λ bytes. 1 ≤ length bytes.items) all.items) }
-{
-    let mut all = Vec::new(alloc);
-    for line in lines.split(|byte| *byte == b'\n') {
-        let bytes = bytes_of_hex(alloc, line)?;
-        if !bytes.is_empty() {
-            all.push(bytes)?;
-        }
-    }
-    Ok(all)
-}
-
-/// The words of a command; `''` is the empty one.
-pub fn words_of(alloc: Global, text: &[u8]) -> Result<Vec<String>, NoMemory> {
-    let mut words = Vec::new(alloc);
-    if text.is_empty() {
-        return Ok(words);
-    }
-    for word in text.split(|byte| *byte == b' ') {
-        let word = if word == b"''".as_slice() { &[] } else { word };
-        words.push(String::from_utf8_lossy(alloc, word)?)?;
-    }
-    Ok(words)
 }

@@ -1,29 +1,53 @@
 //! The player: a word sets something, has a command played, or asks for something of the last one.
+//!
+//! `quiet`, `main` and `meet` have the words of a command, where `''` is an empty one; `lines` has the front of a line. The words that set
+//! something stand in `files` and `settings`, those of notes in `notes`.
 
-use crate::files::{Files, Settings, datagrams, words_of};
+ghost use Rattle.std.specs.Thread.{IsSync};
+
+use crate::files::Files;
 use crate::notes::add_note;
+use crate::settings::Settings;
 use crate::telling::{add_bytes, add_end, add_numbers, count_lines};
 use air_base::NoMemory;
 use air_cli::{air_main, air_quiet};
 use air_devices::{Gate, MemEar, MemMast, OpenGate};
-use case_lines::{add_line, first_word};
+use case_lines::{Parts, Player, add_line};
 use meeting_gate::MeetingGate;
 use std::alloc::Global;
 use std::sync::Wait;
 use std::thread::Threads;
 
-/// The files, what is set for the next command, and what the last one printed.
+/// The files, what is set for the next command, what the last one printed, and the threads by which commands go.
 #[derive(Drop)]
-pub struct Commands {
+pub struct Commands<'r, R> {
+    rt: &'r R,
     files: Files,
     settings: Settings,
     printed: Vec<u8>,
 }
 
-impl Commands {
+/// The words of a command.
+fn words_of(alloc: Global, parts: &mut Parts<'_>) -> Result<Vec<String>, NoMemory> {
+    let mut words = Vec::new(alloc);
+    for _ in 0..parts.left() {
+        if parts.left() > 0 {
+            let word = if parts.takes(b"''") {
+                &[]
+            } else {
+                parts.next()
+            };
+            words.push(String::from_utf8_lossy(alloc, word)?)?;
+        }
+    }
+    Ok(words)
+}
+
+impl<'r, R: Threads + Wait + Sync> Commands<'r, R> {
     /// Two empty files, and nothing set.
-    pub fn new(alloc: Global) -> Commands {
+    pub fn new(rt: &'r R, alloc: Global) -> Commands<'r, R> {
         Commands {
+            rt,
             files: Files::new(alloc),
             settings: Settings::new(alloc),
             printed: Vec::new(alloc),
@@ -31,39 +55,39 @@ impl Commands {
     }
 
     /// Plays a command that needs no waiting.
-    fn play_quiet<R: Threads + Sync>(
+    fn play_quiet(
         &mut self,
-        rt: &R,
         alloc: Global,
-        text: &[u8],
+        parts: &mut Parts<'_>,
         came: &mut Vec<u8>,
     ) -> Result<(), NoMemory> {
-        let words = words_of(alloc, text)?;
+        let words = words_of(alloc, parts)?;
         let mut shelf = self.files.shelf(alloc, &self.settings)?;
-        let status = air_quiet(rt, alloc, &words, &mut shelf);
+        let status = air_quiet(self.rt, alloc, &words, &mut shelf);
         self.printed = Vec::from_slice(alloc, shelf.printed())?;
         add_end(alloc, self.settings.brief, status, &shelf, came)
     }
 
     /// Plays any command, round whose commits, cycles and looks the gate is called.
-    fn play_main<R: Threads + Wait + Sync, G: Gate + Sync>(
+    fn play_main<G: Gate + Sync>(
         &mut self,
-        rt: &R,
         alloc: Global,
-        text: &[u8],
+        parts: &mut Parts<'_>,
         gate: &G,
         came: &mut Vec<u8>,
     ) -> Result<(), NoMemory> {
-        let words = words_of(alloc, text)?;
+        let words = words_of(alloc, parts)?;
         let mut shelf = self.files.shelf(alloc, &self.settings)?;
         let fail = self.settings.air_fail.clone()?;
         let mut mast = MemMast::new(alloc, self.settings.room, fail)?;
         let fail = self.settings.air_fail.clone()?;
-        let mut ear = MemEar::new(datagrams(alloc, &self.settings.heard)?, fail);
-        let status = air_main(rt, alloc, &words, &mut shelf, &mut mast, &mut ear, gate);
+        let mut ear = MemEar::new(self.settings.datagrams(alloc)?, fail);
+        let status = air_main(
+            self.rt, alloc, &words, &mut shelf, &mut mast, &mut ear, gate,
+        );
         self.printed = Vec::from_slice(alloc, shelf.printed())?;
         add_end(alloc, self.settings.brief, status, &shelf, came)?;
-        add_bytes(alloc, b"sends", mast.sent(), came)?;
+        add_bytes(b"sends", mast.sent(), came)?;
         if mast.ended() {
             add_line(b"sends the end", &[], came)?;
         }
@@ -71,59 +95,55 @@ impl Commands {
     }
 
     /// Plays a command whose threads meet, and adds how often each call that is waited for was made, and one was waited for in vain.
-    fn play_meeting<R: Threads + Wait + Sync>(
+    fn play_meeting(
         &mut self,
-        rt: &R,
         alloc: Global,
-        text: &[u8],
+        parts: &mut Parts<'_>,
         came: &mut Vec<u8>,
     ) -> Result<(), NoMemory> {
         let gate = MeetingGate::new();
-        self.play_main(rt, alloc, text, &gate, came)?;
+        self.play_main(alloc, parts, &gate, came)?;
         add_line(b"calls", &gate.counts(), came)
     }
 
     /// Plays what is no setting; nothing is set after it.
-    fn play_word<R: Threads + Wait + Sync>(
+    fn play_word(
         &mut self,
-        rt: &R,
         alloc: Global,
         word: &[u8],
-        about: &[u8],
+        parts: &mut Parts<'_>,
         came: &mut Vec<u8>,
     ) -> Result<(), NoMemory> {
         match word {
-            b"quiet" => self.play_quiet(rt, alloc, about, came)?,
-            b"main" => self.play_main(rt, alloc, about, &OpenGate, came)?,
-            b"meet" => self.play_meeting(rt, alloc, about, came)?,
-            b"lines" => add_line(b"lines", &[count_lines(&self.printed, about)], came)?,
+            b"quiet" => self.play_quiet(alloc, parts, came)?,
+            b"main" => self.play_main(alloc, parts, &OpenGate, came)?,
+            b"meet" => self.play_meeting(alloc, parts, came)?,
+            b"lines" => add_line(b"lines", &[count_lines(&self.printed, parts.next())], came)?,
             b"statuses" => add_numbers(alloc, came)?,
-            _ => add_note(alloc, &self.files, word, about, came)?,
+            _ => add_note(alloc, &self.files, word, parts, came)?,
         }
         self.settings = Settings::new(alloc);
         Ok(())
     }
+}
 
-    /// Plays the case of a line, and gives the lines that came of it; a line that is empty or begins with `#` is none.
-    pub fn play<R: Threads + Wait + Sync>(
+impl<R: Threads + Wait + Sync> Player for Commands<'_, R> {
+    ghost needs = { IsSync R.row };
+
+    fn play(
         &mut self,
-        rt: &R,
         alloc: Global,
-        line: &[u8],
-    ) -> Result<Vec<u8>, NoMemory> {
-        let mut came = Vec::new(alloc);
-        let (word, about) = first_word(line);
-        match word {
-            [] | [b'#', ..] => return Ok(came),
-            b"printed" => {
-                self.files.begin(false, self.printed.clone()?);
-                return Ok(came);
-            }
-            _ => {}
+        word: &[u8],
+        parts: &mut Parts<'_>,
+        came: &mut Vec<u8>,
+    ) -> Result<(), NoMemory> {
+        if word == b"printed".as_slice() {
+            self.files.begin(false, self.printed.clone()?);
+            return Ok(());
         }
-        if !self.files.put(alloc, word, about)? && !self.settings.set(alloc, word, about)? {
-            self.play_word(rt, alloc, word, about, &mut came)?;
+        if self.files.put(alloc, word, parts)? || self.settings.set(alloc, word, parts)? {
+            return Ok(());
         }
-        Ok(came)
+        self.play_word(alloc, word, parts, came)
     }
 }

@@ -1,16 +1,16 @@
 //! Plays cases of decks as texts, of the parts that a deck gives, and of the texts of numbers and lists.
 //!
 //! `front` begins the text of each deck after it, and `repeat` goes on with it; `deck` reads that text with another at its end, and
-//! `drill` draws a deck. What is asked for after that are parts of this deck.
+//! `drill` draws a deck from a seed and a size. What is asked for after that are parts of this deck. `number`, `list` and `push`
+//! have a text, and `write` has numbers.
 #![tactic(auto)]
 
-mod parts;
+mod questions;
 mod texts;
-mod updates;
 
 use air_base::NoMemory;
 use air_base::limits::MOST_DECK_BYTES;
-use case_lines::{Player, add_line, first_word, number, play_stdin, text_of};
+use case_lines::{Parts, Player, add_line, play_stdin};
 use item_catalog::{Deck, DeckError, MOST_DRILL_SIZE, drill_deck, read_deck};
 use std::alloc::Global;
 use std::io;
@@ -23,19 +23,15 @@ struct DeckPlayer {
 }
 
 impl DeckPlayer {
-    /// Adds the text to the front this many times; each `#` becomes the number of the repetition.
-    fn repeat(&mut self, alloc: Global, times: u64, spelled: &[u8]) -> Result<(), NoMemory> {
-        let text = text_of(alloc, spelled)?;
-        for time in 0..times {
-            texts::add_numbered(&text, time, &mut self.front)?;
-        }
-        Ok(())
-    }
-
     /// Reads the front with the text after it, and keeps the deck.
-    fn read(&mut self, alloc: Global, spelled: &[u8], came: &mut Vec<u8>) -> Result<(), NoMemory> {
+    fn read(
+        &mut self,
+        alloc: Global,
+        parts: &mut Parts<'_>,
+        came: &mut Vec<u8>,
+    ) -> Result<(), NoMemory> {
         let mut text = self.front.clone()?;
-        text.extend_from_slice(&text_of(alloc, spelled)?)?;
+        text.extend_from_slice(&parts.text(alloc)?)?;
         self.deck = None;
         if text.len() > MOST_DECK_BYTES {
             return add_line(b"too long", &[], came);
@@ -52,13 +48,18 @@ impl DeckPlayer {
     }
 
     /// Draws the deck of a drill, and keeps it.
-    fn drill(&mut self, alloc: Global, about: &[u8], came: &mut Vec<u8>) -> Result<(), NoMemory> {
-        let (seed, size) = first_word(about);
-        let size = number(size);
+    fn drill(
+        &mut self,
+        alloc: Global,
+        parts: &mut Parts<'_>,
+        came: &mut Vec<u8>,
+    ) -> Result<(), NoMemory> {
+        let seed = parts.number();
+        let size = parts.number();
         if size < 1 || u64::from(MOST_DRILL_SIZE) < size {
             return add_line(b"not a call", &[], came);
         }
-        self.deck = Some(drill_deck(alloc, number(seed), size as u32)?);
+        self.deck = Some(drill_deck(alloc, seed, size as u32)?);
         add_line(b"deck", &[], came)
     }
 }
@@ -68,30 +69,28 @@ impl Player for DeckPlayer {
         &mut self,
         alloc: Global,
         word: &[u8],
-        about: &[u8],
+        parts: &mut Parts<'_>,
         came: &mut Vec<u8>,
     ) -> Result<(), NoMemory> {
         match word {
-            b"front" => {
-                self.front = text_of(alloc, about)?;
-                Ok(())
+            b"front" => self.front = parts.text(alloc)?,
+            b"repeat" => self.front.extend_from_slice(&parts.rows(alloc)?)?,
+            b"deck" => self.read(alloc, parts, came)?,
+            b"drill" => self.drill(alloc, parts, came)?,
+            b"number" => texts::number(&parts.text(alloc)?, came)?,
+            b"write" => texts::write(&parts.numbers(alloc)?, came)?,
+            b"list" => texts::list(alloc, parts, came)?,
+            b"push" => texts::push(alloc, parts.rest(), came)?,
+            b"memory" => texts::memory(alloc, came)?,
+            _ => {
+                let question = questions::question(word, parts);
+                match &self.deck {
+                    Some(deck) => questions::answer(deck, word, question, came)?,
+                    None => add_line(b"no deck", &[], came)?,
+                }
             }
-            b"repeat" => {
-                let (times, spelled) = first_word(about);
-                self.repeat(alloc, number(times), spelled)
-            }
-            b"deck" => self.read(alloc, about, came),
-            b"drill" => self.drill(alloc, about, came),
-            b"number" => texts::number(&text_of(alloc, about)?, came),
-            b"write" => texts::write(alloc, about, came),
-            b"list" => texts::list(alloc, &text_of(alloc, about)?, came),
-            b"push" => texts::push(alloc, about, came),
-            b"memory" => texts::memory(alloc, came),
-            _ => match &self.deck {
-                Some(deck) => parts::ask(deck, word, about, came),
-                None => add_line(b"no deck", &[], came),
-            },
         }
+        Ok(())
     }
 }
 

@@ -1,19 +1,10 @@
-//! Numbers and lists as texts, what faults show, and a list of texts.
+//! Cases of numbers and lists as texts, of what faults show, and of a list of texts.
+//!
+//! They are of calls of `air_base` alone, and of `Vec`.
 
 use air_base::{ListFault, NoMemory, read_list, read_u64, write_u64};
-use case_lines::{add_line, add_number};
+use case_lines::{BadCase, Parts, add_line};
 use std::alloc::Global;
-
-/// Adds the text, where each `#` is this number.
-pub fn add_numbered(text: &[u8], number: u64, out: &mut Vec<u8>) -> Result<(), NoMemory> {
-    for byte in text {
-        match *byte {
-            b'#' => add_number(number, out)?,
-            byte => out.push(byte)?,
-        }
-    }
-    Ok(())
-}
 
 /// Tells the number that the text spells.
 pub fn number(text: &[u8], came: &mut Vec<u8>) -> Result<(), NoMemory> {
@@ -23,39 +14,32 @@ pub fn number(text: &[u8], came: &mut Vec<u8>) -> Result<(), NoMemory> {
     }
 }
 
-/// Tells the list that the text spells, or what its fault shows.
-pub fn list(alloc: Global, text: &[u8], came: &mut Vec<u8>) -> Result<(), NoMemory> {
+/// Tells the list that a text spells, or what its fault shows.
+pub fn list(alloc: Global, parts: &mut Parts<'_>, came: &mut Vec<u8>) -> Result<(), NoMemory> {
+    let text = parts.text(alloc)?;
     if text.len() >= 1000 {
-        return add_line(b"not a call", &[], came);
+        parts.refuse(BadCase::NoCall);
+        return Ok(());
     }
-    match read_list(alloc, text) {
+    match read_list(alloc, &text) {
         Ok(numbers) => add_line(b"numbers", &numbers, came),
         Err(ListFault::NoMemory) => Err(NoMemory),
-        Err(fault) => {
-            came.extend_from_slice(fault.to_string(alloc)?.as_bytes())?;
-            Ok(())
-        }
+        Err(fault) => add_line(fault.to_string(alloc)?.as_bytes(), &[], came),
     }
 }
 
-/// Writes the numbers of a list one after another.
-pub fn write(alloc: Global, about: &[u8], came: &mut Vec<u8>) -> Result<(), NoMemory> {
-    if about.len() >= 1000 {
-        return add_line(b"not a call", &[], came);
-    }
-    let Ok(numbers) = read_list(alloc, about) else {
-        return add_line(b"not a call", &[], came);
-    };
-    for number in &numbers {
+/// Writes the numbers one after another.
+pub fn write(numbers: &[u64], came: &mut Vec<u8>) -> Result<(), NoMemory> {
+    for number in numbers {
         write_u64(*number, came)?;
     }
     Ok(())
 }
 
 /// Pushes the text to a list of texts, and tells what the list has then.
-pub fn push(alloc: Global, about: &[u8], came: &mut Vec<u8>) -> Result<(), NoMemory> {
+pub fn push(alloc: Global, text: &[u8], came: &mut Vec<u8>) -> Result<(), NoMemory> {
     let mut texts = Vec::new(alloc);
-    texts.push(Vec::from_slice(alloc, about)?)?;
+    texts.push(Vec::from_slice(alloc, text)?)?;
     add_line(b"texts", &[texts.len() as u64], came)?;
     for text in &texts {
         came.extend_from_slice(text)?;
@@ -65,8 +49,6 @@ pub fn push(alloc: Global, about: &[u8], came: &mut Vec<u8>) -> Result<(), NoMem
 
 /// Shows the two faults that are out of memory.
 pub fn memory(alloc: Global, came: &mut Vec<u8>) -> Result<(), NoMemory> {
-    came.extend_from_slice(NoMemory.to_string(alloc)?.as_bytes())?;
-    came.push(b'\n')?;
-    came.extend_from_slice(ListFault::NoMemory.to_string(alloc)?.as_bytes())?;
-    Ok(())
+    add_line(NoMemory.to_string(alloc)?.as_bytes(), &[], came)?;
+    add_line(ListFault::NoMemory.to_string(alloc)?.as_bytes(), &[], came)
 }

@@ -1,23 +1,42 @@
 //! Ears. The buffer has room for three bytes, so that longer buckets are cut.
+//!
+//! `ear` has how often the ear hears, the calls that fail, and the buckets that wait.
 
 ghost use Rattle.std.specs.Prelude.{◌≤◌, length, All, IfOk, IsSome};
 
 use crate::broken::Broken;
-use crate::masts::{add_said, answer_line};
-use crate::shelves::{add_text, numbers};
+use crate::masts::add_said;
+use crate::shelves::{add_done, add_text};
 use air_base::NoMemory;
 use air_devices::{Ear, Heard, MemEar, UdpEar};
-use case_lines::{first_word, number};
+use case_lines::{Parts, first_part};
 use std::alloc::Global;
 
-/// The buckets, with spaces between them; empty ones are left out.
-fn buckets(alloc: Global, heard: &[u8]) -> Result<Vec<Vec<u8>>, NoMemory>
+/// The buckets that the parts left are.
+fn buckets(alloc: Global, parts: &mut Parts<'_>) -> Result<Vec<Vec<u8>>, NoMemory>
     ensures { IfOk result (λ all. All (λ bytes. 1 ≤ length bytes.items) all.items) }
 {
     let mut all = Vec::new(alloc);
-    for bucket in heard.split(|byte| *byte == b' ') {
-        if !bucket.is_empty() {
-            all.push(Vec::from_slice(alloc, bucket)?)?;
+    for _ in 0..parts.left() {
+        if parts.left() > 0 {
+            let bucket = parts.next();
+            if !bucket.is_empty() {
+                all.push(Vec::from_slice(alloc, bucket)?)?;
+            }
+        }
+    }
+    Ok(all)
+}
+
+/// The numbers of calls, with a comma between each two, or `-`.
+fn calls(alloc: Global, parts: &mut Parts<'_>) -> Result<Vec<u64>, NoMemory> {
+    let mut all = Vec::new(alloc);
+    let mut rest = if parts.takes(b"-") { &[] } else { parts.next() };
+    for _ in 0..rest.len() {
+        if !rest.is_empty() {
+            let (call, more) = first_part(rest, b',');
+            all.push(parts.number_of(call))?;
+            rest = more;
         }
     }
     Ok(all)
@@ -39,14 +58,13 @@ fn hear_once<E: Ear>(ear: &mut E, came: &mut Vec<u8>) -> Result<(), NoMemory>
     }
 }
 
-/// An ear in memory is tuned in and hears: how often, the calls that fail, and the buckets that wait.
-pub fn play_ear(alloc: Global, about: &[u8], came: &mut Vec<u8>) -> Result<(), NoMemory> {
-    let (times, rest) = first_word(about);
-    let (fail, heard) = first_word(rest);
-    let mut ear = MemEar::new(buckets(alloc, heard)?, numbers(alloc, fail, b',')?);
-    let tuned = ear.tune_in(4000);
-    answer_line(tuned.is_ok(), came)?;
-    for _ in 0..number(times) {
+/// An ear in memory is tuned in and hears.
+pub fn play_ear(alloc: Global, parts: &mut Parts<'_>, came: &mut Vec<u8>) -> Result<(), NoMemory> {
+    let times = parts.number();
+    let fail = calls(alloc, parts)?;
+    let mut ear = MemEar::new(buckets(alloc, parts)?, fail);
+    add_done(ear.tune_in(4000), came)?;
+    for _ in 0..times {
         hear_once(&mut ear, came)?;
     }
     Ok(())

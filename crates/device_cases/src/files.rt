@@ -1,56 +1,47 @@
 //! Files of the system, and what a shelf over files keeps of its last failure.
+//!
+//! A name is a part of a case: `2044*l.deck` is `l.deck` with 2,044 times `./` before it.
 
 use crate::shelves::add_text;
 use air_base::NoMemory;
 use air_devices::FileShelf;
-use case_lines::{first_word, number, text_of};
+use case_lines::{Parts, first_part};
 use std::alloc::Global;
 use std::fs;
 use std::os::unix::fs::symlink;
 use std::rt::Files;
 
-/// The bytes as a name, and `-` where they are none.
-fn text_name(alloc: Global, bytes: &[u8]) -> Result<String, NoMemory> {
-    let text = std::str::from_utf8(bytes).unwrap_or("-");
-    Ok(String::from_str(alloc, text)?)
-}
-
-/// The name that is spelled: `2044*l.deck` is `l.deck` with 2,044 times `./` before it.
-pub fn name_of(alloc: Global, spelled: &[u8]) -> Result<String, NoMemory> {
-    let Some(at) = spelled.iter().position(|byte| *byte == b'*') else {
-        return text_name(alloc, spelled);
-    };
+/// The name that the next part spells.
+pub fn name_of(alloc: Global, parts: &mut Parts<'_>) -> Result<String, NoMemory> {
+    let spelled = parts.next();
     let mut name = String::new(alloc);
-    for _ in 0..number(&spelled[..at]) {
-        name.push_str("./")?;
+    let (times, behind) = first_part(spelled, b'*');
+    let mut rest = spelled;
+    if times.len() < spelled.len() {
+        rest = behind;
+        for _ in 0..parts.number_of(times) {
+            name.push_str("./")?;
+        }
     }
-    let rest = text_name(alloc, &spelled[at + 1..])?;
-    name.push_str(rest.as_str())?;
+    name.push_str(String::from_utf8_lossy(alloc, rest)?.as_str())?;
     Ok(name)
 }
 
-/// Makes a file or a link, or removes a file, and adds whether it was done.
+/// Makes a file or a link, or removes a file; adds it where that failed.
 pub fn change_files<R: Files>(
     rt: &R,
     alloc: Global,
     word: &[u8],
-    about: &[u8],
+    parts: &mut Parts<'_>,
     came: &mut Vec<u8>,
 ) -> Result<(), NoMemory> {
-    let (name, rest) = first_word(about);
-    let name = text_name(alloc, name)?;
-    let bytes = text_of(alloc, rest)?;
-    let other = text_name(alloc, rest)?;
-    let done = if word == b"file".as_slice() {
-        fs::write(rt, name.as_str(), &bytes)
-    } else if word == b"symlink".as_slice() {
-        symlink(rt, name.as_str(), other.as_str())
-    } else if word == b"link".as_slice() {
-        fs::hard_link(rt, name.as_str(), other.as_str())
-    } else if word == b"remove".as_slice() {
-        fs::remove_file(rt, name.as_str())
-    } else {
-        return add_text(b"no such word", came);
+    let name = name_of(alloc, parts)?;
+    let name = name.as_str();
+    let done = match word {
+        b"file" => fs::write(rt, name, &parts.text(alloc)?),
+        b"symlink" => symlink(rt, name, name_of(alloc, parts)?.as_str()),
+        b"link" => fs::hard_link(rt, name, name_of(alloc, parts)?.as_str()),
+        _ => fs::remove_file(rt, name),
     };
     match done {
         Ok(()) => Ok(()),

@@ -13,27 +13,16 @@ mod shelves;
 
 use crate::broken::Broken;
 use crate::player::{Devices, Held};
-use air_base::NoMemory;
 use air_devices::{FileShelf, MemMast, TapeRoom};
 use case_lines::play_stdin;
-use std::alloc::Global;
 use std::io;
 
-/// An error where there is no memory for the devices.
-fn out_of_memory(_error: NoMemory) -> io::Error {
-    io::Error::from(io::ErrorKind::OutOfMemory)
-}
-
-/// The mast and the tape of the first cases, without room.
-fn first_rooms(alloc: Global) -> Result<(MemMast, TapeRoom), NoMemory> {
-    let mast = MemMast::new(alloc, 0, Vec::new(alloc))?;
-    Ok((mast, TapeRoom::new(alloc, 0)?))
-}
-
 fn main(rt: HostRuntime) -> io::Result<()> {
-    let (mast, tape) = match first_rooms(rt.alloc()) {
-        Ok(rooms) => rooms,
-        Err(error) => return Err(out_of_memory(error)),
+    let Ok(mast) = MemMast::new(rt.alloc(), 0, Vec::new(rt.alloc())) else {
+        return Err(io::Error::from(io::ErrorKind::OutOfMemory));
+    };
+    let Ok(tape) = TapeRoom::new(rt.alloc(), 0) else {
+        return Err(io::Error::from(io::ErrorKind::OutOfMemory));
     };
     let mut devices = Devices {
         rt: rt.clone()?,

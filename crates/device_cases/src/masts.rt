@@ -1,65 +1,65 @@
 //! Masts, and a tape in a room of fixed size.
+//!
+//! `mast` has a room and the calls that fail, `room` only a room; `send` and `add` have the text that is sent or added.
 
 use crate::broken::Broken;
-use crate::shelves::{add_text, numbers};
+use crate::shelves::{add_done, add_text};
 use air_base::NoMemory;
 use air_base::limits::MOST_DATAGRAM_BYTES;
 use air_devices::{Failed, Mast, MemMast, NetFailure, TapeRoom, UdpMast};
-use case_lines::{add_line, first_word, number};
+use case_lines::{BadCase, Parts, add_hex, add_line};
 use std::alloc::Global;
 
-/// A mast in memory: its room, and the calls that fail.
-pub fn new_mast(alloc: Global, about: &[u8]) -> Result<MemMast, NoMemory> {
-    let (room, fail) = first_word(about);
-    MemMast::new(alloc, number(room) as usize, numbers(alloc, fail, b' ')?)
+/// A mast in memory.
+pub fn new_mast(alloc: Global, parts: &mut Parts<'_>) -> Result<MemMast, NoMemory> {
+    let room = parts.number() as usize;
+    MemMast::new(alloc, room, parts.numbers(alloc)?)
 }
 
-/// Adds whether a call was done.
-pub fn answer_line(is_done: bool, came: &mut Vec<u8>) -> Result<(), NoMemory> {
-    add_text(if is_done { b"done" } else { b"failed" }, came)
-}
-
-/// Sends the bytes, or the end where there are none, and adds whether it was done.
-pub fn send<M: Mast>(mast: &mut M, bytes: &[u8], came: &mut Vec<u8>) -> Result<(), NoMemory> {
+/// Sends the text, or the end where there is none, and adds whether it was done.
+pub fn send(
+    alloc: Global,
+    mast: &mut MemMast,
+    parts: &mut Parts<'_>,
+    came: &mut Vec<u8>,
+) -> Result<(), NoMemory> {
+    let bytes = parts.text(alloc)?;
     if bytes.len() > MOST_DATAGRAM_BYTES {
-        return add_text(b"no bucket", came);
+        parts.refuse(BadCase::NoCall);
+        return Ok(());
     }
-    let done = if bytes.is_empty() {
-        mast.finish()
+    if bytes.is_empty() {
+        add_done(mast.finish(), came)
     } else {
-        mast.send(bytes)
-    };
-    answer_line(done.is_ok(), came)
-}
-
-/// Adds the bytes as hexadecimal digits.
-fn add_hex(bytes: &[u8], came: &mut Vec<u8>) -> Result<(), NoMemory> {
-    for byte in bytes {
-        for digit in [*byte >> 4, *byte & 15] {
-            came.push(if digit < 10 {
-                b'0' + digit
-            } else {
-                b'a' + (digit - 10)
-            })?;
-        }
+        add_done(mast.send(&bytes), came)
     }
-    came.push(b'\n')?;
-    Ok(())
 }
 
 /// Adds the tape of what was sent, and whether the end was.
 pub fn add_sent(mast: &MemMast, came: &mut Vec<u8>) -> Result<(), NoMemory> {
     came.extend_from_slice(b"tape ")?;
     add_hex(mast.sent(), came)?;
-    add_text(if mast.ended() { b"ended" } else { b"not ended" }, came)
+    came.extend_from_slice(if mast.ended() {
+        b"\nended"
+    } else {
+        b"\nnot ended"
+    })?;
+    Ok(())
 }
 
 /// Adds a record to the tape, whether there was room for it, and the tape with the number of its records.
-pub fn add_record(tape: &mut TapeRoom, bytes: &[u8], came: &mut Vec<u8>) -> Result<(), NoMemory> {
+pub fn add_record(
+    alloc: Global,
+    tape: &mut TapeRoom,
+    parts: &mut Parts<'_>,
+    came: &mut Vec<u8>,
+) -> Result<(), NoMemory> {
+    let bytes = parts.text(alloc)?;
     if bytes.len() > MOST_DATAGRAM_BYTES {
-        return add_text(b"no record", came);
+        parts.refuse(BadCase::NoCall);
+        return Ok(());
     }
-    let is_taken = tape.add(bytes);
+    let is_taken = tape.add(&bytes);
     add_text(if is_taken { b"taken" } else { b"left out" }, came)?;
     add_line(b"records", &[tape.count() as u64], came)?;
     came.extend_from_slice(b"tape ")?;
@@ -77,8 +77,7 @@ pub fn add_said(
         came.extend_from_slice(b"done ")?;
     }
     if let Some(failure) = failure {
-        let text = format!(in alloc; "{failure}\n")?;
-        came.extend_from_slice(text.as_str().as_bytes())?;
+        add_line(failure.to_string(alloc)?.as_bytes(), &[], came)?;
     }
     Ok(())
 }

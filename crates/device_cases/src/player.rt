@@ -15,11 +15,11 @@
 use crate::broken::Broken;
 use crate::ears::{hear_broken, play_ear};
 use crate::files::{add_kept, change_files, name_of};
-use crate::masts::{add_record, add_sent, answer_line, new_mast, send, send_broken};
-use crate::shelves::{add_held, add_refusals, new_shelf, play_call};
+use crate::masts::{add_record, add_sent, new_mast, send, send_broken};
+use crate::shelves::{add_done, add_held, add_refusals, new_shelf, play_call};
 use air_base::NoMemory;
 use air_devices::{FileShelf, Mast, MemMast, MemShelf, TapeRoom};
-use case_lines::{Player, first_word, number, text_of};
+use case_lines::{BadCase, Parts, Player};
 use std::alloc::Global;
 use std::rt::Files;
 
@@ -51,15 +51,15 @@ impl<R: Files + Print + Clone + Drop> Devices<R> {
         &mut self,
         alloc: Global,
         call: &[u8],
-        about: &[u8],
+        parts: &mut Parts<'_>,
         came: &mut Vec<u8>,
     ) -> Result<(), NoMemory> {
-        let (name, rest) = first_word(about);
-        let name = name_of(alloc, name)?;
+        let name = name_of(alloc, parts)?;
+        let name = name.as_str();
         match &mut self.held {
-            Held::Memory(shelf) => play_call(alloc, shelf, call, name.as_str(), rest, came),
-            Held::Files => play_call(alloc, &mut self.files, call, name.as_str(), rest, came),
-            Held::Broken => play_call(alloc, &mut self.broken, call, name.as_str(), rest, came),
+            Held::Memory(shelf) => play_call(alloc, shelf, call, name, parts, came),
+            Held::Files => play_call(alloc, &mut self.files, call, name, parts, came),
+            Held::Broken => play_call(alloc, &mut self.broken, call, name, parts, came),
         }
     }
 
@@ -72,71 +72,20 @@ impl<R: Files + Print + Clone + Drop> Devices<R> {
         }
     }
 
-    /// Makes the shelf, the mast or the tape that the next cases play.
-    fn make(&mut self, alloc: Global, word: &[u8], about: &[u8]) -> Result<(), NoMemory> {
-        if word == b"shelf".as_slice() {
-            self.held = Held::Memory(new_shelf(alloc, about)?);
-        } else if word == b"mast".as_slice() {
-            self.mast = new_mast(alloc, about)?;
-        } else if word == b"room".as_slice() {
-            self.tape = TapeRoom::new(alloc, number(about) as usize)?;
-        } else if word == b"broken".as_slice() {
-            self.held = Held::Broken;
-        } else if let Ok(rt) = self.rt.clone() {
+    /// Makes a shelf over files.
+    fn make_files(&mut self) {
+        if let Ok(rt) = self.rt.clone() {
             self.files = FileShelf::new(rt);
             self.held = Held::Files;
         }
-        Ok(())
-    }
-
-    /// Plays a word of the mast, the tape, an ear, or the system.
-    fn play_other(
-        &mut self,
-        alloc: Global,
-        word: &[u8],
-        about: &[u8],
-        came: &mut Vec<u8>,
-    ) -> Result<(), NoMemory> {
-        if word == b"aim".as_slice() {
-            answer_line(self.mast.aim(4000).is_ok(), came)
-        } else if word == b"send".as_slice() {
-            let bytes = text_of(alloc, about)?;
-            send(&mut self.mast, &bytes, came)
-        } else if word == b"sent".as_slice() {
-            add_sent(&self.mast, came)
-        } else if word == b"add".as_slice() {
-            let bytes = text_of(alloc, about)?;
-            add_record(&mut self.tape, &bytes, came)
-        } else if word == b"ear".as_slice() {
-            play_ear(alloc, about, came)
-        } else if word == b"system".as_slice() {
-            send_broken(alloc, came)?;
-            hear_broken(alloc, came)?;
-            add_refusals(alloc, came)
-        } else {
-            change_files(&self.rt, alloc, word, about, came)
-        }
     }
 }
 
-/// Whether the word makes something.
-fn makes(word: &[u8]) -> bool {
-    word == b"shelf".as_slice()
-        || word == b"files".as_slice()
-        || word == b"broken".as_slice()
-        || word == b"mast".as_slice()
-        || word == b"room".as_slice()
-}
-
-/// Whether the word is a call of a shelf.
-fn is_call(word: &[u8]) -> bool {
-    let reads = word == b"pick".as_slice()
-        || word == b"read".as_slice()
-        || word == b"whole".as_slice();
-    reads
-        || word == b"create".as_slice()
-        || word == b"append".as_slice()
-        || word == b"print".as_slice()
+/// Tells what a failing system says.
+fn tell_system(alloc: Global, came: &mut Vec<u8>) -> Result<(), NoMemory> {
+    send_broken(alloc, came)?;
+    hear_broken(alloc, came)?;
+    add_refusals(alloc, came)
 }
 
 impl<R: Files + Print + Clone + Drop> Player for Devices<R> {
@@ -144,17 +93,30 @@ impl<R: Files + Print + Clone + Drop> Player for Devices<R> {
         &mut self,
         alloc: Global,
         word: &[u8],
-        about: &[u8],
+        parts: &mut Parts<'_>,
         came: &mut Vec<u8>,
     ) -> Result<(), NoMemory> {
-        if makes(word) {
-            self.make(alloc, word, about)
-        } else if is_call(word) {
-            self.play_shelf(alloc, word, about, came)
-        } else if word == b"held".as_slice() {
-            self.add_shelf(alloc, came)
-        } else {
-            self.play_other(alloc, word, about, came)
+        match word {
+            b"shelf" => self.held = Held::Memory(new_shelf(alloc, parts)?),
+            b"files" => self.make_files(),
+            b"broken" => self.held = Held::Broken,
+            b"pick" | b"read" | b"whole" | b"create" | b"append" | b"print" => {
+                self.play_shelf(alloc, word, parts, came)?;
+            }
+            b"held" => self.add_shelf(alloc, came)?,
+            b"file" | b"symlink" | b"link" | b"remove" => {
+                change_files(&self.rt, alloc, word, parts, came)?;
+            }
+            b"mast" => self.mast = new_mast(alloc, parts)?,
+            b"aim" => add_done(self.mast.aim(4000), came)?,
+            b"send" => send(alloc, &mut self.mast, parts, came)?,
+            b"sent" => add_sent(&self.mast, came)?,
+            b"ear" => play_ear(alloc, parts, came)?,
+            b"room" => self.tape = TapeRoom::new(alloc, parts.number() as usize)?,
+            b"add" => add_record(alloc, &mut self.tape, parts, came)?,
+            b"system" => tell_system(alloc, came)?,
+            _ => parts.refuse(BadCase::NoSuchWord),
         }
+        Ok(())
     }
 }

@@ -1,32 +1,23 @@
 //! Shelves: their calls, through the trait alone, and what the one in memory holds.
+//!
+//! The shelf in memory has the file `deck` of seven bytes, and the outputs `tape` and `report`.
 
 use air_base::NoMemory;
 use air_devices::{Failed, MemShelf, ReadFileError, Shelf, read_file};
-use case_lines::{first_word, number, text_of};
+use case_lines::{Parts, add_line};
 use std::alloc::Global;
 
-/// The numbers that the text lists, with `between` between each two.
-pub fn numbers(alloc: Global, text: &[u8], between: u8) -> Result<Vec<u64>, NoMemory> {
-    let mut all = Vec::new(alloc);
-    for part in text.split(|byte| *byte == between) {
-        if !part.is_empty() && part[0].is_ascii_digit() {
-            all.push(number(part))?;
-        }
-    }
-    Ok(all)
-}
-
-/// A shelf in memory with the file `deck` of seven bytes, and the outputs `tape` and `report`: its room, and the calls that fail.
-pub fn new_shelf(alloc: Global, about: &[u8]) -> Result<MemShelf, NoMemory> {
-    let (room, fail) = first_word(about);
+/// A shelf in memory: its room, and the calls that fail.
+pub fn new_shelf(alloc: Global, parts: &mut Parts<'_>) -> Result<MemShelf, NoMemory> {
+    let room = parts.number() as usize;
+    let fail = parts.numbers(alloc)?;
     let mut files = Vec::new(alloc);
     let bytes = Vec::from_slice(alloc, b"item,0\n")?;
     files.push((String::from_str(alloc, "deck")?, bytes))?;
     let mut outputs = Vec::new(alloc);
     outputs.push(String::from_str(alloc, "tape")?)?;
     outputs.push(String::from_str(alloc, "report")?)?;
-    let fail = numbers(alloc, fail, b' ')?;
-    MemShelf::new(alloc, files, outputs, number(room) as usize, fail)
+    MemShelf::new(alloc, files, outputs, room, fail)
 }
 
 /// Adds bytes of text in one line: a line feed is `\n`.
@@ -56,7 +47,7 @@ fn add_read(answer: Result<&[u8], ReadFileError>, came: &mut Vec<u8>) -> Result<
 }
 
 /// Adds whether a call was done.
-fn add_done(answer: Result<(), Failed>, came: &mut Vec<u8>) -> Result<(), NoMemory> {
+pub fn add_done(answer: Result<(), Failed>, came: &mut Vec<u8>) -> Result<(), NoMemory> {
     match answer {
         Ok(()) => add_text(b"done", came),
         Err(_) => add_text(b"failed", came),
@@ -78,25 +69,19 @@ pub fn play_call<S: Shelf>(
     shelf: &mut S,
     call: &[u8],
     name: &str,
-    rest: &[u8],
+    parts: &mut Parts<'_>,
     came: &mut Vec<u8>,
 ) -> Result<(), NoMemory> {
-    let bytes = text_of(alloc, rest)?;
-    if call == b"pick".as_slice() {
-        add_done(shelf.pick(name), came)
-    } else if call == b"read".as_slice() {
-        read_four(shelf, name, came)
-    } else if call == b"create".as_slice() {
-        add_done(shelf.create(name), came)
-    } else if call == b"append".as_slice() {
-        add_done(shelf.append(name, &bytes), came)
-    } else if call == b"print".as_slice() {
-        add_done(shelf.print(&bytes), came)
-    } else {
-        match read_file(alloc, shelf, name, number(rest) as usize) {
+    match call {
+        b"pick" => add_done(shelf.pick(name), came),
+        b"read" => read_four(shelf, name, came),
+        b"create" => add_done(shelf.create(name), came),
+        b"append" => add_done(shelf.append(name, &parts.text(alloc)?), came),
+        b"print" => add_done(shelf.print(&parts.text(alloc)?), came),
+        _ => match read_file(alloc, shelf, name, parts.number() as usize) {
             Ok(whole) => add_read(Ok(&whole), came),
             Err(error) => add_read(Err(error), came),
-        }
+        },
     }
 }
 
@@ -121,13 +106,11 @@ pub fn add_held(shelf: &MemShelf, came: &mut Vec<u8>) -> Result<(), NoMemory> {
 
 /// Adds what the refusals of the devices print.
 pub fn add_refusals(alloc: Global, came: &mut Vec<u8>) -> Result<(), NoMemory> {
-    let text = format!(in alloc;
-        "{}\n{}\n{}\n{}\n",
-        Failed,
-        ReadFileError::Failed,
-        ReadFileError::TooLarge,
-        ReadFileError::NoMemory,
-    )?;
-    came.extend_from_slice(text.as_str().as_bytes())?;
-    Ok(())
+    add_line(Failed.to_string(alloc)?.as_bytes(), &[], came)?;
+    let failed = ReadFileError::Failed.to_string(alloc)?;
+    add_line(failed.as_bytes(), &[], came)?;
+    let too_large = ReadFileError::TooLarge.to_string(alloc)?;
+    add_line(too_large.as_bytes(), &[], came)?;
+    let no_memory = ReadFileError::NoMemory.to_string(alloc)?;
+    add_line(no_memory.as_bytes(), &[], came)
 }

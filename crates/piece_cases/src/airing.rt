@@ -1,4 +1,7 @@
 //! Scripts that are aired by pieces, and how long their tapes and pieces are.
+//!
+//! After each piece it is told how many starts it has, how many bytes, and how many events were run; at the end the tape's sum, and the
+//! report.
 
 ghost use Rattle.std.specs.Prelude.{◌≡◌, ◌≤◌, length};
 ghost use Rattle.air_base.specs.declared.limits.TheConstants.{MOST_TAPE_BYTES};
@@ -10,7 +13,7 @@ use crate::reports::{add_piece, add_report, add_tape};
 use air_base::NoMemory;
 use air_base::limits::MOST_TAPE_BYTES;
 use air_sender::{TapeMast, tape_len};
-use case_lines::{add_line, first_word, number};
+use case_lines::{Parts, add_line};
 use chunk_program::Program;
 use item_catalog::Deck;
 use listeners::Sessions;
@@ -21,10 +24,15 @@ use std::thread::Threads;
 /// The most pieces of a script: one for each of its events.
 const MOST_PIECES: u32 = 110_000;
 
-/// Tells how many bytes the script's tape has, and how many cycles a piece, where this number of starts comes after the deck.
-pub fn sizes(alloc: Global, deck: &[u8], starts: u64, came: &mut Vec<u8>) -> Result<(), NoMemory> {
+/// Tells how many bytes the script's tape has, and how many cycles a piece, where a number of starts comes after the deck.
+pub fn sizes(
+    alloc: Global,
+    deck: &[u8],
+    parts: &mut Parts<'_>,
+    came: &mut Vec<u8>,
+) -> Result<(), NoMemory> {
     let mut text = Vec::from_slice(alloc, deck)?;
-    for _ in 0..starts {
+    for _ in 0..parts.number() {
         text.extend_from_slice(b"script,s\n")?;
     }
     let Some((deck, program)) = deck_and_program(alloc, &text) else {
@@ -38,21 +46,21 @@ pub fn sizes(alloc: Global, deck: &[u8], starts: u64, came: &mut Vec<u8>) -> Res
     )
 }
 
-/// Airs the deck's script to all its readers, by pieces of this number of cycles.
+/// Airs the deck's script to all its readers, by pieces of a number of cycles.
 pub fn air<T: Threads + Sync>(
     threads: &T,
     alloc: Global,
     text: &[u8],
-    cycles: u64,
+    parts: &mut Parts<'_>,
     came: &mut Vec<u8>,
 ) -> Result<(), NoMemory> {
+    let cycles = parts.narrow().max(1);
     let Some((deck, program)) = deck_and_program(alloc, text) else {
         return add_line(b"no deck", &[], came);
     };
     if tape_len(&deck, &program) > MOST_TAPE_BYTES as u64 {
         return add_line(b"too long", &[], came);
     }
-    let cycles = u32::try_from(cycles).unwrap_or(1).max(1);
     air_pieces(threads, alloc, &deck, &program, cycles, came)
 }
 
@@ -88,12 +96,18 @@ fn air_pieces<T: Threads + Sync>(
 }
 
 /// Runs the deck's script to a mast of limited room. The numbers are this room, and then how many cycles each piece has.
-pub fn run(alloc: Global, text: &[u8], about: &[u8], came: &mut Vec<u8>) -> Result<(), NoMemory> {
-    let (room, cycles) = first_word(about);
+pub fn run(
+    alloc: Global,
+    text: &[u8],
+    parts: &mut Parts<'_>,
+    came: &mut Vec<u8>,
+) -> Result<(), NoMemory> {
+    let room = parts.number();
+    let pieces = parts.entries(alloc)?;
     let Some((deck, program)) = deck_and_program(alloc, text) else {
         return add_line(b"no deck", &[], came);
     };
-    run_pieces(alloc, &deck, &program, number(room), cycles, came)
+    run_pieces(alloc, &deck, &program, room, &pieces, came)
 }
 
 /// The same, of a deck with its program. After each piece it is told whether all events were run.
@@ -102,7 +116,7 @@ fn run_pieces(
     deck: &Deck,
     program: &Program,
     room: u64,
-    cycles: &[u8],
+    pieces: &[u32],
     came: &mut Vec<u8>,
 ) -> Result<(), NoMemory>
     requires { program.now ≡ disks_in deck.now }
@@ -110,8 +124,8 @@ fn run_pieces(
     let mut tape = Vec::new(alloc);
     let mut mast = TapeMast::new(alloc, room)?;
     let mut run = PieceRun::new(alloc, deck)?;
-    for word in cycles.split(|byte| *byte == b' ') {
-        let cycles = u32::try_from(number(word)).unwrap_or(1).max(1);
+    for cycles in pieces {
+        let cycles = (*cycles).max(1);
         let first = run.events.len();
         let Ok(()) = run.next_piece(alloc, deck, program, cycles, &mut mast) else {
             return add_line(b"no room", &[], came);

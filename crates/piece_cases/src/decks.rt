@@ -1,4 +1,6 @@
-//! A deck with its program.
+//! A deck with its program: read, cut and planned.
+//!
+//! A case whose deck has none is told `no deck`.
 
 ghost use Rattle.std.specs.Prelude.{◌≡◌, IfSome};
 ghost use Rattle.air_model.specs.Decks.{disks_in};

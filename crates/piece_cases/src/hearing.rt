@@ -1,11 +1,14 @@
 //! Tapes that are heard by pieces.
+//!
+//! `hear` has the name of a file, its limit and the size of a piece, each `own` where they are the program's, and the calls that fail.
+//! `fronts` has the size of a piece.
 
 use crate::decks::deck_and_program;
 use crate::reports::add_report;
 use air_base::NoMemory;
 use air_cli::{PieceSizes, file_sessions, piece_sessions};
 use air_devices::{MemShelf, Shelf};
-use case_lines::{add_line, first_word, number};
+use case_lines::{Parts, add_line};
 use std::alloc::Global;
 use std::thread::Threads;
 
@@ -48,37 +51,26 @@ fn heard<R: Threads + Sync>(
     Ok(came)
 }
 
-/// The numbers that the words of the text spell.
-fn numbers(alloc: Global, text: &[u8]) -> Result<Vec<u64>, NoMemory> {
-    let mut all = Vec::new(alloc);
-    for word in text.split(|byte| *byte == b' ') {
-        all.push(number(word))?;
-    }
-    Ok(all)
-}
-
-/// Lets the readers hear a file; what it is about are its name, its limit and the size of a piece, each `own` for what the program has, and
-/// the calls that fail. It also tells how many bytes of the tape are left.
+/// Lets the readers hear a file. It also tells how many bytes of the tape are left.
 pub fn hear<R: Threads + Sync>(
     rt: &R,
     alloc: Global,
     deck: &[u8],
     tape: &[u8],
-    about: &[u8],
+    parts: &mut Parts<'_>,
     came: &mut Vec<u8>,
 ) -> Result<(), NoMemory> {
-    let (name, about) = first_word(about);
-    let (limit, about) = first_word(about);
-    let (piece, fail) = first_word(about);
-    let name = String::from_utf8_lossy(alloc, name)?;
-    let sizes = match limit {
-        b"own" => None,
-        _ => Some(PieceSizes {
-            tape: number(limit) as usize,
-            piece: number(piece) as usize,
-        }),
+    let name = String::from_utf8_lossy(alloc, parts.next())?;
+    let is_own = parts.takes(b"own") && parts.takes(b"own");
+    let sizes = if is_own {
+        None
+    } else {
+        Some(PieceSizes {
+            tape: parts.number() as usize,
+            piece: parts.number() as usize,
+        })
     };
-    let mut shelf = shelf_of(alloc, tape, numbers(alloc, fail)?)?;
+    let mut shelf = shelf_of(alloc, tape, parts.numbers(alloc)?)?;
     let report = heard(rt, alloc, deck, &mut shelf, &name, sizes)?;
     came.extend_from_slice(&report)?;
     let mut rest = [0; 128];
@@ -88,18 +80,18 @@ pub fn hear<R: Threads + Sync>(
     }
 }
 
-/// Lets the readers hear each front of the tape, by pieces of this size; told are the lengths at which what came is another, and that.
+/// Lets the readers hear each front of the tape; told are the lengths at which what came is another, and that.
 pub fn fronts<R: Threads + Sync>(
     rt: &R,
     alloc: Global,
     deck: &[u8],
     tape: &[u8],
-    piece: u64,
+    parts: &mut Parts<'_>,
     came: &mut Vec<u8>,
 ) -> Result<(), NoMemory> {
     let sizes = PieceSizes {
         tape: tape.len(),
-        piece: piece as usize,
+        piece: parts.number() as usize,
     };
     let mut last = Vec::new(alloc);
     for length in 0..=tape.len() {

@@ -1,10 +1,12 @@
 //! The lines of reports, pieces and tapes.
+//!
+//! A report is told as it is written. Of a piece and of a tape only numbers are told: how long they are, and a tape's sum.
 
 use air_base::NoMemory;
 use air_base::limits::MOST_EVENTS;
 use air_history::{Event, History};
 use air_report::{Report, write_report};
-use case_lines::add_line;
+use case_lines::{add_line, sum_of};
 use listeners::Sessions;
 use std::alloc::Global;
 
@@ -49,11 +51,7 @@ pub fn add_piece(
     add_line(b"piece", &numbers, came)
 }
 
-/// Adds how many bytes the tape has, and the 64 bits of FNV-1a of them.
+/// Adds how many bytes the tape has, and the sum of them.
 pub fn add_tape(tape: &[u8], came: &mut Vec<u8>) -> Result<(), NoMemory> {
-    let mut sum = 0xcbf2_9ce4_8422_2325u64;
-    for byte in tape {
-        sum = (sum ^ u64::from(*byte)).wrapping_mul(0x0100_0000_01b3);
-    }
-    add_line(b"tape", &[tape.len() as u64, sum], came)
+    add_line(b"tape", &[tape.len() as u64, sum_of(tape)], came)
 }

@@ -1,26 +1,30 @@
 //! Cases of a sender: the cycle of a board on a mast, and the calls of the mast that gathers a tape.
+//!
+//! `air` and `memory` have the letter of a policy, and how many bytes the buffer has behind the longest bucket; what these bytes are then is
+//! told too. `memory` airs on a new mast, and has its room and the call that fails.
 
 ghost use Rattle.std.specs.Prelude.{◌≡◌, ◌≤◌, length};
 ghost use Rattle.air_model.specs.Disks.{all_items};
 ghost use Rattle.air_sender.specs.BoardBuckets.{EntriesBelow};
 
-use crate::tapes::{add_hex, add_records};
+use crate::tapes::add_records;
 use air_base::limits::MOST_DATAGRAM_BYTES;
 use air_base::{NoMemory, Policy};
 use air_devices::{Failed, Mast, MemMast};
-use air_sender::{AirFault, TapeMast, air_cycle};
-use case_lines::{add_line, first_word, number, text_of};
+use air_sender::{AirFault, TapeMast, air_cycle, tape_bytes};
+use case_lines::{BadCase, Parts, add_hex_words, add_line};
 use chunk_program::Program;
 use control_matrix::Board;
 use std::alloc::Global;
 
-/// Airs the board's cycle on the mast. First of `about` is the policy's letter, then how many bytes the buffer has after the
-/// longest bucket. Tells the answer, and what these bytes are then.
+/// Airs the board's cycle on the mast, from a buffer with this many bytes behind the longest bucket. Tells the answer, and what these
+/// bytes are then.
 fn air<M: Mast>(
     alloc: Global,
     program: &Program,
     board: &Board,
-    about: &[u8],
+    policy: Policy,
+    after: u8,
     mast: &mut M,
     came: &mut Vec<u8>,
 ) -> Result<(), NoMemory>
@@ -28,32 +32,25 @@ fn air<M: Mast>(
     requires below { EntriesBelow board.now }
     requires items { length (all_items program.now) ≡ length board.now.values }
 {
-    let (letter, rest) = first_word(about);
-    let (after, _) = first_word(rest);
-    let policy = match letter {
-        b"F" => Policy::FMatrix,
-        b"D" => Policy::Datacycle,
-        _ => Policy::RMatrix,
-    };
     let long = 24 + 4 * usize::from(board.n());
-    let after = u8::try_from(number(after)).unwrap_or(0);
     let mut buf = vec![in alloc; 0xeeu8; long + usize::from(after)]?;
     match air_cycle(program, board, policy, mast, &mut buf) {
         Ok(()) => add_line(b"aired", &[], came)?,
         Err(AirFault::Mast { slot }) => add_line(b"failed at slot", &[u64::from(slot)], came)?,
     }
     came.extend_from_slice(b"after the longest bucket")?;
-    add_hex(&buf[long..], came)?;
+    add_hex_words(&buf[long..], came)?;
     came.push(b'\n')?;
     Ok(())
 }
 
-/// Airs the board's cycle on the mast that gathers a tape.
-pub fn tell_air(
+/// Answers a question about what is aired: how many bytes a number of cycles has, or the board's cycle on a mast.
+pub fn tell_aired(
     alloc: Global,
     program: &Program,
     board: &Board,
-    about: &[u8],
+    word: &[u8],
+    parts: &mut Parts<'_>,
     mast: &mut TapeMast,
     came: &mut Vec<u8>,
 ) -> Result<(), NoMemory>
@@ -61,29 +58,20 @@ pub fn tell_air(
     requires below { EntriesBelow board.now }
     requires items { length (all_items program.now) ≡ length board.now.values }
 {
-    air(alloc, program, board, about, mast, came)
-}
-
-/// Airs the board's cycle on a new mast in memory. After the policy and the bytes come its room and the call that fails.
-pub fn tell_memory(
-    alloc: Global,
-    program: &Program,
-    board: &Board,
-    about: &[u8],
-    came: &mut Vec<u8>,
-) -> Result<(), NoMemory>
-    requires started { 1 ≤ board.now.cycle }
-    requires below { EntriesBelow board.now }
-    requires items { length (all_items program.now) ≡ length board.now.values }
-{
-    let (_, rest) = first_word(about);
-    let (_, rest) = first_word(rest);
-    let (room, fails) = first_word(rest);
-    let mut fail = Vec::new(alloc);
-    fail.push(number(fails))?;
-    let mut mast = MemMast::new(alloc, number(room) as usize, fail)?;
-    air(alloc, program, board, about, &mut mast, came)?;
-    add_records(mast.sent(), came)
+    if word == b"length".as_slice() {
+        let cycles = parts.narrow();
+        return add_line(b"bytes", &[tape_bytes(program, board.n(), cycles)], came);
+    }
+    let policy = parts.policy();
+    let after = parts.byte();
+    if word == b"air".as_slice() {
+        return air(alloc, program, board, policy, after, mast, came);
+    }
+    let room = parts.number();
+    let fail = parts.numbers(alloc)?;
+    let mut memory = MemMast::new(alloc, room as usize, fail)?;
+    air(alloc, program, board, policy, after, &mut memory, came)?;
+    add_records(memory.sent(), came)
 }
 
 /// Calls the mast that gathers a tape, and tells the answer.
@@ -91,16 +79,19 @@ pub fn tell_call(
     alloc: Global,
     mast: &mut TapeMast,
     word: &[u8],
-    about: &[u8],
+    parts: &mut Parts<'_>,
     came: &mut Vec<u8>,
 ) -> Result<(), NoMemory> {
-    let bytes = text_of(alloc, about)?;
-    if bytes.len() > MOST_DATAGRAM_BYTES {
-        return add_line(b"not a call", &[], came);
-    }
     let answer = match word {
-        b"aim" => mast.aim(u16::try_from(number(about)).unwrap_or(0)),
-        b"send" => mast.send(&bytes),
+        b"aim" => mast.aim(parts.small()),
+        b"send" => {
+            let bytes = parts.text(alloc)?;
+            if bytes.len() > MOST_DATAGRAM_BYTES {
+                parts.refuse(BadCase::NoCall);
+                return Ok(());
+            }
+            mast.send(&bytes)
+        }
         _ => mast.finish(),
     };
     match answer {

@@ -1,4 +1,6 @@
 //! The board of a deck's script and of one start more, so that a cycle can be aired from it.
+//!
+//! Each commit of the script is taken to be of updater 0, with its next update. There is no board where an event doesn't fit.
 
 ghost use Rattle.std.specs.Prelude.{◌≡◌, ◌<◌, ◌≤◌, ℕ, List, ◌++◌, ◌∷◌, [], length, IfOk, IfSome, IsTrue};
 ghost use Rattle.air_history.specs.declared.histories.Event.{Event};

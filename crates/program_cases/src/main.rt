@@ -1,7 +1,8 @@
 //! Plays cases of decks' cuts and programs, of the cycles that are aired from a deck's board, and of the mast that gathers a tape.
 //!
-//! `items` and `disks` spell the text of a deck, which each question after them reads again. The board is that of the deck's script
-//! and of one start more.
+//! `items` and `disks` spell the text of a deck, which each question after them reads again: `slots`, `plan`, `cut` and `wait` ask for its
+//! program, `length`, `air` and `memory` for what is aired. The board is that of the deck's script and of one start more. `mast` makes
+//! the mast of a room, which `air`, `aim`, `send`, `finish`, `tape` and `clear` are about.
 #![tactic(auto)]
 
 mod airing;
@@ -11,8 +12,8 @@ mod tapes;
 
 use air_base::NoMemory;
 use air_base::limits::MOST_DECK_BYTES;
-use air_sender::{TapeMast, tape_bytes};
-use case_lines::{Player, add_line, number, play_stdin, text_of};
+use air_sender::TapeMast;
+use case_lines::{BadCase, Parts, Player, add_line, play_stdin};
 use chunk_program::PlanFault;
 use item_catalog::read_deck;
 use std::alloc::Global;
@@ -32,13 +33,14 @@ impl ProgramPlayer {
         &mut self,
         alloc: Global,
         word: &[u8],
-        about: &[u8],
+        parts: &mut Parts<'_>,
         came: &mut Vec<u8>,
     ) -> Result<(), NoMemory> {
         let mut text = self.items.clone()?;
         text.extend_from_slice(&self.disks)?;
         if text.len() > MOST_DECK_BYTES {
-            return add_line(b"not a call", &[], came);
+            parts.refuse(BadCase::NoCall);
+            return Ok(());
         }
         let Ok(deck) = read_deck(alloc, &text) else {
             return add_line(b"no deck", &[], came);
@@ -48,26 +50,16 @@ impl ProgramPlayer {
             Err(fault) => return plans::tell_fault(alloc, &fault, came),
         };
         match word {
-            b"slots" => return add_line(b"slots", &[u64::from(program.slots())], came),
-            b"plan" => return plans::tell_plan(&deck, &cut, &program, came),
-            b"cut" => return plans::tell_cut(&cut, came),
-            b"wait" => return plans::tell_wait(&program, &cut, about, came),
-            _ => {}
-        }
-        let Some(board) = boards::started_board(alloc, &deck)? else {
-            return add_line(b"no board", &[], came);
-        };
-        if cut.order().len() != board.n() as usize {
-            return add_line(b"not a call", &[], came);
-        }
-        match word {
-            b"length" => {
-                let cycles = u32::try_from(number(about)).unwrap_or(0);
-                add_line(b"bytes", &[tape_bytes(&program, board.n(), cycles)], came)
-            }
-            b"air" => airing::tell_air(alloc, &program, &board, about, &mut self.mast, came),
-            b"memory" => airing::tell_memory(alloc, &program, &board, about, came),
-            _ => add_line(b"no such word", &[], came),
+            b"slots" => add_line(b"slots", &[u64::from(program.slots())], came),
+            b"plan" => plans::tell_plan(&deck, &cut, &program, came),
+            b"cut" => plans::tell_cut(&cut, came),
+            b"wait" => plans::tell_wait(&program, &cut, parts, came),
+            _ => match boards::started_board(alloc, &deck)? {
+                Some(board) if cut.order().len() == board.n() as usize => {
+                    airing::tell_aired(alloc, &program, &board, word, parts, &mut self.mast, came)
+                }
+                _ => add_line(b"no board", &[], came),
+            },
         }
     }
 }
@@ -77,20 +69,23 @@ impl Player for ProgramPlayer {
         &mut self,
         alloc: Global,
         word: &[u8],
-        about: &[u8],
+        parts: &mut Parts<'_>,
         came: &mut Vec<u8>,
     ) -> Result<(), NoMemory> {
         match word {
-            b"items" => self.items = text_of(alloc, about)?,
-            b"disks" => self.disks = text_of(alloc, about)?,
-            b"mast" => self.mast = TapeMast::new(alloc, number(about))?,
+            b"items" => self.items = parts.text(alloc)?,
+            b"disks" => self.disks = parts.text(alloc)?,
+            b"mast" => self.mast = TapeMast::new(alloc, parts.number())?,
             b"tape" => tapes::add_records(self.mast.tape(), came)?,
             b"clear" => self.mast.clear(),
             b"aim" | b"send" | b"finish" => {
-                airing::tell_call(alloc, &mut self.mast, word, about, came)?;
+                airing::tell_call(alloc, &mut self.mast, word, parts, came)?;
             }
             b"memory-fault" => plans::tell_fault(alloc, &PlanFault::NoMemory, came)?,
-            _ => self.ask(alloc, word, about, came)?,
+            b"slots" | b"plan" | b"cut" | b"wait" | b"length" | b"air" | b"memory" => {
+                self.ask(alloc, word, parts, came)?;
+            }
+            _ => parts.refuse(BadCase::NoSuchWord),
         }
         Ok(())
     }

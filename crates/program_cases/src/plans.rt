@@ -1,10 +1,12 @@
 //! Cases of cuts and programs: where each item is, and what the slots of a cycle carry.
+//!
+//! `plan` and `cut` tell all that the program and the cut say; `wait` has a slot and an item, and asks how far off the item is.
 
 ghost use Rattle.std.specs.Prelude.{◌≡◌, ◌≤◌, IfOk};
 ghost use Rattle.air_model.specs.Decks.{disks_in};
 
-use air_base::NoMemory;
-use case_lines::{add_line, add_number, first_word, number};
+use air_base::{NoMemory, write_u64};
+use case_lines::{Parts, add_line};
 use chunk_program::{Cut, PlanFault, Program, cut};
 use item_catalog::Deck;
 use std::alloc::Global;
@@ -49,12 +51,12 @@ fn add_slots(program: &Program, out: &mut Vec<u8>) -> Result<(), NoMemory> {
     for slot in 0..program.slots() {
         if slot % len == 0 {
             out.extend_from_slice(b"\nminor ")?;
-            add_number(u64::from(slot / len), out)?;
+            write_u64(u64::from(slot / len), out)?;
             out.push(b':')?;
         }
         out.push(b' ')?;
         match program.slot_item(slot) {
-            Some(item) => add_number(u64::from(item), out)?,
+            Some(item) => write_u64(u64::from(item), out)?,
             None => out.push(b'-')?,
         }
     }
@@ -134,13 +136,13 @@ pub fn tell_cut(cut: &Cut, came: &mut Vec<u8>) -> Result<(), NoMemory> {
 pub fn tell_wait(
     program: &Program,
     cut: &Cut,
-    about: &[u8],
+    parts: &mut Parts<'_>,
     came: &mut Vec<u8>,
 ) -> Result<(), NoMemory>
     requires { cut.now ≡ program.now }
 {
-    let (slot, item) = first_word(about);
-    let (slot, item) = (number(slot), number(item));
+    let slot = parts.number();
+    let item = parts.number();
     if slot >= u64::from(program.slots()) || item >= cut.order().len().min(256) as u64 {
         return add_line(b"not a call", &[], came);
     }

@@ -1,4 +1,6 @@
 //! Held reads beside the items that they have: a read that may not be tried or held is told to be so, and not passed on.
+//!
+//! `hold` and `try` tell what came of a read: `not new`, `late`, the clash, `held`, or `goes with all` where it is not to be held.
 
 ghost use Rattle.std.specs.Prelude.{◌↔◌, ◌≢◌, ◌<◌, All, IsTrue};
 ghost use Rattle.air_history.specs.HeldReads.{IsNew};

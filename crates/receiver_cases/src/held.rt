@@ -8,8 +8,7 @@ ghost use Rattle.air_history.specs.HeldReads.{IsNew};
 ghost use Rattle.held_reads.specs.HeardReads.{heard_read};
 ghost use Rattle.receiver_cases.specs.PolicyReads.{held_of, least_cycle, policy_of};
 
-use air_base::{Clash, NoMemory, Policy};
-use case_lines::add_number;
+use air_base::{Clash, NoMemory, Policy, write_u64};
 use column_check::Held;
 use held_reads::{NOT_HELD, ROOM};
 use std::alloc::Global;
@@ -24,10 +23,10 @@ fn add_held(
     came: &mut Vec<u8>,
 ) -> Result<(), NoMemory> {
     came.extend_from_slice(b"holds ")?;
-    add_number(len as u64, came)?;
+    write_u64(len as u64, came)?;
     if let Some(cycle) = last {
         came.extend_from_slice(b", last ")?;
-        add_number(u64::from(cycle), came)?;
+        write_u64(u64::from(cycle), came)?;
     }
     came.extend_from_slice(b"; cycles")?;
     for cycle in cycles {
@@ -35,7 +34,7 @@ fn add_held(
         if *cycle == NOT_HELD {
             came.push(b'-')?;
         } else {
-            add_number(u64::from(*cycle), came)?;
+            write_u64(u64::from(*cycle), came)?;
         }
     }
     came.push(b'\n')?;

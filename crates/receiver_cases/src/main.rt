@@ -8,7 +8,6 @@ mod held;
 mod player;
 mod receivers;
 mod seeds;
-mod texts;
 
 use crate::player::Cases;
 use case_lines::play_stdin;

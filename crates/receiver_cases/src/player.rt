@@ -1,15 +1,14 @@
 //! The words of the cases.
 //!
-//! `policy` begins an attempt with nothing held, by a policy over a number of items; `hold` and `try` have an item, a cycle and
-//! the entries that are heard with it; `seeds` plays attempts of drawn reads. `deck` sets the text of a deck, and `receiver`
+//! `policy` begins an attempt with nothing held, by the letter of a policy and over a number of items; `hold` and `try` have an item, a
+//! cycle and the entries that are heard with it; `seeds` plays attempts of drawn reads. `deck` sets the text of a deck, and `receiver`
 //! makes its receiver of a number, which the other words are about.
 
 use crate::attempts::Attempt;
 use crate::receivers::{call, new_receiver};
 use crate::seeds::play_seeds;
-use crate::texts::{numbers, policy_of};
 use air_base::NoMemory;
-use case_lines::{Player, add_line, first_word, number, text_of};
+use case_lines::{BadCase, Parts, Player};
 use receiver_core::Receiver;
 use std::alloc::Global;
 
@@ -26,26 +25,25 @@ fn play_held(
     alloc: Global,
     attempt: &mut Attempt,
     word: &[u8],
-    about: &[u8],
+    parts: &mut Parts<'_>,
     came: &mut Vec<u8>,
 ) -> Result<(), NoMemory> {
-    let numbers = numbers(alloc, about)?;
-    match (word, numbers.as_slice()) {
-        (b"hold", [item, cycle, entries @ ..]) => {
-            let item = u16::try_from(*item).unwrap_or(u16::MAX);
-            attempt.read(item, *cycle, entries, true, came)
+    match word {
+        b"hold" => {
+            let item = parts.small();
+            let cycle = parts.narrow();
+            attempt.read(item, cycle, &parts.entries(alloc)?, true, came)?;
         }
-        (b"try", [item, cycle, entries @ ..]) => {
-            let item = u16::try_from(*item).unwrap_or(u16::MAX);
-            attempt.read(item, *cycle, entries, false, came)
+        b"try" => {
+            let item = parts.small();
+            let cycle = parts.narrow();
+            attempt.read(item, cycle, &parts.entries(alloc)?, false, came)?;
         }
-        (b"held", []) => attempt.show(came),
-        (b"clear", []) => {
-            attempt.clear();
-            Ok(())
-        }
-        _ => add_line(b"not a call", &[], came),
+        b"held" => attempt.show(came)?,
+        b"clear" => attempt.clear(),
+        _ => parts.refuse(BadCase::NoCall),
     }
+    Ok(())
 }
 
 impl Player for Cases {
@@ -53,33 +51,26 @@ impl Player for Cases {
         &mut self,
         alloc: Global,
         word: &[u8],
-        about: &[u8],
+        parts: &mut Parts<'_>,
         came: &mut Vec<u8>,
     ) -> Result<(), NoMemory> {
         match word {
             b"policy" => {
-                let (letter, items) = first_word(about);
-                let items = u16::try_from(number(items)).unwrap_or(0);
-                self.attempt = Some(Attempt::new(alloc, policy_of(letter), items)?);
+                let policy = parts.policy();
+                self.attempt = Some(Attempt::new(alloc, policy, parts.small())?);
                 self.receiver = None;
-                Ok(())
             }
-            b"seeds" => play_seeds(alloc, about, came),
-            b"deck" => {
-                self.deck = text_of(alloc, about)?;
-                Ok(())
-            }
-            b"receiver" => {
-                self.receiver = new_receiver(alloc, &self.deck, number(about), came)?;
-                Ok(())
-            }
+            b"seeds" => play_seeds(alloc, parts, came)?,
+            b"deck" => self.deck = parts.text(alloc)?,
+            b"receiver" => self.receiver = new_receiver(alloc, &self.deck, parts, came)?,
             _ => match &mut self.receiver {
-                Some(receiver) => call(alloc, receiver, word, about, came),
+                Some(receiver) => call(alloc, receiver, word, parts, came)?,
                 None => match &mut self.attempt {
-                    Some(attempt) => play_held(alloc, attempt, word, about, came),
-                    None => add_line(b"not a call", &[], came),
+                    Some(attempt) => play_held(alloc, attempt, word, parts, came)?,
+                    None => parts.refuse(BadCase::NoCall),
                 },
             },
         }
+        Ok(())
     }
 }

@@ -1,7 +1,11 @@
 //! Receivers of a deck's text, and their calls.
+//!
+//! `hear` has the bytes of a bucket in hexadecimal digits; the other calls have no parts. What a step comes to is told in a line, and an
+//! abort in two.
 
+use air_base::limits::MOST_DECK_BYTES;
 use air_base::{NoMemory, Verdict, VerdictKind};
-use case_lines::{add_line, bytes_of_hex};
+use case_lines::{BadCase, Parts, add_line};
 use chunk_program::{PlanFault, Program, cut};
 use item_catalog::{DeckError, read_deck};
 use receiver_core::{Fed, Receiver, Step};
@@ -11,10 +15,12 @@ use std::alloc::Global;
 pub fn new_receiver(
     alloc: Global,
     text: &[u8],
-    number: u64,
+    parts: &mut Parts<'_>,
     came: &mut Vec<u8>,
 ) -> Result<Option<Receiver>, NoMemory> {
-    if text.len() > 67_108_864 {
+    let number = parts.narrow();
+    if text.len() > MOST_DECK_BYTES {
+        parts.refuse(BadCase::NoCall);
         return Ok(None);
     }
     let deck = match read_deck(alloc, text) {
@@ -34,7 +40,6 @@ pub fn new_receiver(
             return Ok(None);
         }
     };
-    let number = u32::try_from(number).unwrap_or(u32::MAX);
     if number >= deck.readers() {
         add_line(b"no reader", &[], came)?;
         return Ok(None);
@@ -70,9 +75,10 @@ fn add_step(step: &Step, came: &mut Vec<u8>) -> Result<(), NoMemory> {
 fn hear(
     alloc: Global,
     receiver: &mut Receiver,
-    bytes: &[u8],
+    parts: &mut Parts<'_>,
     came: &mut Vec<u8>,
 ) -> Result<(), NoMemory> {
+    let bytes = parts.bytes(alloc)?;
     let counts = receiver.counts();
     let few = counts.opened < 99
         && counts.dozed < 99
@@ -80,9 +86,10 @@ fn hear(
         && counts.refused < 99
         && counts.foreign < 99;
     if !few || !receiver.settled() {
-        return add_line(b"not a call", &[], came);
+        parts.refuse(BadCase::NoCall);
+        return Ok(());
     }
-    match receiver.feed(bytes) {
+    match receiver.feed(&bytes) {
         Fed::Refused(fault) => {
             let text = format!(in alloc; "refused: {fault}\n")?;
             came.extend_from_slice(text.as_bytes())?;
@@ -104,39 +111,37 @@ fn add_reads(receiver: &Receiver, came: &mut Vec<u8>) -> Result<(), NoMemory> {
     Ok(())
 }
 
+/// Adds what the receiver has counted.
+fn add_counts(receiver: &Receiver, came: &mut Vec<u8>) -> Result<(), NoMemory> {
+    let counts = receiver.counts();
+    let heard = [counts.opened, counts.dozed, counts.late];
+    add_line(b"opened, dozed, late", &heard, came)?;
+    let others = [counts.refused, counts.foreign, counts.copied];
+    add_line(b"refused, foreign, copied", &others, came)
+}
+
 /// A call of the receiver.
 pub fn call(
     alloc: Global,
     receiver: &mut Receiver,
     word: &[u8],
-    about: &[u8],
+    parts: &mut Parts<'_>,
     came: &mut Vec<u8>,
 ) -> Result<(), NoMemory> {
     match word {
-        b"hear" => hear(alloc, receiver, &bytes_of_hex(alloc, about)?, came),
-        b"step" => add_step(&receiver.step(), came),
-        b"reads" => add_reads(receiver, came),
+        b"hear" => hear(alloc, receiver, parts, came)?,
+        b"step" => add_step(&receiver.step(), came)?,
+        b"reads" => add_reads(receiver, came)?,
         b"wanted" => match receiver.wanted() {
-            Some(item) => add_line(b"item", &[u64::from(item)], came),
-            None => add_line(b"none", &[], came),
+            Some(item) => add_line(b"item", &[u64::from(item)], came)?,
+            None => add_line(b"none", &[], came)?,
         },
         b"end" if receiver.settled() => match receiver.end() {
-            Some(verdict) => add_verdict(&verdict, came),
-            None => add_line(b"none", &[], came),
+            Some(verdict) => add_verdict(&verdict, came)?,
+            None => add_line(b"none", &[], came)?,
         },
-        b"counts" => {
-            let counts = receiver.counts();
-            add_line(
-                b"opened, dozed, late",
-                &[counts.opened, counts.dozed, counts.late],
-                came,
-            )?;
-            add_line(
-                b"refused, foreign, copied",
-                &[counts.refused, counts.foreign, counts.copied],
-                came,
-            )
-        }
-        _ => add_line(b"not a call", &[], came),
+        b"counts" => add_counts(receiver, came)?,
+        _ => parts.refuse(BadCase::NoCall),
     }
+    Ok(())
 }

@@ -4,9 +4,8 @@
 //! quiet: their entries are below 3, so that they go together. Those of the others are below their cycle.
 
 use crate::attempts::Attempt;
-use crate::texts::{numbers, policy_of};
 use air_base::{NoMemory, Policy};
-use case_lines::{add_line, first_word};
+use case_lines::{Parts, add_line, sum_of};
 use std::alloc::Global;
 
 /// A row of `n` entries below the limit.
@@ -55,33 +54,25 @@ fn play_seed(
     attempt.show(came)
 }
 
-/// The FNV-1a sum of 64 bits of the bytes.
-fn sum(bytes: &[u8]) -> u64 {
-    let mut sum = 14695981039346656037u64;
-    for byte in bytes {
-        sum = (sum ^ u64::from(*byte)).wrapping_mul(1099511628211);
-    }
-    sum
-}
-
 /// Plays the attempts of a range of seeds: the case has the policy, the number of items, the first seed, and the one after the
 /// last. Adds their lines, where these are few, or how many bytes they have, and the sum of these.
-pub fn play_seeds(alloc: Global, about: &[u8], came: &mut Vec<u8>) -> Result<(), NoMemory> {
-    let (letter, about) = first_word(about);
-    let policy = policy_of(letter);
-    let numbers = numbers(alloc, about)?;
-    let [n, from, to] = numbers.as_slice() else {
-        return add_line(b"not a call", &[], came);
-    };
-    let n = u16::try_from(*n).unwrap_or(0);
+pub fn play_seeds(
+    alloc: Global,
+    parts: &mut Parts<'_>,
+    came: &mut Vec<u8>,
+) -> Result<(), NoMemory> {
+    let policy = parts.policy();
+    let n = parts.small();
+    let from = parts.narrow();
+    let to = parts.narrow();
     let mut attempt = Attempt::new(alloc, policy, n)?;
     let mut lines = Vec::new(alloc);
-    for seed in *from..*to {
+    for seed in from..to {
         play_seed(alloc, &mut attempt, policy, n, seed, &mut lines)?;
     }
     if lines.len() < 1000 {
         came.extend_from_slice(&lines)?;
         return Ok(());
     }
-    add_line(b"bytes, sum", &[lines.len() as u64, sum(&lines)], came)
+    add_line(b"bytes, sum", &[lines.len() as u64, sum_of(&lines)], came)
 }

@@ -1,4 +1,5 @@
-//! Audits of reports: what is found of each line, a letter for each, or how many agree.
+//! Cases of audits of reports: `audit` tells what is found of each line, with its row, `letters` tells a letter for each, and `sums` how
+//! many agree.
 
 ghost use Rattle.air_report.specs.KeptReports.{KeepsGrammar};
 
@@ -69,8 +70,7 @@ pub fn add_audit(
         Ok(found) => match word {
             b"audit" => add_findings(&found, came),
             b"letters" => add_letters(&found, came),
-            b"sums" => add_sums(&found, came),
-            _ => add_line(b"not a case", &[], came),
+            _ => add_sums(&found, came),
         },
         Err(AuditError::TooMuch { product }) => add_line(b"too much", &[product], came),
         Err(AuditError::NoMemory) => Err(NoMemory),

@@ -1,4 +1,6 @@
-//! The lines of a report, each told by its numbers.
+//! Tells the lines of a report: each by its tag and its numbers, in the order in which a report has them.
+//!
+//! A verdict is told in lines: the attempt, how it ended, and each read.
 
 use air_base::{NoMemory, ReadOf, VerdictKind};
 use air_model::reports::{CountsLine, LookLine, VerdictLine};

@@ -1,21 +1,21 @@
 //! Plays cases of reports: read against a deck, written, and audited.
 //!
 //! `front` begins each text after it, and `repeat` goes on with it. `deck` reads that text with another at its end as a deck, and
-//! `report`, `lines`, `rows` and the audits as a report of this deck; `line` puts another text in the place of one of its lines.
-//! `put` adds a line to a report, which `write` writes after a text.
+//! `report`, `lines`, `rows` and the audits as a report of this deck; `line` puts another text in the place of the line of a number.
+//! `put` adds a line to a report, a tag and its numbers, and `write` writes these lines after a text.
 #![tactic(auto)]
 
 mod audits;
+mod drafts;
 mod lines;
-mod parts;
 mod reports;
 mod texts;
 
-use crate::parts::Parts;
+use crate::drafts::Draft;
 use crate::reports::ask;
 use air_base::NoMemory;
 use air_base::limits::MOST_DECK_BYTES;
-use case_lines::{Player, add_line, first_word, number, play_stdin, text_of};
+use case_lines::{BadCase, Parts, Player, add_line, play_stdin};
 use item_catalog::{Deck, DeckError, read_deck};
 use std::alloc::Global;
 use std::io;
@@ -25,24 +25,15 @@ use std::io;
 struct ReportPlayer {
     front: Vec<u8>,
     deck: Option<Deck>,
-    parts: Parts,
+    draft: Draft,
 }
 
 impl ReportPlayer {
-    /// The front with the text after it.
-    fn text(&self, alloc: Global, spelled: &[u8]) -> Result<Vec<u8>, NoMemory> {
+    /// The front with a text after it.
+    fn text(&self, alloc: Global, parts: &mut Parts<'_>) -> Result<Vec<u8>, NoMemory> {
         let mut text = self.front.clone()?;
-        text.extend_from_slice(&text_of(alloc, spelled)?)?;
+        text.extend_from_slice(&parts.text(alloc)?)?;
         Ok(text)
-    }
-
-    /// Adds the text to the front this many times; each `#` becomes the number of the repetition.
-    fn repeat(&mut self, alloc: Global, times: u64, spelled: &[u8]) -> Result<(), NoMemory> {
-        let text = text_of(alloc, spelled)?;
-        for time in 0..times {
-            texts::add_numbered(&text, time, &mut self.front)?;
-        }
-        Ok(())
     }
 
     /// Reads a deck, and keeps it.
@@ -84,35 +75,31 @@ impl Player for ReportPlayer {
         &mut self,
         alloc: Global,
         word: &[u8],
-        about: &[u8],
+        parts: &mut Parts<'_>,
         came: &mut Vec<u8>,
     ) -> Result<(), NoMemory> {
         match word {
-            b"front" => {
-                self.front = text_of(alloc, about)?;
-                Ok(())
-            }
-            b"repeat" => {
-                let (times, spelled) = first_word(about);
-                self.repeat(alloc, number(times), spelled)
-            }
+            b"front" => self.front = parts.text(alloc)?,
+            b"repeat" => self.front.extend_from_slice(&parts.rows(alloc)?)?,
+            b"put" => self.draft.put(alloc, parts)?,
+            b"write" => self.draft.write(alloc, parts, came)?,
             b"deck" => {
-                let text = self.text(alloc, about)?;
-                self.read_deck(alloc, &text, came)
+                let text = self.text(alloc, parts)?;
+                self.read_deck(alloc, &text, came)?;
             }
             b"line" => {
-                let (line, spelled) = first_word(about);
-                let other = text_of(alloc, spelled)?;
-                let text = texts::with_line(alloc, &self.front, number(line), &other)?;
-                self.ask(alloc, b"report", &text, came)
+                let line = parts.number();
+                let other = parts.text(alloc)?;
+                let text = texts::with_line(alloc, &self.front, line, &other)?;
+                self.ask(alloc, b"report", &text, came)?;
             }
-            b"put" => self.parts.put(alloc, about, came),
-            b"write" => self.parts.write(alloc, about, came),
-            word => {
-                let text = self.text(alloc, about)?;
-                self.ask(alloc, word, &text, came)
+            b"report" | b"lines" | b"rows" | b"audit" | b"letters" | b"sums" => {
+                let text = self.text(alloc, parts)?;
+                self.ask(alloc, word, &text, came)?;
             }
+            _ => parts.refuse(BadCase::NoSuchWord),
         }
+        Ok(())
     }
 }
 
@@ -120,7 +107,7 @@ fn main(rt: HostRuntime) -> io::Result<()> {
     let mut player = ReportPlayer {
         front: Vec::new(rt.alloc()),
         deck: None,
-        parts: Parts::new(rt.alloc()),
+        draft: Draft::new(rt.alloc()),
     };
     play_stdin(&rt, &mut player)
 }

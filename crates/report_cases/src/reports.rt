@@ -1,4 +1,7 @@
-//! Reports read from texts: their lines and rows, or the fault of the text.
+//! Cases of reports read from texts: their lines and rows, or the fault of the text.
+//!
+//! `report` tells only that the text is a report, `lines` its lines section by section, `rows` the rows of its lines and the text that is
+//! written of it. The audits of a report stand in `audits`.
 
 ghost use Rattle.std.specs.Prelude.{◌≤◌, length};
 ghost use Rattle.air_report.specs.declared.reading.limits.TheConstants.{MOST_REPORT_BYTES};
@@ -6,10 +9,10 @@ ghost use Rattle.air_report.specs.declared.reading.limits.TheConstants.{MOST_REP
 use crate::audits::add_audit;
 use crate::lines::{add_counts, add_events, add_looks, add_verdicts};
 use crate::texts::tell;
-use air_base::{NoMemory, Rows};
+use air_base::NoMemory;
 use air_report::reading::limits::MOST_REPORT_BYTES;
 use air_report::{ReadReport, ReportError, read_lines, read_report, write_report};
-use case_lines::{add_line, add_number};
+use case_lines::{add_entries, add_line};
 use item_catalog::Deck;
 use std::alloc::Global;
 
@@ -39,22 +42,11 @@ fn add_lines(alloc: Global, deck: &Deck, text: &[u8], came: &mut Vec<u8>) -> Res
     }
 }
 
-/// Adds a line of row numbers.
-fn add_row_numbers(word: &[u8], rows: &Rows, came: &mut Vec<u8>) -> Result<(), NoMemory> {
-    came.extend_from_slice(word)?;
-    for row in rows.as_slice() {
-        came.push(b' ')?;
-        add_number(u64::from(*row), came)?;
-    }
-    came.push(b'\n')?;
-    Ok(())
-}
-
 /// Tells the rows of a report's lines, and the text that is written of it.
 fn add_rows(alloc: Global, read: &ReadReport, came: &mut Vec<u8>) -> Result<(), NoMemory> {
-    add_row_numbers(b"verdicts", &read.verdict_rows, came)?;
-    add_row_numbers(b"glances", &read.glance_rows, came)?;
-    add_row_numbers(b"looks", &read.look_rows, came)?;
+    add_entries(b"verdicts", read.verdict_rows.as_slice(), came)?;
+    add_entries(b"glances", read.glance_rows.as_slice(), came)?;
+    add_entries(b"looks", read.look_rows.as_slice(), came)?;
     let mut text = Vec::new(alloc);
     write_report(alloc, &read.report, &mut text)?;
     tell(&text, came)

@@ -1,21 +1,11 @@
-//! Texts that are made of others, and a text told in one line.
+//! A text with another line in the place of one, and a text told in one line.
+//!
+//! Lines are counted from 1, each ended by a line feed.
 
 use air_base::NoMemory;
-use case_lines::add_number;
 use std::alloc::Global;
 
-/// Adds the text, where each `#` is this number.
-pub fn add_numbered(text: &[u8], number: u64, out: &mut Vec<u8>) -> Result<(), NoMemory> {
-    for byte in text {
-        match *byte {
-            b'#' => add_number(number, out)?,
-            byte => out.push(byte)?,
-        }
-    }
-    Ok(())
-}
-
-/// The lines of the text, with another in the place of one; lines are counted from 1.
+/// The lines of the text, with another in the place of one.
 pub fn with_line(alloc: Global, text: &[u8], line: u64, other: &[u8]) -> Result<Vec<u8>, NoMemory> {
     let mut out = Vec::new(alloc);
     let mut at = 1_u64;

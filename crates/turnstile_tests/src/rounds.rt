@@ -38,7 +38,7 @@ pub fn hire(
     Ok(workers)
 }
 
-/// Lets each worker make its turns, by so many threads.
+/// Lets each worker make its turns, on `threads` threads.
 pub fn work_all<R: Threads + Wait + Sync>(
     rt: &R,
     gate: &Turnstile<Pairs>,
@@ -87,8 +87,8 @@ fn all_done(workers: &[Worker]) -> bool {
     true
 }
 
-/// A turnstile of so many passes round an empty list, each pass with so many turns, by so many threads: the list at the end,
-/// or `NoMemory` where a turn had none.
+/// Makes a turnstile of `passes` passes round an empty list, and lets each pass make `turns` turns, on `threads` threads: the list at
+/// the end, or `NoMemory` where a turn had none.
 pub fn play<R: Threads + Wait + Sync>(
     rt: &R,
     alloc: Global,

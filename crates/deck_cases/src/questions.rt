@@ -1,16 +1,36 @@
-//! A deck is asked for its parts: each answer is a line or some, and `missing` where the deck has no such part.
+//! Cases that ask a deck for its parts: each answer is a line or some, and `missing` where the deck has no such part.
+//!
+//! `counts` and `settings` ask for all at once; `item`, `disk`, `updates`, `reader` and `event` have a number; `update` has the
+//! number of an updater and that of its update, and `query` that of a reader and that of its query.
 
 ghost use Rattle.std.specs.Prelude.{◌<◌, length};
 
-use crate::updates::{add_items, add_update};
 use air_base::{NoMemory, Policy};
-use case_lines::{add_line, first_word, number};
+use air_history::Update;
+use case_lines::{BadCase, Parts, add_items, add_line, add_writes};
 use item_catalog::Deck;
 
+/// The two numbers behind a word; 0 for those that it hasn't.
+pub fn question(word: &[u8], parts: &mut Parts<'_>) -> (u64, u64) {
+    match word {
+        b"counts" | b"settings" => (0, 0),
+        b"item" | b"disk" | b"updates" | b"reader" | b"event" => (parts.number(), 0),
+        b"update" | b"query" => (parts.number(), parts.number()),
+        _ => {
+            parts.refuse(BadCase::NoSuchWord);
+            (0, 0)
+        }
+    }
+}
+
 /// Answers a question to the deck.
-pub fn ask(deck: &Deck, word: &[u8], about: &[u8], came: &mut Vec<u8>) -> Result<(), NoMemory> {
-    let (first, second) = first_word(about);
-    let (first, second) = (number(first), number(second));
+pub fn answer(
+    deck: &Deck,
+    word: &[u8],
+    question: (u64, u64),
+    came: &mut Vec<u8>,
+) -> Result<(), NoMemory> {
+    let (first, second) = question;
     deck.shows_well_made();
     match word {
         b"counts" => add_counts(deck, came),
@@ -76,7 +96,20 @@ fn add_query(deck: &Deck, r: u32, q: u64, came: &mut Vec<u8>) -> Result<(), NoMe
     if q >= u64::from(deck.queries(r)) {
         return add_line(b"missing", &[], came);
     }
-    add_items(b"asks", deck.query(r, q as u32), came)
+    came.extend_from_slice(b"asks")?;
+    add_items(deck.query(r, q as u32), came)
+}
+
+/// Adds the reads and the writes of one of an updater's updates.
+fn add_update(updates: &[Update], seq: u64, came: &mut Vec<u8>) -> Result<(), NoMemory> {
+    if seq >= updates.len() as u64 {
+        return add_line(b"missing", &[], came);
+    }
+    let update = &updates[seq as usize];
+    came.extend_from_slice(b"reads")?;
+    add_items(update.reads(), came)?;
+    came.extend_from_slice(b"\nwrites")?;
+    add_writes(update.writes(), came)
 }
 
 /// Adds a part of the script.

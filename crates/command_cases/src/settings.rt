@@ -1,0 +1,80 @@
+//! What is set for the next command alone.
+//!
+//! `room`, `cut` and `flip` have a number, `fail` and `air_fail` numbers of calls, and `hears` the bytes of a datagram in hexadecimal
+//! digits; `brief` has nothing.
+
+ghost use Rattle.std.specs.Prelude.{◌≤◌, length, All, IfOk};
+
+use air_base::NoMemory;
+use case_lines::{BadCase, Parts};
+use std::alloc::Global;
+
+/// The room that a printed text, an output and a mast have where nothing else is set.
+const ROOM: usize = 2_000;
+
+/// The room, the calls of the shelf and those of the mast and the ear that fail, at which byte the tape is cut, at which its highest bit is
+/// changed, and the datagrams that wait for the ear.
+#[derive(Drop)]
+pub struct Settings {
+    pub room: usize,
+    pub fail: Vec<u64>,
+    pub air_fail: Vec<u64>,
+    pub cut: Option<usize>,
+    pub flip: Option<usize>,
+    heard: Vec<Vec<u8>>,
+    /// Whether only what no schedule changes is told.
+    pub brief: bool,
+}
+
+impl Settings {
+    /// Nothing is set.
+    pub fn new(alloc: Global) -> Settings {
+        Settings {
+            room: ROOM,
+            fail: Vec::new(alloc),
+            air_fail: Vec::new(alloc),
+            cut: None,
+            flip: None,
+            heard: Vec::new(alloc),
+            brief: false,
+        }
+    }
+
+    /// Sets what the word says, and tells whether it says something.
+    pub fn set(
+        &mut self,
+        alloc: Global,
+        word: &[u8],
+        parts: &mut Parts<'_>,
+    ) -> Result<bool, NoMemory> {
+        match word {
+            b"room" => self.room = parts.number() as usize,
+            b"fail" => self.fail = parts.numbers(alloc)?,
+            b"air_fail" => self.air_fail = parts.numbers(alloc)?,
+            b"cut" => self.cut = Some(parts.number() as usize),
+            b"flip" => self.flip = Some(parts.number() as usize),
+            b"hears" => {
+                if parts.left() == 0 {
+                    parts.refuse(BadCase::Missing);
+                }
+                self.heard.push(parts.bytes(alloc)?)?;
+            }
+            b"brief" => self.brief = true,
+            _ => return Ok(false),
+        }
+        Ok(true)
+    }
+
+    /// The datagrams of one byte at least.
+    pub fn datagrams(&self, alloc: Global) -> Result<Vec<Vec<u8>>, NoMemory>
+        ensures { IfOk result (λ all. All (λ bytes. 1 ≤ length bytes.items) all.items) }
+    {
+        let mut all = Vec::new(alloc);
+        for bytes in &self.heard {
+            if !bytes.is_empty() {
+                all.push(bytes.clone()?)?;
+            }
+        }
+        Ok(all)
+    }
+}
