@@ -1,4 +1,4 @@
-use Rattle.std.proofs.Common.{map, string_bytes}
+use Rattle.std.proofs.Common.{map, string_bytes, rules}
 use Rattle.air_cli.specs.Words.{asked_of}
 use Rattle.air_cli.proofs.TopLemmas.{words_complete}
 use Rattle.air_cli.proofs.main_call.air_main.Goals as goal
@@ -26,3 +26,10 @@ returns-in-Some-Listen-clause-complete g c =
     let mast = g.M.Mast.state c.args.mast.now in
     words_complete (asked_of (map (λ w. string_bytes w) c.args.words.now)) mast mast (E.state c.args.ear.now) (E.state c.listen_deck.new.ear) (S.state c.args.shelf.now) (S.state c.listen_deck.new.shelf)
     c.listen_deck.result (rw (← c.in-Some-Listen.ensures.asked, c.in-Some-Listen.field-0-is) c.listen_deck.ensures.answers)
+
+pub returns-in_default-clause-complete : goal.returns-in_default-clause-complete
+returns-in_default-clause-complete g c =
+    let S = g.S.Shelf in
+    let mast = g.M.Mast.state c.args.mast.now in
+    let ear = g.E.Ear.state c.args.ear.now in
+    words_complete (asked_of (map (λ w. string_bytes w) c.args.words.now)) mast mast ear ear (S.state c.args.shelf.now) (S.state c.air_quiet.new.shelf) c.air_quiet.result (search rules)
