@@ -36,6 +36,21 @@ fn send<M: Mast>(mast: &mut M, bytes: &[u8]) -> Result<(), Failed> {
     mast.send(bytes)
 }
 
+/// How often the end comes.
+const END_MARKS: usize = 3;
+
+/// Whether these bytes come to the socket, the end three times.
+fn comes(far: &UdpSocket, buf: &mut [u8], bytes: &[u8]) -> io::Result<bool> {
+    let times = if bytes.is_empty() { END_MARKS } else { 1 };
+    for _ in 0..times {
+        let count = far.recv(buf)?;
+        if buf.get(..count) != Some(bytes) {
+            return Ok(false);
+        }
+    }
+    Ok(true)
+}
+
 /// The place of the first datagram that the mast doesn't send, or that doesn't come to the socket as it was sent.
 fn first_lost<M: Mast>(
     mast: &mut M,
@@ -44,11 +59,7 @@ fn first_lost<M: Mast>(
     datagrams: &[&[u8]],
 ) -> io::Result<Option<usize>> {
     for (place, bytes) in datagrams.iter().enumerate() {
-        if send(mast, bytes).is_err() {
-            return Ok(Some(place));
-        }
-        let count = far.recv(buf)?;
-        if buf.get(..count) != Some(*bytes) {
+        if send(mast, bytes).is_err() || !comes(far, buf, bytes)? {
             return Ok(Some(place));
         }
     }
@@ -126,6 +137,20 @@ fn an_ear_hears_datagrams_cut_to_its_buffer_and_an_empty_one_as_the_end(
     let misheard = first_misheard(&far, port, &mut ear, &rows)?;
     let told = (tuned, misheard, ear.last_failure().is_none());
     assert_eq!(rt; told, (Ok(()), None, true));
+    Ok(())
+}
+
+#[test]
+fn a_silence_behind_the_first_datagram_is_the_end(rt: HostRuntime) -> Result<(), Fail> {
+    let (far, _) = plain_socket(&rt)?;
+    let port = free_port(&rt)?;
+    let mut ear = UdpEar::with_silence(rt.clone()?, 1);
+    let tuned = ear.tune_in(port);
+    let rows: [(&[u8], &[u8]); 1] = [(b"ab", b"ab")];
+    let misheard = first_misheard(&far, port, &mut ear, &rows)?;
+    let over = heard_is(&mut ear, b"");
+    let told = (tuned, misheard, over, ear.last_failure().is_none());
+    assert_eq!(rt; told, (Ok(()), None, true, true));
     Ok(())
 }
 

@@ -8,6 +8,7 @@ use std::fs::{File, Metadata, OpenOptions};
 use std::io::{Error, ErrorKind, Result};
 use std::net::{Net, SocketAddr, TcpListener, TcpStream, UdpSocket};
 use std::rt::Files;
+use std::time::{Clock, Duration};
 
 /// The runtime.
 #[derive(Drop)]
@@ -92,6 +93,16 @@ impl Net for Broken {
     }
 
     fn bind_udp(&self, _addr: SocketAddr) -> Result<UdpSocket> {
+        Err(failure())
+    }
+}
+
+impl Clock for Broken {
+    fn monotonic(&self) -> Result<Duration> {
+        Err(failure())
+    }
+
+    fn since_1970(&self) -> Result<Duration> {
         Err(failure())
     }
 }
