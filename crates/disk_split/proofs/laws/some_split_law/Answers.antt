@@ -1,0 +1,5 @@
+use Rattle.disk_split.proofs.CostFacts.{own_split}
+use Rattle.disk_split.proofs.laws.some_split_law.Goals as goal
+
+pub returns : goal.returns
+returns c = λ deck made. own_split deck made

@@ -1,0 +1,10 @@
+use Rattle.std.proofs.Common.{◌≡◌, ◌≤◌, ◌<◌, ◌^◌, take}
+use Rattle.disk_split.proofs.MinorFacts.{common_of}
+use Rattle.disk_split.proofs.numbers.minors.Given as goal
+
+abbrev pub invariant-loop-disk : goal.invariant-loop-disk
+invariant-loop-disk l = record {
+  counted : l.minors ≡ common_of (take l.disk l.deck.disks);
+  some : 0 < l.minors;
+  under : l.minors ≤ 64 ^ l.disk;
+}

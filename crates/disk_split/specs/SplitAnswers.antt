@@ -1,0 +1,30 @@
+-- What each answer of the search for the best split says.
+use Rattle.std.specs.Prelude.{◌≡◌, ◌≤◌, ◌<◌, ℕ, ◌*◌, List, length, ⊤}
+use Rattle.air_base.specs.declared.limits.TheConstants.{MOST_SLOTS}
+use Rattle.air_model.specs.Decks.{Deck}
+use Rattle.disk_split.specs.declared.splits.SplitFault.{SplitFault}
+use Rattle.disk_split.specs.declared.splits.SplitFault.TheVariants.{TooMuch, TooLong, NoMemory}
+use Rattle.disk_split.specs.declared.splits.TheConstants.{MOST_SPLIT}
+use Rattle.disk_split.specs.Splits.{IsSplit, slots_of}
+
+-- The search goes over so much: for each disk, each two places between which its items may stand.
+abbrev pub search_size : Deck → ℕ
+search_size deck = length deck.items * length deck.items * length deck.disks
+
+-- All splits have more slots than a program may have, and so many at least.
+pub record IsTooLong (deck : Deck) (slots : ℕ) : Type 0 where
+  pub above : MOST_SLOTS < slots
+  pub reached : (sizes : List ℕ) × IsSplit deck sizes × (slots_of deck sizes ≡ slots)
+  pub least : (sizes : List ℕ) → IsSplit deck sizes → slots ≤ slots_of deck sizes
+
+-- Too much is said with how much the search would go over, and only where that is more than it may.
+abbrev pub SaysTooMuch : Deck → SplitFault → Type 0
+SaysTooMuch deck (TooMuch product) = (product ≡ search_size deck) × (MOST_SPLIT < product)
+SaysTooMuch deck (TooLong slots) = search_size deck ≤ MOST_SPLIT
+SaysTooMuch deck NoMemory = ⊤
+
+-- Too long is said with the least number of slots of any split, and only where that is more than a program may have.
+abbrev pub SaysTooLong : Deck → SplitFault → Type 0
+SaysTooLong deck (TooMuch product) = ⊤
+SaysTooLong deck (TooLong slots) = IsTooLong deck slots
+SaysTooLong deck NoMemory = ⊤

@@ -1,0 +1,6 @@
+-- Definitions that private steps alone speak of: no public contract cites them, nor what a public type shows.
+pub mod Numbers
+pub mod Rests
+pub mod Tables
+pub mod Lefts
+pub mod Bests

@@ -1,0 +1,92 @@
+//! The sizes that come first among those of one number of slots and one weight, found from disk 0 on.
+
+ghost use Rattle.std.specs.Prelude.{◌≡◌, ◌<◌, ◌≤◌, ◌+◌, IfOk, MatchOption, drop, get_or, length, slice_index};
+ghost use Rattle.disk_split.specs.declared.sizes.Left.{Left as ModelLeft};
+ghost use Rattle.disk_split.specs.Steps.Lefts.{IsAfter, IsFirstSize, IsLeastLeft};
+ghost use Rattle.disk_split.specs.Steps.Rests.{AreChunks, AreSums, IsFirst};
+ghost use Rattle.disk_split.specs.Steps.Tables.{HasEntries, HaveEntries};
+
+use crate::lengths::chunk_slots;
+use crate::tables::{Row, Table};
+use std::alloc::{AllocError, Global};
+
+/// What is left to place: the items from a place on, in so many slots of a minor cycle and with so much weight.
+#[derive(Clone, Copy)]
+pub struct Left {
+    pub from: usize,
+    pub slots: usize,
+    pub weight: u64,
+}
+
+/// What is left once the first of these disks took so many of the items, if the disks after it can make up the weight.
+fn after(left: Left, chunks: &[u64], sums: &[u64], next: &[Row], size: usize) -> Option<Left>
+    requires sums { AreSums sums.now }
+    requires chunks { AreChunks chunks.now }
+    requires some { 0 < length chunks.now }
+    requires next { HasEntries sums.now (drop 1 chunks.now) left.slots next.now }
+    requires within { left.from + size < length sums.now }
+    requires filled { 1 ≤ size }
+    ensures { MatchOption result
+        ((rest : ModelLeft) → IsAfter sums.now (slice_index chunks.now 0) next.now left size rest → ⊥)
+        (IsAfter sums.now (slice_index chunks.now 0) next.now left size) }
+{
+    let chunk = chunk_slots(chunks[0], size as u64) as usize;
+    if left.slots < chunk {
+        return None;
+    }
+    let from = left.from + size;
+    let slots = left.slots - chunk;
+    let Some(weight) = next[from].entry(slots) else {
+        return None;
+    };
+    if weight + chunks[0] * (sums[from] - sums[left.from]) != left.weight {
+        return None;
+    }
+    Some(Left {
+        from,
+        slots,
+        weight,
+    })
+}
+
+/// The least size of the first of these disks with which the weight that is left can be made up, and what is left then.
+fn first_size(left: Left, chunks: &[u64], sums: &[u64], next: &[Row]) -> (usize, Left)
+    requires sums { AreSums sums.now }
+    requires chunks { AreChunks chunks.now }
+    requires some { 0 < length chunks.now }
+    requires next { HasEntries sums.now (drop 1 chunks.now) left.slots next.now }
+    requires left { IsLeastLeft sums.now chunks.now left }
+    ensures { IsFirstSize sums.now (slice_index chunks.now 0) next.now left result.0 result.1 }
+{
+    for size in 1..sums.len() - left.from {
+        if let Some(rest) = after(left, chunks, sums, next, size) {
+            return (size, rest);
+        }
+    }
+    unreachable!()
+}
+
+/// The sizes that come first among those which place what is left.
+pub fn sizes(
+    alloc: Global,
+    chunks: &[u64],
+    sums: &[u64],
+    tables: &[Table],
+    left: Left,
+) -> Result<Vec<u16>, AllocError>
+    requires sums { AreSums sums.now }
+    requires chunks { AreChunks chunks.now }
+    requires tables { HaveEntries sums.now chunks.now left.slots tables.now }
+    requires left { IsLeastLeft sums.now chunks.now left }
+    ensures { IfOk result (λ sizes. IsFirst sums.now chunks.now left.from left.slots left.weight sizes.items) }
+{
+    let mut sizes = Vec::new(alloc);
+    let mut rest = left;
+    for disk in 0..chunks.len() {
+        let next = &tables[chunks.len() - (disk + 1)];
+        let (size, more) = first_size(rest, &chunks[disk..], sums, &next.rows);
+        sizes.push(size as u16)?;
+        rest = more;
+    }
+    Ok(sizes)
+}

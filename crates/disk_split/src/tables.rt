@@ -1,0 +1,172 @@
+//! The tables of least weights: one for the disks from each one on.
+//!
+//! A table has a row for each place from which these disks take the items, and in it an entry for each number of slots of a minor
+//! cycle: the least weight of all sizes with so many, or none.
+
+ghost use Rattle.std.specs.Prelude.{◌≡◌, ◌<◌, ◌≤◌, ℕ, ◌+◌, ◌^◌, [], ◌∷◌, Some, None, IfOk, drop, if◌then◌else◌, length, slice_index_or};
+ghost use Rattle.air_base.specs.declared.limits.TheConstants.{MOST_SLOTS};
+ghost use Rattle.disk_split.specs.Steps.Rests.{AreChunks, AreSums};
+ghost use Rattle.disk_split.specs.Steps.Tables.{AreTables, HasRoom, IsRow, IsTable, improved, lesser};
+
+use crate::lengths::chunk_slots;
+use std::alloc::{AllocError, Global};
+use std::marker::Model;
+
+/// The entries of a row.
+#[derive(Drop)]
+pub struct Row {
+    pub entries: Vec<Option<u64>>,
+}
+
+impl Model for Row {
+    ghost use Rattle.std.specs.Prelude.{List, Option, ℕ};
+
+    ghost Value = { List (Option ℕ) };
+
+    ghost view = { λ row. row.entries.items };
+}
+
+impl Row {
+    /// The entry of a number of slots.
+    pub fn entry(&self, slots: usize) -> Option<u64>
+        ensures { result ≡ slice_index_or self.now slots None }
+    {
+        if slots < self.entries.len() {
+            self.entries[slots]
+        } else {
+            None
+        }
+    }
+}
+
+/// The rows of a table.
+#[derive(Drop)]
+pub struct Table {
+    pub rows: Vec<Row>,
+}
+
+impl Model for Table {
+    ghost use Rattle.std.specs.Prelude.{List, Option, ℕ};
+
+    ghost Value = { List (List (Option ℕ)) };
+
+    ghost view = { λ table. table.rows.items };
+}
+
+/// The less of an entry and a weight.
+fn lesser(entry: Option<u64>, weight: u64) -> Option<u64>
+    ensures { result ≡ lesser entry weight }
+{
+    match entry {
+        Some(old) => Some(old.min(weight)),
+        None => Some(weight),
+    }
+}
+
+/// Lets a disk also take the next number of items, in a chunk of so many slots and with so much more weight.
+fn improve(entries: &mut [Option<u64>], next: &[Option<u64>], chunk: usize, more: u64)
+    requires short { chunk + length next.now < 2 ^ 64 }
+    requires room { HasRoom more next.now }
+    ensures { (len : ℕ) → len < length entries.old →
+        slice_index_or entries.new len None ≡ improved next.now chunk more len (slice_index_or entries.old len None) }
+{
+    for len in chunk..entries.len().min(chunk + next.len()) {
+        if let Some(rest) = next[len - chunk] {
+            entries[len] = lesser(entries[len], rest + more);
+        }
+    }
+}
+
+/// The row of a place for the disks of these chunks, from the table of the disks after the first.
+fn row_from(
+    alloc: Global,
+    chunks: &[u64],
+    sums: &[u64],
+    next: &[Row],
+    from: usize,
+    width: usize,
+) -> Result<Row, AllocError>
+    requires sums { AreSums sums.now }
+    requires chunks { AreChunks chunks.now }
+    requires some { 0 < length chunks.now }
+    requires next { IsTable sums.now (drop 1 chunks.now) width next.now }
+    requires within { from < length sums.now }
+    ensures { IfOk result (IsRow sums.now chunks.now from width) }
+{
+    let mut entries = vec![in alloc; None; width.min(sums.len() - from)]?;
+    for size in 1..sums.len() - from {
+        let chunk = chunk_slots(chunks[0], size as u64) as usize;
+        let more = chunks[0] * (sums[from + size] - sums[from]);
+        let row = &next[from + size];
+        improve(&mut entries, &row.entries, chunk, more);
+    }
+    Ok(Row { entries })
+}
+
+/// The table of the disks of these chunks, from that of the disks after the first.
+fn table_from(
+    alloc: Global,
+    chunks: &[u64],
+    sums: &[u64],
+    next: &[Row],
+    width: usize,
+) -> Result<Table, AllocError>
+    requires sums { AreSums sums.now }
+    requires chunks { AreChunks chunks.now }
+    requires some { 0 < length chunks.now }
+    requires next { IsTable sums.now (drop 1 chunks.now) width next.now }
+    ensures { IfOk result (IsTable sums.now chunks.now width) }
+{
+    let mut rows = Vec::new(alloc);
+    for from in 0..sums.len() {
+        rows.push(row_from(alloc, chunks, sums, next, from, width)?)?;
+    }
+    Ok(Table { rows })
+}
+
+/// The row of a place for no disk: only behind the last item nothing is left to take, in no slots and with no weight.
+fn last_row(alloc: Global, is_end: bool) -> Result<Row, AllocError>
+    ensures { IfOk result (λ row. row ≡ (if is_end then Some 0 ∷ [] else [])) }
+{
+    let mut entries = Vec::new(alloc);
+    if is_end {
+        entries.push(Some(0))?;
+    }
+    Ok(Row { entries })
+}
+
+/// The table of no disk.
+fn last_table(alloc: Global, sums: &[u64], width: usize) -> Result<Table, AllocError>
+    requires sums { AreSums sums.now }
+    requires wide { 0 < width }
+    ensures { IfOk result (IsTable sums.now [] width) }
+{
+    let mut rows = Vec::new(alloc);
+    for from in 0..sums.len() {
+        rows.push(last_row(alloc, from + 1 == sums.len())?)?;
+    }
+    Ok(Table { rows })
+}
+
+/// The tables of the disks from each one on, from that of no disk to that of all.
+pub fn tables(
+    alloc: Global,
+    chunks: &[u64],
+    sums: &[u64],
+    width: usize,
+) -> Result<Vec<Table>, AllocError>
+    requires sums { AreSums sums.now }
+    requires chunks { AreChunks chunks.now }
+    requires wide { 0 < width }
+    ensures { IfOk result (λ tables. AreTables sums.now chunks.now width tables.items) }
+{
+    let mut tables = Vec::new(alloc);
+    tables.push(last_table(alloc, sums, width)?)?;
+    for count in 0..chunks.len() {
+        let rest = &chunks[chunks.len() - (count + 1)..];
+        let next = &tables[count];
+        let table = table_from(alloc, rest, sums, &next.rows, width)?;
+        tables.push(table)?;
+    }
+    Ok(tables)
+}
