@@ -7,9 +7,9 @@ use Rattle.std.proofs.lemmas.Bool.Decides.{nat_tests}
 use Rattle.std.proofs.lemmas.Option.{none-some, same_Some}
 use Rattle.disk_split.specs.declared.search.Found.{Found}
 use Rattle.disk_split.specs.Splits.{is_before}
-use Rattle.disk_split.specs.Steps.Bests.{IsBestBelow, IsFound, better, cost_from, is_better}
-use Rattle.disk_split.specs.Steps.Rests.{IsFirst, IsRest, minor_from, weight_from}
-use Rattle.disk_split.specs.Steps.Tables.{IsEntry}
+use Rattle.disk_split.specs.Private.Bests.{IsBestBelow, IsFound, better, cost_from, is_better}
+use Rattle.disk_split.specs.Private.Rests.{IsFirst, IsSplitRest, minor_from, weight_from}
+use Rattle.disk_split.specs.Private.Tables.{IsEntry}
 use Rattle.disk_split.proofs.Orders.{before_not, not_before}
 
 same_factor : (k a b : ℕ) → 0 < k → k * a ≡ k * b → a ≡ b
@@ -25,19 +25,19 @@ module _ (sums cs : List ℕ) (slots weight : ℕ) (sizes : List ℕ) (some : 0 
   pub own_cost : cost_from sums cs sizes ≡ slots * weight
   own_cost = ap (λ n. n * weight_from sums cs 0 sizes) first.is.slots ∙ ap (λ n. slots * n) first.is.weighs
 
-  pub own_least : (other : List ℕ) → IsRest sums cs 0 other → minor_from cs other ≡ slots → slots * weight ≤ cost_from sums cs other
+  pub own_least : (other : List ℕ) → IsSplitRest sums cs 0 other → minor_from cs other ≡ slots → slots * weight ≤ cost_from sums cs other
   own_least other rest long =
       let low = entry.least other rest long in let is = same_Some weight low.0 low.1 in let most = low.2 in
       let up : weight ≤ weight_from sums cs 0 other = omega arith in
       let grows : slots * weight ≤ slots * weight_from sums cs 0 other = mul-le-mul_left slots up in
       rw long grows
 
-  pub own_first : (other : List ℕ) → IsRest sums cs 0 other → minor_from cs other ≡ slots → cost_from sums cs other ≡ slots * weight → is_before other sizes ≡ false
+  pub own_first : (other : List ℕ) → IsSplitRest sums cs 0 other → minor_from cs other ≡ slots → cost_from sums cs other ≡ slots * weight → is_before other sizes ≡ false
   own_first other rest long costs =
       first.first other (record { rest = rest; slots = long; weighs = same_factor slots (weight_from sums cs 0 other) weight some (ap (λ n. n * weight_from sums cs 0 other) (sym long) ∙ costs) })
 
   -- they are the best where nothing was found with fewer slots
-  pub alone_best : ((other : List ℕ) → IsRest sums cs 0 other → minor_from cs other < slots → ⊥) → IsBestBelow sums cs (slots + 1) (slots * weight) sizes
+  pub alone_best : ((other : List ℕ) → IsSplitRest sums cs 0 other → minor_from cs other < slots → ⊥) → IsBestBelow sums cs (slots + 1) (slots * weight) sizes
   alone_best none = record {
     rest = first.is.rest;
     short = (let e = first.is.slots in omega arith);
@@ -46,7 +46,7 @@ module _ (sums cs : List ℕ) (slots weight : ℕ) (sizes : List ℕ) (some : 0 
     first = λ other rest below costs. own_first other rest (just other rest below) costs;
   }
     where
-      just : (other : List ℕ) → IsRest sums cs 0 other → minor_from cs other < slots + 1 → minor_from cs other ≡ slots
+      just : (other : List ℕ) → IsSplitRest sums cs 0 other → minor_from cs other < slots + 1 → minor_from cs other ≡ slots
       just other rest below = by (cases_lt (minor_from cs other) slots)
         where
           by : ((minor_from cs other < slots) ⊎ (slots ≤ minor_from cs other)) → minor_from cs other ≡ slots
@@ -64,13 +64,13 @@ module _ (sums cs : List ℕ) (slots weight : ℕ) (sizes : List ℕ) (some : 0 
       first = λ other rest below costs. later other rest costs up (cases_lt (minor_from cs other) slots) below;
     }
       where
-        by : (other : List ℕ) → IsRest sums cs 0 other → ((slots * weight < old) ⊎ ((slots * weight ≡ old) × (is_before sizes kept ≡ true)))
+        by : (other : List ℕ) → IsSplitRest sums cs 0 other → ((slots * weight < old) ⊎ ((slots * weight ≡ old) × (is_before sizes kept ≡ true)))
             → ((minor_from cs other < slots) ⊎ (slots ≤ minor_from cs other)) → minor_from cs other < slots + 1 → slots * weight ≤ cost_from sums cs other
         by other rest (inl less) (inl short) below = let low = best.least other rest short in omega arith
         by other rest (inr same) (inl short) below = let low = best.least other rest short in let e = same.0 in omega arith
         by other rest o (inr long) below = own_least other rest (omega arith)
 
-        later : (other : List ℕ) → IsRest sums cs 0 other → cost_from sums cs other ≡ slots * weight → ((slots * weight < old) ⊎ ((slots * weight ≡ old) × (is_before sizes kept ≡ true)))
+        later : (other : List ℕ) → IsSplitRest sums cs 0 other → cost_from sums cs other ≡ slots * weight → ((slots * weight < old) ⊎ ((slots * weight ≡ old) × (is_before sizes kept ≡ true)))
             → ((minor_from cs other < slots) ⊎ (slots ≤ minor_from cs other)) → minor_from cs other < slots + 1 → is_before other sizes ≡ false
         later other rest costs (inl less) (inl short) below = absurd (let low = best.least other rest short in omega arith)
         later other rest costs (inr same) (inl short) below = not_before sizes kept other (before_not sizes kept same.1) (best.first other rest short (costs ∙ same.0))
@@ -86,13 +86,13 @@ module _ (sums cs : List ℕ) (slots weight : ℕ) (sizes : List ℕ) (some : 0 
       first = λ other rest below costs. later other rest costs up (cases_lt (minor_from cs other) slots) below;
     }
       where
-        by : (other : List ℕ) → IsRest sums cs 0 other → ((old < slots * weight) ⊎ ((slots * weight ≡ old) × (is_before sizes kept ≡ false)))
+        by : (other : List ℕ) → IsSplitRest sums cs 0 other → ((old < slots * weight) ⊎ ((slots * weight ≡ old) × (is_before sizes kept ≡ false)))
             → ((minor_from cs other < slots) ⊎ (slots ≤ minor_from cs other)) → minor_from cs other < slots + 1 → old ≤ cost_from sums cs other
         by other rest o (inl short) below = best.least other rest short
         by other rest (inl less) (inr long) below = let low = own_least other rest (omega arith) in omega arith
         by other rest (inr same) (inr long) below = let low = own_least other rest (omega arith) in let e = same.0 in omega arith
 
-        later : (other : List ℕ) → IsRest sums cs 0 other → cost_from sums cs other ≡ old → ((old < slots * weight) ⊎ ((slots * weight ≡ old) × (is_before sizes kept ≡ false)))
+        later : (other : List ℕ) → IsSplitRest sums cs 0 other → cost_from sums cs other ≡ old → ((old < slots * weight) ⊎ ((slots * weight ≡ old) × (is_before sizes kept ≡ false)))
             → ((minor_from cs other < slots) ⊎ (slots ≤ minor_from cs other)) → minor_from cs other < slots + 1 → is_before other kept ≡ false
         later other rest costs o (inl short) below = best.first other rest short costs
         later other rest costs (inl less) (inr long) below = absurd (let low = own_least other rest (omega arith) in omega arith)
@@ -147,7 +147,7 @@ found_more sums cs slots weight (Some old) new some costs entry first found = by
 pub found_none : (sums cs : List ℕ) (slots : ℕ) (best : Option Found) → IsEntry sums cs 0 slots None → IsFound sums cs slots best → IsFound sums cs (slots + 1) best
 found_none sums cs slots best entry found = by best found
   where
-    still : (other : List ℕ) → IsRest sums cs 0 other → minor_from cs other < slots + 1 → minor_from cs other < slots
+    still : (other : List ℕ) → IsSplitRest sums cs 0 other → minor_from cs other < slots + 1 → minor_from cs other < slots
     still other rest below = cases (cases_lt (minor_from cs other) slots)
       where
         cases : ((minor_from cs other < slots) ⊎ (slots ≤ minor_from cs other)) → minor_from cs other < slots

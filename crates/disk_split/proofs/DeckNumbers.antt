@@ -13,11 +13,11 @@ use Rattle.air_model.specs.Programs.{least_common_multiple}
 use Rattle.air_model.proofs.CommonMultiples.{least_common_first, least_common_pos, least_common_second}
 use Rattle.air_model.proofs.ItemOrder.{length-order}
 use Rattle.item_catalog.specs.DeckLimits.{WithinLimits}
-use Rattle.disk_split.specs.Steps.Numbers.{chunks_in, hot_rates, minors_in}
-use Rattle.disk_split.specs.Steps.Rests.{AreChunks, AreSums}
-use Rattle.disk_split.proofs.DeckFacts.{deck_sums, length-hot_rates}
-use Rattle.disk_split.proofs.RateFacts.{are_sums}
-use Rattle.disk_split.proofs.SearchFacts.{fits_quotient}
+use Rattle.disk_split.specs.Private.Numbers.{chunks_in, hot_rates, minors_in}
+use Rattle.disk_split.specs.Private.Rests.{AreChunks, AreSums}
+use Rattle.disk_split.proofs.DeckLemmas.{deck_sums, length-hot_rates}
+use Rattle.disk_split.proofs.RateLemmas.{are_sums}
+use Rattle.disk_split.proofs.SearchLemmas.{fits_quotient}
 
 -- ---- the sums
 rate_small : (rates : List ℕ) → All (λ r. r ≤ MOST_RATE) rates → (i : ℕ) → slice_index rates i ≤ MOST_RATE

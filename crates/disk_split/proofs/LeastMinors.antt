@@ -7,9 +7,9 @@ use Rattle.std.proofs.lemmas.List.Elements.{All-contains, All-head, All-more, Al
 use Rattle.std.proofs.lemmas.List.Sums.{sum_by-cons, sum_by_more, sum_by-le, sum_by-take-le}
 use Rattle.std.proofs.lemmas.Option.{same_Some}
 use Rattle.air_model.proofs.Elements.{contains_has}
-use Rattle.disk_split.specs.Steps.Numbers.{IsLeastMinor}
-use Rattle.disk_split.specs.Steps.Rests.{IsRest, chunk_slots, minor_from}
-use Rattle.disk_split.proofs.RestFacts.{covers, fewest, filled, slots_many}
+use Rattle.disk_split.specs.Private.Numbers.{IsLeastMinor}
+use Rattle.disk_split.specs.Private.Rests.{IsSplitRest, chunk_slots, minor_from}
+use Rattle.disk_split.proofs.RestLemmas.{covers, fewest, filled, slots_many}
 
 -- ---- no sizes have fewer
 -- An item more than a chunk of one slot takes costs a slot, which takes as many as the disk has chunks.
@@ -23,9 +23,9 @@ one_disk c s most some few full = by (chunk_slots c s) (filled c s some full) (c
         let next : suc q * c ≡ q * c + c = omega arith in
         let more : most * suc q ≡ q * most + most = omega arith in omega arith
 
-pub not_fewer : (sums cs : List ℕ) (most from : ℕ) (sizes : List ℕ) → All (λ c. 1 ≤ c) cs → All (λ c. c ≤ most) cs → IsRest sums cs from sizes
+pub not_fewer : (sums cs : List ℕ) (most from : ℕ) (sizes : List ℕ) → All (λ c. 1 ≤ c) cs → All (λ c. c ≤ most) cs → IsSplitRest sums cs from sizes
     → length sums + most * length cs ≤ sum cs + most * minor_from cs sizes + from + 1
-unfolding IsRest minor_from
+unfolding IsSplitRest minor_from
 not_fewer sums [] most from [] some few h = omega arith
 not_fewer sums [] most from (s ∷ ss) some few h = absurd h
 not_fewer sums (c ∷ cs) most from [] some few h = absurd h
@@ -39,27 +39,27 @@ not_fewer sums (c ∷ cs) most from (s ∷ ss) some few h =
 -- ---- some sizes have just so many
 -- Sizes for the disks from one on that take so many items, with at most so many slots.
 abbrev Fills : List ℕ → List ℕ → ℕ → ℕ → Type 0
-Fills sums cs room slots = (from items : ℕ) → from + items + 1 ≡ length sums → length cs ≤ items → items ≤ room → (sizes : List ℕ) × IsRest sums cs from sizes × (minor_from cs sizes ≤ slots)
+Fills sums cs room slots = (from items : ℕ) → from + items + 1 ≡ length sums → length cs ≤ items → items ≤ room → (sizes : List ℕ) × IsSplitRest sums cs from sizes × (minor_from cs sizes ≤ slots)
 
 fills_none : (sums : List ℕ) (room : ℕ) → room ≡ 0 → Fills sums [] room 0
-unfolding IsRest minor_from
+unfolding IsSplitRest minor_from
 fills_none sums room e from items at many fits = ([], omega arith, omega arith)
 
 -- One disk more, with so many slots of its own.
 fills_more : (sums cs : List ℕ) (c k room slots : ℕ) → 1 ≤ c → 1 ≤ k → length cs ≤ room → Fills sums cs room slots → Fills sums (c ∷ cs) (k * c + room) (k + slots)
-unfolding IsRest minor_from
+unfolding IsSplitRest minor_from
 fills_more sums cs c k room slots some one wide rest from items at many fits = by (cases_lt (k * c) (items - length cs))
   where
     all : 1 ≤ k * c
     all = let grows : 1 * c ≤ k * c = mul-le-mul_right c one in omega arith
 
-    put : (s : ℕ) → 1 ≤ s → s ≤ k * c → s + length cs ≤ items → items ≤ s + room → (sizes : List ℕ) × IsRest sums (c ∷ cs) from sizes × (minor_from (c ∷ cs) sizes ≤ k + slots)
+    put : (s : ℕ) → 1 ≤ s → s ≤ k * c → s + length cs ≤ items → items ≤ s + room → (sizes : List ℕ) × IsSplitRest sums (c ∷ cs) from sizes × (minor_from (c ∷ cs) sizes ≤ k + slots)
     put s full low left behind =
         let more = rest (from + s) (items - s) (omega arith) (omega arith) (omega arith) in
         let own = fewest c s k some low in let long = more.2 in
         (s ∷ more.0, (full, more.1), omega arith)
 
-    by : ((k * c < items - length cs) ⊎ (items - length cs ≤ k * c)) → (sizes : List ℕ) × IsRest sums (c ∷ cs) from sizes × (minor_from (c ∷ cs) sizes ≤ k + slots)
+    by : ((k * c < items - length cs) ⊎ (items - length cs ≤ k * c)) → (sizes : List ℕ) × IsSplitRest sums (c ∷ cs) from sizes × (minor_from (c ∷ cs) sizes ≤ k + slots)
     by (inl less) = put (k * c) all (omega arith) (omega arith) (omega arith)
     by (inr more) = put (items - length cs) (omega arith) more (omega arith) (omega arith)
 
@@ -101,7 +101,7 @@ least_minor_is sums cs most place items some few at one long many = record {
   fewest = bound;
 }
   where
-    bound : (sizes : List ℕ) → IsRest sums cs 0 sizes → length cs + chunk_slots most (items - sum cs) ≤ minor_from cs sizes
+    bound : (sizes : List ℕ) → IsSplitRest sums cs 0 sizes → length cs + chunk_slots most (items - sum cs) ≤ minor_from cs sizes
     bound sizes rest =
         let low = not_fewer sums cs most 0 sizes some few rest in
         let many = slots_many sums cs 0 sizes some rest in
@@ -118,8 +118,8 @@ least_minor_is sums cs most place items some few at one long many = record {
     filled_all : Fills sums cs (sum cs + chunk_slots most (items - sum cs) * most) (length cs + chunk_slots most (items - sum cs))
     filled_all = fills_most sums cs most (chunk_slots most (items - sum cs)) place some at
 
-    by : (sizes : List ℕ) × IsRest sums cs 0 sizes × (minor_from cs sizes ≤ length cs + chunk_slots most (items - sum cs))
-        → (sizes : List ℕ) × IsRest sums cs 0 sizes × (minor_from cs sizes ≡ length cs + chunk_slots most (items - sum cs))
+    by : (sizes : List ℕ) × IsSplitRest sums cs 0 sizes × (minor_from cs sizes ≤ length cs + chunk_slots most (items - sum cs))
+        → (sizes : List ℕ) × IsSplitRest sums cs 0 sizes × (minor_from cs sizes ≡ length cs + chunk_slots most (items - sum cs))
     by (sizes, rest, under) = let over = bound sizes rest in (sizes, rest, omega arith)
 
 -- ---- the greatest of the numbers, and their sum, one number on

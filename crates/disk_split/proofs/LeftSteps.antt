@@ -5,11 +5,11 @@ use Rattle.std.proofs.lemmas.Bool.{cases_lt}
 use Rattle.std.proofs.lemmas.Option.{same_Some}
 use Rattle.disk_split.specs.declared.sizes.Left.{Left}
 use Rattle.disk_split.specs.Splits.{is_before}
-use Rattle.disk_split.specs.Steps.Lefts.{IsAfter, IsFirstSize, IsLeastLeft}
-use Rattle.disk_split.specs.Steps.Rests.{IsFirst, IsRest, IsRestOf, chunk_slots, minor_from, weight_from}
-use Rattle.disk_split.specs.Steps.Tables.{HasEntries, IsEntry}
+use Rattle.disk_split.specs.Private.Lefts.{IsAfter, IsFirstSize, IsLeastLeft}
+use Rattle.disk_split.specs.Private.Rests.{IsFirst, IsSplitRest, IsRestOf, chunk_slots, minor_from, weight_from}
+use Rattle.disk_split.specs.Private.Tables.{HasEntries, IsEntry}
 use Rattle.disk_split.proofs.Orders.{later_head, same_head}
-use Rattle.disk_split.proofs.RestFacts.{rest_within}
+use Rattle.disk_split.proofs.RestLemmas.{rest_within}
 use Rattle.disk_split.proofs.RowSteps.{put_before}
 
 abbrev left_of : ℕ → ℕ → ℕ → Left
@@ -19,7 +19,7 @@ module _ (sums cs : List ℕ) (c : ℕ) (next : List (List (Option ℕ))) (left 
   -- the first of any sizes that make up the weight is such a size
   pub can_take : (s : ℕ) (ss : List ℕ) → IsRestOf sums (c ∷ cs) left.from left.slots left.weight (s ∷ ss)
       → (1 ≤ s) × (left.from + s < length sums) × ((rest : Left) × IsAfter sums c next left s rest × (weight_from sums cs (left.from + s) ss ≡ rest.weight))
-  unfolding IsRest minor_from weight_from
+  unfolding IsSplitRest minor_from weight_from
   can_take s ss of =
       let within = rest_within sums cs (left.from + s) ss of.rest.1 in
       let room : chunk_slots c s ≤ left.slots = (let e = of.slots in omega arith) in
@@ -35,7 +35,7 @@ module _ (sums cs : List ℕ) (c : ℕ) (next : List (List (Option ℕ))) (left 
 
   -- some size makes up the weight
   pub some_size : (s : ℕ) × (1 ≤ s) × (left.from + s < length sums) × ((rest : Left) × IsAfter sums c next left s rest)
-  unfolding IsRest
+  unfolding IsSplitRest
   some_size = by (least.entry.reached left.weight refl)
     where
       by : (sizes : List ℕ) × IsRestOf sums (c ∷ cs) left.from left.slots left.weight sizes → (s : ℕ) × (1 ≤ s) × (left.from + s < length sums) × ((rest : Left) × IsAfter sums c next left s rest)
@@ -56,7 +56,7 @@ module _ (sums cs : List ℕ) (c : ℕ) (next : List (List (Option ℕ))) (left 
         }
 
     pub first_left : (sizes : List ℕ) → IsFirst sums cs rest.from rest.slots rest.weight sizes → IsFirst sums (c ∷ cs) left.from left.slots left.weight (size ∷ sizes)
-    unfolding IsRest minor_from weight_from
+    unfolding IsSplitRest minor_from weight_from
     first_left sizes first =
         let a = is.after in
         let of : IsRestOf sums cs (left.from + size) (left.slots - chunk_slots c size) rest.weight sizes = subst (λ n. IsRestOf sums cs n (left.slots - chunk_slots c size) rest.weight sizes) a.from (subst (λ n. IsRestOf sums cs rest.from n rest.weight sizes) a.slots first.is) in
@@ -85,7 +85,7 @@ module _ (sums cs : List ℕ) (c : ℕ) (next : List (List (Option ℕ))) (left 
                 let entry = subst (λ n. slice_index_or (slice_index_or next (left.from + n) []) (left.slots - chunk_slots c n) None ≡ Some t.2.0.weight) same t.2.1.entry in
                 let weight : t.2.0.weight ≡ rest.weight = same_Some t.2.0.weight rest.weight (sym entry ∙ a.entry) in
                 let tail : IsRestOf sums cs rest.from rest.slots rest.weight ss = record {
-                  rest = subst (λ n. IsRest sums cs n ss) place of.rest.1;
+                  rest = subst (λ n. IsSplitRest sums cs n ss) place of.rest.1;
                   slots = (let e = of.slots in let slots = a.slots in omega arith);
                   weighs = ap (λ n. weight_from sums cs n ss) (sym place) ∙ t.2.2 ∙ weight;
                 } in
@@ -94,7 +94,7 @@ module _ (sums cs : List ℕ) (c : ℕ) (next : List (List (Option ℕ))) (left 
 -- ---- the sizes so far, before those of what is left
 -- Nothing is left of no disk but no sizes.
 pub none_left : (sums : List ℕ) (left : Left) → IsLeastLeft sums [] left → IsFirst sums [] left.from left.slots left.weight []
-unfolding IsRest
+unfolding IsSplitRest
 none_left sums left least = record { is = by (least.entry.reached left.weight refl); first = λ other of. alone other of }
   where
     by : (sizes : List ℕ) × IsRestOf sums [] left.from left.slots left.weight sizes → IsRestOf sums [] left.from left.slots left.weight []

@@ -1,4 +1,4 @@
-pub mod RestFacts
+pub mod RestLemmas
 pub mod RowSteps
 pub mod TableSteps
 pub mod Orders
@@ -6,11 +6,11 @@ pub mod CostSteps
 pub mod LeftSteps
 pub mod BestSteps
 pub mod LeastMinors
-pub mod MinorFacts
-pub mod RateFacts
-pub mod HotFacts
-pub mod DeckFacts
-pub mod CostFacts
-pub mod SearchFacts
+pub mod MinorLemmas
+pub mod RateLemmas
+pub mod HotLemmas
+pub mod DeckLemmas
+pub mod CostLemmas
+pub mod SearchLemmas
 pub mod DeckNumbers
 mod SplitExamples

@@ -2,33 +2,33 @@
 use Rattle.std.proofs.Common.{◌≡◌, ◌≤◌, ◌<◌, ◌⊎◌, inl, inr, ◌+◌, ◌-◌, ◌*◌, ℕ, Option, Some, None, List, [], ◌∷◌, length, slice_index, min, refl, subst, ap, arith}
 use Rattle.std.proofs.lemmas.Bool.{cases_lt}
 use Rattle.std.proofs.lemmas.Option.{none-some, same_Some}
-use Rattle.disk_split.specs.Steps.Rests.{IsRest, IsRestOf, chunk_slots, minor_from, rates_from, weight_from}
-use Rattle.disk_split.specs.Steps.Tables.{IsEntry, IsEntryBelow, lesser_of}
-use Rattle.disk_split.proofs.RestFacts.{rest_within}
+use Rattle.disk_split.specs.Private.Rests.{IsSplitRest, IsRestOf, chunk_slots, minor_from, rates_from, weight_from}
+use Rattle.disk_split.specs.Private.Tables.{IsEntry, IsEntryBelow, lesser_weight_with}
+use Rattle.disk_split.proofs.RestLemmas.{rest_within}
 
 -- No size is below 1.
 pub below_one : (sums cs : List ℕ) (c from len : ℕ) → IsEntryBelow sums (c ∷ cs) from len 1 None
-unfolding IsRest
+unfolding IsSplitRest
 below_one sums cs c from len = record {
   reached = λ w e. absurd (none-some w e);
   least = λ sizes below rest slots. absurd (none sizes below rest);
 }
   where
-    none : (sizes : List ℕ) → slice_index sizes 0 < 1 → IsRest sums (c ∷ cs) from sizes → ⊥
+    none : (sizes : List ℕ) → slice_index sizes 0 < 1 → IsSplitRest sums (c ∷ cs) from sizes → ⊥
     none [] below rest = rest
     none (s ∷ ss) below rest = let full = rest.0 in omega arith
 
 -- The sizes behind a first one.
 record IsTaken (sums cs : List ℕ) (c from len top : ℕ) (sizes : List ℕ) : Type 0 where
   tail : List ℕ
-  rest : IsRest sums cs (from + top) tail
+  rest : IsSplitRest sums cs (from + top) tail
   slots : minor_from cs tail ≡ len - chunk_slots c top
   room : chunk_slots c top ≤ len
   weighs : weight_from sums (c ∷ cs) from sizes ≡ c * rates_from sums from top + weight_from sums cs (from + top) tail
 
-taken : (sums cs : List ℕ) (c from len top : ℕ) (sizes : List ℕ) → slice_index sizes 0 < top + 1 → IsRest sums (c ∷ cs) from sizes → minor_from (c ∷ cs) sizes ≡ len
+taken : (sums cs : List ℕ) (c from len top : ℕ) (sizes : List ℕ) → slice_index sizes 0 < top + 1 → IsSplitRest sums (c ∷ cs) from sizes → minor_from (c ∷ cs) sizes ≡ len
     → (slice_index sizes 0 < top) ⊎ IsTaken sums cs c from len top sizes
-unfolding IsRest minor_from weight_from
+unfolding IsSplitRest minor_from weight_from
 taken sums cs c from len top [] below rest slots = absurd rest
 taken sums cs c from len top (s ∷ ss) below rest slots = by (cases_lt s top)
   where
@@ -41,7 +41,7 @@ taken sums cs c from len top (s ∷ ss) below rest slots = by (cases_lt s top)
 -- The next size puts itself before what the disks after it reach.
 pub put_before : (sums cs : List ℕ) (c from len top r : ℕ) (sizes : List ℕ) → 1 ≤ top → chunk_slots c top ≤ len → IsRestOf sums cs (from + top) (len - chunk_slots c top) r sizes
     → IsRestOf sums (c ∷ cs) from len (r + c * rates_from sums from top) (top ∷ sizes)
-unfolding IsRest minor_from weight_from
+unfolding IsSplitRest minor_from weight_from
 put_before sums cs c from len top r sizes full room of = record {
   rest = (full, of.rest);
   slots = (let e = of.slots in omega arith);
@@ -60,20 +60,20 @@ module _ (sums cs : List ℕ) (c from len top : ℕ) (old : Option ℕ) (before 
     least = λ sizes below rest slots. by sizes rest slots (taken sums cs c from len top sizes below rest slots);
   }
     where
-      by : (sizes : List ℕ) → IsRest sums (c ∷ cs) from sizes → minor_from (c ∷ cs) sizes ≡ len → (slice_index sizes 0 < top) ⊎ IsTaken sums cs c from len top sizes
+      by : (sizes : List ℕ) → IsSplitRest sums (c ∷ cs) from sizes → minor_from (c ∷ cs) sizes ≡ len → (slice_index sizes 0 < top) ⊎ IsTaken sums cs c from len top sizes
           → (weight : ℕ) × (old ≡ Some weight) × (weight ≤ weight_from sums (c ∷ cs) from sizes)
       by sizes rest slots (inl low) = before.least sizes low rest slots
       by sizes rest slots (inr t) = absurd (let room = t.room in omega arith)
 
 -- A size whose chunk fits reaches what the disks after it reach in the slots that are left.
 pub stepped : (sums cs : List ℕ) (c from len top : ℕ) (old next : Option ℕ) → IsEntryBelow sums (c ∷ cs) from len top old → 1 ≤ top → chunk_slots c top ≤ len
-    → IsEntry sums cs (from + top) (len - chunk_slots c top) next → IsEntryBelow sums (c ∷ cs) from len (top + 1) (lesser_of old next (c * rates_from sums from top))
+    → IsEntry sums cs (from + top) (len - chunk_slots c top) next → IsEntryBelow sums (c ∷ cs) from len (top + 1) (lesser_weight_with old next (c * rates_from sums from top))
 stepped sums cs c from len top old None before full room after = record {
   reached = stays sums cs c from len top old before;
   least = λ sizes below rest slots. by sizes rest slots (taken sums cs c from len top sizes below rest slots);
 }
   where
-    by : (sizes : List ℕ) → IsRest sums (c ∷ cs) from sizes → minor_from (c ∷ cs) sizes ≡ len → (slice_index sizes 0 < top) ⊎ IsTaken sums cs c from len top sizes
+    by : (sizes : List ℕ) → IsSplitRest sums (c ∷ cs) from sizes → minor_from (c ∷ cs) sizes ≡ len → (slice_index sizes 0 < top) ⊎ IsTaken sums cs c from len top sizes
         → (weight : ℕ) × (old ≡ Some weight) × (weight ≤ weight_from sums (c ∷ cs) from sizes)
     by sizes rest slots (inl low) = before.least sizes low rest slots
     by sizes rest slots (inr t) = let found = after.least t.tail t.rest t.slots in absurd (none-some found.0 found.1)
@@ -83,7 +83,7 @@ stepped sums cs c from len top None (Some r) before full room after = record {
   least = λ sizes below rest slots. by sizes rest slots (taken sums cs c from len top sizes below rest slots);
 }
   where
-    by : (sizes : List ℕ) → IsRest sums (c ∷ cs) from sizes → minor_from (c ∷ cs) sizes ≡ len → (slice_index sizes 0 < top) ⊎ IsTaken sums cs c from len top sizes
+    by : (sizes : List ℕ) → IsSplitRest sums (c ∷ cs) from sizes → minor_from (c ∷ cs) sizes ≡ len → (slice_index sizes 0 < top) ⊎ IsTaken sums cs c from len top sizes
         → (weight : ℕ) × (◌≡◌ {A = Option ℕ} (Some (r + c * rates_from sums from top)) (Some weight)) × (weight ≤ weight_from sums (c ∷ cs) from sizes)
     by sizes rest slots (inl low) = let found = before.least sizes low rest slots in absurd (none-some found.0 found.1)
     by sizes rest slots (inr t) =
@@ -101,7 +101,7 @@ stepped sums cs c from len top (Some a) (Some r) before full room after = record
         let e : r + c * rates_from sums from top ≡ w = omega arith in let found = after.reached r refl in
         (top ∷ found.0, (omega arith), subst (λ n. IsRestOf sums (c ∷ cs) from len n (top ∷ found.0)) e (put_before sums cs c from len top r found.0 full room found.1))
 
-    by : (sizes : List ℕ) → IsRest sums (c ∷ cs) from sizes → minor_from (c ∷ cs) sizes ≡ len → (slice_index sizes 0 < top) ⊎ IsTaken sums cs c from len top sizes
+    by : (sizes : List ℕ) → IsSplitRest sums (c ∷ cs) from sizes → minor_from (c ∷ cs) sizes ≡ len → (slice_index sizes 0 < top) ⊎ IsTaken sums cs c from len top sizes
         → (weight : ℕ) × (◌≡◌ {A = Option ℕ} (Some (min a (r + c * rates_from sums from top))) (Some weight)) × (weight ≤ weight_from sums (c ∷ cs) from sizes)
     by sizes rest slots (inl low) =
         let found = before.least sizes low rest slots in let is = same_Some a found.0 found.1 in let most = found.2 in
@@ -112,22 +112,22 @@ stepped sums cs c from len top (Some a) (Some r) before full room after = record
 
 -- No size is greater than the number of items that are left.
 pub all_below : (sums cs : List ℕ) (c from len top : ℕ) (entry : Option ℕ) → length sums ≤ from + top → IsEntryBelow sums (c ∷ cs) from len top entry → IsEntry sums (c ∷ cs) from len entry
-unfolding IsRest
+unfolding IsSplitRest
 all_below sums cs c from len top entry over below = record {
   reached = λ w e. let r = below.reached w e in (r.0, r.2);
   least = λ sizes rest slots. below.least sizes (low sizes rest) rest slots;
 }
   where
-    low : (sizes : List ℕ) → IsRest sums (c ∷ cs) from sizes → slice_index sizes 0 < top
+    low : (sizes : List ℕ) → IsSplitRest sums (c ∷ cs) from sizes → slice_index sizes 0 < top
     low [] rest = absurd rest
     low (s ∷ ss) rest = let within = rest_within sums cs (from + s) ss rest.1 in omega arith
 
 -- ---- no disk
 pub last_none : (sums : List ℕ) (from len : ℕ) → (from + 1 ≡ length sums → ⊥) → IsEntry sums [] from len None
-unfolding IsRest
+unfolding IsSplitRest
 last_none sums from len other = record { reached = λ w e. absurd (none-some w e); least = λ sizes rest slots. absurd (none sizes rest) }
   where
-    none : (sizes : List ℕ) → IsRest sums [] from sizes → ⊥
+    none : (sizes : List ℕ) → IsSplitRest sums [] from sizes → ⊥
     none [] rest = other rest
     none (s ∷ ss) rest = rest
 
@@ -136,7 +136,7 @@ unfolding minor_from
 last_later sums from len more = record { reached = λ w e. absurd (none-some w e); least = λ sizes rest slots. absurd (let e : 0 ≡ len = slots in omega arith) }
 
 pub last_zero : (sums : List ℕ) (from : ℕ) → from + 1 ≡ length sums → IsEntry sums [] from 0 (Some 0)
-unfolding IsRest minor_from weight_from
+unfolding IsSplitRest minor_from weight_from
 last_zero sums from last = record {
   reached = λ w e. ([], record { rest = last; slots = refl; weighs = same_Some 0 w e });
   least = λ sizes rest slots. (0, refl, omega arith);

@@ -8,9 +8,9 @@ use Rattle.std.proofs.lemmas.Bool.Decides.{nat_tests}
 use Rattle.std.proofs.lemmas.List.{drop-drop, get_or_append_left, get_or_past, get_or_push, take_rest}
 use Rattle.std.proofs.lemmas.Option.{none-some}
 use Rattle.air_base.specs.declared.limits.TheConstants.{MOST_SLOTS}
-use Rattle.disk_split.specs.Steps.Rests.{AreChunks, AreSums, IsRest, chunk_slots, rates_from, weight_from}
-use Rattle.disk_split.specs.Steps.Tables.{HasRoom, IsEntry, IsEntryBelow, IsRow, IsTable, improved, lesser_of}
-use Rattle.disk_split.proofs.RestFacts.{slots_few, weight_small}
+use Rattle.disk_split.specs.Private.Rests.{AreChunks, AreSums, IsSplitRest, chunk_slots, rates_from, weight_from}
+use Rattle.disk_split.specs.Private.Tables.{HasEntriesUpTo, IsEntry, IsEntryBelow, IsRow, IsTable, improved, lesser_weight_with}
+use Rattle.disk_split.proofs.RestLemmas.{slots_few, weight_small}
 use Rattle.disk_split.proofs.RowSteps.{all_below, below_one, last_later, last_none, last_zero, skipped, stepped}
 
 -- The entries of a row, of the sizes whose first is below a number.
@@ -32,7 +32,7 @@ row_more sums (c ∷ cs) from width size next old new some full within table nar
   where
     by : (len : ℕ) → len < length old → (b : Bool) → nat_lt len (chunk_slots c size) ≡ b
         → IsEntryBelow sums (c ∷ cs) from len (size + 1) (if b then slice_index_or old len None
-        else lesser_of (slice_index_or old len None) (slice_index_or (slice_index_or next (from + size) []) (len - chunk_slots c size) None) (c * rates_from sums from size))
+        else lesser_weight_with (slice_index_or old len None) (slice_index_or (slice_index_or next (from + size) []) (len - chunk_slots c size) None) (c * rates_from sums from size))
     by len below true e = skipped sums cs c from len size (slice_index_or old len None) (before len below) (grind (arith, nat_tests))
     by len below false e =
         let room : chunk_slots c size ≤ len = grind (arith, nat_tests) in
@@ -73,7 +73,7 @@ product_small c a few small = let grows : c * a ≤ MOST_SLOTS * a = mul-le-mul_
 -- What an entry weighs stays small with what one more disk adds.
 entry_small : (sums cs : List ℕ) (c from size len weight : ℕ) (row : List (Option ℕ)) (width : ℕ) → AreSums sums → AreChunks (c ∷ cs) → 1 ≤ size → IsRow sums cs (from + size) width row
     → slice_index_or row len None ≡ Some weight → weight + c * rates_from sums from size < 2 ^ 46
-unfolding IsRest weight_from
+unfolding IsSplitRest weight_from
 entry_small sums cs c from size len weight row width are cut full is at = by (cases_lt len width)
   where
     by : ((len < width) ⊎ (width ≤ len)) → weight + c * rates_from sums from size < 2 ^ 46
@@ -83,7 +83,7 @@ entry_small sums cs c from size len weight row width are cut full is at = by (ca
     by (inr over) = absurd (none-some weight (sym (get_or_past row len None (let narrow = is.narrow in omega arith)) ∙ at))
 
 pub row_room : (sums chunks : List ℕ) (from size width : ℕ) (row : List (Option ℕ)) → AreSums sums → AreChunks chunks → 0 < length chunks → 1 ≤ size → IsRow sums (drop 1 chunks) (from + size) width row
-    → HasRoom (slice_index chunks 0 * rates_from sums from size) row
+    → HasEntriesUpTo (slice_index chunks 0 * rates_from sums from size) row
 row_room sums [] from size width row are cut some full is = absurd (omega arith)
 row_room sums (c ∷ cs) from size width row are cut some full is = λ len weight at. let small = entry_small sums cs c from size len weight row width are cut full is at in omega arith
 

@@ -1,3 +1,3 @@
 pub mod Splits
 pub mod SplitAnswers
-pub mod Steps
+pub mod Private

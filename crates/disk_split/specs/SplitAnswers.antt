@@ -12,7 +12,7 @@ abbrev pub search_size : Deck → ℕ
 search_size deck = length deck.items * length deck.items * length deck.disks
 
 -- All splits have more slots than a program may have, and so many at least.
-pub record IsTooLong (deck : Deck) (slots : ℕ) : Type 0 where
+pub record AreAllTooLong (deck : Deck) (slots : ℕ) : Type 0 where
   pub above : MOST_SLOTS < slots
   pub reached : (sizes : List ℕ) × IsSplit deck sizes × (slots_of deck sizes ≡ slots)
   pub least : (sizes : List ℕ) → IsSplit deck sizes → slots ≤ slots_of deck sizes
@@ -26,5 +26,5 @@ SaysTooMuch deck NoMemory = ⊤
 -- Too long is said with the least number of slots of any split, and only where that is more than a program may have.
 abbrev pub SaysTooLong : Deck → SplitFault → Type 0
 SaysTooLong deck (TooMuch product) = ⊤
-SaysTooLong deck (TooLong slots) = IsTooLong deck slots
+SaysTooLong deck (TooLong slots) = AreAllTooLong deck slots
 SaysTooLong deck NoMemory = ⊤

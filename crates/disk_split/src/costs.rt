@@ -2,8 +2,8 @@
 
 ghost use Rattle.std.specs.Prelude.{◌≡◌, ◌<◌, ◌^◌};
 ghost use Rattle.disk_split.specs.Splits.{sizes_in};
-ghost use Rattle.disk_split.specs.Steps.Bests.{cost_from};
-ghost use Rattle.disk_split.specs.Steps.Rests.{AreChunks, AreSums, IsRest};
+ghost use Rattle.disk_split.specs.Private.Bests.{cost_from};
+ghost use Rattle.disk_split.specs.Private.Rests.{AreChunks, AreSums, IsSplitRest};
 
 use crate::lengths::chunk_slots;
 use item_catalog::Deck;
@@ -12,7 +12,7 @@ use item_catalog::Deck;
 pub fn given_cost(deck: &Deck, chunks: &[u64], sums: &[u64]) -> u128
     requires sums { AreSums sums.now }
     requires chunks { AreChunks chunks.now }
-    requires rest { IsRest sums.now chunks.now 0 (sizes_in deck.now) }
+    requires rest { IsSplitRest sums.now chunks.now 0 (sizes_in deck.now) }
     ensures { result ≡ cost_from sums.now chunks.now (sizes_in deck.now) }
 {
     let mut from = 0usize;

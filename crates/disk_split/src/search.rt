@@ -1,8 +1,8 @@
 //! The search for the best sizes: for each number of slots of a minor cycle the sizes of least weight, and of these the best.
 
 ghost use Rattle.std.specs.Prelude.{◌≡◌, ◌<◌, IfOk, length};
-ghost use Rattle.disk_split.specs.Steps.Bests.{IsFound, better, is_better};
-ghost use Rattle.disk_split.specs.Steps.Rests.{AreChunks, AreSums};
+ghost use Rattle.disk_split.specs.Private.Bests.{IsFound, better, is_better};
+ghost use Rattle.disk_split.specs.Private.Rests.{AreChunks, AreSums};
 
 use crate::sizes::{Left, sizes};
 use crate::tables::tables;

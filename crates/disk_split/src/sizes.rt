@@ -2,9 +2,9 @@
 
 ghost use Rattle.std.specs.Prelude.{◌≡◌, ◌<◌, ◌≤◌, ◌+◌, IfOk, MatchOption, drop, get_or, length, slice_index};
 ghost use Rattle.disk_split.specs.declared.sizes.Left.{Left as ModelLeft};
-ghost use Rattle.disk_split.specs.Steps.Lefts.{IsAfter, IsFirstSize, IsLeastLeft};
-ghost use Rattle.disk_split.specs.Steps.Rests.{AreChunks, AreSums, IsFirst};
-ghost use Rattle.disk_split.specs.Steps.Tables.{HasEntries, HaveEntries};
+ghost use Rattle.disk_split.specs.Private.Lefts.{IsAfter, IsFirstSize, IsLeastLeft};
+ghost use Rattle.disk_split.specs.Private.Rests.{AreChunks, AreSums, IsFirst};
+ghost use Rattle.disk_split.specs.Private.Tables.{HasEntries, HaveEntries};
 
 use crate::lengths::chunk_slots;
 use crate::tables::{Row, Table};

@@ -5,8 +5,8 @@
 
 ghost use Rattle.std.specs.Prelude.{◌≡◌, ◌<◌, ◌≤◌, ℕ, ◌+◌, ◌^◌, [], ◌∷◌, Some, None, IfOk, drop, if◌then◌else◌, length, slice_index_or};
 ghost use Rattle.air_base.specs.declared.limits.TheConstants.{MOST_SLOTS};
-ghost use Rattle.disk_split.specs.Steps.Rests.{AreChunks, AreSums};
-ghost use Rattle.disk_split.specs.Steps.Tables.{AreTables, HasRoom, IsRow, IsTable, improved, lesser};
+ghost use Rattle.disk_split.specs.Private.Rests.{AreChunks, AreSums};
+ghost use Rattle.disk_split.specs.Private.Tables.{AreTables, HasEntriesUpTo, IsRow, IsTable, improved, lesser_weight};
 
 use crate::lengths::chunk_slots;
 use std::alloc::{AllocError, Global};
@@ -54,8 +54,8 @@ impl Model for Table {
 }
 
 /// The less of an entry and a weight.
-fn lesser(entry: Option<u64>, weight: u64) -> Option<u64>
-    ensures { result ≡ lesser entry weight }
+fn lesser_weight(entry: Option<u64>, weight: u64) -> Option<u64>
+    ensures { result ≡ lesser_weight entry weight }
 {
     match entry {
         Some(old) => Some(old.min(weight)),
@@ -66,13 +66,13 @@ fn lesser(entry: Option<u64>, weight: u64) -> Option<u64>
 /// Lets a disk also take the next number of items, in a chunk of so many slots and with so much more weight.
 fn improve(entries: &mut [Option<u64>], next: &[Option<u64>], chunk: usize, more: u64)
     requires short { chunk + length next.now < 2 ^ 64 }
-    requires room { HasRoom more next.now }
+    requires room { HasEntriesUpTo more next.now }
     ensures { (len : ℕ) → len < length entries.old →
         slice_index_or entries.new len None ≡ improved next.now chunk more len (slice_index_or entries.old len None) }
 {
     for len in chunk..entries.len().min(chunk + next.len()) {
         if let Some(rest) = next[len - chunk] {
-            entries[len] = lesser(entries[len], rest + more);
+            entries[len] = lesser_weight(entries[len], rest + more);
         }
     }
 }

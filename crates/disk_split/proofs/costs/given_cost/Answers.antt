@@ -4,9 +4,9 @@ use Rattle.std.proofs.lemmas.List.{get_or-map, length-map}
 use Rattle.std.proofs.lemmas.Option.{MatchOption-at_some, slice_get-get_or}
 use Rattle.air_model.specs.Disks.{DiskSpec}
 use Rattle.disk_split.specs.Splits.{sizes_in}
-use Rattle.disk_split.specs.Steps.Rests.{IsRest, chunk_slots, minor_from, rates_from, weight_from}
+use Rattle.disk_split.specs.Private.Rests.{IsSplitRest, chunk_slots, minor_from, rates_from, weight_from}
 use Rattle.disk_split.proofs.CostSteps.{chunk_some, chunk_within, end_within, next_minor, next_rest, next_weight, nothing_left, own_weight_small}
-use Rattle.disk_split.proofs.RestFacts.{slots_few, weight_small}
+use Rattle.disk_split.proofs.RestLemmas.{slots_few, weight_small}
 use Rattle.disk_split.proofs.costs.given_cost.Goals as goal
 use Rattle.disk_split.proofs.costs.given_cost.Goals.{After-from, After-size-size}
 
@@ -90,7 +90,7 @@ loop-disk-preserved c =
     let same = c.from.ensures in
     let slots = i.slots in let weighs = i.weight in
     record {
-      rest = subst (λ n. IsRest sums (drop (disk + 1) cs) (from + n) (drop (disk + 1) sizes)) (sym same) (next_rest sums cs sizes from disk size i.rest (below a) (size_is a));
+      rest = subst (λ n. IsSplitRest sums (drop (disk + 1) cs) (from + n) (drop (disk + 1) sizes)) (sym same) (next_rest sums cs sizes from disk size i.rest (below a) (size_is a));
       slots = omega arith;
       weight = subst (λ n. c.loop-disk.weight + get_or cs disk 0 * rates_from sums from n + weight_from sums (drop (disk + 1) cs) (from + n) (drop (disk + 1) sizes) ≡ weight_from sums cs 0 sizes) (sym same) (omega arith);
     }

@@ -1,4 +1,4 @@
-use Rattle.disk_split.proofs.CostFacts.{cost_is}
+use Rattle.disk_split.proofs.CostLemmas.{cost_is}
 use Rattle.disk_split.proofs.laws.cost_law.Goals as goal
 
 pub returns : goal.returns

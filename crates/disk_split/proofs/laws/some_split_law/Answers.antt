@@ -1,4 +1,4 @@
-use Rattle.disk_split.proofs.CostFacts.{own_split}
+use Rattle.disk_split.proofs.CostLemmas.{own_split}
 use Rattle.disk_split.proofs.laws.some_split_law.Goals as goal
 
 pub returns : goal.returns

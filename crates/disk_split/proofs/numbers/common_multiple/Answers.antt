@@ -1,5 +1,5 @@
 use Rattle.std.proofs.Common.{◌≡◌, ◌*◌, ◌%◌, sym, ap, ◌∙◌, arith}
-use Rattle.disk_split.proofs.MinorFacts.{ends, ends_last, goes_on}
+use Rattle.disk_split.proofs.MinorLemmas.{ends, ends_last, goes_on}
 use Rattle.disk_split.proofs.numbers.common_multiple.Goals as goal
 
 pub returns-then-multiple-freq-eq0 : goal.returns-then-multiple-freq-eq0

@@ -1,4 +1,4 @@
-use Rattle.disk_split.proofs.MinorFacts.{IsSoFar}
+use Rattle.disk_split.proofs.MinorLemmas.{IsSoFar}
 use Rattle.disk_split.proofs.numbers.common_multiple.Given as goal
 
 abbrev pub invariant-loop-times : goal.invariant-loop-times

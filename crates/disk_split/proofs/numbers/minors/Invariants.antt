@@ -1,5 +1,5 @@
 use Rattle.std.proofs.Common.{◌≡◌, ◌≤◌, ◌<◌, ◌^◌, take}
-use Rattle.disk_split.proofs.MinorFacts.{common_of}
+use Rattle.disk_split.proofs.MinorLemmas.{common_of}
 use Rattle.disk_split.proofs.numbers.minors.Given as goal
 
 abbrev pub invariant-loop-disk : goal.invariant-loop-disk

@@ -4,7 +4,7 @@ use Rattle.std.specs.Result.{is_ok}
 use Rattle.std.proofs.lemmas.List.{map_more, map_push}
 use Rattle.std.proofs.lemmas.Option.{MatchOption-at_some, slice_get-get_or}
 use Rattle.air_model.specs.Decks.{Item}
-use Rattle.disk_split.proofs.HotFacts.{rate_of}
+use Rattle.disk_split.proofs.HotLemmas.{rate_of}
 use Rattle.disk_split.proofs.rates.rates.Goals as goal
 
 pub loop-item-preserved : goal.loop-item-preserved

@@ -1,6 +1,6 @@
 use Rattle.std.proofs.Common.{◌≡◌, map, take}
 use Rattle.air_model.specs.Decks.{Item}
-use Rattle.disk_split.proofs.HotFacts.{rate_of}
+use Rattle.disk_split.proofs.HotLemmas.{rate_of}
 use Rattle.disk_split.proofs.rates.rates.Given as goal
 
 abbrev pub invariant-loop-item : goal.invariant-loop-item

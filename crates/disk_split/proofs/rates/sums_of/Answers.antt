@@ -2,8 +2,8 @@ use Rattle.std.proofs.Common.{rules, ◌≡◌, ◌<◌, ℕ, List, true, map, l
 use Rattle.std.specs.declared.cmp.Reverse.{Reverse}
 use Rattle.std.specs.Result.{is_ok}
 use Rattle.std.proofs.lemmas.List.{get_or-map, length-map}
-use Rattle.disk_split.proofs.HotFacts.{rate_of}
-use Rattle.disk_split.proofs.RateFacts.{sum_fits, sum_more, sums_more, sums_whole}
+use Rattle.disk_split.proofs.HotLemmas.{rate_of}
+use Rattle.disk_split.proofs.RateLemmas.{sum_fits, sum_more, sums_more, sums_whole}
 use Rattle.disk_split.proofs.rates.sums_of.Goals as goal
 
 rate_at : (rates : List (Reverse ℕ)) (k rate : ℕ) → k < length rates → rate ≡ (get_or rates k (record { 0 = 0 })).0 → rate ≡ get_or (map rate_of rates) k 0

@@ -1,6 +1,6 @@
 use Rattle.std.proofs.Common.{◌≡◌, ◌+◌, map, sum, take}
 use Rattle.std.specs.List.{range_with_len}
-use Rattle.disk_split.proofs.HotFacts.{rate_of}
+use Rattle.disk_split.proofs.HotLemmas.{rate_of}
 use Rattle.disk_split.proofs.rates.sums_of.Given as goal
 
 abbrev pub invariant-loop-rate : goal.invariant-loop-rate

@@ -2,11 +2,11 @@ use Rattle.std.proofs.Common.{◌≡◌, ◌<◌, ◌+◌, ◌-◌, ◌*◌, ℕ
 use Rattle.std.specs.Prelude.{slice_index_or}
 use Rattle.std.proofs.lemmas.List.{get_or_read}
 use Rattle.disk_split.specs.declared.search.Found.{Found}
-use Rattle.disk_split.specs.Steps.Bests.{IsFound}
-use Rattle.disk_split.specs.Steps.Rests.{IsFirst}
-use Rattle.disk_split.specs.Steps.Tables.{IsEntry, IsRow, IsTable}
+use Rattle.disk_split.specs.Private.Bests.{IsFound}
+use Rattle.disk_split.specs.Private.Rests.{IsFirst}
+use Rattle.disk_split.specs.Private.Tables.{IsEntry, IsRow, IsTable}
 use Rattle.disk_split.proofs.BestSteps.{found_more, found_none}
-use Rattle.disk_split.proofs.RestFacts.{slots_many}
+use Rattle.disk_split.proofs.RestLemmas.{slots_many}
 use Rattle.disk_split.proofs.search.best_sizes.Goals as goal
 use Rattle.disk_split.proofs.search.best_sizes.Goals.{After-index-first}
 

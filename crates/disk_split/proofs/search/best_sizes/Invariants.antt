@@ -1,4 +1,4 @@
-use Rattle.disk_split.specs.Steps.Bests.{IsFound}
+use Rattle.disk_split.specs.Private.Bests.{IsFound}
 use Rattle.disk_split.proofs.search.best_sizes.Given as goal
 
 abbrev pub invariant-loop-slots : goal.invariant-loop-slots

@@ -1,7 +1,7 @@
 use Rattle.std.proofs.Common.{◌≡◌, ◌<◌, ◌≤◌, ◌⊎◌, inl, inr, ◌+◌, ℕ, slice_index, subst, arith}
 use Rattle.std.proofs.lemmas.Bool.{cases_lt}
 use Rattle.disk_split.specs.declared.sizes.Left.{Left}
-use Rattle.disk_split.specs.Steps.Lefts.{IsAfter}
+use Rattle.disk_split.specs.Private.Lefts.{IsAfter}
 use Rattle.disk_split.proofs.LeftSteps.{some_first}
 use Rattle.disk_split.proofs.sizes.first_size.Goals as goal
 

@@ -1,6 +1,6 @@
 use Rattle.std.proofs.Common.{◌≤◌, ◌<◌, ℕ, slice_index}
 use Rattle.disk_split.specs.declared.sizes.Left.{Left}
-use Rattle.disk_split.specs.Steps.Lefts.{IsAfter}
+use Rattle.disk_split.specs.Private.Lefts.{IsAfter}
 use Rattle.disk_split.proofs.sizes.first_size.Given as goal
 
 abbrev pub invariant-loop-size : goal.invariant-loop-size

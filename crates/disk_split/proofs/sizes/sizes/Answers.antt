@@ -2,9 +2,9 @@ use Rattle.std.proofs.Common.{rules, ◌≡◌, ◌<◌, ◌+◌, ◌-◌, ◌++
 use Rattle.std.specs.Prelude.{slice_index_or}
 use Rattle.std.specs.Result.{is_ok}
 use Rattle.std.proofs.lemmas.List.{drop-drop, drop_all, get_or_read, length-drop, take_rest}
-use Rattle.disk_split.specs.Steps.Lefts.{IsFirstSize, IsLeastLeft}
-use Rattle.disk_split.specs.Steps.Rests.{IsFirst}
-use Rattle.disk_split.specs.Steps.Tables.{HasEntries, IsTable}
+use Rattle.disk_split.specs.Private.Lefts.{IsFirstSize, IsLeastLeft}
+use Rattle.disk_split.specs.Private.Rests.{IsFirst}
+use Rattle.disk_split.specs.Private.Tables.{HasEntries, IsTable}
 use Rattle.disk_split.proofs.LeftSteps.{fewer_slots, none_left, sizes_more, step_left}
 use Rattle.disk_split.proofs.sizes.sizes.Goals as goal
 use Rattle.disk_split.proofs.sizes.sizes.Goals.{After-deref}

@@ -1,6 +1,6 @@
 use Rattle.std.proofs.Common.{◌≤◌, ◌++◌, List, ℕ, drop}
-use Rattle.disk_split.specs.Steps.Lefts.{IsLeastLeft}
-use Rattle.disk_split.specs.Steps.Rests.{IsFirst}
+use Rattle.disk_split.specs.Private.Lefts.{IsLeastLeft}
+use Rattle.disk_split.specs.Private.Rests.{IsFirst}
 use Rattle.disk_split.proofs.sizes.sizes.Given as goal
 
 abbrev pub invariant-loop-disk : goal.invariant-loop-disk

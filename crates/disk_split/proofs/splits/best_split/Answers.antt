@@ -2,14 +2,14 @@ use Rattle.std.proofs.Common.{◌≡◌, ◌≤◌, ◌<◌, ◌+◌, ◌*◌, �
 use Rattle.std.proofs.Math.Nat.{mul-le-mul_left}
 use Rattle.air_base.specs.declared.limits.TheConstants.{MOST_SLOTS}
 use Rattle.disk_split.specs.Splits.{sizes_in}
-use Rattle.disk_split.specs.Steps.Bests.{IsBestBelow, IsFound, cost_from}
-use Rattle.disk_split.specs.Steps.Numbers.{IsLeastMinor, chunks_in, minors_in}
-use Rattle.disk_split.specs.Steps.Rests.{AreChunks, AreSums, IsRest, minor_from, weight_from}
-use Rattle.disk_split.proofs.CostFacts.{own_split}
-use Rattle.disk_split.proofs.DeckFacts.{deck_sums, length-chunks_in, length-deck_sums, split_rest}
+use Rattle.disk_split.specs.Private.Bests.{IsBestBelow, IsFound, cost_from}
+use Rattle.disk_split.specs.Private.Numbers.{IsLeastMinor, chunks_in, minors_in}
+use Rattle.disk_split.specs.Private.Rests.{AreChunks, AreSums, IsSplitRest, minor_from, weight_from}
+use Rattle.disk_split.proofs.CostLemmas.{own_split}
+use Rattle.disk_split.proofs.DeckLemmas.{deck_sums, length-chunks_in, length-deck_sums, split_rest}
 use Rattle.disk_split.proofs.DeckNumbers.{are_deck_chunks, are_deck_sums, chunks_below, chunks_some, few_disks, some_disks}
-use Rattle.disk_split.proofs.RestFacts.{slots_few, weight_small}
-use Rattle.disk_split.proofs.SearchFacts.{best_is, cost_small, cost_walk, few_minors, least_few, least_many, none_short, too_long}
+use Rattle.disk_split.proofs.RestLemmas.{slots_few, weight_small}
+use Rattle.disk_split.proofs.SearchLemmas.{best_is, cost_small, cost_walk, few_minors, least_few, least_many, none_short, too_long}
 use Rattle.disk_split.proofs.splits.best_split.Goals as goal
 use Rattle.disk_split.proofs.splits.best_split.Goals.{After-deref-3, After-drop-chunks-2, After-items, After-least_minor, In_ok-found}
 
@@ -73,14 +73,14 @@ given_cost-given-requires-clause-sums c = subst AreSums (sym (c.deref-3.ensures.
 pub given_cost-given-requires-clause-chunks : goal.given_cost-given-requires-clause-chunks
 given_cost-given-requires-clause-chunks c = subst AreChunks (sym (c.deref-2.ensures.value ∙ c.in_ok-chunks.ensures)) (cut c)
 
-rest : (c : After-deref-3) → IsRest (deck_sums c.args.deck.now) (chunks_in c.args.deck.now) 0 (sizes_in c.args.deck.now)
+rest : (c : After-deref-3) → IsSplitRest (deck_sums c.args.deck.now) (chunks_in c.args.deck.now) 0 (sizes_in c.args.deck.now)
 rest c = split_rest c.args.deck.now (sizes_in c.args.deck.now) (own_split c.args.deck.now c.shows_well_made.ensures.made)
 
 pub given_cost-given-requires-clause-rest : goal.given_cost-given-requires-clause-rest
 given_cost-given-requires-clause-rest c =
     let sizes = sizes_in c.args.deck.now in
-    subst (λ l. IsRest l c.deref-2.result.now 0 sizes) (sym (c.deref-3.ensures.value ∙ c.in_ok-sums.ensures))
-    (subst (λ l. IsRest (deck_sums c.args.deck.now) l 0 sizes) (sym (c.deref-2.ensures.value ∙ c.in_ok-chunks.ensures)) (rest c))
+    subst (λ l. IsSplitRest l c.deref-2.result.now 0 sizes) (sym (c.deref-3.ensures.value ∙ c.in_ok-sums.ensures))
+    (subst (λ l. IsSplitRest (deck_sums c.args.deck.now) l 0 sizes) (sym (c.deref-2.ensures.value ∙ c.in_ok-chunks.ensures)) (rest c))
 
 pub best_sizes-requires-clause-sums : goal.best_sizes-requires-clause-sums
 best_sizes-requires-clause-sums c = subst AreSums (sym (c.deref-5.ensures.value ∙ c.in_ok-sums.ensures)) (sums ((goal.at.best_sizes-requires-clause-sums c).After-deref-3))
@@ -129,7 +129,7 @@ pub returns-clause-given : goal.returns-clause-given
 returns-clause-given c = let deck = c.args.deck.now in let made = c.shows_well_made.ensures.made in given_is c ∙ sym (cost_walk deck made (sizes_in deck) (own_split deck made))
 
 -- What sizes cost that take all items of the deck.
-small : (c : After-drop-chunks-2) (sizes : List ℕ) → IsRest (deck_sums c.args.deck.now) (chunks_in c.args.deck.now) 0 sizes → cost_from (deck_sums c.args.deck.now) (chunks_in c.args.deck.now) sizes < 2 ^ 64
+small : (c : After-drop-chunks-2) (sizes : List ℕ) → IsSplitRest (deck_sums c.args.deck.now) (chunks_in c.args.deck.now) 0 sizes → cost_from (deck_sums c.args.deck.now) (chunks_in c.args.deck.now) sizes < 2 ^ 64
 small c sizes all =
     let deck = c.args.deck.now in let a = (goal.at.returns-clause-best c).After-deref-3 in
     let few = slots_few (deck_sums deck) (chunks_in deck) 0 sizes (cut a).some all in let long = length-deck_sums deck in let most = c.shows_well_made.ensures.made.most in

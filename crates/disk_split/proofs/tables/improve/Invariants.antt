@@ -1,6 +1,6 @@
 use Rattle.std.proofs.Common.{◌≡◌, ◌≤◌, ◌<◌, ℕ, None, length}
 use Rattle.std.specs.Prelude.{slice_index_or}
-use Rattle.disk_split.specs.Steps.Tables.{improved}
+use Rattle.disk_split.specs.Private.Tables.{improved}
 use Rattle.disk_split.proofs.tables.improve.Given as goal
 
 abbrev pub invariant-loop-len : goal.invariant-loop-len

@@ -1,7 +1,7 @@
 use Rattle.std.proofs.Common.{rules, ◌≡◌, ◌+◌, ◌==◌, true, [], length, refl, sym, subst, ap, ◌∙◌}
 use Rattle.std.specs.Result.{is_ok}
 use Rattle.std.proofs.lemmas.List.{length_push}
-use Rattle.disk_split.specs.Steps.Tables.{IsRow}
+use Rattle.disk_split.specs.Private.Tables.{IsRow}
 use Rattle.disk_split.proofs.TableSteps.{each_more, row_of_none}
 use Rattle.disk_split.proofs.tables.last_table.Goals as goal
 

@@ -1,8 +1,8 @@
 use Rattle.std.proofs.Common.{rules, ◌≡◌, ◌<◌, ◌+◌, ◌*◌, ◌++◌, ℕ, None, [], drop, take, length, replicate, slice_index, sym, subst, ap, ◌∙◌, arith}
 use Rattle.std.specs.Prelude.{slice_index_or}
 use Rattle.std.proofs.lemmas.List.{get_or-replicate, get_or_read, length-replicate, take_at}
-use Rattle.disk_split.specs.Steps.Rests.{chunk_slots, rates_from}
-use Rattle.disk_split.specs.Steps.Tables.{HasRoom, improved}
+use Rattle.disk_split.specs.Private.Rests.{chunk_slots, rates_from}
+use Rattle.disk_split.specs.Private.Tables.{HasEntriesUpTo, improved}
 use Rattle.disk_split.proofs.TableSteps.{HaveEntriesBelow, row_begins, row_ends, row_more, row_room}
 use Rattle.disk_split.proofs.tables.row_from.Goals as goal
 use Rattle.disk_split.proofs.tables.row_from.Goals.{After-deref}
@@ -28,7 +28,7 @@ row_is c =
 pub improve-requires-clause-room : goal.improve-requires-clause-room
 improve-requires-clause-room c =
     let sums = c.args.sums.now in let chunks = c.args.chunks.now in let from = c.args.from in let size = c.loop-size.size in
-    subst (HasRoom (slice_index chunks 0 * rates_from sums from size)) (sym (row_is c))
+    subst (HasEntriesUpTo (slice_index chunks 0 * rates_from sums from size)) (sym (row_is c))
     (row_room sums chunks from size c.args.width (slice_index_or c.args.next.now (from + size) []) c.requires.sums c.requires.chunks c.requires.some c.loop-size.auto.size (c.requires.next.each (from + size) (within c)))
 
 pub loop-size-preserved : goal.loop-size-preserved

@@ -1,6 +1,6 @@
 use Rattle.std.proofs.Common.{◌≡◌, ◌<◌, ℕ, [], length}
 use Rattle.std.specs.Prelude.{slice_index_or}
-use Rattle.disk_split.specs.Steps.Tables.{IsRow}
+use Rattle.disk_split.specs.Private.Tables.{IsRow}
 use Rattle.disk_split.proofs.tables.table_from.Given as goal
 
 abbrev pub invariant-loop-from : goal.invariant-loop-from

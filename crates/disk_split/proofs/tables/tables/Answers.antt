@@ -2,7 +2,7 @@ use Rattle.std.proofs.Common.{rules, ◌≡◌, ◌+◌, ◌-◌, ◌<◌, true,
 use Rattle.std.specs.Prelude.{slice_index_or}
 use Rattle.std.specs.Result.{is_ok}
 use Rattle.std.proofs.lemmas.List.{get_or_read, length_push, take_rest}
-use Rattle.disk_split.specs.Steps.Tables.{IsTable}
+use Rattle.disk_split.specs.Private.Tables.{IsTable}
 use Rattle.disk_split.proofs.TableSteps.{each_more, tail_chunks}
 use Rattle.disk_split.proofs.tables.tables.Goals as goal
 

@@ -1,6 +1,6 @@
 use Rattle.std.proofs.Common.{◌≡◌, ◌≤◌, ◌+◌, ◌-◌, ℕ, [], drop, length}
 use Rattle.std.specs.Prelude.{slice_index_or}
-use Rattle.disk_split.specs.Steps.Tables.{IsTable}
+use Rattle.disk_split.specs.Private.Tables.{IsTable}
 use Rattle.disk_split.proofs.tables.tables.Given as goal
 
 abbrev pub invariant-loop-count : goal.invariant-loop-count

@@ -2,7 +2,7 @@
 use Rattle.std.specs.Prelude.{◌≡◌, ◌≤◌, ◌<◌, ◌==◌, ◌&&◌, ◌||◌, ℕ, ◌*◌, Bool, false, Option, Some, None, List, nat_lt, if◌then◌else◌}
 use Rattle.disk_split.specs.declared.search.Found.{Found}
 use Rattle.disk_split.specs.Splits.{is_before}
-use Rattle.disk_split.specs.Steps.Rests.{IsRest, minor_from, weight_from}
+use Rattle.disk_split.specs.Private.Rests.{IsSplitRest, minor_from, weight_from}
 
 -- What sizes for all disks cost.
 abbrev pub cost_from : List ℕ → List ℕ → List ℕ → ℕ
@@ -10,15 +10,15 @@ cost_from sums chunks sizes = minor_from chunks sizes * weight_from sums chunks 
 
 -- The sizes have this cost, none costs less, and none of the same cost comes first.
 pub record IsBestBelow (sums chunks : List ℕ) (top cost : ℕ) (sizes : List ℕ) : Type 0 where
-  pub rest : IsRest sums chunks 0 sizes
+  pub rest : IsSplitRest sums chunks 0 sizes
   pub short : minor_from chunks sizes < top
   pub costs : cost_from sums chunks sizes ≡ cost
-  pub least : (other : List ℕ) → IsRest sums chunks 0 other → minor_from chunks other < top → cost ≤ cost_from sums chunks other
-  pub first : (other : List ℕ) → IsRest sums chunks 0 other → minor_from chunks other < top → cost_from sums chunks other ≡ cost → is_before other sizes ≡ false
+  pub least : (other : List ℕ) → IsSplitRest sums chunks 0 other → minor_from chunks other < top → cost ≤ cost_from sums chunks other
+  pub first : (other : List ℕ) → IsSplitRest sums chunks 0 other → minor_from chunks other < top → cost_from sums chunks other ≡ cost → is_before other sizes ≡ false
 
 -- What was found is the best, and nothing was found where there are no such sizes.
 abbrev pub IsFound : List ℕ → List ℕ → ℕ → Option Found → Type 0
-IsFound sums chunks top None = (other : List ℕ) → IsRest sums chunks 0 other → minor_from chunks other < top → ⊥
+IsFound sums chunks top None = (other : List ℕ) → IsSplitRest sums chunks 0 other → minor_from chunks other < top → ⊥
 IsFound sums chunks top (Some found) = IsBestBelow sums chunks top found.cost found.sizes
 
 -- Of two, that one is better which costs less or, at the same cost, comes first.

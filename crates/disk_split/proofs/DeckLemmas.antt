@@ -10,10 +10,10 @@ use Rattle.air_model.specs.Disks.{Disk, DiskSpec, cut, order}
 use Rattle.air_model.specs.Programs.{chunk_len, least_common_multiple, minor_len, num_chunks, num_minors}
 use Rattle.air_model.proofs.ItemOrder.{length-order}
 use Rattle.disk_split.specs.Splits.{IsSplit, minor_of, resized, slots_of, split_disks}
-use Rattle.disk_split.specs.Steps.Numbers.{chunks_in, hot_rates, minors_in, sums_of}
-use Rattle.disk_split.specs.Steps.Rests.{IsRest, chunk_slots, minor_from, rates_from, weight_from}
-use Rattle.disk_split.proofs.RateFacts.{length-sums_of, rates_between}
-use Rattle.disk_split.proofs.RestFacts.{rest_within}
+use Rattle.disk_split.specs.Private.Numbers.{chunks_in, hot_rates, minors_in, sums_of}
+use Rattle.disk_split.specs.Private.Rests.{IsSplitRest, chunk_slots, minor_from, rates_from, weight_from}
+use Rattle.disk_split.proofs.RateLemmas.{length-sums_of, rates_between}
+use Rattle.disk_split.proofs.RestLemmas.{rest_within}
 
 -- ---- the minor cycles
 
@@ -32,8 +32,8 @@ same_minors deck sizes long = minors_from 1 (order (rates_in deck)) deck.disks s
 abbrev chunks_by : ℕ → List DiskSpec → List ℕ
 chunks_by m specs = map (λ (d : DiskSpec). m / d.freq) specs
 
-rest_from : (sums cs : List ℕ) (from : ℕ) (sizes : List ℕ) → length sizes ≡ length cs → All (λ size. 1 ≤ size) sizes → from + sum sizes + 1 ≡ length sums → IsRest sums cs from sizes
-unfolding IsRest
+rest_from : (sums cs : List ℕ) (from : ℕ) (sizes : List ℕ) → length sizes ≡ length cs → All (λ size. 1 ≤ size) sizes → from + sum sizes + 1 ≡ length sums → IsSplitRest sums cs from sizes
+unfolding IsSplitRest
 rest_from sums [] from [] long full all = omega arith
 rest_from sums [] from (s ∷ ss) long full all = absurd (omega arith)
 rest_from sums (c ∷ cs) from [] long full all = absurd (omega arith)
@@ -42,8 +42,8 @@ rest_from sums (c ∷ cs) from (s ∷ ss) long full all = (
   rest_from sums cs (from + s) ss (omega arith) (All-tail (λ size. 1 ≤ size) s ss full) (let parts = sum_by-cons (λ x. x) s ss in omega arith),
 )
 
-from_rest : (sums cs : List ℕ) (from : ℕ) (sizes : List ℕ) → IsRest sums cs from sizes → (length sizes ≡ length cs) × All (λ size. 1 ≤ size) sizes × (from + sum sizes + 1 ≡ length sums)
-unfolding IsRest
+from_rest : (sums cs : List ℕ) (from : ℕ) (sizes : List ℕ) → IsSplitRest sums cs from sizes → (length sizes ≡ length cs) × All (λ size. 1 ≤ size) sizes × (from + sum sizes + 1 ≡ length sums)
+unfolding IsSplitRest
 from_rest sums [] from [] h = (refl, All-nil (λ size. 1 ≤ size), omega arith)
 from_rest sums [] from (s ∷ ss) h = absurd h
 from_rest sums (c ∷ cs) from [] h = absurd h
@@ -51,9 +51,9 @@ from_rest sums (c ∷ cs) from (s ∷ ss) h =
     let more = from_rest sums cs (from + s) ss h.1 in let long = more.0 in let all = more.2 in let parts = sum_by-cons (λ x. x) s ss in
     (omega arith, All-cons (λ size. 1 ≤ size) s ss h.0 more.1, omega arith)
 
-minor_is : (m from : ℕ) (all sums : List ℕ) (specs : List DiskSpec) (sizes : List ℕ) → length sums ≡ length all + 1 → IsRest sums (chunks_by m specs) from sizes
+minor_is : (m from : ℕ) (all sums : List ℕ) (specs : List DiskSpec) (sizes : List ℕ) → length sums ≡ length all + 1 → IsSplitRest sums (chunks_by m specs) from sizes
     → minor_len m (cut (drop from all) (resized specs sizes)) ≡ minor_from (chunks_by m specs) sizes
-unfolding IsRest cut resized minor_from minor_len chunk_len num_chunks
+unfolding IsSplitRest cut resized minor_from minor_len chunk_len num_chunks
 minor_is m from all sums [] sizes long h = refl
 minor_is m from all sums (spec ∷ specs) [] long h = absurd h
 minor_is m from all sums (spec ∷ specs) (s ∷ ss) long h =
@@ -69,9 +69,9 @@ minor_is m from all sums (spec ∷ specs) (s ∷ ss) long h =
 abbrev pub disk_weight : ℕ → (ℕ → ℕ) → Disk → ℕ
 disk_weight m rate d = num_chunks m d * sum_by rate d.items
 
-weight_is : (m from : ℕ) (all sums : List ℕ) (rate : ℕ → ℕ) (specs : List DiskSpec) (sizes : List ℕ) → sums ≡ sums_of (map rate all) → IsRest sums (chunks_by m specs) from sizes
+weight_is : (m from : ℕ) (all sums : List ℕ) (rate : ℕ → ℕ) (specs : List DiskSpec) (sizes : List ℕ) → sums ≡ sums_of (map rate all) → IsSplitRest sums (chunks_by m specs) from sizes
     → sum_by (disk_weight m rate) (cut (drop from all) (resized specs sizes)) ≡ weight_from sums (chunks_by m specs) from sizes
-unfolding IsRest cut resized weight_from num_chunks
+unfolding IsSplitRest cut resized weight_from num_chunks
 weight_is m from all sums rate [] sizes is h = refl
 weight_is m from all sums rate (spec ∷ specs) [] is h = absurd h
 weight_is m from all sums rate (spec ∷ specs) (s ∷ ss) is h =
@@ -103,11 +103,11 @@ pub length-chunks_in : (deck : Deck) → length (chunks_in deck) ≡ length deck
 unfolding chunks_in
 length-chunks_in deck = length-map deck.disks (λ (d : DiskSpec). minors_in deck / d.freq)
 
-pub split_rest : (deck : Deck) (sizes : List ℕ) → IsSplit deck sizes → IsRest (deck_sums deck) (chunks_in deck) 0 sizes
+pub split_rest : (deck : Deck) (sizes : List ℕ) → IsSplit deck sizes → IsSplitRest (deck_sums deck) (chunks_in deck) 0 sizes
 split_rest deck sizes split =
     rest_from (deck_sums deck) (chunks_in deck) 0 sizes (split.disks ∙ sym (length-chunks_in deck)) split.filled (let all = split.all in let long = length-deck_sums deck in omega arith)
 
-pub rest_split : (deck : Deck) (sizes : List ℕ) → IsRest (deck_sums deck) (chunks_in deck) 0 sizes → IsSplit deck sizes
+pub rest_split : (deck : Deck) (sizes : List ℕ) → IsSplitRest (deck_sums deck) (chunks_in deck) 0 sizes → IsSplit deck sizes
 rest_split deck sizes rest =
     let parts = from_rest (deck_sums deck) (chunks_in deck) 0 sizes rest in
     record { disks = parts.0 ∙ length-chunks_in deck; filled = parts.1; all = (let all = parts.2 in let long = length-deck_sums deck in omega arith) }

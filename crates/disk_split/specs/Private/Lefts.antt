@@ -1,8 +1,8 @@
 -- For private steps alone. What is left to place, disk by disk.
 use Rattle.std.specs.Prelude.{◌≡◌, ◌≤◌, ◌<◌, ℕ, ◌+◌, ◌-◌, ◌*◌, Option, Some, None, List, [], length, slice_index_or}
 use Rattle.disk_split.specs.declared.sizes.Left.{Left}
-use Rattle.disk_split.specs.Steps.Rests.{chunk_slots, rates_from}
-use Rattle.disk_split.specs.Steps.Tables.{IsEntry}
+use Rattle.disk_split.specs.Private.Rests.{chunk_slots, rates_from}
+use Rattle.disk_split.specs.Private.Tables.{IsEntry}
 
 -- A disk of so many chunks takes so many of the items, and what the disks after it weigh at least in the slots that are left makes up the
 -- weight that is left.

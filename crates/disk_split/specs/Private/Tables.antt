@@ -1,18 +1,18 @@
 -- For private steps alone. The table of least weights: for the disks from one on, a row for each place from which they take the items,
 -- and in it an entry for each number of slots of a minor cycle.
 use Rattle.std.specs.Prelude.{◌≡◌, ◌≤◌, ◌<◌, ℕ, ◌+◌, ◌-◌, ◌^◌, Option, Some, None, List, [], drop, length, min, nat_lt, slice_index, slice_index_or, if◌then◌else◌}
-use Rattle.disk_split.specs.Steps.Rests.{IsRest, IsRestOf, minor_from, weight_from}
+use Rattle.disk_split.specs.Private.Rests.{IsSplitRest, IsRestOf, minor_from, weight_from}
 
 -- The entry is the least weight of all sizes with so many slots, or none where no sizes have so many.
 pub record IsEntry (sums chunks : List ℕ) (from len : ℕ) (entry : Option ℕ) : Type 0 where
   pub reached : (weight : ℕ) → entry ≡ Some weight → (sizes : List ℕ) × IsRestOf sums chunks from len weight sizes
-  pub least : (sizes : List ℕ) → IsRest sums chunks from sizes → minor_from chunks sizes ≡ len
+  pub least : (sizes : List ℕ) → IsSplitRest sums chunks from sizes → minor_from chunks sizes ≡ len
       → (weight : ℕ) × (entry ≡ Some weight) × (weight ≤ weight_from sums chunks from sizes)
 
 -- The same of the sizes whose first is below a number.
 pub record IsEntryBelow (sums chunks : List ℕ) (from len top : ℕ) (entry : Option ℕ) : Type 0 where
   pub reached : (weight : ℕ) → entry ≡ Some weight → (sizes : List ℕ) × (slice_index sizes 0 < top) × IsRestOf sums chunks from len weight sizes
-  pub least : (sizes : List ℕ) → slice_index sizes 0 < top → IsRest sums chunks from sizes → minor_from chunks sizes ≡ len
+  pub least : (sizes : List ℕ) → slice_index sizes 0 < top → IsSplitRest sums chunks from sizes → minor_from chunks sizes ≡ len
       → (weight : ℕ) × (entry ≡ Some weight) × (weight ≤ weight_from sums chunks from sizes)
 
 -- A row has the entries of all numbers of slots below a width. It may end before, where none follows.
@@ -43,19 +43,19 @@ pub record HaveEntries (sums chunks : List ℕ) (slots : ℕ) (tables : List (Li
   pub all : AreTables sums chunks width tables
 
 -- The less of an entry and a weight.
-abbrev pub lesser : Option ℕ → ℕ → Option ℕ
-lesser None weight = Some weight
-lesser (Some old) weight = Some (min old weight)
+abbrev pub lesser_weight : Option ℕ → ℕ → Option ℕ
+lesser_weight None weight = Some weight
+lesser_weight (Some old) weight = Some (min old weight)
 
 -- The less of an entry and what another one weighs with so much more.
-abbrev pub lesser_of : Option ℕ → Option ℕ → ℕ → Option ℕ
-lesser_of old None more = old
-lesser_of old (Some rest) more = lesser old (rest + more)
+abbrev pub lesser_weight_with : Option ℕ → Option ℕ → ℕ → Option ℕ
+lesser_weight_with old None more = old
+lesser_weight_with old (Some rest) more = lesser_weight old (rest + more)
 
 -- An entry once a disk may also take the next number of items, in a chunk of so many slots.
 abbrev pub improved : List (Option ℕ) → ℕ → ℕ → ℕ → Option ℕ → Option ℕ
-improved next chunk more len old = if nat_lt len chunk then old else lesser_of old (slice_index_or next (len - chunk) None) more
+improved next chunk more len old = if nat_lt len chunk then old else lesser_weight_with old (slice_index_or next (len - chunk) None) more
 
 -- What is added to an entry still is a number of 64 bits.
-abbrev pub HasRoom : ℕ → List (Option ℕ) → Type 0
-HasRoom more row = (len weight : ℕ) → slice_index_or row len None ≡ Some weight → weight + more < 2 ^ 64
+abbrev pub HasEntriesUpTo : ℕ → List (Option ℕ) → Type 0
+HasEntriesUpTo more row = (len weight : ℕ) → slice_index_or row len None ≡ Some weight → weight + more < 2 ^ 64

@@ -13,11 +13,11 @@ abbrev pub rates_from : List ℕ → ℕ → ℕ → ℕ
 rates_from sums from size = slice_index sums (from + size) - slice_index sums from
 
 -- Each disk has a size of 1 or more, and they take all items from the place on.
-unfoldable pub IsRest : List ℕ → List ℕ → ℕ → List ℕ → Type 0
-IsRest sums [] from [] = from + 1 ≡ length sums
-IsRest sums [] from (size ∷ sizes) = ⊥
-IsRest sums (c ∷ cs) from [] = ⊥
-IsRest sums (c ∷ cs) from (size ∷ sizes) = (1 ≤ size) × IsRest sums cs (from + size) sizes
+unfoldable pub IsSplitRest : List ℕ → List ℕ → ℕ → List ℕ → Type 0
+IsSplitRest sums [] from [] = from + 1 ≡ length sums
+IsSplitRest sums [] from (size ∷ sizes) = ⊥
+IsSplitRest sums (c ∷ cs) from [] = ⊥
+IsSplitRest sums (c ∷ cs) from (size ∷ sizes) = (1 ≤ size) × IsSplitRest sums cs (from + size) sizes
 
 -- The slots of a minor cycle on these disks: those of a chunk of each.
 unfoldable pub minor_from : List ℕ → List ℕ → ℕ
@@ -33,7 +33,7 @@ weight_from sums (c ∷ cs) from (size ∷ sizes) = c * rates_from sums from siz
 
 -- The sizes are such, with so many slots and this weight.
 pub record IsRestOf (sums chunks : List ℕ) (from len weight : ℕ) (sizes : List ℕ) : Type 0 where
-  pub rest : IsRest sums chunks from sizes
+  pub rest : IsSplitRest sums chunks from sizes
   pub slots : minor_from chunks sizes ≡ len
   pub weighs : weight_from sums chunks from sizes ≡ weight
 

@@ -4,7 +4,7 @@ use Rattle.std.specs.List.{range_with_len}
 use Rattle.air_model.specs.Decks.{Deck, rates_in}
 use Rattle.air_model.specs.Disks.{order}
 use Rattle.air_model.specs.Programs.{least_common_multiple}
-use Rattle.disk_split.specs.Steps.Rests.{IsRest, minor_from}
+use Rattle.disk_split.specs.Private.Rests.{IsSplitRest, minor_from}
 
 -- A cycle has so many minor cycles, whatever the sizes.
 unfoldable pub minors_in : Deck → ℕ
@@ -24,5 +24,5 @@ sums_of rates = map (λ k. sum (take k rates)) (range_with_len 0 (length rates +
 
 -- No sizes have a minor cycle of fewer slots, and some have one of just so many.
 pub record IsLeastMinor (sums chunks : List ℕ) (least : ℕ) : Type 0 where
-  pub reached : (sizes : List ℕ) × IsRest sums chunks 0 sizes × (minor_from chunks sizes ≡ least)
-  pub fewest : (sizes : List ℕ) → IsRest sums chunks 0 sizes → least ≤ minor_from chunks sizes
+  pub reached : (sizes : List ℕ) × IsSplitRest sums chunks 0 sizes × (minor_from chunks sizes ≡ least)
+  pub fewest : (sizes : List ℕ) → IsSplitRest sums chunks 0 sizes → least ≤ minor_from chunks sizes

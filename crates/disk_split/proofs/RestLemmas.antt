@@ -6,7 +6,7 @@ use Rattle.std.proofs.lemmas.List.Elements.{All-head, All-tail}
 use Rattle.std.proofs.lemmas.Nat.{mod_below}
 use Rattle.std.proofs.Math.Nat.{div-add-mod', mul-le-mul_left, mul-le-mul_right}
 use Rattle.air_base.specs.declared.limits.TheConstants.{MOST_SLOTS}
-use Rattle.disk_split.specs.Steps.Rests.{AreChunks, AreSums, IsRest, chunk_slots, minor_from, weight_from}
+use Rattle.disk_split.specs.Private.Rests.{AreChunks, AreSums, IsSplitRest, chunk_slots, minor_from, weight_from}
 
 -- ---- the slots of a chunk
 pub covers : (c s : ℕ) → 1 ≤ c → s ≤ chunk_slots c s * c
@@ -33,15 +33,15 @@ pub no_more : (c s : ℕ) → 1 ≤ c → chunk_slots c s ≤ s
 no_more c s some = fewest c s s some (let grows : s * 1 ≤ s * c = mul-le-mul_left s some in omega arith)
 
 -- ---- all sizes
-pub rest_within : (sums cs : List ℕ) (from : ℕ) (sizes : List ℕ) → IsRest sums cs from sizes → from < length sums
-unfolding IsRest
+pub rest_within : (sums cs : List ℕ) (from : ℕ) (sizes : List ℕ) → IsSplitRest sums cs from sizes → from < length sums
+unfolding IsSplitRest
 rest_within sums [] from [] h = omega arith
 rest_within sums [] from (s ∷ ss) h = absurd h
 rest_within sums (c ∷ cs) from [] h = absurd h
 rest_within sums (c ∷ cs) from (s ∷ ss) h = let more = rest_within sums cs (from + s) ss h.1 in omega arith
 
-pub slots_few : (sums cs : List ℕ) (from : ℕ) (sizes : List ℕ) → All (λ c. 1 ≤ c) cs → IsRest sums cs from sizes → minor_from cs sizes + from + 1 ≤ length sums
-unfolding IsRest minor_from
+pub slots_few : (sums cs : List ℕ) (from : ℕ) (sizes : List ℕ) → All (λ c. 1 ≤ c) cs → IsSplitRest sums cs from sizes → minor_from cs sizes + from + 1 ≤ length sums
+unfolding IsSplitRest minor_from
 slots_few sums [] from [] some h = omega arith
 slots_few sums [] from (s ∷ ss) some h = absurd h
 slots_few sums (c ∷ cs) from [] some h = absurd h
@@ -49,8 +49,8 @@ slots_few sums (c ∷ cs) from (s ∷ ss) some h =
     let more = slots_few sums cs (from + s) ss (All-tail (λ c. 1 ≤ c) c cs some) h.1 in
     let own = no_more c s (All-head (λ c. 1 ≤ c) c cs some) in omega arith
 
-pub slots_many : (sums cs : List ℕ) (from : ℕ) (sizes : List ℕ) → All (λ c. 1 ≤ c) cs → IsRest sums cs from sizes → length cs ≤ minor_from cs sizes
-unfolding IsRest minor_from
+pub slots_many : (sums cs : List ℕ) (from : ℕ) (sizes : List ℕ) → All (λ c. 1 ≤ c) cs → IsSplitRest sums cs from sizes → length cs ≤ minor_from cs sizes
+unfolding IsSplitRest minor_from
 slots_many sums [] from [] some h = omega arith
 slots_many sums [] from (s ∷ ss) some h = absurd h
 slots_many sums (c ∷ cs) from [] some h = absurd h
@@ -65,9 +65,9 @@ spread m a b up = by (b - a) (omega arith)
     by d e = rw e (omega arith)
 
 -- What they weigh is at most the most chunks times the rates from the place on.
-pub weight_few : (sums cs : List ℕ) (most from : ℕ) (sizes : List ℕ) → AreSums sums → All (λ c. c ≤ most) cs → IsRest sums cs from sizes
+pub weight_few : (sums cs : List ℕ) (most from : ℕ) (sizes : List ℕ) → AreSums sums → All (λ c. c ≤ most) cs → IsSplitRest sums cs from sizes
     → weight_from sums cs from sizes + most * slice_index sums from ≤ most * slice_index sums (length sums - 1)
-unfolding IsRest weight_from
+unfolding IsSplitRest weight_from
 weight_few sums [] most from [] are few h = let same : length sums - 1 ≡ from = omega arith in rw same (omega arith)
 weight_few sums [] most from (s ∷ ss) are few h = absurd h
 weight_few sums (c ∷ cs) most from [] are few h = absurd h
@@ -78,6 +78,6 @@ weight_few sums (c ∷ cs) most from (s ∷ ss) are few h =
     let parts = spread most a b up in
     let more = weight_few sums cs most (from + s) ss are (All-tail (λ c. c ≤ most) c cs few) h.1 in omega arith
 
-pub weight_small : (sums cs : List ℕ) (from : ℕ) (sizes : List ℕ) → AreSums sums → AreChunks cs → IsRest sums cs from sizes → weight_from sums cs from sizes < 2 ^ 46
+pub weight_small : (sums cs : List ℕ) (from : ℕ) (sizes : List ℕ) → AreSums sums → AreChunks cs → IsSplitRest sums cs from sizes → weight_from sums cs from sizes < 2 ^ 46
 weight_small sums cs from sizes are chunks h =
     let most = weight_few sums cs MOST_SLOTS from sizes are chunks.few h in let small = are.small (length sums - 1) in omega arith

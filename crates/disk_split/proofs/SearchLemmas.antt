@@ -7,13 +7,13 @@ use Rattle.std.proofs.lemmas.Nat.{mod_below}
 use Rattle.air_base.specs.declared.limits.TheConstants.{MOST_SLOTS}
 use Rattle.air_model.specs.Decks.{Deck, IsDeck}
 use Rattle.disk_split.specs.Splits.{IsBest, IsShortSplit, IsSplit, cost, minor_of}
-use Rattle.disk_split.specs.SplitAnswers.{IsTooLong}
-use Rattle.disk_split.specs.Steps.Bests.{IsBestBelow, IsFound, cost_from}
-use Rattle.disk_split.specs.Steps.Numbers.{IsLeastMinor, chunks_in, minors_in}
-use Rattle.disk_split.specs.Steps.Rests.{AreChunks, IsRest, minor_from, weight_from}
-use Rattle.disk_split.proofs.CostFacts.{cost_is}
-use Rattle.disk_split.proofs.DeckFacts.{deck_sums, length-deck_sums, minor_walk, rest_split, slots_walk, split_rest, weight_walk}
-use Rattle.disk_split.proofs.RestFacts.{slots_few, slots_many}
+use Rattle.disk_split.specs.SplitAnswers.{AreAllTooLong}
+use Rattle.disk_split.specs.Private.Bests.{IsBestBelow, IsFound, cost_from}
+use Rattle.disk_split.specs.Private.Numbers.{IsLeastMinor, chunks_in, minors_in}
+use Rattle.disk_split.specs.Private.Rests.{AreChunks, IsSplitRest, minor_from, weight_from}
+use Rattle.disk_split.proofs.CostLemmas.{cost_is}
+use Rattle.disk_split.proofs.DeckLemmas.{deck_sums, length-deck_sums, minor_walk, rest_split, slots_walk, split_rest, weight_walk}
+use Rattle.disk_split.proofs.RestLemmas.{slots_few, slots_many}
 
 -- n times a number are at most m where the number is at most the quotient, and not where it isn't.
 quotient_fits : (m n k : ℕ) → 0 < n → k ≤ m / n → n * k ≤ m
@@ -60,7 +60,7 @@ module _ (deck : Deck) (made : IsDeck deck) where
         let few = slots_few (deck_sums deck) (chunks_in deck) 0 sizes cut.some (split_rest deck sizes short.split) in
         let long = length-deck_sums deck in omega arith
 
-    below_short : (sizes : List ℕ) → IsRest (deck_sums deck) (chunks_in deck) 0 sizes → minor_from (chunks_in deck) sizes < min (MOST_SLOTS / minors_in deck) (length deck.items) + 1 → IsShortSplit deck sizes
+    below_short : (sizes : List ℕ) → IsSplitRest (deck_sums deck) (chunks_in deck) 0 sizes → minor_from (chunks_in deck) sizes < min (MOST_SLOTS / minors_in deck) (length deck.items) + 1 → IsShortSplit deck sizes
     below_short sizes rest below =
         let split = rest_split deck sizes rest in let walk = slots_walk deck sizes split in
         let fits = quotient_fits MOST_SLOTS (minors_in deck) (minor_from (chunks_in deck) sizes) some (omega arith) in
@@ -92,7 +92,7 @@ module _ (deck : Deck) (made : IsDeck deck) where
         none r.0 r.1 (short_below r.0 (record { split = split; short = omega arith }))
 
   -- where even the fewest slots are too many, all splits are too long
-  pub too_long : (least slots : ℕ) → IsLeastMinor (deck_sums deck) (chunks_in deck) least → slots ≡ minors_in deck * least → MOST_SLOTS < slots → IsTooLong deck slots
+  pub too_long : (least slots : ℕ) → IsLeastMinor (deck_sums deck) (chunks_in deck) least → slots ≡ minors_in deck * least → MOST_SLOTS < slots → AreAllTooLong deck slots
   too_long least slots low is over = record {
     above = over;
     reached = (let r = low.reached in let split = rest_split deck r.0 r.1 in (r.0, split, slots_walk deck r.0 split ∙ ap (λ n. minors_in deck * n) r.2 ∙ sym is));

@@ -13,8 +13,8 @@ use Rattle.air_model.proofs.ProgramLemmas.{chunks_are}
 use Rattle.air_model.proofs.Elements.{has_contains}
 use Rattle.air_model.proofs.ItemOrder.{cut_airable, cut_items, length-order}
 use Rattle.disk_split.specs.Splits.{IsSplit, cost, minor_of, resized, sizes_in, split_disks}
-use Rattle.disk_split.proofs.DeckFacts.{disk_weight}
-use Rattle.disk_split.proofs.HotFacts.{sum_order}
+use Rattle.disk_split.proofs.DeckLemmas.{disk_weight}
+use Rattle.disk_split.proofs.HotLemmas.{sum_order}
 
 -- ---- sums
 sum_same : {X : Type 0} (f g : X → ℕ) (xs : List X) → ((k : ℕ) (x : X) → slice_get xs k ≡ Some x → f x ≡ g x) → sum_by f xs ≡ sum_by g xs
