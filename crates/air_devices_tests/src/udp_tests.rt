@@ -109,6 +109,7 @@ fn first_misheard<E: Ear>(
     rows: &[(&[u8], &[u8])],
 ) -> io::Result<Option<usize>>
     requires { IsSome (E.state ear.old).port }
+    ensures { IsSome (E.state ear.new).port }
 {
     for (place, (sent, told)) in rows.iter().enumerate() {
         far.send_to(sent, loopback(port))?;
