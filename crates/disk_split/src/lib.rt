@@ -1,7 +1,7 @@
 //! How many items each disk of a deck takes at best.
 //!
-//! `best_split` finds the sizes for which the rates times the gaps sum to the least: so a listener who tunes in at any slot
-//! waits least. It goes over a table of least weights, by disk, by the items before it, and by the slots of a minor cycle.
+//! `best_split` finds the sizes for which the rates times the gaps sum to the least, among programs of at most 16,384 slots.
+//! It goes over a table of least weights, by disk, by the items before it, and by the slots of a minor cycle.
 //! The frequencies stay the deck's.
 #![tactic(auto)]
 
