@@ -12,7 +12,7 @@ use Rattle.held_reads.proofs.LeastLemmas.{IsLeastOf}
 use Rattle.held_reads.proofs.ReachedLemmas.{NamesLeastOf, search_names, names_one}
 use Rattle.column_check.specs.Searches.{disagree}
 use Rattle.column_check.specs.Private.LesserOfTwo.{lesser_of_both}
-use Rattle.column_check.proofs.HeldLemmas.{least_is}
+use Rattle.column_check.proofs.LeastLemmas.{least_is}
 
 or_left : (a b : Bool) → a ≡ true → (a || b) ≡ true
 or_left true b e = refl

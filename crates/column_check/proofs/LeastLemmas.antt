@@ -1,12 +1,15 @@
 -- The clash by the entries under F-Matrix is the least of the reads that disagree with the new one.
-use Rattle.std.proofs.Common.{◌≡◌, false, List, All, Option, Some, None, subst}
+use Rattle.std.proofs.Common.{◌≡◌, false, List, All, Option, Some, None, refl, subst}
 use Rattle.std.specs.Prelude.{MatchOption}
 use Rattle.air_base.specs.declared.verdicts.Clash.{Clash}
 use Rattle.air_base.specs.declared.verdicts.Policy.TheVariants.{FMatrix}
 use Rattle.air_history.specs.Clashes.{Heard, heard_clash, clash_by_entries}
 use Rattle.held_reads.proofs.ReachedLemmas.{NamesLeastOf, search_names}
 use Rattle.column_check.specs.Searches.{disagree, IsLeastClash}
-use Rattle.column_check.proofs.HeldLemmas.{least_is}
+
+pub least_is : (R : List Heard) (x : Heard) → heard_clash (disagree x) R ≡ clash_by_entries FMatrix R x
+unfolding clash_by_entries
+least_is R x = refl
 
 -- No read disagrees where there is no clash, and a clash is the least of those that do.
 abbrev NamesLeast : List Heard → Heard → Option Clash → Type 0

@@ -1,4 +1,3 @@
-pub mod HeldLemmas
 pub mod NewLemmas
 pub mod LeastLemmas
 pub mod BothLemmas

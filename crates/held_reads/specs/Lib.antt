@@ -1,4 +1,5 @@
 pub mod HeardReads
+pub mod Policies
 pub mod Searches
 pub mod HeldView
 pub mod HeldCycles

@@ -1,121 +1,33 @@
-//! The reads that an attempt holds under Datacycle, each with the write vector that was heard with it.
+//! The check of Datacycle, by write vectors: held reads stay current at the newest cycle with the new one.
 //!
-//! Contracts see the number of items and the held reads in order. `clashes` is the clash by the entries, and by every
-//! history that aired these vectors: it is None exactly where the reads stay current, if they are. A receiver's attempts stand
-//! on it. All memory is taken by `new`.
+//! Where the new cycle is the newest the new vector decides, else that of the first held read of the newest cycle. A receiver's
+//! attempts stand on the check.
 
-ghost use Rattle.std.specs.Prelude.{◌≡◌, ◌↔◌, ◌<◌, ◌≤◌, [], ◌∷◌, ◌++◌, List, length, map, All, IsNone, IfSome, IfOk, None};
 ghost use Rattle.air_base.specs.declared.verdicts.Policy.TheVariants.{Datacycle};
-ghost use Rattle.air_history.specs.declared.histories.Event.{Event};
-ghost use Rattle.air_history.specs.Reads.{last_cycle};
-ghost use Rattle.air_history.specs.Clashes.{read_at, clash_by_history, clash_by_entries, IsCurrent};
-ghost use Rattle.air_history.specs.ClashLaws.{HasAiredEntries};
-ghost use Rattle.air_history.specs.Columns.{scheme_of};
-ghost use Rattle.air_history.specs.HeldReads.{IsNew};
-ghost use Rattle.held_reads.specs.HeardReads.{heard_read};
-ghost use Rattle.held_reads.specs.HeldCycles.{cycles_of};
 
-use air_base::{Clash, NoMemory};
-use held_reads::{HeldEntries, ROOM};
-use std::alloc::Global;
-use std::marker::Model;
+use air_base::Clash;
+use held_reads::{CheckedReads, HeldEntries, PolicyCheck};
 
-/// The held reads of an attempt, in order.
+/// The check by write vectors at the newest cycle.
 #[derive(Debug, Drop)]
-pub struct DataHeld {
-    held: HeldEntries,
-}
+pub struct DatacycleCheck;
 
-impl Model for DataHeld {
-    ghost use Rattle.air_history.specs.HeldReads.{HeldReads};
+impl PolicyCheck for DatacycleCheck {
+    ghost policy = { Datacycle };
 
-    ghost Value = { HeldReads };
-
-    ghost view = { λ d. d.held };
-}
-
-impl DataHeld {
-    /// Nothing held, with room for sixteen reads over `n` items.
-    pub fn new(alloc: Global, n: u16) -> Result<DataHeld, NoMemory>
-        ensures { IfOk result (λ h. h ≡ record { n = n; reads = [] }) }
-    {
-        Ok(DataHeld {
-            held: HeldEntries::new(alloc, n)?,
-        })
-    }
-
-    /// The number of held reads, never above the room.
-    pub fn len(&self) -> usize
-        ensures number { result ≡ length self.now.reads }
-        ensures within { result ≤ ROOM }
-    {
-        self.held.len()
-    }
-
-    /// The cycle of the last held read.
-    pub fn last(&self) -> Option<u32>
-        ensures none { IsNone result ↔ (self.now.reads ≡ []) }
-        ensures cycle { IfSome result (λ c. c ≡ last_cycle (map read_at self.now.reads)) }
-    {
-        self.held.last()
-    }
-
-    /// The cycle in which each of the `n` items is held, and the greatest `u32` where it isn't.
-    pub fn cycles(&self) -> &[u32]
-        ensures { result.now ≡ cycles_of self.now }
-    {
-        self.held.cycles()
-    }
-
-    /// The held read of least item number that clashes with the new one.
-    pub fn clashes(&self, item: u16, cycle: u32, vector: &[u32]) -> Option<Clash>
-        requires { IsNew self.now (heard_read item cycle vector.now) }
-
-        // By the entries, for every order of reads.
-        ensures entries { result ≡ clash_by_entries Datacycle self.now.reads (heard_read item cycle vector.now) }
-
-        // By each history that has these vectors at their cycles.
-        ensures history { let x = heard_read item cycle vector.now in (H : List Event) →
-            All (HasAiredEntries (scheme_of Datacycle) self.now.n H) self.now.reads → HasAiredEntries (scheme_of Datacycle) self.now.n H x →
-            result ≡ clash_by_history Datacycle H (map read_at self.now.reads) (read_at x) }
-        ensures current { let x = heard_read item cycle vector.now in (H : List Event) →
-            All (HasAiredEntries (scheme_of Datacycle) self.now.n H) self.now.reads → HasAiredEntries (scheme_of Datacycle) self.now.n H x →
-            IsCurrent H (map read_at self.now.reads) →
-            (result ≡ None) ↔ IsCurrent H (map read_at self.now.reads ++ read_at x ∷ []) }
-    {
-        self.clash_by_vectors(item, cycle, vector)
-    }
-
-    /// The held read of least item number that the entries name.
+    /// The held read of least item number that is stale at the newest cycle.
     #[tactic(auto, using(crate::proofs::PolicyLemmas::named_at_newest, crate::proofs::PolicyLemmas::none_at_newest, crate::proofs::PolicyLemmas::named_of_newest))]
-    fn clash_by_vectors(&self, item: u16, cycle: u32, vector: &[u32]) -> Option<Clash>
-        requires { IsNew self.now (heard_read item cycle vector.now) }
-        ensures { result ≡ clash_by_entries Datacycle self.now.reads (heard_read item cycle vector.now) }
-    {
-        let newest = self.held.newest();
+    fn clash(held: &HeldEntries, item: u16, cycle: u32, vector: &[u32]) -> Option<Clash> {
+        let newest = held.newest();
         if cycle >= newest {
-            return self.held.least_reached(vector);
+            return held.least_reached(vector);
         }
-        if self.held.first_entry(newest, item) < cycle {
+        if held.first_entry(newest, item) < cycle {
             return None;
         }
-        self.held.least_of_cycle(newest)
-    }
-
-    /// Holds the new read too, after those before it, where `clashes` answered none for it; `len` tells whether there is room.
-    pub fn hold(&mut self, item: u16, cycle: u32, vector: &[u32])
-        requires room { length self.old.reads < ROOM }
-        requires new { IsNew self.old (heard_read item cycle vector.now) }
-        requires clear { clash_by_entries Datacycle self.old.reads (heard_read item cycle vector.now) ≡ None }
-        ensures { self.new ≡ record self.old { reads = self.old.reads ++ heard_read item cycle vector.now ∷ [] } }
-    {
-        self.held.hold(item, cycle, vector);
-    }
-
-    /// Holds nothing any more; the room stays.
-    pub fn clear(&mut self)
-        ensures { self.new ≡ record self.old { reads = [] } }
-    {
-        self.held.clear();
+        held.least_of_cycle(newest)
     }
 }
+
+/// The reads that an attempt holds under Datacycle, each with the write vector that was heard with it.
+pub type DataHeld = CheckedReads<DatacycleCheck>;

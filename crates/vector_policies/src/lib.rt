@@ -1,12 +1,13 @@
 //! The held reads of Datacycle and R-Matrix: whether a new read goes together with those that an attempt holds.
 //!
-//! Each read comes with the vector of last write cycles that was heard with it. `DataHeld` asks whether its reads are current at
-//! the newest cycle with the new one; `RHeld` takes reads in the order of cycles. Both name the clash of least item.
+//! Each read comes with the vector of last write cycles that was heard with it. `DatacycleCheck` asks whether the held reads are current
+//! at the newest cycle with the new one; `RMatrixCheck` takes reads in the order of cycles. Both name the clash of least item.
+//! `DataHeld` and `RHeld` are the held reads under them.
 #![tactic(auto)]
 
 pub mod datacycle;
 pub mod laws;
 pub mod r_matrix;
 
-pub use datacycle::DataHeld;
-pub use r_matrix::RHeld;
+pub use datacycle::{DataHeld, DatacycleCheck};
+pub use r_matrix::{RHeld, RMatrixCheck};

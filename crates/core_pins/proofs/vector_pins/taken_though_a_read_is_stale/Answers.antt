@@ -13,4 +13,4 @@ pub returns : goal.returns
 returns c =
     let P : HeldReads → List ℕ → Type 0 = λ h v. (H : List Event) → All (HasAiredEntries (scheme_of Datacycle) h.n H) h.reads → HasAiredEntries (scheme_of Datacycle) h.n H (heard_read 2 5 v) →
     IsCurrent H (map read_at h.reads) → (c.clashes.result ≡ None) ↔ IsCurrent H (map read_at h.reads ++ read_at (heard_read 2 5 v) ∷ []) in
-    subst (λ h. P h (3 ∷ 0 ∷ 0 ∷ [])) c.requires.held (subst (P c.args.held.now) c.requires.vector c.clashes.ensures.current)
+    subst (λ h. P h (3 ∷ 0 ∷ 0 ∷ [])) c.requires.held (subst (P c.args.held.now) c.requires.vector c.clashes.ensures.taken)
