@@ -12,8 +12,6 @@ use Rattle.air_model.specs.Reads.{Read}
 use Rattle.air_history.specs.HeldReads.{HeldReads, IsNew}
 use Rattle.receiver_core.specs.Private.Attempts.{HeldValues, columns_of, line_read}
 use Rattle.receiver_core.specs.Private.AttemptView.{KeepsBoth, held_values, with_values}
-use Rattle.receiver_core.specs.Private.PolicyReads.{held_of, policy_of}
-use Rattle.receiver_core.specs.declared.policy_held.PolicyHeld.{PolicyHeld}
 use Rattle.receiver_core.specs.declared.attempts.Attempt.TheInside.{Inside}
 
 pub nothing_held : (V : List ReadOf) → with_values [] V ≡ []
@@ -38,72 +36,70 @@ with_values-push [] (w ∷ V) h v e = absurd (omega arith)
 with_values-push (g ∷ R) [] h v e = absurd (omega arith)
 with_values-push (g ∷ R) (w ∷ V) h v e = ap (λ S. both_parts g w ∷ S) (with_values-push R V h v (omega arith))
 
-columns_are : (a : Inside) → KeepsBoth a → columns_of (held_values a) ≡ held_of a.held
-columns_are a k = ap (λ R. let t : HeldReads = record { n = (held_of a.held).n; reads = R } in t) (heard_from (held_of a.held).reads a.line_reads k.even)
+columns_are : (a : Inside) → KeepsBoth a → columns_of (held_values a) ≡ a.held
+columns_are a k = ap (λ R. let t : HeldReads = record { n = a.held.n; reads = R } in t) (heard_from a.held.reads a.line_reads k.even)
 
 -- A new read is new to the reads with entries.
-pub new_at : (a : Inside) (v : HeldValues) (x : Read) → KeepsBoth a → held_values a ≡ v → IsNew (columns_of v) (heard_of x) → IsNew (held_of a.held) (heard_of x)
+pub new_at : (a : Inside) (v : HeldValues) (x : Read) → KeepsBoth a → held_values a ≡ v → IsNew (columns_of v) (heard_of x) → IsNew a.held (heard_of x)
 new_at a v x k is new = subst (λ h. IsNew h (heard_of x)) (ap columns_of (sym is) ∙ columns_are a k) new
 
 -- The clash by the columns is the clash by the entries.
 pub clash_at : (a : Inside) (v : HeldValues) (x : Read) → KeepsBoth a → held_values a ≡ v →
-    clash_by_entries (policy_of a.held) (held_of a.held).reads (heard_of x) ≡ (by_entries (scheme_of v.policy)).clash v.reads x
+    clash_by_entries a.policy a.held.reads (heard_of x) ≡ (by_entries (scheme_of v.policy)).clash v.reads x
 unfolding by_entries
 clash_at a v x k is =
-    ap (λ (h : HeldReads). clash_by_entries (policy_of a.held) h.reads (heard_of x)) (sym (columns_are a k))
+    ap (λ (h : HeldReads). clash_by_entries a.policy h.reads (heard_of x)) (sym (columns_are a k))
     ∙ ap (λ (w : HeldValues). clash_by_entries w.policy (map heard_of w.reads) (heard_of x)) is
 
 -- Whether a read comes too late after the reads with entries, and after those with values.
 pub late_after : (a : Inside) (v : HeldValues) (x : ReadAt) → KeepsBoth a → held_values a ≡ v →
-    is_late (policy_of a.held) (map read_at (held_of a.held).reads) x ≡ is_late v.policy (map place_of v.reads) x
+    is_late a.policy (map read_at a.held.reads) x ≡ is_late v.policy (map place_of v.reads) x
 late_after a v x k is =
-    ap (λ R. is_late (policy_of a.held) (map read_at R) x) (sym (heard_from (held_of a.held).reads a.line_reads k.even))
-    ∙ ap (λ S. is_late (policy_of a.held) S x) (map-map read_at heard_of (held_values a).reads)
+    ap (λ R. is_late a.policy (map read_at R) x) (sym (heard_from a.held.reads a.line_reads k.even))
+    ∙ ap (λ S. is_late a.policy S x) (map-map read_at heard_of (held_values a).reads)
     ∙ ap (λ (w : HeldValues). is_late w.policy (map place_of w.reads) x) is
 
 -- ---- where nothing is held
 
-pub empty_keeps : (held : PolicyHeld) (reads : List ReadOf) → (held_of held).reads ≡ [] → reads ≡ [] → KeepsBoth (record { held = held; line_reads = reads })
-empty_keeps held reads e f = record {
+pub empty_keeps : (policy : Policy) (held : HeldReads) (reads : List ReadOf) → held.reads ≡ [] → reads ≡ [] → KeepsBoth (record { policy = policy; held = held; line_reads = reads })
+empty_keeps policy held reads e f = record {
   even = ap length f ∙ sym (ap length e);
   same = ap (λ R. map line_read (with_values R reads)) e ∙ ap (map line_read) (nothing_held reads) ∙ sym f;
 }
 
-pub empty_is : (policy : Policy) (n : ℕ) (held : PolicyHeld) (reads : List ReadOf) → policy_of held ≡ policy → held_of held ≡ record { n = n; reads = [] } →
-    held_values (record { held = held; line_reads = reads }) ≡ record { policy = policy; items = n; reads = [] }
-empty_is policy n held reads p e =
-    ap (λ q. let t : HeldValues = record { policy = q; items = (held_of held).n; reads = with_values (held_of held).reads reads } in t) p
-    ∙ ap (λ (h : HeldReads). let t : HeldValues = record { policy = policy; items = h.n; reads = with_values h.reads reads } in t) e
+pub empty_is : (policy : Policy) (n : ℕ) (held : HeldReads) (reads : List ReadOf) → held ≡ record { n = n; reads = [] } →
+    held_values (record { policy = policy; held = held; line_reads = reads }) ≡ record { policy = policy; items = n; reads = [] }
+empty_is policy n held reads e =
+    ap (λ (h : HeldReads). let t : HeldValues = record { policy = policy; items = h.n; reads = with_values h.reads reads } in t) e
     ∙ ap (λ R. let t : HeldValues = record { policy = policy; items = n; reads = R } in t) (nothing_held reads)
 
 -- ---- where one read more is held
 
 -- The two lists with one read more.
 more : (a : Inside) (held : HeldReads) (reads : List ReadOf) (x : Read) → KeepsBoth a →
-    held ≡ record (held_of a.held) { reads = (held_of a.held).reads ++ heard_of x ∷ [] } → reads ≡ a.line_reads ++ line_read x ∷ [] →
-    with_values held.reads reads ≡ with_values (held_of a.held).reads a.line_reads ++ x ∷ []
+    held ≡ record a.held { reads = a.held.reads ++ heard_of x ∷ [] } → reads ≡ a.line_reads ++ line_read x ∷ [] →
+    with_values held.reads reads ≡ with_values a.held.reads a.line_reads ++ x ∷ []
 more a held reads x k e f =
-    ap (λ (t : HeldReads). with_values t.reads reads) e ∙ ap (with_values ((held_of a.held).reads ++ heard_of x ∷ [])) f
-    ∙ with_values-push (held_of a.held).reads a.line_reads (heard_of x) (line_read x) k.even
+    ap (λ (t : HeldReads). with_values t.reads reads) e ∙ ap (with_values (a.held.reads ++ heard_of x ∷ [])) f
+    ∙ with_values-push a.held.reads a.line_reads (heard_of x) (line_read x) k.even
 
-pub more_keeps : (a : Inside) (now : PolicyHeld) (reads : List ReadOf) (x : Read) → KeepsBoth a →
-    held_of now ≡ record (held_of a.held) { reads = (held_of a.held).reads ++ heard_of x ∷ [] } → reads ≡ a.line_reads ++ line_read x ∷ [] →
-    KeepsBoth (record { held = now; line_reads = reads })
+pub more_keeps : (a : Inside) (now : HeldReads) (reads : List ReadOf) (x : Read) → KeepsBoth a →
+    now ≡ record a.held { reads = a.held.reads ++ heard_of x ∷ [] } → reads ≡ a.line_reads ++ line_read x ∷ [] →
+    KeepsBoth (record { policy = a.policy; held = now; line_reads = reads })
 more_keeps a now reads x k e f =
-    let long : length (held_of now).reads ≡ length (held_of a.held).reads + 1 = ap (λ (t : HeldReads). length t.reads) e ∙ length_push (held_of a.held).reads (heard_of x) in
+    let long : length now.reads ≡ length a.held.reads + 1 = ap (λ (t : HeldReads). length t.reads) e ∙ length_push a.held.reads (heard_of x) in
     let told : length reads ≡ length a.line_reads + 1 = ap length f ∙ length_push a.line_reads (line_read x) in
     let even = k.even in
     record {
       even = omega arith;
-      same = ap (map line_read) (more a (held_of now) reads x k e f) ∙ map-append line_read (with_values (held_of a.held).reads a.line_reads) (x ∷ [])
+      same = ap (map line_read) (more a now reads x k e f) ∙ map-append line_read (with_values a.held.reads a.line_reads) (x ∷ [])
           ∙ ap (λ S. S ++ line_read x ∷ []) k.same ∙ sym f;
     }
 
-pub more_is : (a : Inside) (w : HeldValues) (now : PolicyHeld) (reads : List ReadOf) (x : Read) → KeepsBoth a → held_values a ≡ w →
-    policy_of now ≡ policy_of a.held → held_of now ≡ record (held_of a.held) { reads = (held_of a.held).reads ++ heard_of x ∷ [] } → reads ≡ a.line_reads ++ line_read x ∷ [] →
-    held_values (record { held = now; line_reads = reads }) ≡ record w { reads = w.reads ++ x ∷ [] }
-more_is a w now reads x k is p e f =
-    ap (λ q. let t : HeldValues = record { policy = q; items = (held_of now).n; reads = with_values (held_of now).reads reads } in t) p
-    ∙ ap (λ n. let t : HeldValues = record { policy = policy_of a.held; items = n; reads = with_values (held_of now).reads reads } in t) (ap (λ (t : HeldReads). t.n) e)
-    ∙ ap (λ R. let t : HeldValues = record { policy = policy_of a.held; items = (held_of a.held).n; reads = R } in t) (more a (held_of now) reads x k e f)
+pub more_is : (a : Inside) (w : HeldValues) (now : HeldReads) (reads : List ReadOf) (x : Read) → KeepsBoth a → held_values a ≡ w →
+    now ≡ record a.held { reads = a.held.reads ++ heard_of x ∷ [] } → reads ≡ a.line_reads ++ line_read x ∷ [] →
+    held_values (record { policy = a.policy; held = now; line_reads = reads }) ≡ record w { reads = w.reads ++ x ∷ [] }
+more_is a w now reads x k is e f =
+    ap (λ n. let t : HeldValues = record { policy = a.policy; items = n; reads = with_values now.reads reads } in t) (ap (λ (t : HeldReads). t.n) e)
+    ∙ ap (λ R. let t : HeldValues = record { policy = a.policy; items = a.held.n; reads = R } in t) (more a now reads x k e f)
     ∙ ap (λ (t : HeldValues). let u : HeldValues = record t { reads = t.reads ++ x ∷ [] } in u) is

@@ -1,19 +1,18 @@
 -- What a receiver holds of a history that aired what it heard: each call keeps it. An instance of the induction over the
 -- rules of a session, by the judge of the entries.
-use Rattle.std.proofs.Common.{◌≡◌, ℕ, zero, suc, ◌<◌, ◌≤◌, false, Option, Some, None, List, [], ◌∷◌, ◌++◌, length, map, get_or, All, refl, sym, ◌∙◌, ap, subst, arith}
-use Rattle.std.specs.Prelude.{AllPairs, IfSome, sum_by}
-use Rattle.std.proofs.lemmas.Bool.{and_parts, ltb-false, ltb-true}
+use Rattle.std.proofs.Common.{◌≡◌, ℕ, zero, suc, ◌<◌, ◌≤◌, Option, Some, None, List, [], ◌∷◌, ◌++◌, length, map, get_or, All, refl, sym, ◌∙◌, ap, subst}
+use Rattle.std.specs.Prelude.{IfSome, sum_by}
+use Rattle.std.proofs.lemmas.Bool.{and_parts, ltb-true}
 use Rattle.std.proofs.lemmas.List.{map-append}
 use Rattle.std.proofs.lemmas.List.Elements.{All-map, All-nil, All-push}
-use Rattle.std.proofs.lemmas.List.Quantifiers.{all_pairs_push}
 use Rattle.std.proofs.lemmas.Simd.{map-map}
 use Rattle.air_base.specs.declared.verdicts.Policy.{Policy}
 use Rattle.air_base.specs.declared.verdicts.Policy.TheVariants.{FMatrix, Datacycle, RMatrix}
 use Rattle.air_history.specs.declared.histories.Event.{Event}
-use Rattle.air_history.specs.Clashes.{clash_by_history, is_late, read_at}
+use Rattle.air_history.specs.Clashes.{clash_by_history, read_at}
 use Rattle.air_history.specs.ClashLaws.{Accepts, HasAiredEntries, IsAllowed, IsSound}
 use Rattle.air_history.specs.Columns.{aired_entries}
-use Rattle.air_history.specs.Reads.{IsRead, ReadAt, last_cycle, read_value}
+use Rattle.air_history.specs.Reads.{IsRead, read_value}
 use Rattle.air_history.specs.Tables.{values_of}
 use Rattle.air_history.proofs.AcceptedLemmas.{accepted, accepts_none, accepts_push}
 use Rattle.air_history.proofs.ClashLemmas.{clash}
@@ -24,33 +23,9 @@ use Rattle.air_model.specs.Reads.{Read}
 use Rattle.air_model.specs.SessionLaws.{QueriesFilled}
 use Rattle.air_model.specs.Sessions.{Reader, State, end_query, hear, read_in, start, turn}
 use Rattle.air_model.proofs.MomentLemmas.{Gives, Good, Keeps, cond_keeps, end_query_good, hear_good, start_good, turn_good}
+use Rattle.held_reads.proofs.PolicyLemmas.{allowed_more, allowed_none}
 use Rattle.receiver_core.specs.HeldTruths.{HoldsTruly, IsReadIn, WasAired}
 use Rattle.receiver_core.specs.ReceiverSteps.{step, turn_to_line}
-
--- ---- the order of cycles
-
-at_most_last : (R : List ReadAt) → AllPairs (λ r s. r.cycle ≤ s.cycle) R → All (λ r. r.cycle ≤ last_cycle R) R
-at_most_last [] h k d l = absurd (omega arith)
-at_most_last (r ∷ []) h zero d l = omega arith
-at_most_last (r ∷ []) h (suc k) d l = absurd (omega arith)
-at_most_last (r ∷ s ∷ R) h zero d l =
-    let a : r.cycle ≤ s.cycle = h 0 1 d (omega arith) (omega arith) in
-    let b : s.cycle ≤ last_cycle (s ∷ R) = at_most_last (s ∷ R) (λ i j d a b. h (suc i) (suc j) d (omega arith) (omega arith)) 0 d (omega arith) in
-    omega arith
-at_most_last (r ∷ s ∷ R) h (suc k) d l = at_most_last (s ∷ R) (λ i j d a b. h (suc i) (suc j) d (omega arith) (omega arith)) k d (omega arith)
-
-allowed_none : (p : Policy) → IsAllowed p []
-allowed_none FMatrix = tt
-allowed_none Datacycle = tt
-allowed_none RMatrix = λ i j d a b. absurd (omega arith)
-
-allowed_more : (p : Policy) (R : List ReadAt) (x : ReadAt) → IsAllowed p R → is_late p R x ≡ false → IsAllowed p (R ++ x ∷ [])
-unfolding is_late
-allowed_more FMatrix R x h late = tt
-allowed_more Datacycle R x h late = tt
-allowed_more RMatrix R x h late =
-    let le = ltb-false x.cycle (last_cycle R) late in
-    all_pairs_push (λ r s. r.cycle ≤ s.cycle) R x h (λ k d l. let last = at_most_last R h k d l in omega arith)
 
 -- ---- what an aired bucket gives
 

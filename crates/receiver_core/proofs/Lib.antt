@@ -1,4 +1,3 @@
-pub mod PolicyLemmas
 pub mod AttemptLemmas
 pub mod FitLemmas
 pub mod PixLemmas

@@ -3,6 +3,5 @@ pub mod AirView
 pub mod AttemptView
 pub mod Attempts
 pub mod Offers
-pub mod PolicyReads
 pub mod SlotKinds
 pub mod Turns

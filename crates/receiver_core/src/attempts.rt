@@ -1,26 +1,27 @@
 //! The reads that an attempt holds, and the one rule for a further read.
 //!
-//! The entries stand in `PolicyHeld`, which judges by them; beside it stand the reads as verdict lines have them. A further
-//! read is of a bucket or of a kept copy. Contracts see the held reads in order.
+//! `HeldEntries` has them with their entries, by which the policy's check judges; beside them stand the reads as verdict lines have
+//! them. A further read is of a bucket or of a kept copy. Contracts see the policy and the held reads in order.
 
-ghost use Rattle.std.specs.Prelude.{◌≡◌, ℕ, ◌<◌, [], ◌∷◌, ◌++◌, false, length, map, IfOk, MatchOption};
+ghost use Rattle.std.specs.Prelude.{◌≡◌, ℕ, ◌<◌, [], ◌∷◌, ◌++◌, length, map, IfOk, MatchOption};
 ghost use Rattle.air_history.specs.Columns.{scheme_of};
 ghost use Rattle.air_history.specs.Clashes.{is_late};
 ghost use Rattle.air_model.specs.Judges.{by_entries, heard_of, place_of};
 ghost use Rattle.air_history.specs.HeldReads.{IsNew};
 ghost use Rattle.receiver_core.specs.Private.Attempts.{columns_of, line_read, read};
 
-use crate::policy_held::PolicyHeld;
+use crate::checks::{clash_under, is_late_under};
 use crate::reads::ReadList;
 use air_base::{Clash, NoMemory, Policy, ReadOf};
-use held_reads::ROOM;
+use held_reads::{HeldEntries, ROOM};
 use std::alloc::Global;
 use std::marker::Model;
 
 /// The held reads of an attempt, in order.
 #[derive(Drop)]
 pub struct Attempt {
-    held: PolicyHeld,
+    policy: Policy,
+    held: HeldEntries,
     line_reads: ReadList,
 }
 
@@ -42,7 +43,8 @@ impl Attempt {
         ensures { IfOk result (λ a. a ≡ record { policy = policy; items = items; reads = [] }) }
     {
         Ok(Attempt {
-            held: PolicyHeld::new(alloc, policy, items)?,
+            policy,
+            held: HeldEntries::new(alloc, items)?,
             line_reads: ReadList::new(),
         })
     }
@@ -65,18 +67,17 @@ impl Attempt {
     pub fn is_late(&self, cycle: u32) -> bool
         ensures { (item : ℕ) → result ≡ is_late self.now.policy (map place_of self.now.reads) (record { item = item; cycle = cycle }) }
     {
-        self.held.is_late(cycle)
+        is_late_under(self.policy, &self.held, cycle)
     }
 
     /// Holds the read where it clashes with no held one, and else names the clash.
     pub fn try_hold(&mut self, item: u16, cycle: u32, value: u64, entries: &[u32]) -> Option<Clash>
         requires room { length self.old.reads < ROOM }
         requires new { IsNew (columns_of self.old) (heard_of (read item cycle value entries.now)) }
-        requires in_time { is_late self.old.policy (map place_of self.old.reads) (place_of (read item cycle value entries.now)) ≡ false }
         ensures clash { result ≡ (by_entries (scheme_of self.old.policy)).clash self.old.reads (read item cycle value entries.now) }
         ensures held { MatchOption result (self.new ≡ record self.old { reads = self.old.reads ++ read item cycle value entries.now ∷ [] }) (λ _. self.new ≡ self.old) }
     {
-        if let Some(clash) = self.held.clashes(item, cycle, entries) {
+        if let Some(clash) = clash_under(self.policy, &self.held, item, cycle, entries) {
             return Some(clash);
         }
         self.held.hold(item, cycle, entries);

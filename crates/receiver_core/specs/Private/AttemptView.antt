@@ -4,7 +4,6 @@ use Rattle.air_base.specs.declared.verdicts.ReadOf.{ReadOf}
 use Rattle.air_history.specs.Clashes.{Heard}
 use Rattle.air_model.specs.Reads.{Read}
 use Rattle.receiver_core.specs.Private.Attempts.{HeldValues, line_read}
-use Rattle.receiver_core.specs.Private.PolicyReads.{held_of, policy_of}
 use Rattle.receiver_core.specs.declared.attempts.Attempt.TheInside.{Inside}
 
 -- The reads with their entries from the one list and their values from the other.
@@ -15,9 +14,9 @@ with_values (h ∷ R) (v ∷ V) = record { item = h.item; cycle = h.cycle; value
 
 -- The held reads of the fields.
 abbrev pub held_values : Inside → HeldValues
-held_values a = record { policy = policy_of a.held; items = (held_of a.held).n; reads = with_values (held_of a.held).reads a.line_reads }
+held_values a = record { policy = a.policy; items = a.held.n; reads = with_values a.held.reads a.line_reads }
 
 -- Both lists are of the same reads.
 pub record KeepsBoth (a : Inside) : Type 0 where
-  pub even : length a.line_reads ≡ length (held_of a.held).reads
-  pub same : map line_read (with_values (held_of a.held).reads a.line_reads) ≡ a.line_reads
+  pub even : length a.line_reads ≡ length a.held.reads
+  pub same : map line_read (with_values a.held.reads a.line_reads) ≡ a.line_reads

@@ -2,12 +2,12 @@
 //!
 //! Each function does to the state what words of `air_model` say.
 
-ghost use Rattle.std.specs.Prelude.{◌≡◌, ◌≢◌, ◌<◌, ◌+◌, ◌^◌, [], false, length, IfSome, Ok, Some};
+ghost use Rattle.std.specs.Prelude.{◌≡◌, ◌≢◌, ◌<◌, ◌+◌, ◌^◌, [], length, IfSome, Ok, Some};
 ghost use Rattle.air_base.specs.declared.verdicts.VerdictKind.TheVariants.{Abort};
 ghost use Rattle.air_model.specs.Buckets.{IsInRange, count_of, item_of, kind_of};
 ghost use Rattle.air_model.specs.Copies.{keep, with_copy};
 ghost use Rattle.air_model.specs.Judges.{by_entries};
-ghost use Rattle.air_model.specs.Sessions.{accept_if_whole, comes_late, hear, next_attempt, next_query, open_bucket, read_in, wanted, with_line};
+ghost use Rattle.air_model.specs.Sessions.{accept_if_whole, hear, next_attempt, next_query, open_bucket, read_in, wanted, with_line};
 ghost use Rattle.receiver_core.specs.Private.Attempts.{is_read_wanted, read, read_from_bucket};
 ghost use Rattle.receiver_core.specs.Private.Offers.{without_clash};
 ghost use Rattle.receiver_core.specs.FeedAnswers.{fed_of};
@@ -67,7 +67,6 @@ impl Receiver {
         requires busy { kind_of bucket.now.body ≢ 0 }
         requires counted { count_of bucket.now.body ≡ self.old.air.items }
         requires wanted { wanted self.old.reader self.old.state ≡ Some (item_of bucket.now.body) }
-        requires in_time { comes_late self.old.air self.old.state (read_from_bucket bucket.now) ≡ false }
         ensures { self.new ≡ in_state self.old (open_bucket (by_entries self.old.air.scheme) self.old.air self.old.reader (read_from_bucket bucket.now) self.old.state) }
     {
         self.counts.opened += 1;

@@ -69,6 +69,3 @@ returns-clause-heard c =
     (sym c.fits.ensures ∙ c.if-not-fits.false) (sym c.wants.ensures ∙ c.if-not-wants.false)
     (late_told c.self.inside c.args.bucket.now c.is_late.result c.cycle-cycle.result c.self.invariant c.is_late.ensures c.cycle-cycle.ensures ∙ c.if-is_late.false)
     ∙ ap (λ (r : Receiver). in_state r (hear (by_entries r.air.scheme) r.air r.reader (Some c.args.bucket.now) r.state)) c.self.view_is
-
-pub open-requires-clause-in_time : goal.open-requires-clause-in_time
-open-requires-clause-in_time c = late_told c.self.inside c.args.bucket.now c.is_late.result c.cycle-cycle.result c.self.invariant c.is_late.ensures c.cycle-cycle.ensures ∙ c.if-is_late.false
