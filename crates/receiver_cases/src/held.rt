@@ -10,26 +10,21 @@ ghost use Rattle.receiver_cases.specs.PolicyReads.{held_of, least_cycle, policy_
 
 use air_base::{Clash, NoMemory, Policy, write_u64};
 use column_check::Held;
-use held_reads::{NOT_HELD, ROOM};
+use held_reads::{CheckedReads, NOT_HELD, PolicyCheck, ROOM};
 use std::alloc::Global;
 use vector_policies::{DataHeld, RHeld};
 
 /// Adds a line: how many reads are held, the cycle of the last, if there is one, and the held cycle of each item, where `-` is
 /// no cycle.
-fn add_held(
-    len: usize,
-    last: Option<u32>,
-    cycles: &[u32],
-    came: &mut Vec<u8>,
-) -> Result<(), NoMemory> {
+fn add_held<C: PolicyCheck>(held: &CheckedReads<C>, came: &mut Vec<u8>) -> Result<(), NoMemory> {
     came.extend_from_slice(b"holds ")?;
-    write_u64(len as u64, came)?;
-    if let Some(cycle) = last {
+    write_u64(held.len() as u64, came)?;
+    if let Some(cycle) = held.last() {
         came.extend_from_slice(b", last ")?;
         write_u64(u64::from(cycle), came)?;
     }
     came.extend_from_slice(b"; cycles")?;
-    for cycle in cycles {
+    for cycle in held.cycles() {
         came.push(b' ')?;
         if *cycle == NOT_HELD {
             came.push(b'-')?;
@@ -76,9 +71,9 @@ impl PolicyHeld {
     /// Adds how many reads are held, the cycle of the last, and the held cycle of each item.
     pub fn show(&self, came: &mut Vec<u8>) -> Result<(), NoMemory> {
         match self {
-            PolicyHeld::FMatrix(held) => add_held(held.len(), held.last(), held.cycles(), came),
-            PolicyHeld::Datacycle(held) => add_held(held.len(), held.last(), held.cycles(), came),
-            PolicyHeld::RMatrix(held) => add_held(held.len(), held.last(), held.cycles(), came),
+            PolicyHeld::FMatrix(held) => add_held(held, came),
+            PolicyHeld::Datacycle(held) => add_held(held, came),
+            PolicyHeld::RMatrix(held) => add_held(held, came),
         }
     }
 
