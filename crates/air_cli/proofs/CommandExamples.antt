@@ -6,7 +6,6 @@ use Rattle.air_base.specs.declared.limits.TheConstants.{MOST_ASKED, MOST_RATE}
 use Rattle.air_devices.specs.Counts.{Rose}
 use Rattle.air_devices.specs.Shelves.{ShelfState}
 use Rattle.air_devices.specs.Told.{WhereTold}
-use Rattle.air_history.specs.Histories.{starts}
 use Rattle.air_model.specs.Decks.{Deck, IsDeck, disks_in, script_history}
 use Rattle.air_model.specs.Drills.{drill_deck}
 use Rattle.air_model.specs.Outputs.{ether_of, script_tape}
@@ -199,7 +198,7 @@ is_tuned = record {
   given_is = refl;
 }
 
-tune_gives : TuneGives (codes "d") (codes "t") shelf (tune_given small (tape_read (script_tape small)).records)
+pub tune_gives : TuneGives (codes "d") (codes "t") shelf (tune_given small (tape_read (script_tape small)).records)
 unfolding TuneGives
 tune_gives = (refl, (small, spells_deck, small_is_deck, (short, (script_tape small, refl, is_tuned))))
 
@@ -244,7 +243,7 @@ drill_input h = h
 
 -- ---- `audit`
 
-audit_gives : AuditGives (codes "d") (codes "r") shelf (audit_given one_finding)
+pub audit_gives : AuditGives (codes "d") (codes "r") shelf (audit_given one_finding)
 unfolding AuditGives
 audit_gives = (one_finding, refl, (small, spells_deck, small_is_deck, (its_bytes, refl, (omega arith, is_audit))))
 

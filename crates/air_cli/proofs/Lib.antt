@@ -20,6 +20,9 @@ pub mod ListenLemmas
 pub mod DrillStatuses
 pub mod CommandLemmas
 pub mod TopLemmas
+pub mod RightLemmas
+pub mod AgreeLemmas
+pub mod HeadlineLemmas
 pub mod CauseLemmas
 pub mod TapeFronts
 pub mod ReadSoFar
@@ -36,3 +39,4 @@ mod CommandExamples
 mod RunExamples
 mod ListenExamples
 mod AnswerExamples
+mod HeadlineExamples

@@ -14,10 +14,10 @@ use Rattle.air_cli.proofs.CommandExamples.{is_true_tape}
 use Rattle.air_cli.proofs.ToldExamples.{shelf, short, spells_deck}
 
 -- Two datagrams of one byte.
-abbrev a : List ℕ
+abbrev pub a : List ℕ
 a = codes "a"
 
-abbrev b : List ℕ
+abbrev pub b : List ℕ
 b = codes "b"
 
 -- ---- what is heard
@@ -55,10 +55,10 @@ not_heard = (λ h. let few : 2 ≤ 1 = h.few in omega arith, λ h. let some : 1 
 -- ---- `listen`
 
 -- An ear that tells this, untuned, and the same on the port 7.
-abbrev fresh_ear : List (List ℕ) → EarState
+abbrev pub fresh_ear : List (List ℕ) → EarState
 fresh_ear waiting = record { told = Some waiting; faults = 0; port = None }
 
-abbrev tuned : List (List ℕ) → EarState
+abbrev pub tuned : List (List ℕ) → EarState
 tuned waiting = record { told = Some waiting; faults = 0; port = Some 7 }
 
 -- Both datagrams are no buckets; the report over them is the one over a tape of both.
@@ -84,7 +84,7 @@ not_listening = (
   λ h. let left : Some (b ∷ []) ≡ Some [] = h.heard_is.taken in cc,
 )
 
-listen_gives : ListenGives (codes "d") 7 (fresh_ear (a ∷ b ∷ [])) (tuned []) shelf (tune_given small (a ∷ b ∷ []))
+pub listen_gives : ListenGives (codes "d") 7 (fresh_ear (a ∷ b ∷ [])) (tuned []) shelf (tune_given small (a ∷ b ∷ []))
 unfolding ListenGives
 listen_gives = (refl, (small, spells_deck, small_is_deck, short, (a ∷ b ∷ [], is_listening)))
 

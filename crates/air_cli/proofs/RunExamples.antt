@@ -86,7 +86,7 @@ all_start : All EndsWithStart batches
 all_start = All-from_recursion EndsWithStart batches
     (one_start, (one_start, (one_start, (one_start, (one_start, (one_start, (one_start, (one_start, (one_start, (one_start, tt))))))))))
 
-abbrev ten_run : Run
+abbrev pub ten_run : Run
 ten_run = record { history = ten; batches = batches; glances = []; looks = [] }
 
 is_run : IsRun small ten_run
@@ -105,12 +105,12 @@ is_true_run one_history = true_run one_history small ten_run small_is_deck withi
 is_given_run : OneHistoryLaw → IsGivenRun small (run_given small ten_run) ten_run
 is_given_run one_history = record { run_is = is_run; true_is = is_true_run one_history; given_is = refl }
 
-run_gives : OneHistoryLaw → RunGives (codes "d") shelf (run_given small ten_run)
+pub run_gives : OneHistoryLaw → RunGives (codes "d") shelf (run_given small ten_run)
 unfolding RunGives
 run_gives one_history = (refl, (small, spells_deck, small_is_deck, can_run, (ten_run, is_given_run one_history)))
 
 -- Its report is the one that the shelf tells.
-its_report : run_output small ten [] [] ≡ its_bytes
+pub its_report : run_output small ten [] [] ≡ its_bytes
 unfolding number_text escaped fields_text is_blank last_place greatest cycle_at front starts writer writer_before writes reads is_start descends descends_in column_entry value_on_base write_of value_after table origin stale descends_from runs_alone last_alone consistent least is_late clash_by_history body_at bucket_at count_of entries_at entries_of entry_count is_placed is_shaped item_of kind_of reading spelling value_of words_by due_at due_number heard_list heard_by heard_places places_due times_heard keep without_item with_copy order order_with cut program least_common_multiple num_minors num_chunks chunk_len chunk minor_cycle disk_number chunks_of pix_number body_of bucket_of buckets_of body_fits fits by_history session query_of wanted line_of with_line count_copied count_opened count_dozed count_late count_refused count_foreign next_query next_attempt accept_if_whole hold abort is_unusable drop_copy copy_of turn_with turn settle decide offer open_bucket hear_read hear hear_all end_query end rows_text report_text true_sessions
 its_report = refl
 
@@ -134,11 +134,11 @@ run_output_named = refl
 -- ---- a cast of it
 
 -- A mast that was aimed at the port 7, and sent this.
-abbrev aimed : SentBuckets → MastState
+abbrev pub aimed : SentBuckets → MastState
 aimed sent = record { told = Some sent; faults = 0; port = Some 7 }
 
 -- All buckets of the run and the end.
-abbrev all_of_ten : SentBuckets
+abbrev pub all_of_ten : SentBuckets
 all_of_ten = all_sent (deck_bytes small ten)
 
 no_part : IsCastPart small 0 (Some nothing_sent) (Some nothing_sent)
@@ -167,7 +167,7 @@ not_cast = (
     ended : Some (record all_of_ten { ended = None }) ≡ Some all_of_ten → ⊥
     ended e = let same : record all_of_ten { ended = None } ≡ all_of_ten = cc in let end : ◌≡◌ {A = Option ℕ} None (Some (length (deck_bytes small ten))) = ap (λ (s : SentBuckets). s.ended) same in cc
 
-cast_gives : OneHistoryLaw → CastGives (codes "d") 7 fresh_mast (aimed all_of_ten) shelf (cast_given ten_run)
+pub cast_gives : OneHistoryLaw → CastGives (codes "d") 7 fresh_mast (aimed all_of_ten) shelf (cast_given ten_run)
 unfolding CastGives
 cast_gives one_history = (refl, (small, spells_deck, small_is_deck, can_run, (ten_run, is_cast one_history)))
 

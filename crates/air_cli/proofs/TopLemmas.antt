@@ -35,7 +35,7 @@ pub words_complete : (asked : Option Request) (mast mast_now : MastState) (ear e
 words_complete asked mast mast_now ear ear_now = completes (words_meaning asked mast mast_now ear ear_now) (words_facts asked mast mast_now ear ear_now).inputs
 
 -- What a call that succeeded says, with either status.
-done : (command : Meaning) (before now : ShelfState) (s : Status) → IsSuccess s → QuietAnswers command before now s → IsDone command before now s
+pub done : (command : Meaning) (before now : ShelfState) (s : Status) → IsSuccess s → QuietAnswers command before now s → IsDone command before now s
 unfolding QuietAnswers
 done command before now s (inl good) h = subst (λ s. QuietAnswers command before now s → IsDone command before now s) (sym good) (λ h. h) h
 done command before now s (inr good) h = subst (λ s. QuietAnswers command before now s → IsDone command before now s) (sym good) (λ h. h) h

@@ -1,5 +1,5 @@
 -- The commands: what a command of the code asks for, and what words mean to `air_quiet`.
-use Rattle.std.specs.Prelude.{Option, Some, None}
+use Rattle.std.specs.Prelude.{Option, Some}
 use Rattle.std.specs.Option.{option_map}
 use Rattle.air_cli.specs.declared.words.Command.{Command}
 use Rattle.air_cli.specs.declared.words.Command.TheVariants as command

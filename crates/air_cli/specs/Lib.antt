@@ -2,6 +2,7 @@ pub mod Words
 pub mod Commands
 pub mod ToldInputs
 pub mod Answers
+pub mod Headline
 pub mod Meanings
 pub mod Plan
 pub mod Script

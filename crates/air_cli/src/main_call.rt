@@ -6,8 +6,9 @@
 ghost use Rattle.std.specs.Prelude.{◌≡◌, map, string_bytes, None, Some};
 ghost use Rattle.air_devices.specs.Masts.{nothing_sent};
 ghost use Rattle.air_devices.specs.Told.{WhereTold};
-ghost use Rattle.air_cli.specs.Answers.{Completes, Leaves, QuietAnswers};
+ghost use Rattle.air_cli.specs.Answers.{Completes, IsSuccess, Leaves, QuietAnswers};
 ghost use Rattle.air_cli.specs.Cast.{cast_meaning};
+ghost use Rattle.air_cli.specs.Headline.{Headline};
 ghost use Rattle.air_cli.specs.Listen.{listen_meaning};
 ghost use Rattle.air_cli.specs.OnAir.{LeavesEar, LeavesMast, words_meaning};
 ghost use Rattle.air_cli.specs.Run.{run_meaning};
@@ -26,7 +27,8 @@ use std::sync::Wait;
 use std::thread::Threads;
 
 /// Runs what the words ask for: `run DECK TAPE`, `cast DECK PORT`, `listen DECK PORT`, or what `air_quiet` does. The mast and the ear
-/// are to be as they are when made; `cast` alone uses the mast, and `listen` alone the ear.
+/// are to be as they are when made; `cast` alone uses the mast, and `listen` alone the ear. Where the call succeeded, `headline` says on one
+/// page what stands.
 pub fn air_main<R: Threads + Wait + Sync, S: Shelf, M: Mast + Send, E: Ear, G: Gate + Sync>(
     rt: &R,
     alloc: Global,
@@ -40,6 +42,7 @@ pub fn air_main<R: Threads + Wait + Sync, S: Shelf, M: Mast + Send, E: Ear, G: G
     requires unsent { WhereTold (M.state mast.old).told (λ s. s ≡ nothing_sent) }
     requires untuned { (E.state ear.old).port ≡ None }
     ensures answers { QuietAnswers (words_meaning (asked_of (map (λ w. string_bytes w) words.now)) (M.state mast.old) (M.state mast.new) (E.state ear.old) (E.state ear.new)) (S.state shelf.old) (S.state shelf.new) result }
+    ensures headline { IsSuccess result → Headline (asked_of (map (λ w. string_bytes w) words.now)) (M.state mast.old) (M.state mast.new) (E.state ear.old) (E.state ear.new) (S.state shelf.old) (S.state shelf.new) result }
     ensures complete { Completes (words_meaning (asked_of (map (λ w. string_bytes w) words.now)) (M.state mast.old) (M.state mast.new) (E.state ear.old) (E.state ear.new)) (S.state shelf.old) (S.state shelf.new) result }
     ensures leaves { Leaves (words_meaning (asked_of (map (λ w. string_bytes w) words.now)) (M.state mast.old) (M.state mast.new) (E.state ear.old) (E.state ear.new)) (S.state shelf.old) (S.state shelf.new) }
     ensures mast { LeavesMast (asked_of (map (λ w. string_bytes w) words.now)) (S.state shelf.old) (M.state mast.old) (M.state mast.new) }

@@ -4,10 +4,11 @@
 //! airs it. The contract is one definition by cases of the status: its cause, what was printed and written, and what is left.
 
 ghost use Rattle.std.specs.Prelude.{◌≤◌, map, string_bytes, Some};
-ghost use Rattle.air_cli.specs.Answers.{Completes, Leaves, QuietAnswers};
+ghost use Rattle.air_cli.specs.Answers.{Completes, IsSuccess, Leaves, QuietAnswers};
 ghost use Rattle.air_cli.specs.Audit.{audit_meaning};
 ghost use Rattle.air_cli.specs.Commands.{asked_by, quiet_meaning};
 ghost use Rattle.air_cli.specs.Drill.{drill_meaning};
+ghost use Rattle.air_cli.specs.Headline.{QuietHeadline};
 ghost use Rattle.air_cli.specs.Meanings.{no_command};
 ghost use Rattle.air_cli.specs.Plan.{plan_meaning};
 ghost use Rattle.air_cli.specs.Tune.{tune_meaning};
@@ -36,6 +37,7 @@ pub fn air_quiet<T: Threads + Sync, S: Shelf>(
     shelf: &mut S,
 ) -> Status
     ensures answers { QuietAnswers (quiet_meaning (asked_of (map (λ w. string_bytes w) words.now))) (S.state shelf.old) (S.state shelf.new) result }
+    ensures headline { IsSuccess result → QuietHeadline (asked_of (map (λ w. string_bytes w) words.now)) (S.state shelf.old) (S.state shelf.new) result }
     ensures complete { Completes (quiet_meaning (asked_of (map (λ w. string_bytes w) words.now))) (S.state shelf.old) (S.state shelf.new) result }
     ensures leaves { Leaves (quiet_meaning (asked_of (map (λ w. string_bytes w) words.now))) (S.state shelf.old) (S.state shelf.new) }
 {
