@@ -1,3 +1,4 @@
 mod DrillLemmas
+mod HeadlineLemmas
 mod RowLemmas
 mod WordLemmas

@@ -1,1 +1,2 @@
+pub mod SmallDecks
 pub mod SmallReportsAndTapes
