@@ -218,12 +218,9 @@ def clauses(crate, path, name):
     return re.search(r"pub fn " + name + r"\b.*?\n\{", text, re.S).group(0)
 
 
-def reached(modules, without=None):
-    """The parts that the contracts of the top calls rest on; not what is said in certain modules, nor what these need."""
-    waiting = set()
-    for crate, path, name in CALLS:
-        waiting |= modules.named(os.path.join(CRATES, crate, path), clauses(crate, path, name))
-    seen = {}
+def reached_from(modules, waiting, without=None):
+    """The parts that some parts rest on, by path and name; not what is said in certain modules, nor what these need."""
+    waiting, seen = set(waiting), {}
     while waiting:
         part = waiting.pop()
         key = (part.path, part.name)
@@ -231,7 +228,15 @@ def reached(modules, without=None):
             continue
         seen[key] = part
         waiting |= modules.fields(part) if part.kind in ("type", "limit") else modules.named(part.path, part.text)
-    return list(seen.values())
+    return seen
+
+
+def reached(modules, without=None):
+    """The parts that the contracts of the top calls rest on."""
+    waiting = set()
+    for crate, path, name in CALLS:
+        waiting |= modules.named(os.path.join(CRATES, crate, path), clauses(crate, path, name))
+    return list(reached_from(modules, waiting, without).values())
 
 
 def spoken(modules):
