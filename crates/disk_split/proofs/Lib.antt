@@ -11,6 +11,7 @@ pub mod RateLemmas
 pub mod HotLemmas
 pub mod DeckLemmas
 pub mod CostLemmas
+pub mod BestLemmas
 pub mod SearchLemmas
 pub mod DeckNumbers
 mod SplitExamples
