@@ -5,7 +5,7 @@ use Rattle.air_devices.specs.Masts.{MastState}
 use Rattle.air_cli.specs.Commands.{quiet_meaning}
 use Rattle.air_cli.specs.Meanings.{no_command}
 use Rattle.air_cli.specs.OnAir.{words_meaning}
-use Rattle.air_cli.specs.Words.{Request, AsksAudit, AsksCast, AsksDrill, AsksListen, AsksPlan, AsksRun, AsksScript, AsksTune}
+use Rattle.air_cli.specs.Words.{Request, AsksAudit, AsksCast, AsksDrill, AsksListen, AsksPlan, AsksRun, AsksScript, AsksSplit, AsksTune}
 use Rattle.air_cli.proofs.InputLemmas.{CommandFacts}
 use Rattle.air_cli.proofs.AuditLemmas.{audit_facts}
 use Rattle.air_cli.proofs.CastLemmas.{cast_facts}
@@ -15,6 +15,7 @@ use Rattle.air_cli.proofs.PlanMeaningLemmas.{plan_facts}
 use Rattle.air_cli.proofs.RefusalLemmas.{no_command_sound}
 use Rattle.air_cli.proofs.RunMeaningLemmas.{run_facts}
 use Rattle.air_cli.proofs.ScriptLemmas.{script_facts}
+use Rattle.air_cli.proofs.SplitLemmas.{split_facts}
 use Rattle.air_cli.proofs.TuneLemmas.{tune_facts}
 
 no_command_facts : CommandFacts no_command
@@ -25,6 +26,7 @@ no_command_facts = record {
 
 pub quiet_facts : (asked : Option Request) → CommandFacts (quiet_meaning asked)
 quiet_facts (Some (AsksPlan deck)) = plan_facts deck
+quiet_facts (Some (AsksSplit deck)) = split_facts deck
 quiet_facts (Some (AsksScript deck tape)) = script_facts deck tape
 quiet_facts (Some (AsksTune deck tape)) = tune_facts deck tape
 quiet_facts (Some (AsksDrill seed size)) = drill_facts seed size

@@ -9,6 +9,7 @@ pub mod RefusalLemmas
 pub mod EndLemmas
 pub mod InputLemmas
 pub mod PlanMeaningLemmas
+pub mod SplitLemmas
 pub mod ScriptLemmas
 pub mod ScriptAirings
 pub mod TuneLemmas
@@ -36,6 +37,7 @@ pub mod EarLemmas
 mod ToldExamples
 mod WordExamples
 mod CommandExamples
+mod SplitExamples
 mod RunExamples
 mod ListenExamples
 mod AnswerExamples

@@ -9,7 +9,7 @@ use Rattle.air_cli.specs.Commands.{quiet_meaning}
 use Rattle.air_cli.specs.ReportsAndTapes.{ReportAndTape, given_status}
 use Rattle.air_cli.specs.Meanings.{WordsCause, no_command}
 use Rattle.air_cli.specs.Run.{run_meaning}
-use Rattle.air_cli.specs.Words.{AsksAudit, AsksCast, AsksDrill, AsksListen, AsksPlan, AsksRun, AsksScript, AsksTune, asked_drill, asked_of, asked_of_numbers, asked_of_one, asked_of_two, port_of}
+use Rattle.air_cli.specs.Words.{AsksAudit, AsksCast, AsksDrill, AsksListen, AsksPlan, AsksRun, AsksScript, AsksSplit, AsksTune, asked_drill, asked_of, asked_of_numbers, asked_of_one, asked_of_two, port_of}
 
 -- A shelf that tells nothing, and what words that are no command would give.
 abbrev nothing : ShelfState
@@ -21,6 +21,7 @@ empty = record { text = []; tape = []; differs = false }
 pub record Words : Type 0 where
   plan : asked_of_one (codes "plan") (codes "d") ≡ Some (AsksPlan (codes "d"))
   script : asked_of_one (codes "script") (codes "d") ≡ Some (AsksScript (codes "d") None)
+  split : asked_of_one (codes "split") (codes "d") ≡ Some (AsksSplit (codes "d"))
   capital : asked_of_one (codes "Plan") (codes "d") ≡ None
   script_of_two : asked_of_two (codes "script") (codes "d") (codes "t") ≡ Some (AsksScript (codes "d") (Some (codes "t")))
   tune : asked_of_two (codes "tune") (codes "d") (codes "t") ≡ Some (AsksTune (codes "d") (codes "t"))
@@ -65,6 +66,7 @@ unfolding number_of WordsCause
 words = record {
   plan = refl;
   script = refl;
+  split = refl;
   capital = refl;
   script_of_two = refl;
   tune = refl;

@@ -8,12 +8,14 @@ use Rattle.air_cli.specs.Drill.{drill_meaning}
 use Rattle.air_cli.specs.Meanings.{Meaning, no_command}
 use Rattle.air_cli.specs.Plan.{plan_meaning}
 use Rattle.air_cli.specs.Script.{script_meaning}
+use Rattle.air_cli.specs.Split.{split_meaning}
 use Rattle.air_cli.specs.Tune.{tune_meaning}
-use Rattle.air_cli.specs.Words.{Request, AsksAudit, AsksCast, AsksDrill, AsksListen, AsksPlan, AsksRun, AsksScript, AsksTune}
+use Rattle.air_cli.specs.Words.{Request, AsksAudit, AsksCast, AsksDrill, AsksListen, AsksPlan, AsksRun, AsksScript, AsksSplit, AsksTune}
 
 -- What this command of the code asks for, each file by the bytes of its name.
 abbrev pub asked_by : Command → Request
 asked_by (command.Plan deck) = AsksPlan deck.now
+asked_by (command.Split deck) = AsksSplit deck.now
 asked_by (command.Script deck tape) = AsksScript deck.now (option_map (λ name. name.now) tape)
 asked_by (command.Tune deck tape) = AsksTune deck.now tape.now
 asked_by (command.Drill seed size) = AsksDrill seed size
@@ -25,6 +27,7 @@ asked_by (command.Listen deck port) = AsksListen deck.now port
 -- What words mean to `air_quiet` that ask for this, or for nothing. A command that waits is none of its own: the words are no command.
 abbrev pub quiet_meaning : Option Request → Meaning
 quiet_meaning (Some (AsksPlan deck)) = plan_meaning deck
+quiet_meaning (Some (AsksSplit deck)) = split_meaning deck
 quiet_meaning (Some (AsksScript deck tape)) = script_meaning deck tape
 quiet_meaning (Some (AsksTune deck tape)) = tune_meaning deck tape
 quiet_meaning (Some (AsksDrill seed size)) = drill_meaning seed size

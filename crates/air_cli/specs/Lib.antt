@@ -5,6 +5,7 @@ pub mod Answers
 pub mod Headline
 pub mod Meanings
 pub mod Plan
+pub mod Split
 pub mod Script
 pub mod Tune
 pub mod Drill

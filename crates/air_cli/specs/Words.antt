@@ -7,11 +7,12 @@ use Rattle.air_base.specs.Numbers.{number_of}
 use Rattle.air_cli.specs.declared.words.ports.TheConstants.{LAST_PORT}
 use Rattle.item_catalog.specs.declared.deck.drill.TheConstants.{MOST_DRILL_SIZE}
 
--- What is asked for: to plan a deck; to run a deck's script, and to write its tape where one is named; to let a deck's
+-- What is asked for: to plan a deck; to find its best split; to run a deck's script, and to write its tape where one is named; to let a deck's
 -- readers hear a tape; to run the drill of a seed and a size; to audit a report by a deck; to run a deck on threads, and to
 -- write its tape; to cast such a run to a port; to let a deck's readers listen on a port.
 pub data Request : Type 0 where
   AsksPlan : List ℕ → Request
+  AsksSplit : List ℕ → Request
   AsksScript : List ℕ → Option (List ℕ) → Request
   AsksTune : List ℕ → List ℕ → Request
   AsksDrill : ℕ → ℕ → Request
@@ -39,6 +40,7 @@ port_of None = None
 abbrev pub asked_of_one : List ℕ → List ℕ → Option Request
 asked_of_one name deck =
     if pointwise nat_eq name (codes "plan") then Some (AsksPlan deck)
+    else if pointwise nat_eq name (codes "split") then Some (AsksSplit deck)
     else if pointwise nat_eq name (codes "script") then Some (AsksScript deck None)
     else None
 

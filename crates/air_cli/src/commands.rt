@@ -11,4 +11,5 @@ pub(crate) mod run;
 pub(crate) mod run_on_air;
 pub(crate) mod run_reports;
 pub(crate) mod script;
+pub(crate) mod split;
 pub(crate) mod tune;

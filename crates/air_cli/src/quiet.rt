@@ -11,6 +11,7 @@ ghost use Rattle.air_cli.specs.Drill.{drill_meaning};
 ghost use Rattle.air_cli.specs.Headline.{QuietHeadline};
 ghost use Rattle.air_cli.specs.Meanings.{no_command};
 ghost use Rattle.air_cli.specs.Plan.{plan_meaning};
+ghost use Rattle.air_cli.specs.Split.{split_meaning};
 ghost use Rattle.air_cli.specs.Tune.{tune_meaning};
 ghost use Rattle.air_cli.specs.Words.{HasSize, asked_of};
 ghost use Rattle.item_catalog.specs.declared.deck.drill.TheConstants.{MOST_DRILL_SIZE};
@@ -19,6 +20,7 @@ use crate::commands::audit::audit;
 use crate::commands::drill::drill;
 use crate::commands::plan::plan;
 use crate::commands::script::script;
+use crate::commands::split::split;
 use crate::commands::tune::tune;
 use crate::endings::give_or_refuse;
 use crate::outputs::refusals::refuse;
@@ -28,7 +30,7 @@ use air_report::Status;
 use std::alloc::Global;
 use std::thread::Threads;
 
-/// Runs what the words ask for: `plan DECK`, `script DECK`, `script DECK TAPE`, `tune DECK TAPE`, `drill SEED SIZE`
+/// Runs what the words ask for: `plan DECK`, `split DECK`, `script DECK`, `script DECK TAPE`, `tune DECK TAPE`, `drill SEED SIZE`
 /// or `audit DECK REPORT`.
 pub fn air_quiet<T: Threads + Sync, S: Shelf>(
     threads: &T,
@@ -60,6 +62,7 @@ fn run<T: Threads + Sync, S: Shelf>(
 {
     match command {
         Command::Plan { deck } => give_plan(alloc, shelf, deck),
+        Command::Split { deck } => give_split(alloc, shelf, deck),
         Command::Script { deck, tape } => script(threads, alloc, shelf, deck, *tape),
         Command::Tune { deck, tape } => give_tuning(threads, alloc, shelf, deck, tape),
         Command::Drill { seed, size } => give_drill(threads, alloc, shelf, *seed, *size),
@@ -84,6 +87,15 @@ fn give_plan<S: Shelf>(alloc: Global, shelf: &mut S, deck: &str) -> Status
     ensures leaves { Leaves (plan_meaning deck.now) (S.state shelf.old) (S.state shelf.new) }
 {
     let made = plan(alloc, shelf, deck);
+    give_or_refuse(alloc, shelf, None, made)
+}
+
+/// Finds the best split of a deck, and delivers what that gives; or refuses.
+fn give_split<S: Shelf>(alloc: Global, shelf: &mut S, deck: &str) -> Status
+    ensures answers { QuietAnswers (split_meaning deck.now) (S.state shelf.old) (S.state shelf.new) result }
+    ensures leaves { Leaves (split_meaning deck.now) (S.state shelf.old) (S.state shelf.new) }
+{
+    let made = split(alloc, shelf, deck);
     give_or_refuse(alloc, shelf, None, made)
 }
 

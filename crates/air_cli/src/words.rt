@@ -14,6 +14,7 @@ use item_catalog::MOST_DRILL_SIZE;
 pub const HELP: &str = "airdisk: data on air, proved
 
   airdisk plan DECK           print the broadcast program of a deck
+  airdisk split DECK          print the disk sizes of least expected wait, beside the deck's own
   airdisk script DECK         run the script of a deck, and print the report of its readers
   airdisk script DECK TAPE    the same, and write what was aired to a tape
   airdisk tune DECK TAPE      let the readers of a deck hear a tape, and print their report
@@ -33,6 +34,10 @@ The manual is docs/GUIDE.md in the repository.
 pub enum Command<'a> {
     /// To plan a deck.
     Plan {
+        deck: &'a str,
+    },
+    /// To find the best split of a deck.
+    Split {
         deck: &'a str,
     },
     /// To run a deck's script, and to write its tape where one is named.
@@ -93,6 +98,8 @@ fn command_of_one<'a>(name: &str, deck: &'a str) -> Option<Command<'a>>
 {
     if name == "plan" {
         Some(Command::Plan { deck })
+    } else if name == "split" {
+        Some(Command::Split { deck })
     } else if name == "script" {
         Some(Command::Script { deck, tape: None })
     } else {
