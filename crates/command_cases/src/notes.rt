@@ -1,16 +1,36 @@
-//! Notes on refused files and on failed devices.
+//! Notes on refused files and words, on failed devices, and on decks that give no verdict.
 //!
 //! `air_note` has the place of the failed call and what failed; `cut_note` the byte at which a tape's last record begins, and the pieces of
 //! the tape in hexadecimal digits; `deck_note`, `report_note` and `known_note` a row, a kind of fault, and a record that is put behind the
-//! file. `known_note` is of a report whose deck is known.
+//! file. `known_note` is of a report whose deck is known. `words_note` has words of no form, by a help of a few commands; `command_help` the
+//! name of one of them; `silence_note` the word `script` where the deck's script is looked at.
 
 use crate::files::Files;
+use crate::player::words_of;
 use air_base::NoMemory;
 use air_base::limits::MOST_DECK_BYTES;
-use case_lines::{BadCase, Parts, add_line, first_part};
-use fault_notes::{CutTape, air_note, deck_note, report_note};
+use case_lines::{BadCase, Parts, add_line, add_lines, first_part};
+use fault_notes::{
+    CutTape, air_note, command_help, deck_note, report_note, silence_note, words_note,
+};
 use item_catalog::{Deck, DeckFault, read_deck};
 use std::alloc::Global;
+
+/// A help of a few commands.
+const HELP: &str = "airdisk: a help for cases
+
+  airdisk plan DECK           print a program
+  airdisk script DECK         run a script
+  airdisk script DECK TAPE    the same, and write a tape
+  airdisk drill SEED SIZE     make a deck
+  airdisk cast DECK PORT      air a deck
+  airdisk --help, -h          print this
+  airdisk help [COMMAND]      print this, or some of it
+
+  AIRDISK_RATE=N airdisk cast DECK PORT    send N buckets a second
+
+No more stands here.
+";
 
 /// The file, and after it the record, if one is spelled.
 fn with_record(alloc: Global, file: &[u8], parts: &mut Parts<'_>) -> Result<Vec<u8>, NoMemory> {
@@ -79,6 +99,56 @@ fn failure_note(alloc: Global, parts: &mut Parts<'_>) -> Result<String, NoMemory
     air_note(alloc, &failure, at)
 }
 
+/// The note that a deck gives no verdict, or `None`.
+fn quiet_note(
+    alloc: Global,
+    files: &Files,
+    name: &str,
+    parts: &mut Parts<'_>,
+) -> Result<Option<String>, NoMemory> {
+    let by_script = parts.takes(b"script");
+    match deck_of(alloc, &files.deck) {
+        Some(deck) => silence_note(alloc, name, &deck, by_script),
+        None => Ok(None),
+    }
+}
+
+/// The lines of the help on a command, or `None`.
+fn help_note(alloc: Global, parts: &mut Parts<'_>) -> Result<Option<String>, NoMemory> {
+    let command = String::from_utf8_lossy(alloc, parts.next())?;
+    command_help(alloc, HELP, &command)
+}
+
+/// The note on words of no form.
+fn form_note(alloc: Global, parts: &mut Parts<'_>) -> Result<String, NoMemory> {
+    let words = words_of(alloc, parts)?;
+    words_note(alloc, HELP, &words)
+}
+
+/// The note that the word asks for, or `None` if there is none or the word is unknown.
+fn note_of(
+    alloc: Global,
+    files: &Files,
+    word: &[u8],
+    parts: &mut Parts<'_>,
+) -> Result<Option<String>, NoMemory> {
+    let name = String::from_utf8_lossy(alloc, &files.name)?;
+    match word {
+        b"air_note" => Ok(Some(failure_note(alloc, parts)?)),
+        b"cut_note" => Ok(Some(cut_note(alloc, &name, parts)?)),
+        b"words_note" => Ok(Some(form_note(alloc, parts)?)),
+        b"command_help" => help_note(alloc, parts),
+        b"silence_note" => quiet_note(alloc, files, &name, parts),
+        b"deck_note" | b"known_note" | b"report_note" => {
+            Ok(Some(row_note(alloc, files, &name, word, parts)?))
+        }
+        _ => {
+            parts.refuse(BadCase::NoSuchWord);
+            Ok(None)
+        }
+    }
+}
+
 /// Adds the note that the word asks for.
 pub fn add_note(
     alloc: Global,
@@ -87,17 +157,8 @@ pub fn add_note(
     parts: &mut Parts<'_>,
     came: &mut Vec<u8>,
 ) -> Result<(), NoMemory> {
-    let name = String::from_utf8_lossy(alloc, &files.name)?;
-    let note = match word {
-        b"air_note" => failure_note(alloc, parts)?,
-        b"cut_note" => cut_note(alloc, &name, parts)?,
-        b"deck_note" | b"known_note" | b"report_note" => {
-            row_note(alloc, files, &name, word, parts)?
-        }
-        _ => {
-            parts.refuse(BadCase::NoSuchWord);
-            return Ok(());
-        }
-    };
-    add_line(note.as_bytes(), &[], came)
+    match note_of(alloc, files, word, parts)? {
+        Some(note) => add_lines(b"", note.as_bytes(), came),
+        None => add_line(b"none", &[], came),
+    }
 }

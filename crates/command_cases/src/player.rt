@@ -28,7 +28,7 @@ pub struct Commands<'r, R> {
 }
 
 /// The words of a command.
-fn words_of(alloc: Global, parts: &mut Parts<'_>) -> Result<Vec<String>, NoMemory> {
+pub fn words_of(alloc: Global, parts: &mut Parts<'_>) -> Result<Vec<String>, NoMemory> {
     let mut words = Vec::new(alloc);
     for _ in 0..parts.left() {
         if parts.left() > 0 {

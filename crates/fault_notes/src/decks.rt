@@ -4,13 +4,17 @@ pub(crate) mod ends;
 pub(crate) mod limits;
 pub(crate) mod names;
 pub(crate) mod settings;
+pub(crate) mod slips;
 
 use crate::decks::ends::end_note;
 use crate::decks::limits::{overdrawn_note, total_note};
 use crate::decks::names::{id_note, twice_note, undeclared_note, unread_note};
 use crate::decks::settings::setting_note;
+use crate::decks::slips::slip_note;
 use crate::records::before::RecordsBefore;
-use crate::records::fields::{count_note, deck_field_note, tag_note};
+use crate::records::fields::deck_field_note;
+use crate::records::quotes::open_quote_line;
+use crate::records::shapes::{count_note, tag_note};
 use crate::records::tags::{Line, Tag, deck_line};
 use crate::records::{FoundRecord, Kind, Record, find};
 use crate::words::sentences::Sentence;
@@ -80,6 +84,11 @@ pub fn deck_note(
 ) -> Result<String, NoMemory> {
     let row = fault.row;
     let found = find(alloc, bytes, row)?;
+    let open_quote = open_quote_line(alloc, bytes, row)?;
+    if let Some(sentence) = slip_note(&found, bytes, open_quote, row, fault.kind) {
+        let nobody = Sentence::numbers("", 0, 0, 0);
+        return found.note(alloc, name, row, nobody, sentence);
+    }
     if let Some((subject, sentence)) = note_parts(&found, fault.kind) {
         return found.note(alloc, name, row, subject, sentence);
     }

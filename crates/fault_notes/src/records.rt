@@ -3,6 +3,8 @@
 pub(crate) mod before;
 pub(crate) mod fields;
 pub(crate) mod lists;
+pub(crate) mod quotes;
+pub(crate) mod shapes;
 pub(crate) mod tags;
 
 use crate::records::before::RecordsBefore;
@@ -97,7 +99,7 @@ fn ends_line(byte: u8) -> bool {
 }
 
 /// The line at which the record begins that was read from this place on, counted from 1: behind the empty lines there.
-fn line_at(bytes: &[u8], place: u64) -> u64 {
+pub fn line_at(bytes: &[u8], place: u64) -> u64 {
     let mut line = 1_u64;
     let mut before = 0_u8;
     for (at, byte) in bytes.iter().enumerate() {

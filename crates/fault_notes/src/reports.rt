@@ -3,8 +3,9 @@
 pub(crate) mod strangers;
 
 use crate::records::before::RecordsBefore;
-use crate::records::fields::{count_note, report_field_note, tag_note};
+use crate::records::fields::report_field_note;
 use crate::records::lists::{Test, first_failing};
+use crate::records::shapes::{count_note, tag_note};
 use crate::records::tags::{Line, Tag, report_line, section};
 use crate::records::{FoundRecord, Kind, Record, find};
 use crate::reports::strangers::{commit_note, stranger_note};

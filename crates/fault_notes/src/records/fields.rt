@@ -2,9 +2,8 @@
 
 use crate::records::Record;
 use crate::records::lists::parts_in;
-use crate::records::tags::{Line, has_list};
 use crate::words::sentences::{Sentence, range};
-use crate::words::texts::{cut_at, cut_at_sign, has_outer_space, why_no_number};
+use crate::words::texts::{cut_at, cut_at_sign, why_no_number};
 use air_base::limits::{
     MOST_AGE, MOST_ASKED, MOST_FREQ, MOST_RATE, MOST_READS, MOST_ROOM, MOST_SIZE, MOST_TRIES,
     MOST_UPDATERS, MOST_WRITES,
@@ -156,10 +155,27 @@ impl Form {
     }
 }
 
+/// The marks of writes with a space beside them.
+const SPACED_MARKS: [&str; 6] = [" =", "= ", " +", "+ ", " -", "- "];
+
+/// Whether a write of the list has a space within it.
+fn has_inner_space(list: &str) -> bool {
+    for mark in SPACED_MARKS {
+        if list.contains(mark) {
+            return true;
+        }
+    }
+    false
+}
+
 /// The first part of a list that isn't of its form; none where each is.
 fn list_note<'a>(name: &'static str, form: Form, list: &'a str) -> Option<Sentence<'a>> {
     if list.is_empty() {
         return None;
+    }
+    if matches!(form, Form::Writes) && has_inner_space(list) {
+        let form = "has #text# among its #name#: no space stands within a write";
+        return Some(Sentence::words(form, list, name, ""));
     }
     for text in list.split(' ') {
         if text.is_empty() {
@@ -245,32 +261,4 @@ pub fn deck_field_note<'a>(record: &'a Record, form: &str) -> Option<Sentence<'a
 /// A field of a report's record isn't of its form, or is above its range.
 pub fn report_field_note<'a>(record: &'a Record, form: &str) -> Option<Sentence<'a>> {
     faulty_field_note(record, form, &REPORT)
-}
-
-/// The record has another number of fields than its form.
-pub fn count_note<'a>(record: &Record, line: Line) -> Sentence<'a> {
-    let count = record.len() as u64;
-    let wanted = line.form.split(',').count() as u64;
-    let tail = if wanted < count && has_list(line.tag) {
-        ": the parts of a list are separated by spaces"
-    } else {
-        ""
-    };
-    let form = if count == 1 {
-        "it has 1 field, and #why# has #second#"
-    } else {
-        "it has #first# fields, and #why# has #second#"
-    };
-    Sentence::words(form, "", "", line.form).with(count, wanted, tail)
-}
-
-/// The tag of the record is none of these.
-pub fn tag_note<'a>(record: &'a Record, name: &'static str) -> Sentence<'a> {
-    let text = record.field(0);
-    let form = if has_outer_space(text) {
-        "the tag is #text#: it has a space, and is none of #name#"
-    } else {
-        "the tag is #text#: none of #name#"
-    };
-    Sentence::words(form, text, name, "")
 }

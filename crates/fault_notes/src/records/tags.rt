@@ -91,6 +91,16 @@ pub fn deck_line(name: &str) -> Option<Line> {
     line_in(&DECK, name)
 }
 
+/// The name of the record of a deck that is this one but for capitals.
+pub fn known_tag(wanted: &str) -> Option<&'static str> {
+    for (_, name, _) in &DECK {
+        if name.eq_ignore_ascii_case(wanted) {
+            return Some(name);
+        }
+    }
+    None
+}
+
 /// The record of a report that has this name.
 pub fn report_line(name: &str) -> Option<Line> {
     line_in(&REPORT, name)

@@ -82,13 +82,45 @@ pub fn cut_at_sign(bytes: &[u8]) -> Option<(&[u8], &[u8])> {
 }
 
 /// Whether a text has digits alone, and one at least.
-fn is_digits(text: &[u8]) -> bool {
+pub fn is_digits(text: &[u8]) -> bool {
     for byte in text {
-        if *byte < b'0' || b'9' < *byte {
+        if !byte.is_ascii_digit() {
             return false;
         }
     }
     !text.is_empty()
+}
+
+/// Marks that numbers have in other formats, each with why such a text is no number.
+const MARKS: [(u8, &str); 3] = [
+    (b'.', "not a number: it has a decimal point"),
+    (b',', "not a number: it has a comma"),
+    (
+        b':',
+        "not a number: it has a colon, and a time is written as its minutes",
+    ),
+];
+
+/// Why digits with a mark among them are no number, or `None`.
+fn why_marked(bytes: &[u8]) -> Option<&'static str> {
+    for (mark, why) in MARKS {
+        if let Some((front, rest)) = cut_at(bytes, mark)
+            && is_digits(front)
+            && is_digits(text_before(rest, mark))
+        {
+            return Some(why);
+        }
+    }
+    None
+}
+
+/// Why digits alone spell no number.
+fn why_no_digits(first: u8) -> &'static str {
+    if first == b'0' {
+        "not a number: it has a leading zero"
+    } else {
+        "not a number: it is above 18446744073709551615"
+    }
 }
 
 /// Why a text that spells no number spells none.
@@ -98,10 +130,7 @@ pub fn why_no_number(text: &str) -> &'static str {
         return "not a number";
     };
     if is_digits(bytes) {
-        if *first == b'0' {
-            return "not a number: it has a leading zero";
-        }
-        return "not a number: it is above 18446744073709551615";
+        return why_no_digits(*first);
     }
     if (*first == b'+' || *first == b'-') && is_digits(rest) {
         return "not a number: it has a sign";
@@ -109,10 +138,5 @@ pub fn why_no_number(text: &str) -> &'static str {
     if has_outer_space(text) {
         return "not a number: it has a space";
     }
-    match cut_at(bytes, b'.') {
-        Some((whole, part)) if is_digits(whole) && is_digits(part) => {
-            "not a number: it has a decimal point"
-        }
-        _ => "not a number",
-    }
+    why_marked(bytes).unwrap_or("not a number")
 }
