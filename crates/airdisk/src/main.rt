@@ -1,57 +1,75 @@
 //! The program: words in, a status out.
 //!
-//! It hands its words and a shelf over files and standard output to the top call, with a gate that is open, and a mast and an ear over
-//! UDP on this machine. It says on standard error what went wrong where something did (`notes`, by `plain_files` that it reads again), and
-//! ends with the status's number. `--help`, `-h` and `--version`, each as the only word, are answered here.
+//! It hands its words and a shelf over files and standard output to the top call, with a mast and an ear over UDP on this machine. Variables
+//! of the environment set the rate of the mast and the silence of the ear (`settings`); with a rate updates wait at a gate (`gates`), else
+//! nothing waits. On standard error the ear reports on a terminal (`ears`), and a refusal has a note (`notes`), made from `plain_files` that
+//! are read again. The exit status is the status's number. Help and version are answered here.
 #![tactic(auto)]
 
+mod ears;
+mod gates;
 mod notes;
 mod plain_files;
+mod settings;
 
-use crate::notes::{explain, explain_no_memory};
+use crate::ears::ToldEar;
+use crate::gates::gate_of;
+use crate::notes::{explain, explain_no_memory, say, word};
+use crate::settings::{AirSettings, SettingError, air_settings};
 use air_base::NoMemory;
-use air_cli::air_main;
 use air_cli::words::HELP;
-use air_devices::{FileShelf, OpenGate, UdpEar, UdpMast};
+use air_cli::{air_main, refuse};
+use air_devices::{FileShelf, UdpEar, UdpMast};
 use air_report::Status;
+use fault_notes::command_help;
 use std::alloc::Global;
 use std::env::{self, Env};
-use std::io::{self, Write};
+use std::io::{self, IsTerminal, Write};
 use std::process::ExitCode;
 use std::rt::Files;
 
 /// The version of the program.
 const VERSION: &str = "airdisk 0.1.0\n";
 
+/// What is left to do after the words and the settings were read.
+#[derive(Drop)]
+enum Asked {
+    /// Nothing: this is the status.
+    Done(Status),
+    /// The command of these words, with what is set for it.
+    Command(Vec<String>, AirSettings),
+}
+
 fn main(rt: HostRuntime) -> ExitCode {
     let alloc = rt.alloc();
-    let Ok(words) = words_of(&rt, alloc) else {
+    let (words, settings) = match asked(&rt, alloc) {
+        Ok(Asked::Command(words, settings)) => (words, settings),
+        Ok(Asked::Done(status)) => return ExitCode::from(status.code()),
+        Err(NoMemory) => return end_without_memory(&rt),
+    };
+    let Ok(gate) = gate_of(&rt, alloc, word(&words, 1), settings.rate) else {
         return end_without_memory(&rt);
     };
-    match words.as_slice() {
-        [word] if word.as_str() == "--help" || word.as_str() == "-h" => print_text(&rt, HELP),
-        [word] if word.as_str() == "--version" => print_text(&rt, VERSION),
-        words => {
-            let Ok(files) = rt.clone() else {
-                return end_without_memory(&rt);
-            };
-            let Ok(sending) = rt.clone() else {
-                return end_without_memory(&rt);
-            };
-            let Ok(hearing) = rt.clone() else {
-                return end_without_memory(&rt);
-            };
-            let mut shelf = FileShelf::new(files);
-            let mut mast = UdpMast::new(sending);
-            let mut ear = UdpEar::new(hearing);
-            let status = air_main(
-                &rt, alloc, words, &mut shelf, &mut mast, &mut ear, &OpenGate,
-            );
-            let on_air = mast.last_failure().or(ear.last_failure());
-            explain(&rt, alloc, words, &mut shelf, on_air, status);
-            ExitCode::from(status.code())
-        }
-    }
+    let Ok(files) = rt.clone() else {
+        return end_without_memory(&rt);
+    };
+    let Ok(sending) = rt.clone() else {
+        return end_without_memory(&rt);
+    };
+    let Ok(hearing) = rt.clone() else {
+        return end_without_memory(&rt);
+    };
+    let Ok(telling) = rt.clone() else {
+        return end_without_memory(&rt);
+    };
+    let mut shelf = FileShelf::new(files);
+    let mut mast = UdpMast::with_rate(sending, settings.rate);
+    let ear = UdpEar::with_silence(hearing, settings.silence);
+    let mut ear = ToldEar::new(ear, telling, rt.stderr().is_terminal());
+    let status = air_main(&rt, alloc, &words, &mut shelf, &mut mast, &mut ear, &gate);
+    let on_air = mast.last_failure().or(ear.ear().last_failure());
+    explain(&rt, alloc, &words, &mut shelf, on_air, status);
+    ExitCode::from(status.code())
 }
 
 /// Says that there was no memory, and answers the status of that.
@@ -60,29 +78,90 @@ fn end_without_memory<R: Eprint>(rt: &R) -> ExitCode {
     ExitCode::from(Status::NoMemory.code())
 }
 
-/// The words of the command line without the program's own name. Where one isn't text there are none, so that
-/// they are of no form.
-fn words_of<R: Env + Alloc<A = Global>>(rt: &R, alloc: Global) -> Result<Vec<String>, NoMemory> {
+/// Answers what can be answered at once: help, version, and what is no text or no setting. Else reads the settings of the command.
+fn asked<R>(rt: &R, alloc: Global) -> Result<Asked, NoMemory>
+where
+    R: Files + Env + Print + Eprint + Alloc<A = Global> + Clone + Drop,
+{
+    let Some(words) = words_of(rt, alloc)? else {
+        let status = refuse_words(rt, alloc, "airdisk: a word isn't UTF-8")?;
+        return Ok(Asked::Done(status));
+    };
+    if let Some(status) = answer(rt, alloc, &words)? {
+        return Ok(Asked::Done(status));
+    }
+    match air_settings(rt, alloc, word(&words, 0)) {
+        Ok(settings) => Ok(Asked::Command(words, settings)),
+        Err(SettingError::NoMemory) => Err(NoMemory),
+        Err(SettingError::Wrong(note)) => {
+            let status = refuse_words(rt, alloc, note.as_str())?;
+            Ok(Asked::Done(status))
+        }
+    }
+}
+
+/// Prints the help or the version, if the words ask for it, and answers the status of that.
+fn answer<R: Print + Eprint>(
+    rt: &R,
+    alloc: Global,
+    words: &[String],
+) -> Result<Option<Status>, NoMemory> {
+    match words {
+        [only] if is_help(only) => Ok(Some(print_text(rt, HELP))),
+        [only] if only.as_str() == "--version" || only.as_str() == "-V" => {
+            Ok(Some(print_text(rt, VERSION)))
+        }
+        [first, name] if first.as_str() == "help" => match command_help(alloc, HELP, name)? {
+            Some(text) => Ok(Some(print_text(rt, text.as_str()))),
+            None => Ok(None),
+        },
+        _ => Ok(None),
+    }
+}
+
+/// Whether a word that stands alone asks for the help.
+fn is_help(only: &str) -> bool {
+    only == "help" || only == "--help" || only == "-h"
+}
+
+/// Refuses the words, or a variable, with a note.
+fn refuse_words<R: Files + Print + Eprint + Clone + Drop>(
+    rt: &R,
+    alloc: Global,
+    note: &str,
+) -> Result<Status, NoMemory> {
+    say(rt, note);
+    let mut shelf = FileShelf::new(rt.clone()?);
+    Ok(refuse(alloc, &mut shelf, Status::Words))
+}
+
+/// The words of the command line without the program's own name, or `None` if one isn't text.
+fn words_of<R: Env + Alloc<A = Global>>(
+    rt: &R,
+    alloc: Global,
+) -> Result<Option<Vec<String>>, NoMemory> {
     let mut words = Vec::new(alloc);
     match env::args(rt) {
         Ok(args) => {
             for word in args.skip(1) {
                 words.push(word)?;
             }
-            Ok(words)
+            Ok(Some(words))
         }
         Err(error) if error.kind() == io::ErrorKind::OutOfMemory => Err(NoMemory),
-        Err(_) => Ok(words),
+        Err(_) => Ok(None),
     }
 }
 
-/// Prints a text, says on standard error where that failed, and answers the status of that.
-fn print_text<R: Print + Eprint>(rt: &R, text: &str) -> ExitCode {
+/// Prints a text, and answers the status of that. A failure has a note on standard error, but not a closed pipe.
+fn print_text<R: Print + Eprint>(rt: &R, text: &str) -> Status {
     match io::writer(rt).write_all(text.as_bytes()) {
-        Ok(()) => ExitCode::from(Status::Ok.code()),
+        Ok(()) => Status::Ok,
         Err(error) => {
-            let _ = eprintln!(rt; "airdisk: printing: {error}");
-            ExitCode::from(Status::WriteFault.code())
+            if error.kind() != io::ErrorKind::BrokenPipe {
+                let _ = eprintln!(rt; "airdisk: printing: {error}");
+            }
+            Status::WriteFault
         }
     }
 }

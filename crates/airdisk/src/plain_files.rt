@@ -1,7 +1,7 @@
 //! Plain files that are looked into again, after a command has ended: what comes through a pipe is gone.
 
 use air_base::limits::MOST_TAPE_BYTES;
-use air_cli::read_deck_file;
+use air_cli::{read_deck_file, read_runnable_deck};
 use air_devices::{FileShelf, Shelf, read_file};
 use fault_notes::CutTape;
 use item_catalog::Deck;
@@ -66,4 +66,17 @@ pub fn deck_again<R: Files + Print + Drop>(
 ) -> Option<Deck> {
     let _size = plain_size(rt, name)?;
     read_deck_file(alloc, shelf, name).ok()
+}
+
+/// A deck that is read from a plain file, and the number of slots of its program, or `None` if the deck can't be read or run.
+pub fn runnable_again<R: Files + Print + Drop>(
+    rt: &R,
+    alloc: Global,
+    files: R,
+    name: &str,
+) -> Option<(Deck, u32)> {
+    let _size = plain_size(rt, name)?;
+    let mut shelf = FileShelf::new(files);
+    let (deck, program) = read_runnable_deck(alloc, &mut shelf, name).ok()?;
+    Some((deck, program.slots()))
 }

@@ -1,0 +1,93 @@
+//! What is said of an audit that was refused, or by which lines differ.
+
+use crate::notes::word;
+use crate::plain_files::{deck_again, read_again};
+use air_base::NoMemory;
+use air_devices::FileShelf;
+use air_report::Status;
+use air_report::reading::limits::MOST_REPORT_BYTES;
+use fault_notes::{ShownText, report_note};
+use live_replay::audit_report;
+use live_replay::limits::MOST_REPLAYED;
+use std::alloc::Global;
+use std::rt::Files;
+
+/// What is wrong with a report, against its deck where both can be read again.
+fn refused_report_note<R: Files + Print + Drop>(
+    rt: &R,
+    alloc: Global,
+    words: &[String],
+    shelf: &mut FileShelf<R>,
+    row: u32,
+    kind: u8,
+) -> Result<Option<String>, NoMemory> {
+    let deck = deck_again(rt, alloc, shelf, word(words, 1));
+    let name = word(words, 2);
+    let note = match read_again(rt, alloc, shelf, name, MOST_REPORT_BYTES) {
+        Some(bytes) => report_note(alloc, name, deck.as_ref(), &bytes, row, kind)?,
+        None => report_note(alloc, name, deck.as_ref(), &[], row, kind)?,
+    };
+    Ok(Some(note))
+}
+
+/// How many lines of a report differ from their replays; none where it can't be read again.
+fn count_differing<R: Files + Print + Drop>(
+    rt: &R,
+    alloc: Global,
+    shelf: &mut FileShelf<R>,
+    deck: &str,
+    report: &str,
+) -> Option<u64> {
+    let deck = deck_again(rt, alloc, shelf, deck)?;
+    let bytes = read_again(rt, alloc, shelf, report, MOST_REPORT_BYTES)?;
+    if MOST_REPORT_BYTES < bytes.len() {
+        return None;
+    }
+    let audited = audit_report(alloc, &deck, &bytes).ok()?;
+    let mut count = 0_u64;
+    for line in audited.text.split(|byte| *byte == b'\n') {
+        if line.starts_with(b"differs,") {
+            count = count.saturating_add(1);
+        }
+    }
+    Some(count)
+}
+
+/// That lines of a report differ from their replays.
+fn difference_note<R: Files + Print + Drop>(
+    rt: &R,
+    alloc: Global,
+    shelf: &mut FileShelf<R>,
+    words: &[String],
+) -> Result<Option<String>, NoMemory> {
+    let report = word(words, 2);
+    let count = count_differing(rt, alloc, shelf, word(words, 1), report);
+    let name = ShownText::whole(report);
+    let said = match count {
+        Some(1) => format!(in alloc; "{name}: 1 line differs from its replay")?,
+        Some(count) => format!(in alloc; "{name}: {count} lines differ from their replays")?,
+        None => format!(in alloc; "{name}: lines differ from their replays")?,
+    };
+    Ok(Some(said))
+}
+
+/// What is said of an audit that was refused, or by which lines differ; none of another status.
+pub fn audit_note<R: Files + Print + Drop>(
+    rt: &R,
+    alloc: Global,
+    words: &[String],
+    shelf: &mut FileShelf<R>,
+    status: Status,
+) -> Result<Option<String>, NoMemory> {
+    match status {
+        Status::Report { row, kind } => { refused_report_note(rt, alloc, words, shelf, row, kind) }
+        Status::Differs => difference_note(rt, alloc, shelf, words),
+        Status::TooMuch { product } => {
+            let report = ShownText::whole(word(words, 2));
+            Ok(Some(format!(in alloc;
+                "{report}: its audit would take {product} steps, which are its commits times its verdict, glance and look lines, and an audit may take {MOST_REPLAYED}"
+            )?))
+        }
+        _ => Ok(None),
+    }
+}

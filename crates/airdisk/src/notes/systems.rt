@@ -1,0 +1,61 @@
+//! What the system said of a call that failed.
+
+use crate::notes::word;
+use air_base::NoMemory;
+use air_devices::{FileCall, FileFailure, FileShelf, NetFailure};
+use fault_notes::{ShownText, air_note};
+use std::alloc::Global;
+use std::io;
+use std::rt::Files;
+
+/// Whether a print failed because the pipe was closed, as with `| head`.
+fn is_closed_pipe(failure: &FileFailure) -> bool {
+    failure.call() == FileCall::Print && failure.error().kind() == io::ErrorKind::BrokenPipe
+}
+
+/// A hint on a name that couldn't be opened, and a command to follow it; both empty if there is no hint.
+fn hint_on<'a>(failure: &FileFailure, words: &'a [String]) -> (&'static str, &'a str) {
+    if failure.call() != FileCall::Pick {
+        return ("", "");
+    }
+    let name = failure.name();
+    if name == "-" {
+        return ("; the name of standard input is /dev/stdin", "");
+    }
+    if name == "--help" || name == "-h" {
+        return ("; for help: airdisk help ", word(words, 0));
+    }
+    ("", "")
+}
+
+/// What the system said of the last call that failed, or `None`; also `None` if that was a print to a closed pipe.
+pub fn failure_note<R: Files + Print + Drop>(
+    alloc: Global,
+    words: &[String],
+    shelf: &FileShelf<R>,
+) -> Result<Option<String>, NoMemory> {
+    match shelf.last_failure() {
+        Some(failure) if !is_closed_pipe(failure) => {
+            let said = format!(in alloc; "{failure}")?;
+            let said = ShownText::whole(said.as_str());
+            let (hint, command) = hint_on(failure, words);
+            Ok(Some(format!(in alloc; "airdisk: {said}{hint}{command}")?))
+        }
+        _ => Ok(None),
+    }
+}
+
+/// What the system said of the mast or the ear that failed after so many datagrams; none where it said nothing.
+pub fn air_failure_note(
+    alloc: Global,
+    air: Option<&NetFailure>,
+    after: u64,
+) -> Result<Option<String>, NoMemory> {
+    match air {
+        Some(failure) => {
+            let said = format!(in alloc; "{failure}")?;
+            Ok(Some(air_note(alloc, said.as_str(), after)?))
+        }
+        None => Ok(None),
+    }
+}
