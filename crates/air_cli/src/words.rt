@@ -24,7 +24,11 @@ pub const HELP: &str = "airdisk: data on air, proved
   airdisk cast DECK PORT      run a deck on threads, send what is aired to a port of this machine, and print the history
   airdisk listen DECK PORT    let the readers of a deck hear what comes to a port, and print their report
   airdisk --help, -h          print this text
-  airdisk --version           print the version
+  airdisk --version, -V       print the version
+  airdisk help [COMMAND]      print this text, or its lines on a command
+
+  AIRDISK_RATE=N airdisk cast DECK PORT         send N buckets a second, 1 to 1000000
+  AIRDISK_SILENCE=N airdisk listen DECK PORT    end after N seconds without a datagram, at most 1000000; 30 where not set, 0 for never
 
 The manual is docs/GUIDE.md in the repository.
 ";
