@@ -1,0 +1,182 @@
+"""Tries `cast` and `listen` of the built program at once, for .ci/air: that each listener ends, that a rate is kept and spreads the updates, that
+a silence is an end, and what a listener says on a terminal.
+"""
+import os
+import pty
+import socket
+import subprocess
+import time
+
+TOP = os.path.dirname(os.path.dirname(os.path.abspath(__file__)))
+PROGRAM = os.path.join(TOP, "crates", "airdisk", "out", "airdisk")
+CYCLES, SLOTS = 20, 44
+UPDATES = CYCLES - 1
+# a timetable of 24 items on three disks, aired in 880 buckets of 120 bytes; each updater has an update for each cycle but one
+DECK = "".join(f"item,{i},{i},{24 - i}\n" for i in range(24)) + "disk,4,4\ndisk,8,2\ndisk,12,1\n" + "".join(
+    f"update,{by},,{(7 * k + by) % 24}={k}\n" for by in range(2) for k in range(UPDATES)) + f"reader,0,0,3\nquery,0,0 9 23\nset,cycles,{CYCLES}\n"
+BUCKET = bytes.fromhex("4144010100000018" "0000000100000000" "0000000000000000") + bytes(4 * 24)
+
+
+def is_open(port):
+    """Whether a socket of this machine hears at 127.0.0.1 and this port."""
+    with open("/proc/net/udp", encoding="ascii") as file:
+        return any(row.split()[1] == f"0100007F:{port:04X}" for row in list(file)[1:])
+
+
+def wait_until_open(port):
+    for _ in range(600):
+        if is_open(port):
+            return
+        time.sleep(0.05)
+
+
+def free_port():
+    with socket.socket(socket.AF_INET, socket.SOCK_DGRAM) as there:
+        there.bind(("127.0.0.1", 0))
+        return there.getsockname()[1]
+
+
+def listener(deck, port, errors=subprocess.DEVNULL, **variables):
+    """A started `listen`, once it has its port."""
+    ear = subprocess.Popen([PROGRAM, "listen", deck, str(port)], stdin=subprocess.DEVNULL, stdout=subprocess.PIPE, stderr=errors,
+                           env=dict(os.environ, **variables))
+    wait_until_open(port)
+    return ear
+
+
+def ended(ear, seconds):
+    """What a listener printed, in lines, and its status; the status is None where it didn't end in time."""
+    try:
+        printed = ear.communicate(timeout=seconds)[0].decode().splitlines()
+    except subprocess.TimeoutExpired:
+        ear.kill()
+        ear.communicate()
+        return [], None
+    return printed, ear.returncode
+
+
+def cast(deck, port, **variables):
+    """The history that a cast prints."""
+    ran = subprocess.run([PROGRAM, "cast", deck, str(port)], stdin=subprocess.DEVNULL, stdout=subprocess.PIPE, stderr=subprocess.DEVNULL,
+                         timeout=120, check=False, env=dict(os.environ, **variables))
+    return ran.stdout.decode().splitlines() if ran.returncode == 0 else []
+
+
+def send(port, datagrams):
+    with socket.socket(socket.AF_INET, socket.SOCK_DGRAM) as mast:
+        for data in datagrams:
+            mast.sendto(data, ("127.0.0.1", port))
+
+
+def heard(printed):
+    """How many datagrams a listener heard by its counts: opened, dozed, late, refused and foreign."""
+    return max([sum(map(int, line.split(",")[2:7])) for line in printed if line.startswith("counts,")], default=0)
+
+
+def try_ends(say, deck, casts):
+    """Each listener to a cast ends, also where it loses the end: by a silence of 30 seconds."""
+    whole = 0
+    for at in range(casts):
+        port = free_port()
+        ear = listener(deck, port)
+        history = cast(deck, port)
+        printed, status = ended(ear, 60)
+        say(status == 0 and history.count("start") == CYCLES, f"cast {at + 1} of {casts}: the listener's status is {status}, and it printed {printed}")
+        whole += heard(printed) == CYCLES * SLOTS
+    if casts > 2:
+        print(f"{casts} casts of {CYCLES * SLOTS} buckets: {whole} were heard whole")
+
+
+def times_at(deck, rate):
+    """When each datagram of a cast at a rate came, and the history."""
+    port, times = free_port(), []
+    with socket.socket(socket.AF_INET, socket.SOCK_DGRAM) as ear:
+        ear.bind(("127.0.0.1", port))
+        ear.settimeout(30)
+        with subprocess.Popen([PROGRAM, "cast", deck, str(port)], stdin=subprocess.DEVNULL, stdout=subprocess.PIPE,
+                              env=dict(os.environ, AIRDISK_RATE=str(rate))) as mast:
+            while ear.recv(2048):
+                times.append(time.monotonic())
+            return times, mast.stdout.read().decode().splitlines()
+
+
+def committed_in(history):
+    """The cycles in which something was committed."""
+    cycles, cycle = set(), 0
+    for event in history:
+        if event == "start":
+            cycle += 1
+        else:
+            cycles.add(cycle)
+    return cycles
+
+
+def try_rate(say, deck):
+    """A rate is kept within a tenth, in one of three tries, since other work may take the processors; and the updates spread over the cycles."""
+    rate, seen = 1000, []
+    for _ in range(3):
+        times, history = times_at(deck, rate)
+        took, wanted, spread = times[-1] - times[0], (CYCLES * SLOTS - 1) / rate, len(committed_in(history))
+        seen.append((len(times), round(took, 3), spread))
+        if len(times) == CYCLES * SLOTS and abs(took - wanted) <= wanted / 10 and spread >= UPDATES // 2:
+            break
+    else:
+        say(False, f"at {rate} buckets a second: buckets, seconds and cycles with a commit were {seen}, for {CYCLES * SLOTS} in {wanted} and {UPDATES}")
+        return
+    say(True, "a rate")
+
+
+def try_silence(say, deck):
+    """A listener that has heard something ends by the silence that is set."""
+    port = free_port()
+    ear = listener(deck, port, AIRDISK_SILENCE="1")
+    send(port, [BUCKET])
+    began = time.monotonic()
+    printed, status = ended(ear, 20)
+    took = time.monotonic() - began
+    say(status == 0 and heard(printed) == 1 and took > 0.9, f"a silence of a second: status {status} after {took:.2f} seconds, printed {printed}")
+
+
+def said_on_terminal(deck, port, datagrams, pause):
+    """What a listener says on a terminal while these come, with a pause before the last of them."""
+    ours, its = pty.openpty()
+    ear = listener(deck, port, its)
+    os.close(its)
+    send(port, datagrams[:-1])
+    time.sleep(pause)
+    send(port, [*datagrams[-1:], b""])
+    ended(ear, 20)
+    said = b""
+    try:
+        while chunk := os.read(ours, 4096):
+            said += chunk
+    except OSError:
+        pass
+    os.close(ours)
+    return said.decode().splitlines()
+
+
+def try_terminal(say, deck, is_long):
+    """On a terminal a listener says where it listens, and after ten seconds how much came; else it says nothing."""
+    port = free_port()
+    said = said_on_terminal(deck, port, [BUCKET, BUCKET], 10.5 if is_long else 0)
+    wanted = [f"airdisk: listening on 127.0.0.1, port {port}"] + [f"airdisk: 2 datagrams came, {2 * len(BUCKET)} bytes"] * is_long
+    say(said == wanted, f"on a terminal: said {said} and not {wanted}")
+    ear = listener(deck, port, subprocess.PIPE)
+    send(port, [b""])
+    errors = ear.communicate(timeout=20)[1]
+    say(errors == b"", f"on no terminal: said {errors}")
+
+
+def try_casts(say, folder, casts):
+    """All of these, with so many casts to a listener; where there are more than two also what takes long."""
+    if not os.access(PROGRAM, os.X_OK):
+        print("skipped: the program isn't built, so no cast is listened to")
+        return
+    deck = os.path.join(folder, "timetable.csv")
+    with open(deck, "w", encoding="utf-8") as file:
+        file.write(DECK)
+    try_ends(say, deck, casts)
+    try_rate(say, deck)
+    try_silence(say, deck)
+    try_terminal(say, deck, casts > 2)
