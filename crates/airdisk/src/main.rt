@@ -42,7 +42,7 @@ enum Asked {
 
 fn main(rt: HostRuntime) -> ExitCode {
     let alloc = rt.alloc();
-    let (words, settings) = match asked(&rt, alloc) {
+    let (words, settings) = match read_words(&rt, alloc) {
         Ok(Asked::Command(words, settings)) => (words, settings),
         Ok(Asked::Done(status)) => return ExitCode::from(status.code()),
         Err(NoMemory) => return end_without_memory(&rt),
@@ -79,7 +79,7 @@ fn end_without_memory<R: Eprint>(rt: &R) -> ExitCode {
 }
 
 /// Answers what can be answered at once: help, version, and what is no text or no setting. Else reads the settings of the command.
-fn asked<R>(rt: &R, alloc: Global) -> Result<Asked, NoMemory>
+fn read_words<R>(rt: &R, alloc: Global) -> Result<Asked, NoMemory>
 where
     R: Files + Env + Print + Eprint + Alloc<A = Global> + Clone + Drop,
 {
