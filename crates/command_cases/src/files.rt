@@ -6,7 +6,7 @@
 use crate::settings::Settings;
 use air_base::NoMemory;
 use air_devices::MemShelf;
-use case_lines::Parts;
+use case_lines::{Parts, first_part};
 use std::alloc::Global;
 
 /// The files of the shelf, and the name by which notes call them. The second is a tape or a report; on the shelf its name is `tape`, and
@@ -71,9 +71,12 @@ impl Files {
         Ok(true)
     }
 
-    /// The tape, cut and changed as it is set.
-    fn tape_for(&self, settings: &Settings) -> Result<Vec<u8>, NoMemory> {
-        let mut tape = self.tape.clone()?;
+    /// The tape, cut and changed as it is set, or the report without a line.
+    fn tape_for(&self, alloc: Global, settings: &Settings) -> Result<Vec<u8>, NoMemory> {
+        let mut tape = match settings.line {
+            Some(line) => without_line(alloc, &self.tape, line)?,
+            None => self.tape.clone()?,
+        };
         if let Some(length) = settings.cut {
             tape.truncate(length);
         }
@@ -89,9 +92,29 @@ impl Files {
     pub fn shelf(&self, alloc: Global, settings: &Settings) -> Result<MemShelf, NoMemory> {
         let mut files = Vec::new(alloc);
         files.push((String::from_str(alloc, "deck")?, self.deck.clone()?))?;
-        files.push((String::from_str(alloc, "tape")?, self.tape_for(settings)?))?;
+        files.push((String::from_str(alloc, "tape")?, self.tape_for(alloc, settings)?))?;
         let mut outputs = Vec::new(alloc);
         outputs.push(String::from_str(alloc, "tape")?)?;
         MemShelf::new(alloc, files, outputs, settings.room, settings.fail.clone()?)
     }
+}
+
+/// The text without the line of this number; the first is 1.
+fn without_line(alloc: Global, text: &[u8], number: u64) -> Result<Vec<u8>, NoMemory> {
+    let mut kept = Vec::new(alloc);
+    let mut rest = text;
+    let mut at = 0u64;
+    for _ in 0..text.len() {
+        if rest.is_empty() {
+            break;
+        }
+        let (line, more) = first_part(rest, b'\n');
+        at = at.saturating_add(1);
+        if at != number {
+            kept.extend_from_slice(line)?;
+            kept.push(b'\n')?;
+        }
+        rest = more;
+    }
+    Ok(kept)
 }

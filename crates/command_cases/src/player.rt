@@ -8,7 +8,8 @@ ghost use Rattle.std.specs.Thread.{IsSync};
 use crate::files::Files;
 use crate::notes::add_note;
 use crate::settings::Settings;
-use crate::telling::{add_bytes, add_end, add_numbers, count_lines};
+use crate::telling::{add_air, add_end, add_numbers, count_lines};
+use crate::turns::Turns;
 use air_base::NoMemory;
 use air_cli::{air_main, air_quiet};
 use air_devices::{Gate, MemEar, MemMast, OpenGate};
@@ -58,12 +59,11 @@ impl<'r, R: Threads + Wait + Sync> Commands<'r, R> {
     fn play_quiet(
         &mut self,
         alloc: Global,
-        parts: &mut Parts<'_>,
+        words: &[String],
         came: &mut Vec<u8>,
     ) -> Result<(), NoMemory> {
-        let words = words_of(alloc, parts)?;
         let mut shelf = self.files.shelf(alloc, &self.settings)?;
-        let status = air_quiet(self.rt, alloc, &words, &mut shelf);
+        let status = air_quiet(self.rt, alloc, words, &mut shelf);
         self.printed = Vec::from_slice(alloc, shelf.printed())?;
         add_end(alloc, self.settings.brief, status, &shelf, came)
     }
@@ -72,26 +72,76 @@ impl<'r, R: Threads + Wait + Sync> Commands<'r, R> {
     fn play_main<G: Gate + Sync>(
         &mut self,
         alloc: Global,
-        parts: &mut Parts<'_>,
+        words: &[String],
         gate: &G,
         came: &mut Vec<u8>,
     ) -> Result<(), NoMemory> {
-        let words = words_of(alloc, parts)?;
         let mut shelf = self.files.shelf(alloc, &self.settings)?;
         let fail = self.settings.air_fail.clone()?;
         let mut mast = MemMast::new(alloc, self.settings.room, fail)?;
         let fail = self.settings.air_fail.clone()?;
         let mut ear = MemEar::new(self.settings.datagrams(alloc)?, fail);
         let status = air_main(
-            self.rt, alloc, &words, &mut shelf, &mut mast, &mut ear, gate,
+            self.rt, alloc, words, &mut shelf, &mut mast, &mut ear, gate,
         );
         self.printed = Vec::from_slice(alloc, shelf.printed())?;
         add_end(alloc, self.settings.brief, status, &shelf, came)?;
-        add_bytes(b"sends", mast.sent(), came)?;
-        if mast.ended() {
-            add_line(b"sends the end", &[], came)?;
+        add_air(&mast, &mut ear, self.settings.heard(), came)
+    }
+
+    /// Plays a command once, by the call that waits or by the other.
+    fn play_once<G: Gate + Sync>(
+        &mut self,
+        alloc: Global,
+        waits: bool,
+        words: &[String],
+        gate: &G,
+        came: &mut Vec<u8>,
+    ) -> Result<(), NoMemory> {
+        if waits {
+            self.play_main(alloc, words, gate, came)
+        } else {
+            self.play_quiet(alloc, words, came)
         }
-        Ok(())
+    }
+
+    /// Plays a command once for each number that is set in turn, and adds numbers of one outcome together.
+    fn play_each(
+        &mut self,
+        alloc: Global,
+        waits: bool,
+        words: &[String],
+        turns: Turns,
+        came: &mut Vec<u8>,
+    ) -> Result<(), NoMemory> {
+        let mut told = Vec::new(alloc);
+        let mut from = turns.first;
+        for number in turns.first..turns.end {
+            self.settings.turn(alloc, turns.what, number)?;
+            let mut one = Vec::new(alloc);
+            self.play_once(alloc, waits, words, &OpenGate, &mut one)?;
+            if number > from && one.as_slice() != told.as_slice() {
+                turns.add(from, number, &told, came)?;
+                from = number;
+            }
+            told = one;
+        }
+        turns.add(from, turns.end, &told, came)
+    }
+
+    /// Plays a command, once or for each number.
+    fn play_command(
+        &mut self,
+        alloc: Global,
+        waits: bool,
+        parts: &mut Parts<'_>,
+        came: &mut Vec<u8>,
+    ) -> Result<(), NoMemory> {
+        let words = words_of(alloc, parts)?;
+        match self.settings.each {
+            Some(turns) => self.play_each(alloc, waits, &words, turns, came),
+            None => self.play_once(alloc, waits, &words, &OpenGate, came),
+        }
     }
 
     /// Plays a command whose threads meet, and adds how often each call that is waited for was made, and one was waited for in vain.
@@ -101,8 +151,9 @@ impl<'r, R: Threads + Wait + Sync> Commands<'r, R> {
         parts: &mut Parts<'_>,
         came: &mut Vec<u8>,
     ) -> Result<(), NoMemory> {
+        let words = words_of(alloc, parts)?;
         let gate = MeetingGate::new();
-        self.play_main(alloc, parts, &gate, came)?;
+        self.play_main(alloc, &words, &gate, came)?;
         add_line(b"calls", &gate.counts(), came)
     }
 
@@ -115,8 +166,8 @@ impl<'r, R: Threads + Wait + Sync> Commands<'r, R> {
         came: &mut Vec<u8>,
     ) -> Result<(), NoMemory> {
         match word {
-            b"quiet" => self.play_quiet(alloc, parts, came)?,
-            b"main" => self.play_main(alloc, parts, &OpenGate, came)?,
+            b"quiet" => self.play_command(alloc, false, parts, came)?,
+            b"main" => self.play_command(alloc, true, parts, came)?,
             b"meet" => self.play_meeting(alloc, parts, came)?,
             b"lines" => add_line(b"lines", &[count_lines(&self.printed, parts.next())], came)?,
             b"statuses" => add_numbers(alloc, came)?,

@@ -1,10 +1,11 @@
 //! What is set for the next command alone.
 //!
 //! `room`, `cut` and `flip` have a number, `fail` and `air_fail` numbers of calls, and `hears` the bytes of a datagram in hexadecimal
-//! digits; `brief` has nothing.
+//! digits; `each` has what is set, and the first and the last number to which it is set in turn (`turns`); `brief` has nothing.
 
 ghost use Rattle.std.specs.Prelude.{◌≤◌, length, All, IfOk};
 
+use crate::turns::{Turned, Turns};
 use air_base::NoMemory;
 use case_lines::{BadCase, Parts};
 use std::alloc::Global;
@@ -13,7 +14,7 @@ use std::alloc::Global;
 const ROOM: usize = 2_000;
 
 /// The room, the calls of the shelf and those of the mast and the ear that fail, at which byte the tape is cut, at which its highest bit is
-/// changed, and the datagrams that wait for the ear.
+/// changed, which line is left out of the report, and the datagrams that wait for the ear.
 #[derive(Drop)]
 pub struct Settings {
     pub room: usize,
@@ -21,6 +22,9 @@ pub struct Settings {
     pub air_fail: Vec<u64>,
     pub cut: Option<usize>,
     pub flip: Option<usize>,
+    pub line: Option<u64>,
+    /// What is set in turn, once for each run of the command.
+    pub each: Option<Turns>,
     heard: Vec<Vec<u8>>,
     /// Whether only what no schedule changes is told.
     pub brief: bool,
@@ -35,6 +39,8 @@ impl Settings {
             air_fail: Vec::new(alloc),
             cut: None,
             flip: None,
+            line: None,
+            each: None,
             heard: Vec::new(alloc),
             brief: false,
         }
@@ -53,6 +59,7 @@ impl Settings {
             b"air_fail" => self.air_fail = parts.numbers(alloc)?,
             b"cut" => self.cut = Some(parts.number() as usize),
             b"flip" => self.flip = Some(parts.number() as usize),
+            b"each" => self.each = Some(Turns::of(parts)),
             b"hears" => {
                 if parts.left() == 0 {
                     parts.refuse(BadCase::Missing);
@@ -63,6 +70,26 @@ impl Settings {
             _ => return Ok(false),
         }
         Ok(true)
+    }
+
+    /// Sets what is set in turn to a number.
+    pub fn turn(&mut self, alloc: Global, what: Turned, number: u64) -> Result<(), NoMemory> {
+        let next = number.saturating_add(1);
+        match what {
+            Turned::Fail => self.fail = Vec::from_slice(alloc, &[number])?,
+            Turned::Both => self.fail = Vec::from_slice(alloc, &[number, next])?,
+            Turned::AirFail => self.air_fail = Vec::from_slice(alloc, &[number])?,
+            Turned::Room => self.room = number as usize,
+            Turned::Cut => self.cut = Some(number as usize),
+            Turned::Flip => self.flip = Some(number as usize),
+            Turned::Line => self.line = Some(number),
+        }
+        Ok(())
+    }
+
+    /// How many datagrams wait.
+    pub fn heard(&self) -> u64 {
+        self.heard.len() as u64
     }
 
     /// The datagrams of one byte at least.

@@ -3,7 +3,7 @@
 //! A text or an output that is long is told by its length and its sum.
 
 use air_base::NoMemory;
-use air_devices::MemShelf;
+use air_devices::{Ear, Heard, MemEar, MemMast, MemShelf};
 use air_report::Status;
 use case_lines::{add_hex_words, add_line, add_lines, first_part, sum_of};
 use std::alloc::Global;
@@ -60,6 +60,34 @@ pub fn add_end(
     }
     add_printed(shelf.printed(), came)?;
     add_bytes(b"writes", written, came)
+}
+
+/// How many of so many datagrams the ear has taken: it hears those that are left.
+fn taken(ear: &mut MemEar, datagrams: u64) -> u64 {
+    let mut left = 0u64;
+    for _ in 0..datagrams.saturating_add(2) {
+        if let Ok(Heard::Bucket(_)) = ear.hear(&mut [0]) {
+            left = left.saturating_add(1);
+        }
+    }
+    datagrams.saturating_sub(left)
+}
+
+/// Adds what was sent, with the end, and how many of so many datagrams were taken, if there are some.
+pub fn add_air(
+    mast: &MemMast,
+    ear: &mut MemEar,
+    datagrams: u64,
+    came: &mut Vec<u8>,
+) -> Result<(), NoMemory> {
+    add_bytes(b"sends", mast.sent(), came)?;
+    if mast.ended() {
+        add_line(b"sends the end", &[], came)?;
+    }
+    if datagrams > 0 {
+        add_line(b"takes", &[taken(ear, datagrams)], came)?;
+    }
+    Ok(())
 }
 
 /// How many lines of the text begin with this front.

@@ -1,0 +1,96 @@
+//! What is set to one number after the other, each for a run of the same command.
+//!
+//! `fail` and `air_fail` have the call that fails alone, and `both` one that fails with the next; `room` the bytes that there is room for;
+//! `cut` the length of the tape, `flip` the byte of which the highest bit is changed, and `line` the line that is left out of the report.
+
+use air_base::{NoMemory, write_u64};
+use case_lines::{BadCase, Parts};
+
+/// How many numbers there are at most.
+const MOST_TURNS: u64 = 1_000;
+
+/// What a number is set for.
+#[derive(Clone, Copy)]
+pub enum Turned {
+    Fail,
+    Both,
+    AirFail,
+    Room,
+    Cut,
+    Flip,
+    Line,
+}
+
+/// What is set, and the numbers from the first to the one before the end.
+#[derive(Clone, Copy)]
+pub struct Turns {
+    pub what: Turned,
+    pub first: u64,
+    pub end: u64,
+}
+
+impl Turned {
+    /// What the word says.
+    fn of(parts: &mut Parts<'_>) -> Turned {
+        match parts.next() {
+            b"fail" => Turned::Fail,
+            b"both" => Turned::Both,
+            b"air_fail" => Turned::AirFail,
+            b"room" => Turned::Room,
+            b"cut" => Turned::Cut,
+            b"flip" => Turned::Flip,
+            b"line" => Turned::Line,
+            _ => {
+                parts.refuse(BadCase::NoSuchWord);
+                Turned::Fail
+            }
+        }
+    }
+
+    /// The word.
+    fn word(self) -> &'static [u8] {
+        match self {
+            Turned::Fail => b"fail",
+            Turned::Both => b"both",
+            Turned::AirFail => b"air_fail",
+            Turned::Room => b"room",
+            Turned::Cut => b"cut",
+            Turned::Flip => b"flip",
+            Turned::Line => b"line",
+        }
+    }
+}
+
+impl Turns {
+    /// What the parts say: what is set, the first number and the last.
+    pub fn of(parts: &mut Parts<'_>) -> Turns {
+        let what = Turned::of(parts);
+        let first = parts.number();
+        let end = parts.number().saturating_add(1);
+        if end <= first || end - first > MOST_TURNS {
+            parts.refuse(BadCase::NoCall);
+        }
+        Turns { what, first, end }
+    }
+
+    /// Adds the numbers from one to the one before another, and what came of each of them.
+    pub fn add(
+        self,
+        from: u64,
+        end: u64,
+        told: &[u8],
+        came: &mut Vec<u8>,
+    ) -> Result<(), NoMemory> {
+        let last = end.saturating_sub(1);
+        came.extend_from_slice(self.what.word())?;
+        came.push(b' ')?;
+        write_u64(from, came)?;
+        if from < last {
+            came.extend_from_slice(b" to ")?;
+            write_u64(last, came)?;
+        }
+        came.push(b'\n')?;
+        came.extend_from_slice(told)?;
+        Ok(())
+    }
+}
