@@ -1,5 +1,5 @@
 //! These pins say what `outputs` of `air_cli` prints and writes of a tape of one byte and a text of two, over a shelf in memory.
-//! They also say when it tells a fault of writing, and that a refusal leaves the outputs as they were.
+//! They also say when it tells a fault of writing, and that a refusal leaves the outputs as they were and keeps its status.
 #![tactic(auto, unfolding(air_cli::specs::Deliveries::Delivers))]
 
 ghost use Rattle.std.specs.Prelude.{◌≡◌, ◌≢◌, ◌≤◌, [], ◌∷◌, None, Some, codes, option_map};
@@ -50,4 +50,11 @@ pub fn output_created_on_a_refusal(alloc: Global, shelf: &mut MemShelf) -> Statu
     ensures { (told_by shelf.new).output (codes "tape") ≡ Some (7 ∷ []) }
 {
     refuse(alloc, shelf, Status::Words)
+}
+
+/// A refusal's line that isn't printed, or not whole, leaves the status: no fault of writing is told in its place.
+pub fn unprinted_line_told_as_a_write_fault(alloc: Global, shelf: &mut MemShelf) -> Status
+    ensures { result ≢ Status.WriteFault }
+{
+    refuse(alloc, shelf, Status::ReadFault)
 }

@@ -1,4 +1,5 @@
-//! Tests of runs: small decks on threads, whatever the schedule, one in which a gate lets three threads meet, and a monitor's last look.
+//! Tests of runs: small decks on threads, whatever the schedule, one in which a gate lets three threads meet, a monitor's last look, and
+//! each job by itself (`jobs`).
 //!
 //! `decks` has what is run, `plays` runs it, `cases` tells in what a run left something else (`runs`, `meetings`).
 #![tactic(auto)]
@@ -7,6 +8,8 @@
 mod cases;
 #[cfg(test)]
 mod decks;
+#[cfg(test)]
+mod jobs;
 #[cfg(test)]
 mod lasts;
 #[cfg(test)]

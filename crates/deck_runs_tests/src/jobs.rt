@@ -1,0 +1,231 @@
+//! The three jobs of a run, each called once, one after the other on one thread: what each answers, and what it leaves.
+//!
+//! The updater commits before the conductor begins, so that each cycle airs what it left; the monitor looks before and after.
+
+ghost use Rattle.std.specs.Prelude.{◌≡◌, ◌<◌, ◌≤◌, ◌+◌, ◌*◌, [], length, IfOk};
+ghost use Rattle.air_base.specs.declared.limits.TheConstants.{MOST_DECK_BYTES};
+ghost use Rattle.air_history.specs.Boards.{board_of};
+ghost use Rattle.air_model.specs.Decks.{disks_in, values_in};
+ghost use Rattle.bucket_codec.specs.declared.offsets.TheConstants.{ENTRY_BYTES, HEAD_BYTES};
+ghost use Rattle.cycle_snapshot.specs.SnapshotStates.{new_publisher};
+ghost use Rattle.station.specs.PassStates.{new_pass};
+
+use crate::decks::{Aired, MEETING, tape_of};
+use air_base::NoMemory;
+use air_devices::{MemMast, OpenGate};
+use air_model::reports::LookLine;
+use bucket_codec::offsets::{ENTRY_BYTES, HEAD_BYTES};
+use chunk_program::{Program, cut};
+use control_matrix::Board;
+use cycle_snapshot::{Monitor, Publisher, publisher};
+use deck_runs::{ConductFault, conductor_job, monitor_job, updater_job};
+use item_catalog::{Deck, read_deck};
+use station::{ConductorPass, Station, UpdaterPass};
+use std::alloc::Global;
+use std::sync::Wait;
+use std::test::Fail;
+
+/// What the jobs left: how many commits and starts their passes made, the lines of the monitor, and the tape of what was sent.
+#[derive(Debug, Drop, PartialEq, Eq)]
+struct Left {
+    made: u32,
+    started: u32,
+    first: LookLine,
+    last: LookLine,
+    tape: Vec<u8>,
+}
+
+/// The conductor: its pass, its board, what it publishes by and sends to, and room for the bytes of a bucket.
+#[derive(Drop)]
+struct Conductor {
+    pass: ConductorPass,
+    board: Board,
+    mast: MemMast,
+    buf: Vec<u8>,
+}
+
+/// The first value of each item.
+fn first_values(alloc: Global, deck: &Deck) -> Result<Vec<u64>, NoMemory>
+    ensures { IfOk result (λ values. values.items ≡ values_in deck.now) }
+{
+    let mut values = Vec::new(alloc);
+    for item in 0..deck.items() {
+        values.push(deck.value(item))?;
+    }
+    Ok(values)
+}
+
+/// Does the job of an updater that has made no commit.
+fn update<R: Wait>(
+    wait: &R,
+    alloc: Global,
+    station: &Station,
+    deck: &Deck,
+    pass: &mut UpdaterPass,
+) -> Result<u32, NoMemory>
+    requires new { pass.old ≡ new_pass station.now deck.now pass.old.number }
+    requires number { pass.old.number < length deck.now.updates }
+{
+    deck.shows_well_made();
+    let number = pass.by();
+    let mine = deck.updates(number);
+    updater_job(wait, alloc, station, pass, mine, &OpenGate)?;
+    Ok(pass.made())
+}
+
+/// Does the job of a conductor that has started no cycle.
+fn conduct<R: Wait>(
+    wait: &R,
+    alloc: Global,
+    station: &Station,
+    deck: &Deck,
+    program: &Program,
+    source: &mut Publisher,
+    conductor: &mut Conductor,
+) -> Result<u32, ConductFault>
+    requires pass { conductor.old.pass ≡ new_pass station.now deck.now (length deck.now.updates) }
+    requires board { conductor.old.board ≡ board_of (values_in deck.now) [] }
+    requires buffer { HEAD_BYTES + ENTRY_BYTES * length deck.now.items ≤ length conductor.old.buf.items }
+    requires publisher { source.old ≡ new_publisher source.old.id (values_in deck.now) deck.now.settings.cycles }
+    requires program { program.now ≡ disks_in deck.now }
+{
+    deck.shows_well_made();
+    let settings = deck.settings();
+    conductor_job(
+        wait,
+        alloc,
+        station,
+        &mut conductor.pass,
+        source,
+        &mut conductor.board,
+        program,
+        settings.policy,
+        settings.cycles,
+        &mut conductor.mast,
+        &mut conductor.buf,
+        &OpenGate,
+    )?;
+    Ok(conductor.pass.started())
+}
+
+/// Does the jobs one after the other.
+fn work<R: Wait>(
+    wait: &R,
+    alloc: Global,
+    station: &Station,
+    deck: &Deck,
+    program: &Program,
+    source: &mut Publisher,
+    monitor: &mut Monitor,
+    updater: &mut UpdaterPass,
+    conductor: &mut Conductor,
+) -> Result<Left, ConductFault>
+    requires new { updater.old ≡ new_pass station.now deck.now updater.old.number }
+    requires number { updater.old.number < length deck.now.updates }
+    requires pass { conductor.old.pass ≡ new_pass station.now deck.now (length deck.now.updates) }
+    requires board { conductor.old.board ≡ board_of (values_in deck.now) [] }
+    requires buffer { HEAD_BYTES + ENTRY_BYTES * length deck.now.items ≤ length conductor.old.buf.items }
+    requires publisher { source.old ≡ new_publisher source.old.id (values_in deck.now) deck.now.settings.cycles }
+    requires program { program.now ≡ disks_in deck.now }
+{
+    let first = monitor_job(monitor, 2, &OpenGate)?;
+    let made = update(wait, alloc, station, deck, updater)?;
+    let started = conduct(wait, alloc, station, deck, program, source, conductor)?;
+    let last = monitor_job(monitor, 100, &OpenGate)?;
+    let Ok(tape) = Vec::from_slice(alloc, conductor.mast.sent()) else {
+        return Err(ConductFault::NoMemory);
+    };
+    Ok(Left {
+        made,
+        started,
+        first,
+        last,
+        tape,
+    })
+}
+
+/// What the jobs of a deck of one updater and one monitor leave, over a mast with room for so many bytes; none where it has not those.
+fn left_by_jobs<R: Wait>(
+    wait: &R,
+    alloc: Global,
+    text: &[u8],
+    room: usize,
+) -> Result<Option<Result<Left, ConductFault>>, Fail>
+    requires { length text.now ≤ MOST_DECK_BYTES }
+{
+    let deck = read_deck(alloc, text)?;
+    let order = cut(alloc, &deck)?;
+    let program = Program::plan(alloc, &deck, &order)?;
+    let values = first_values(alloc, &deck)?;
+    let (station, mut passes, pass) = Station::new(alloc, &deck)?;
+    let Some(mut updater) = passes.pop() else {
+        return Ok(None);
+    };
+    let mut conductor = Conductor {
+        pass,
+        board: Board::new(alloc, &values)?,
+        mast: MemMast::new(alloc, room, Vec::new(alloc))?,
+        buf: vec![in alloc; 0; HEAD_BYTES + ENTRY_BYTES * deck.items() as usize]?,
+    };
+    deck.shows_well_made();
+    let settings = deck.settings();
+    let (mut source, mut monitors) = publisher(wait, alloc, &values, 1, settings.cycles)?;
+    let left = match monitors.pop() {
+        Some(mut monitor) => Some(work(
+            wait,
+            alloc,
+            &station,
+            &deck,
+            &program,
+            &mut source,
+            &mut monitor,
+            &mut updater,
+            &mut conductor,
+        )),
+        None => None,
+    };
+    source.close(wait);
+    Ok(left)
+}
+
+/// Both commits stand before all cycles: item 0 has 11, and item 1 has 16 by way of item 0.
+const JOBS_TAPE: [Aired; 6] = [
+    (1, 0, 11, [0, 0]),
+    (1, 1, 16, [0, 0]),
+    (2, 0, 11, [0, 0]),
+    (2, 1, 16, [0, 0]),
+    (3, 0, 11, [0, 0]),
+    (3, 1, 16, [0, 0]),
+];
+
+/// What a monitor of number 0 sees.
+fn line(cycle: u32, total: u64) -> LookLine {
+    LookLine {
+        monitor: 0,
+        cycle,
+        total,
+    }
+}
+
+#[test]
+fn each_job_is_done_where_memory_is_ample(rt: HostRuntime) -> Result<(), Fail> {
+    let left = left_by_jobs(&rt, rt.alloc(), MEETING, 216)?;
+    let wanted = Left {
+        made: 2,
+        started: 3,
+        first: line(0, 30),
+        last: line(3, 27),
+        tape: tape_of(rt.alloc(), &JOBS_TAPE)?,
+    };
+    assert_eq!(rt; left, Some(Ok(wanted)));
+    Ok(())
+}
+
+#[test]
+fn where_the_mast_has_no_room_the_conductor_tells_what_was_sent(
+    rt: HostRuntime,
+) -> Result<(), Fail> {
+    let left = left_by_jobs(&rt, rt.alloc(), MEETING, 108)?;
+    assert_eq!(rt; left, Some(Err(ConductFault::Mast { sent: 3 })));
+    Ok(())
+}
