@@ -92,7 +92,10 @@ impl Files {
     pub fn shelf(&self, alloc: Global, settings: &Settings) -> Result<MemShelf, NoMemory> {
         let mut files = Vec::new(alloc);
         files.push((String::from_str(alloc, "deck")?, self.deck.clone()?))?;
-        files.push((String::from_str(alloc, "tape")?, self.tape_for(alloc, settings)?))?;
+        files.push((
+            String::from_str(alloc, "tape")?,
+            self.tape_for(alloc, settings)?,
+        ))?;
         let mut outputs = Vec::new(alloc);
         outputs.push(String::from_str(alloc, "tape")?)?;
         MemShelf::new(alloc, files, outputs, settings.room, settings.fail.clone()?)

@@ -81,9 +81,7 @@ impl<'r, R: Threads + Wait + Sync> Commands<'r, R> {
         let mut mast = MemMast::new(alloc, self.settings.room, fail)?;
         let fail = self.settings.air_fail.clone()?;
         let mut ear = MemEar::new(self.settings.datagrams(alloc)?, fail);
-        let status = air_main(
-            self.rt, alloc, words, &mut shelf, &mut mast, &mut ear, gate,
-        );
+        let status = air_main(self.rt, alloc, words, &mut shelf, &mut mast, &mut ear, gate);
         self.printed = Vec::from_slice(alloc, shelf.printed())?;
         add_end(alloc, self.settings.brief, status, &shelf, came)?;
         add_air(&mast, &mut ear, self.settings.heard(), came)

@@ -74,13 +74,7 @@ impl Turns {
     }
 
     /// Adds the numbers from one to the one before another, and what came of each of them.
-    pub fn add(
-        self,
-        from: u64,
-        end: u64,
-        told: &[u8],
-        came: &mut Vec<u8>,
-    ) -> Result<(), NoMemory> {
+    pub fn add(self, from: u64, end: u64, told: &[u8], came: &mut Vec<u8>) -> Result<(), NoMemory> {
         let last = end.saturating_sub(1);
         came.extend_from_slice(self.what.word())?;
         came.push(b' ')?;
