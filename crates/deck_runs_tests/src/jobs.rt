@@ -144,6 +144,28 @@ fn work<R: Wait>(
     })
 }
 
+/// A conductor of the pass, with the board of the first values, and a mast with room for so many bytes.
+fn new_conductor(
+    alloc: Global,
+    deck: &Deck,
+    values: &[u64],
+    pass: ConductorPass,
+    room: usize,
+) -> Result<Conductor, NoMemory>
+    requires { values.now ≡ values_in deck.now }
+    ensures pass { IfOk result (λ c. c.pass ≡ pass) }
+    ensures board { IfOk result (λ c. c.board ≡ board_of (values_in deck.now) []) }
+    ensures buffer { IfOk result (λ c. HEAD_BYTES + ENTRY_BYTES * length deck.now.items ≤ length c.buf.items) }
+{
+    deck.shows_well_made();
+    Ok(Conductor {
+        pass,
+        board: Board::new(alloc, values)?,
+        mast: MemMast::new(alloc, room, Vec::new(alloc))?,
+        buf: vec![in alloc; 0; HEAD_BYTES + ENTRY_BYTES * deck.items() as usize]?,
+    })
+}
+
 /// What the jobs of a deck of one updater and one monitor leave, over a mast with room for so many bytes; none where it has not those.
 fn left_by_jobs<R: Wait>(
     wait: &R,
@@ -161,12 +183,7 @@ fn left_by_jobs<R: Wait>(
     let Some(mut updater) = passes.pop() else {
         return Ok(None);
     };
-    let mut conductor = Conductor {
-        pass,
-        board: Board::new(alloc, &values)?,
-        mast: MemMast::new(alloc, room, Vec::new(alloc))?,
-        buf: vec![in alloc; 0; HEAD_BYTES + ENTRY_BYTES * deck.items() as usize]?,
-    };
+    let mut conductor = new_conductor(alloc, &deck, &values, pass, room)?;
     deck.shows_well_made();
     let settings = deck.settings();
     let (mut source, mut monitors) = publisher(wait, alloc, &values, 1, settings.cycles)?;
