@@ -1,1 +1,2 @@
 pub mod EtherWords
+pub mod SplitLemmas

@@ -2,3 +2,4 @@ pub mod SmallEthers
 pub mod SmallCaches
 pub mod SmallPrograms
 pub mod SmallAirings
+pub mod SmallSplits
