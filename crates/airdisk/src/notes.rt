@@ -16,6 +16,7 @@ use air_cli::words::HELP;
 use air_devices::{FileShelf, NetFailure};
 use air_report::Status;
 use air_report::reading::limits::MOST_REPORT_BYTES;
+use disk_split::MOST_SPLIT;
 use fault_notes::{ShownText, deck_note, silence_note, words_note};
 use item_catalog::DeckFault;
 use std::alloc::Global;
@@ -118,6 +119,20 @@ fn deck_silence_note<R: Files + Print + Drop>(
     }
 }
 
+/// What is said of a deck that has no best split; none of another status.
+fn split_note(alloc: Global, words: &[String], status: Status) -> Result<Option<String>, NoMemory> {
+    let deck = ShownText::whole(word(words, 1));
+    match status {
+        Status::TooMuch { product } => Ok(Some(format!(in alloc;
+            "{deck}: the search for its split would take {product} steps, which are its items times its items times its disks, and a search may take {MOST_SPLIT}"
+        )?)),
+        Status::PlanTooLong { slots } => Ok(Some(format!(in alloc;
+            "{deck}: its shortest split has {slots} slots, which are its minor cycles times the slots of each, and a program may have {MOST_SLOTS}"
+        )?)),
+        _ => Ok(None),
+    }
+}
+
 /// What is said of a status; none where nothing is.
 fn text_of<R: Files + Print + Drop>(
     rt: &R,
@@ -131,6 +146,9 @@ fn text_of<R: Files + Print + Drop>(
     match status {
         Status::Ok => deck_silence_note(rt, alloc, words, shelf),
         Status::Words => Ok(Some(words_note(alloc, HELP, words)?)),
+        Status::TooMuch { .. } | Status::PlanTooLong { .. } if word(words, 0) == "split" => {
+            split_note(alloc, words, status)
+        }
         Status::Deck { row, kind } => {
             fault_note(rt, alloc, shelf, word(words, 1), DeckFault { row, kind })
         }
