@@ -1,7 +1,7 @@
 //! These pins say what `air_main` of `air_cli` does for a command's words, over devices in memory: what it prints, writes and reads, and
 //! that `air_quiet` does no command that waits.
 //! Where a command is done, the answer is the definition of its output; the other clauses say what each status leaves as it was.
-#![tactic(auto, unfolding(air_base::specs::Numbers::number_of, air_cli::specs::NamedDecks::DeckCause, air_cli::specs::Answers::QuietAnswers, air_cli::specs::Plan::PlanCause, air_cli::specs::Plan::PlanGives, air_cli::specs::Drill::DrillGives, air_cli::specs::Script::ScriptCause, air_cli::specs::Script::ScriptGives, air_cli::specs::Audit::AuditGives, air_cli::specs::Cast::CastCause))]
+#![tactic(auto, unfolding(air_base::specs::Numbers::number_of, air_cli::specs::NamedDecks::DeckCause, air_cli::specs::Answers::QuietAnswers, air_cli::specs::Plan::PlanCause, air_cli::specs::Plan::PlanGives, air_cli::specs::Split::SplitGives, air_cli::specs::Drill::DrillGives, air_cli::specs::Script::ScriptCause, air_cli::specs::Script::ScriptGives, air_cli::specs::Audit::AuditGives, air_cli::specs::Cast::CastCause))]
 
 ghost use Rattle.std.specs.Prelude.{◌≡◌, ◌⊎◌, ◌≤◌, ◌<◌, ℕ, List, false, [], ◌∷◌, None, Some, codes, map, string_bytes};
 ghost use Rattle.air_model.specs.Decks.{Deck};
@@ -11,6 +11,7 @@ ghost use Rattle.air_devices.specs.Memory.{file_bytes, file_named, told_by};
 ghost use Rattle.air_devices.specs.MemoryEars.{memory_ear_state};
 ghost use Rattle.air_devices.specs.MemoryMasts.{memory_mast_state, told_by_mast as sent_by};
 ghost use Rattle.scripts.specs.DrillLines.{drill_output};
+ghost use Rattle.disk_split.specs.Splits.{IsBest, split_text};
 ghost use Rattle.live_replay.specs.FindingTexts.{findings_text, some_differ};
 ghost use Rattle.item_catalog.specs.Grammar.{Spells};
 ghost use Rattle.live_replay.specs.declared.findings.Finding.{Finding};
@@ -62,6 +63,27 @@ pub fn disks_reversed<R: Threads + Wait + Sync, G: Gate + Sync>(
     requires untuned { ear.old.port ≡ None }
     requires printed { (told_by shelf.old).printed ≡ Some [] }
     ensures { result ≡ Status.Ok → (d : Deck) × Spells (file_bytes (file_named (codes "d") shelf.old.files.items)) d × ((told_by shelf.new).printed ≡ Some (plan_output d)) }
+{
+    air_main(rt, alloc, words, shelf, mast, ear, gate)
+}
+
+/// `split d` that is done has printed the best split of the deck that the file spells, and after it the deck's own sizes.
+pub fn given_sizes_printed_first<R: Threads + Wait + Sync, G: Gate + Sync>(
+    rt: &R,
+    alloc: Global,
+    words: &[String],
+    shelf: &mut MemShelf,
+    mast: &mut MemMast,
+    ear: &mut MemEar,
+    gate: &G,
+) -> Status
+    requires words { map (λ w. string_bytes w) words.now ≡ codes "split" ∷ codes "d" ∷ [] }
+    requires unaimed { mast.old.port ≡ None }
+    requires unsent { sent_by mast.old ≡ nothing_sent }
+    requires untuned { ear.old.port ≡ None }
+    requires printed { (told_by shelf.old).printed ≡ Some [] }
+    ensures { result ≡ Status.Ok → (d : Deck) × Spells (file_bytes (file_named (codes "d") shelf.old.files.items)) d ×
+        ((sizes : List ℕ) × IsBest d sizes × ((told_by shelf.new).printed ≡ Some (split_text d sizes))) }
 {
     air_main(rt, alloc, words, shelf, mast, ear, gate)
 }
