@@ -1,6 +1,7 @@
 # Made by tools/manual from the text of airdisk --help. To have fish complete the words of airdisk: source tools/airdisk.fish
 complete -c airdisk -f
 complete -c airdisk -n 'test (count (commandline -opc)) -eq 1' -a 'plan' -d 'print the broadcast program of a deck'
+complete -c airdisk -n 'test (count (commandline -opc)) -eq 1' -a 'split' -d 'print the disk sizes of least expected wait, beside the deck\'s own'
 complete -c airdisk -n 'test (count (commandline -opc)) -eq 1' -a 'script' -d 'run the script of a deck, and print the report of its readers'
 complete -c airdisk -n 'test (count (commandline -opc)) -eq 1' -a 'tune' -d 'let the readers of a deck hear a tape, and print their report'
 complete -c airdisk -n 'test (count (commandline -opc)) -eq 1' -a 'drill' -d 'make a deck of size 1 to 100, run its script, and print what came of it'
@@ -15,6 +16,7 @@ complete -c airdisk -n 'test (count (commandline -opc)) -eq 1' -a '-V' -d 'print
 complete -c airdisk -n 'test (count (commandline -opc)) -eq 1' -a 'help' -d 'print this text, or its lines on a command'
 complete -c airdisk -n 'test (count (commandline -opc)) -eq 1' -a '--build' -d 'of the repository\'s script alone: prove and build the program'
 complete -c airdisk -n 'test (count (commandline -opc)) -eq 2; and contains -- (commandline -opc)[2] plan' -xa '(__fish_complete_suffix .csv)'
+complete -c airdisk -n 'test (count (commandline -opc)) -eq 2; and contains -- (commandline -opc)[2] split' -xa '(__fish_complete_suffix .csv)'
 complete -c airdisk -n 'test (count (commandline -opc)) -eq 2; and contains -- (commandline -opc)[2] script' -xa '(__fish_complete_suffix .csv)'
 complete -c airdisk -n 'test (count (commandline -opc)) -eq 2; and contains -- (commandline -opc)[2] tune' -xa '(__fish_complete_suffix .csv)'
 complete -c airdisk -n 'test (count (commandline -opc)) -eq 2; and contains -- (commandline -opc)[2] audit' -xa '(__fish_complete_suffix .csv)'
@@ -25,4 +27,4 @@ complete -c airdisk -n 'test (count (commandline -opc)) -eq 3; and contains -- (
 complete -c airdisk -n 'test (count (commandline -opc)) -eq 3; and contains -- (commandline -opc)[2] tune' -xa '(__fish_complete_suffix .tape)'
 complete -c airdisk -n 'test (count (commandline -opc)) -eq 3; and contains -- (commandline -opc)[2] run' -xa '(__fish_complete_suffix .tape)'
 complete -c airdisk -n 'test (count (commandline -opc)) -eq 3; and contains -- (commandline -opc)[2] audit' -F
-complete -c airdisk -n 'test (count (commandline -opc)) -eq 2; and contains -- (commandline -opc)[2] help' -xa 'plan script tune drill audit run cast listen help'
+complete -c airdisk -n 'test (count (commandline -opc)) -eq 2; and contains -- (commandline -opc)[2] help' -xa 'plan split script tune drill audit run cast listen help'
