@@ -28,7 +28,7 @@ pub const HELP: &str = "airdisk: data on air, proved
   airdisk help [COMMAND]      print this text, or its lines on a command
 
   AIRDISK_RATE=N airdisk cast DECK PORT         send N buckets a second, 1 to 1000000
-  AIRDISK_SILENCE=N airdisk listen DECK PORT    end after N seconds without a datagram, at most 1000000; 30 where not set, 0 for never
+  AIRDISK_SILENCE=N airdisk listen DECK PORT    once a datagram has come, end after N seconds of silence, at most 1000000; 30 where not set, 0 for never
 
 The manual is docs/GUIDE.md in the repository.
 ";
