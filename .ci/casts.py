@@ -5,6 +5,7 @@ import os
 import pty
 import socket
 import subprocess
+import tempfile
 import time
 
 TOP = os.path.dirname(os.path.dirname(os.path.abspath(__file__)))
@@ -44,22 +45,23 @@ def listener(deck, port, errors=subprocess.DEVNULL, **variables):
     return ear
 
 
-def ended(ear, seconds):
-    """What a listener printed, in lines, and its status; the status is None where it didn't end in time."""
+def ended(program, seconds):
+    """What a started program printed, in lines, and its status; the status is None where it didn't end in time."""
     try:
-        printed = ear.communicate(timeout=seconds)[0].decode().splitlines()
+        printed = program.communicate(timeout=seconds)[0].decode().splitlines()
     except subprocess.TimeoutExpired:
-        ear.kill()
-        ear.communicate()
+        program.kill()
+        program.communicate()
         return [], None
-    return printed, ear.returncode
+    return printed, program.returncode
 
 
 def cast(deck, port, **variables):
-    """The history that a cast prints."""
-    ran = subprocess.run([PROGRAM, "cast", deck, str(port)], stdin=subprocess.DEVNULL, stdout=subprocess.PIPE, stderr=subprocess.DEVNULL,
-                         timeout=120, check=False, env=dict(os.environ, **variables))
-    return ran.stdout.decode().splitlines() if ran.returncode == 0 else []
+    """The history that a cast prints; none where it failed, or didn't end in two minutes."""
+    mast = subprocess.Popen([PROGRAM, "cast", deck, str(port)], stdin=subprocess.DEVNULL, stdout=subprocess.PIPE, stderr=subprocess.DEVNULL,
+                            env=dict(os.environ, **variables))
+    printed, status = ended(mast, 120)
+    return printed if status == 0 else []
 
 
 def send(port, datagrams):
@@ -88,16 +90,19 @@ def try_ends(say, deck, casts):
 
 
 def times_at(deck, rate):
-    """When each datagram of a cast at a rate came, and the history."""
+    """When each datagram of a cast at a rate came, and the history; no times where the end didn't come, no history where the cast didn't end."""
     port, times = free_port(), []
     with socket.socket(socket.AF_INET, socket.SOCK_DGRAM) as ear:
         ear.bind(("127.0.0.1", port))
         ear.settimeout(30)
-        with subprocess.Popen([PROGRAM, "cast", deck, str(port)], stdin=subprocess.DEVNULL, stdout=subprocess.PIPE,
-                              env=dict(os.environ, AIRDISK_RATE=str(rate))) as mast:
+        mast = subprocess.Popen([PROGRAM, "cast", deck, str(port)], stdin=subprocess.DEVNULL, stdout=subprocess.PIPE,
+                                env=dict(os.environ, AIRDISK_RATE=str(rate)))
+        try:
             while ear.recv(2048):
                 times.append(time.monotonic())
-            return times, mast.stdout.read().decode().splitlines()
+        except socket.timeout:
+            times = []
+        return times, ended(mast, 30)[0]
 
 
 def committed_in(history):
@@ -116,7 +121,7 @@ def try_rate(say, deck):
     rate, seen = 1000, []
     for _ in range(3):
         times, history = times_at(deck, rate)
-        took, wanted, spread = times[-1] - times[0], (CYCLES * SLOTS - 1) / rate, len(committed_in(history))
+        took, wanted, spread = (times[-1] - times[0] if times else 0), (CYCLES * SLOTS - 1) / rate, len(committed_in(history))
         seen.append((len(times), round(took, 3), spread))
         if len(times) == CYCLES * SLOTS and abs(took - wanted) <= wanted / 10 and spread >= UPDATES // 2:
             break
@@ -138,34 +143,36 @@ def try_silence(say, deck):
 
 
 def said_on_terminal(deck, port, datagrams, pause):
-    """What a listener says on a terminal while these come, with a pause before the last of them."""
+    """What a listener says on a terminal while these come, with a pause before the last of them, and its status."""
     ours, its = pty.openpty()
     ear = listener(deck, port, its)
     os.close(its)
     send(port, datagrams[:-1])
     time.sleep(pause)
     send(port, [*datagrams[-1:], b""])
-    ended(ear, 20)
-    said = b""
+    status, said = ended(ear, 20)[1], b""
     try:
         while chunk := os.read(ours, 4096):
             said += chunk
     except OSError:
         pass
     os.close(ours)
-    return said.decode().splitlines()
+    return said.decode().splitlines(), status
 
 
 def try_terminal(say, deck, is_long):
     """On a terminal a listener says where it listens, and after ten seconds how much came; else it says nothing."""
     port = free_port()
-    said = said_on_terminal(deck, port, [BUCKET, BUCKET], 10.5 if is_long else 0)
+    said, status = said_on_terminal(deck, port, [BUCKET, BUCKET], 10.5 if is_long else 0)
     wanted = [f"airdisk: listening on 127.0.0.1, port {port}"] + [f"airdisk: 2 datagrams came, {2 * len(BUCKET)} bytes"] * is_long
-    say(said == wanted, f"on a terminal: said {said} and not {wanted}")
-    ear = listener(deck, port, subprocess.PIPE)
-    send(port, [b""])
-    errors = ear.communicate(timeout=20)[1]
-    say(errors == b"", f"on no terminal: said {errors}")
+    say(said == wanted and status == 0, f"on a terminal: status {status}, said {said} and not {wanted}")
+    with tempfile.TemporaryFile() as errors:
+        ear = listener(deck, port, errors)
+        send(port, [b""])
+        status = ended(ear, 20)[1]
+        errors.seek(0)
+        said = errors.read()
+    say(said == b"" and status == 0, f"on no terminal: status {status}, said {said}")
 
 
 def try_casts(say, folder, casts):
