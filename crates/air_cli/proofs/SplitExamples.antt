@@ -1,4 +1,4 @@
--- The split of the told deck: what `split` gives, and why it is refused; where each relation holds, and where it doesn't.
+-- The split of the told deck: what `split` gives of a small deck, and causes that don't hold of it.
 use Rattle.std.proofs.Common.{◌≡◌, ◌≤◌, ℕ, true, false, List, [], ◌∷◌, length, sum, refl, ap, subst, sym, arith}
 use Rattle.std.specs.Prelude.{codes}
 use Rattle.std.proofs.lemmas.List.Sums.{sum_by-cons}

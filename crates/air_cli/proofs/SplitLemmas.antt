@@ -57,7 +57,7 @@ deck_split name before now (status.TooMuch product) h = absurd h
 deck_split name before now (status.PlanTooLong slots) h = absurd h
 deck_split name before now s h = h
 
--- Nor has a deck that has no best one.
+-- Nor has a deck of which no best one is given.
 pub unsplit_split : (name : List ℕ) (before now : ShelfState) (d : Deck) (s : Status) → SpellsDeck name before d → IsDeck d → UnsplitCause d s → SplitCause name before now s
 unfolding SplitCause DeckCause UnreadCause UnsplitCause
 unsplit_split name before now d status.NoMemory spells made h = h

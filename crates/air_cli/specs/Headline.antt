@@ -175,7 +175,8 @@ pub record AuditStands (deck report : List ℕ) (before now : ShelfState) (s : S
 
 -- ---- calls
 
--- What stands where `air_quiet` succeeded with this status. Of `plan` and `drill`, and of words that are no command, `answers` says all.
+-- What stands where `air_quiet` succeeded with this status. Of `plan`, `split` and `drill`, and of words that are no
+-- command, `answers` says all.
 abbrev pub QuietHeadline : Option Request → ShelfState → ShelfState → Status → Type 0
 QuietHeadline (Some (AsksScript deck tape)) before now s = ScriptStands deck tape before now
 QuietHeadline (Some (AsksTune deck tape)) before now s = TuneStands deck tape before now

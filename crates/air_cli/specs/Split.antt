@@ -16,7 +16,7 @@ pub record CanBeSplit (deck : Deck) : Type 0 where
   pub few : search_size deck ≤ MOST_SPLIT
   pub short : (sizes : List ℕ) × IsShortSplit deck sizes
 
--- Why the deck has no best split: the search would go over this product, which is too much; or it wouldn't, and all splits are too long, of
+-- Why no best split of the deck is given: the search would go over this product, which is too much; or it wouldn't, and all splits are too long, of
 -- which the shortest has this number of slots.
 unfoldable pub UnsplitCause : Deck → Status → Type 0
 UnsplitCause d (status.TooMuch product) = (product ≡ search_size d) × (MOST_SPLIT < product)
@@ -24,7 +24,7 @@ UnsplitCause d (status.PlanTooLong slots) = (search_size d ≤ MOST_SPLIT) × Ar
 UnsplitCause d status.NoMemory = ⊤
 UnsplitCause d other = ⊥
 
--- Why it is refused: there is no deck; or there is one, whatever the length of its own program, and it has no best split.
+-- Why it is refused: there is no deck; or there is one, whatever the length of its own program, and no best split of it is given.
 unfoldable pub SplitCause : List ℕ → ShelfState → ShelfState → Status → Type 0
 SplitCause deck before now (status.TooMuch product) = HasDeck deck before (λ d. UnsplitCause d (status.TooMuch product))
 SplitCause deck before now (status.PlanTooLong slots) = HasDeck deck before (λ d. UnsplitCause d (status.PlanTooLong slots))

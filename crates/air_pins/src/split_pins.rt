@@ -1,6 +1,7 @@
 //! These pins of `disk_split` say which sizes are best for decks of two disks, what they cost, and which decks are refused.
 //!
-//! The decks of 200 and of 256 items have disks of the frequencies 64 and 63 or 3, so some of their splits are too long.
+//! The decks of 200 and of 256 items have disks of the frequencies 64 and 63 or 3, so some or all of their splits are too long. No deck has a
+//! search of exactly the limit, so the limit is pinned at `check_size`, by which `best_split` refuses.
 
 ghost use Rattle.std.specs.Prelude.{◌≡◌, ◌⊎◌, [], ◌∷◌, length, IfErr, IfOk, IsErr};
 ghost use Rattle.air_model.specs.Decks.{rates_in};

@@ -1,4 +1,4 @@
-//! The gate of a cast with a rate: it spreads updates and looks evenly over the time on air of all cycles.
+//! The gate of a cast with a rate: it spreads updates and looks over the time on air of all cycles.
 
 use crate::plain_files::runnable_again;
 use air_base::NoMemory;

@@ -119,12 +119,12 @@ fn deck_silence_note<R: Files + Print + Drop>(
     }
 }
 
-/// What is said of a deck that has no best split; none of another status.
+/// What is said of a deck of which no best split is given; none of another status.
 fn split_note(alloc: Global, words: &[String], status: Status) -> Result<Option<String>, NoMemory> {
     let deck = ShownText::whole(word(words, 1));
     match status {
         Status::TooMuch { product } => Ok(Some(format!(in alloc;
-            "{deck}: the search for its split would take {product} steps, which are its items times its items times its disks, and a search may take {MOST_SPLIT}"
+            "{deck}: the search for its split would have the size {product}, which is its items times its items times its disks, and it may have {MOST_SPLIT}"
         )?)),
         Status::PlanTooLong { slots } => Ok(Some(format!(in alloc;
             "{deck}: its shortest split has {slots} slots, which are its minor cycles times the slots of each, and a program may have {MOST_SLOTS}"
