@@ -4,6 +4,7 @@ use crate::plain_files::runnable_again;
 use air_base::NoMemory;
 use air_base::limits::MOST_UPDATERS;
 use air_devices::PacedGate;
+use deck_runs::jobs::LOOKS;
 use item_catalog::Deck;
 use std::alloc::Global;
 use std::rt::Files;
@@ -11,9 +12,6 @@ use std::time::{Clock, Duration};
 
 /// The nanoseconds of a second.
 const SECOND: u64 = 1_000_000_000;
-
-/// How often a monitor looks while a run goes on.
-const LOOKS: u64 = 100;
 
 /// The time on air of all cycles of a deck, in nanoseconds: `slots` buckets a cycle, at `rate` buckets a second.
 fn time_on_air(deck: &Deck, slots: u32, rate: u32) -> u64 {
@@ -54,5 +52,5 @@ pub fn gate_of<R: Files + Print + Clock + Clone + Drop>(
         return Ok(PacedGate::open(clock));
     };
     let time = time_on_air(&deck, slots, rate);
-    Ok(PacedGate::from_now(clock, waits_of(&deck, time), turn(time, LOOKS)))
+    Ok(PacedGate::from_now(clock, waits_of(&deck, time), turn(time, u64::from(LOOKS))))
 }

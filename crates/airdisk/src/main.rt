@@ -17,11 +17,11 @@ use crate::gates::gate_of;
 use crate::notes::{explain, explain_no_memory, say, word};
 use crate::settings::{AirSettings, SettingError, air_settings};
 use air_base::NoMemory;
-use air_cli::words::HELP;
+use air_cli::words::{Command, HELP, command_of};
 use air_cli::{air_main, refuse};
 use air_devices::{FileShelf, UdpEar, UdpMast};
 use air_report::Status;
-use fault_notes::command_help;
+use fault_notes::{command_help, no_text_note};
 use std::alloc::Global;
 use std::env::{self, Env};
 use std::io::{self, IsTerminal, Write};
@@ -47,7 +47,7 @@ fn main(rt: HostRuntime) -> ExitCode {
         Ok(Asked::Done(status)) => return ExitCode::from(status.code()),
         Err(NoMemory) => return end_without_memory(&rt),
     };
-    let Ok(gate) = gate_of(&rt, alloc, word(&words, 1), settings.rate) else {
+    let Ok(gate) = gate_of(&rt, alloc, word(&words, 1), cast_rate(&words, settings)) else {
         return end_without_memory(&rt);
     };
     let Ok(files) = rt.clone() else {
@@ -72,6 +72,14 @@ fn main(rt: HostRuntime) -> ExitCode {
     ExitCode::from(status.code())
 }
 
+/// The rate of the mast, if one is set and the words are those of a cast.
+fn cast_rate(words: &[String], settings: AirSettings) -> Option<u32> {
+    match command_of(words) {
+        Some(Command::Cast { .. }) => settings.rate,
+        _ => None,
+    }
+}
+
 /// Says that there was no memory, and answers the status of that.
 fn end_without_memory<R: Eprint>(rt: &R) -> ExitCode {
     explain_no_memory(rt);
@@ -84,7 +92,8 @@ where
     R: Files + Env + Print + Eprint + Alloc<A = Global> + Clone + Drop,
 {
     let Some(words) = words_of(rt, alloc)? else {
-        let status = refuse_words(rt, alloc, "airdisk: a word isn't UTF-8")?;
+        let note = no_text_note(alloc, HELP)?;
+        let status = refuse_words(rt, alloc, note.as_str())?;
         return Ok(Asked::Done(status));
     };
     if let Some(status) = answer(rt, alloc, &words)? {

@@ -152,7 +152,7 @@ fn text_of<R: Files + Print + Drop>(
         Status::Deck { row, kind } => {
             fault_note(rt, alloc, shelf, word(words, 1), DeckFault { row, kind })
         }
-        Status::ReadFault | Status::WriteFault => failure_note(alloc, words, shelf),
+        Status::ReadFault | Status::WriteFault => failure_note(alloc, words, shelf, status),
         Status::AirFault { at } => air_failure_note(alloc, air, at),
         Status::TapeCut { at } => cut_note(rt, alloc, shelf, word(words, 2), at),
         Status::TooLarge { limit } => size_note(rt, alloc, words, limit),

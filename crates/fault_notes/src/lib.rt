@@ -16,7 +16,7 @@ mod tapes;
 mod words;
 
 pub use decks::deck_note;
-pub use prompts::{command_help, words_note};
+pub use prompts::{command_help, no_text_note, words_note};
 pub use reports::report_note;
 pub use silences::silence_note;
 pub use tapes::CutTape;

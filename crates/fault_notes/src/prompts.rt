@@ -7,12 +7,13 @@ use crate::records::lists::parts_in;
 use crate::words::sentences::{Sentence, range};
 use crate::words::texts::why_no_number;
 use air_base::{NoMemory, read_u64};
+use item_catalog::MOST_DRILL_SIZE;
 use std::alloc::Global;
 
 /// The words of a form that stand for numbers, each with its least and its greatest number.
 const NUMBERS: [(&str, u64, u64); 3] = [
     ("SEED", 0, u64::MAX),
-    ("SIZE", 1, 100),
+    ("SIZE", 1, MOST_DRILL_SIZE as u64),
     ("PORT", 1, u16::MAX as u64),
 ];
 
@@ -146,6 +147,14 @@ pub fn words_note(alloc: Global, help: &'static str, words: &[String]) -> Result
     let (sentence, command) = note_parts(alloc, help, words)?;
     let mut note = format!(in alloc; "airdisk: {sentence}")?;
     add_usages(help, command, &mut note)?;
+    Ok(note)
+}
+
+/// A note on words of which one isn't text, and below it the usage of all commands.
+pub fn no_text_note(alloc: Global, help: &'static str) -> Result<String, NoMemory> {
+    let mut note = String::new(alloc);
+    note.push_str("airdisk: a word isn't UTF-8")?;
+    add_usages(help, None, &mut note)?;
     Ok(note)
 }
 

@@ -3,6 +3,7 @@
 use crate::notes::word;
 use air_base::NoMemory;
 use air_devices::{FileCall, FileFailure, FileShelf, NetFailure};
+use air_report::Status;
 use fault_notes::{ShownText, air_note};
 use std::alloc::Global;
 use std::io;
@@ -11,6 +12,11 @@ use std::rt::Files;
 /// Whether a print failed because the pipe was closed, as with `| head`.
 fn is_closed_pipe(failure: &FileFailure) -> bool {
     failure.call() == FileCall::Print && failure.error().kind() == io::ErrorKind::BrokenPipe
+}
+
+/// Whether a command failed to read, and then to print that: of the read the system's words are gone.
+fn is_of_the_line(failure: &FileFailure, status: Status) -> bool {
+    failure.call() == FileCall::Print && status == Status::ReadFault
 }
 
 /// A hint on a name that couldn't be opened, and a command to follow it; both empty if there is no hint.
@@ -28,13 +34,22 @@ fn hint_on<'a>(failure: &FileFailure, words: &'a [String]) -> (&'static str, &'a
     ("", "")
 }
 
-/// What the system said of the last call that failed, or `None`; also `None` if that was a print to a closed pipe.
+/// A note on a file that can't be read, where the system's words are gone.
+fn unread_note(alloc: Global) -> Result<String, NoMemory> {
+    let mut note = String::new(alloc);
+    note.push_str("airdisk: a file can't be read, and the line that says so can't be printed")?;
+    Ok(note)
+}
+
+/// What the system said of the last call that failed, or `None`; also `None` if all that failed was a print to a closed pipe.
 pub fn failure_note<R: Files + Print + Drop>(
     alloc: Global,
     words: &[String],
     shelf: &FileShelf<R>,
+    status: Status,
 ) -> Result<Option<String>, NoMemory> {
     match shelf.last_failure() {
+        Some(failure) if is_of_the_line(failure, status) => Ok(Some(unread_note(alloc)?)),
         Some(failure) if !is_closed_pipe(failure) => {
             let said = format!(in alloc; "{failure}")?;
             let said = ShownText::whole(said.as_str());

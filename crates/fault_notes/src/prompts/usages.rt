@@ -54,6 +54,14 @@ impl Usage {
         first.strip_suffix(',').unwrap_or(first)
     }
 
+    /// The second spelling of an option; empty if there is none.
+    fn other(self) -> &'static str {
+        match self.form.split_once(", ") {
+            Some((_, other)) => other,
+            None => "",
+        }
+    }
+
     /// The words after the command; empty for an option, which stands alone.
     pub fn places(self) -> &'static str {
         match self.form.split_once(' ') {
@@ -74,7 +82,11 @@ pub fn nearest_command(
     let mut least = FAR;
     for line in help.split('\n') {
         if let Some(usage) = Usage::of_command(line, None) {
-            let edits = osa_distance(alloc, small.as_str(), usage.command())?;
+            let edits = if !name.is_empty() && usage.other() == name {
+                0
+            } else {
+                osa_distance(alloc, small.as_str(), usage.command())?
+            };
             if edits < least {
                 least = edits;
                 nearest = Some(usage.command());
