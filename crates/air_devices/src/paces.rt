@@ -7,7 +7,7 @@ use std::thread;
 use std::time::{Clock, Duration, Instant};
 
 /// After so many datagrams a mast without a rate rests.
-const BURST: u64 = 16;
+const BURST: u64 = 8;
 
 /// How long it rests, in milliseconds.
 const REST: u64 = 1;

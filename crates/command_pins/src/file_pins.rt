@@ -2,7 +2,7 @@
 //! They tell its bytes, the limit, the row of a fault, the number of slots, and when a count of faults rose.
 #![tactic(auto, unfolding(air_cli::specs::NamedFiles::UnreadCause, air_cli::specs::NamedDecks::DeckCause, air_cli::specs::RunnableDecks::LengthCause, air_cli::specs::RunnableDecks::UnrunnableCause, item_catalog::specs::Grammar::HasFault))]
 
-ghost use Rattle.std.specs.Prelude.{◌≡◌, ◌≢◌, ◌≤◌, ◌<◌, ℕ, [], ◌∷◌, length, Err, Some, IfOk, OnOk};
+ghost use Rattle.std.specs.Prelude.{◌≡◌, ◌≢◌, ◌≤◌, ◌<◌, ℕ, [], ◌∷◌, codes, length, Err, Some, IfOk, OnOk};
 ghost use Rattle.air_model.specs.Decks.{disks_in};
 ghost use Rattle.air_model.specs.Programs.{program};
 ghost use Rattle.air_devices.specs.Memory.{told_by};
@@ -64,6 +64,18 @@ pub fn reads_again_after_a_read_fault(
     ensures memory { result ≡ Err Status.NoMemory → shelf.new.calls.faults ≡ 0 }
     ensures large { (limit : ℕ) → result ≡ Err (Status.TooLarge limit) → shelf.new.calls.faults ≡ 0 }
     ensures fault { (row kind : ℕ) → result ≡ Err (Status.Deck row kind) → shelf.new.calls.faults ≡ 0 }
+{
+    read_deck_file(alloc, shelf, name)
+}
+
+/// A file that spells a deck isn't refused as a faulty one.
+pub fn always_a_deck_fault(
+    alloc: Global,
+    shelf: &mut MemShelf,
+    name: &str,
+) -> Result<Deck, Status>
+    requires { (told_by shelf.old).file name.now ≡ Some (codes "item,0,10,1\ndisk,1,1\n") }
+    ensures { (row kind : ℕ) → result ≢ Err (Status.Deck row kind) }
 {
     read_deck_file(alloc, shelf, name)
 }
