@@ -2,16 +2,17 @@
 //! They tell its bytes, the limit, the row of a fault, the number of slots, and when a count of faults rose.
 #![tactic(auto, unfolding(air_cli::specs::NamedFiles::UnreadCause, air_cli::specs::NamedDecks::DeckCause, air_cli::specs::RunnableDecks::LengthCause, air_cli::specs::RunnableDecks::UnrunnableCause, item_catalog::specs::Grammar::HasFault))]
 
-ghost use Rattle.std.specs.Prelude.{◌≡◌, ◌≢◌, ◌≤◌, ◌<◌, ℕ, [], ◌∷◌, codes, length, Err, Some, IfOk, OnOk};
-ghost use Rattle.air_model.specs.Decks.{disks_in};
+ghost use Rattle.std.specs.Prelude.{◌≡◌, ◌≢◌, ◌≤◌, ◌<◌, ℕ, List, [], ◌∷◌, length, Err, Some, IfOk, OnOk};
+ghost use Rattle.air_model.specs.Decks.{Deck as PlainDeck, disks_in};
 ghost use Rattle.air_model.specs.Programs.{program};
 ghost use Rattle.air_devices.specs.Memory.{told_by};
+ghost use Rattle.item_catalog.specs.Grammar.{Spells};
 
 use air_cli::{plan_deck, read_bytes, read_deck_file, read_runnable_deck};
 use air_devices::MemShelf;
 use air_report::Status;
 use chunk_program::{Cut, Program};
-use item_catalog::Deck;
+use item_catalog::{Deck, not_both_law};
 use std::alloc::Global;
 
 /// The bytes are those of the file of this name, and a read fault is told only where the count of faults rose (always a read fault).
@@ -74,9 +75,10 @@ pub fn always_a_deck_fault(
     shelf: &mut MemShelf,
     name: &str,
 ) -> Result<Deck, Status>
-    requires { (told_by shelf.old).file name.now ≡ Some (codes "item,0,10,1\ndisk,1,1\n") }
+    requires { (text : List ℕ) × (deck : PlainDeck) × ((told_by shelf.old).file name.now ≡ Some text) × Spells text deck }
     ensures { (row kind : ℕ) → result ≢ Err (Status.Deck row kind) }
 {
+    not_both_law();
     read_deck_file(alloc, shelf, name)
 }
 
