@@ -32,11 +32,11 @@ pub enum Status {
     Differs,
     /// The mast or the ear failed after so many buckets.
     AirFault { at: u64 },
-    /// The audit would be too long: commits times lines.
+    /// There would be too much to go over: the commits of an audit times its lines, or for a split its items times themselves times its disks.
     TooMuch { product: u64 },
     /// The tape would have so many bytes.
     TooLong { bytes: u64 },
-    /// The program would have so many slots.
+    /// The program would have this number of slots, or that split of the deck which has the fewest.
     PlanTooLong { slots: u64 },
 }
 

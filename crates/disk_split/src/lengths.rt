@@ -4,7 +4,7 @@ ghost use Rattle.std.specs.Prelude.{◌≡◌, ◌<◌, ◌≤◌, ℕ, ◌+◌,
 ghost use Rattle.disk_split.specs.Private.Numbers.{IsLeastMinor};
 ghost use Rattle.disk_split.specs.Private.Rests.{chunk_slots};
 
-/// The slots of a chunk: so many items in so many chunks, rounded up.
+/// The slots of a chunk: the items of a disk divided among its chunks, rounded up.
 pub fn chunk_slots(chunks: u64, size: u64) -> u64
     requires some { 1 ≤ chunks }
     requires fits { size + chunks < 2 ^ 64 }
@@ -13,7 +13,7 @@ pub fn chunk_slots(chunks: u64, size: u64) -> u64
     (size + chunks - 1) / chunks
 }
 
-/// The fewest slots of a minor cycle that takes so many items: a chunk of each disk has one, and the disk of most chunks takes the items that
+/// The fewest slots of a minor cycle for a number of items: the chunk of each disk has one, and the disk of most chunks takes the items that
 /// don't fit in these.
 pub fn least_minor(chunks: &[u64], items: u16) -> u64
     requires filled { length chunks.now ≤ items }

@@ -10,7 +10,7 @@ use crate::lengths::chunk_slots;
 use crate::tables::{Row, Table};
 use std::alloc::{AllocError, Global};
 
-/// What is left to place: the items from a place on, in so many slots of a minor cycle and with so much weight.
+/// What is left to place: the items from a place on, with the slots of a minor cycle and the weight that they are to have.
 #[derive(Clone, Copy)]
 pub struct Left {
     pub from: usize,
@@ -18,7 +18,7 @@ pub struct Left {
     pub weight: u64,
 }
 
-/// What is left once the first of these disks took so many of the items, if the disks after it can make up the weight.
+/// What is left once the first of these disks took `size` of the items, if the disks after it can make up the weight.
 fn after(left: Left, chunks: &[u64], sums: &[u64], next: &[Row], size: usize) -> Option<Left>
     requires sums { AreSums sums.now }
     requires chunks { AreChunks chunks.now }

@@ -18,7 +18,7 @@ use std::alloc::{AllocError, Global};
 use std::error::Error;
 use std::fmt;
 
-/// How much the search goes over at most: the number of items times itself, times that of the disks.
+/// The greatest size of a search: the number of items times itself, times the number of disks.
 pub const MOST_SPLIT: u64 = 600_000;
 
 /// The sizes of the best split, what it costs, and what the deck's own sizes cost.
@@ -29,12 +29,12 @@ pub struct Split {
     pub given: u128,
 }
 
-/// Why there is no best split.
+/// Why no best split is given.
 #[derive(Clone, Copy, Debug)]
 pub enum SplitFault {
-    /// The search would go over so much, more than `MOST_SPLIT`.
+    /// The search would have this size, which is above `MOST_SPLIT`.
     TooMuch { product: u64 },
-    /// Each split has so many slots or more, and so more than a program may have.
+    /// The split of fewest slots has this number, which is more than a program may have.
     TooLong { slots: u64 },
     /// There was no memory.
     NoMemory,
@@ -74,7 +74,7 @@ pub fn check_size(product: u64) -> Result<(), SplitFault>
     Ok(())
 }
 
-/// How much the search for the best split of a deck goes over.
+/// The size of the search for the best split of a deck.
 fn search_size(deck: &Deck) -> u64
     ensures { result ≡ search_size deck.now }
 {

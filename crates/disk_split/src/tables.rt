@@ -1,7 +1,7 @@
 //! The tables of least weights: one for the disks from each one on.
 //!
 //! A table has a row for each place from which these disks take the items, and in it an entry for each number of slots of a minor
-//! cycle: the least weight of all sizes with so many, or none.
+//! cycle: the least weight of all sizes with that number, or none.
 
 ghost use Rattle.std.specs.Prelude.{◌≡◌, ◌<◌, ◌≤◌, ℕ, ◌+◌, ◌^◌, [], ◌∷◌, Some, None, IfOk, drop, if◌then◌else◌, length, slice_index_or};
 ghost use Rattle.air_base.specs.declared.limits.TheConstants.{MOST_SLOTS};
@@ -63,7 +63,7 @@ fn lesser_weight(entry: Option<u64>, weight: u64) -> Option<u64>
     }
 }
 
-/// Lets a disk also take the next number of items, in a chunk of so many slots and with so much more weight.
+/// Lets a disk also take the next number of items: a chunk then has `chunk` slots, and the disk weighs `more`.
 fn improve(entries: &mut [Option<u64>], next: &[Option<u64>], chunk: usize, more: u64)
     requires short { chunk + length next.now < 2 ^ 64 }
     requires room { HasEntriesUpTo more next.now }
