@@ -20,7 +20,7 @@ same_factor k a b some e = by (cases_lt a b) (cases_lt b a)
     by (inr o) (inl less) = absurd (let grows : k * suc b ≤ k * a = mul-le-mul_left k less in let next : k * suc b ≡ k * b + k = omega arith in omega arith)
     by (inr p) (inr q) = omega arith
 
--- ---- what the sizes of just so many slots are among all of those
+-- ---- what the sizes of one number of slots are among all of those
 module _ (sums cs : List ℕ) (slots weight : ℕ) (sizes : List ℕ) (some : 0 < slots) (entry : IsEntry sums cs 0 slots (Some weight)) (first : IsFirst sums cs 0 slots weight sizes) where
   pub own_cost : cost_from sums cs sizes ≡ slots * weight
   own_cost = ap (λ n. n * weight_from sums cs 0 sizes) first.is.slots ∙ ap (λ n. slots * n) first.is.weighs
@@ -124,7 +124,7 @@ better_or_not new old b e = by (cases_lt new.cost old.cost) (cases_lt old.cost n
     by (inr o) (inr p) true f false e = absurd (grind (arith, nat_tests))
     by (inr o) (inr p) false f false e = inr (refl, inr (omega arith, f))
 
--- One number of slots on, where some sizes have just so many.
+-- One number of slots on, where some sizes have just that number.
 pub found_more : (sums cs : List ℕ) (slots weight : ℕ) (best : Option Found) (new : Found) → 0 < slots → new.cost ≡ slots * weight → IsEntry sums cs 0 slots (Some weight)
     → IsFirst sums cs 0 slots weight new.sizes → IsFound sums cs slots best → IsFound sums cs (slots + 1) (Some (better best new))
 found_more sums cs slots weight None new some costs entry first found =
@@ -143,7 +143,7 @@ found_more sums cs slots weight (Some old) new some costs entry first found = by
     by false (inr up) =
         old_best sums cs slots weight new.sizes some entry first old.cost old.sizes found (subst (λ n. (old.cost < n) ⊎ ((n ≡ old.cost) × (is_before new.sizes old.sizes ≡ false))) costs up.1)
 
--- One number of slots on, where no sizes have just so many.
+-- One number of slots on, where no sizes have just that number.
 pub found_none : (sums cs : List ℕ) (slots : ℕ) (best : Option Found) → IsEntry sums cs 0 slots None → IsFound sums cs slots best → IsFound sums cs (slots + 1) best
 found_none sums cs slots best entry found = by best found
   where

@@ -36,8 +36,8 @@ not_fewer sums (c ∷ cs) most from (s ∷ ss) some few h =
     let long : most * suc (length cs) ≡ most * length cs + most = omega arith in
     let both : most * (chunk_slots c s + minor_from cs ss) ≡ most * chunk_slots c s + most * minor_from cs ss = omega arith in omega arith
 
--- ---- some sizes have just so many
--- Sizes for the disks from one on that take so many items, with at most so many slots.
+-- ---- some sizes reach that number
+-- Where there are no more items than room, some sizes for the disks from one on take them all, with at most this number of slots.
 abbrev Fills : List ℕ → List ℕ → ℕ → ℕ → Type 0
 Fills sums cs room slots = (from items : ℕ) → from + items + 1 ≡ length sums → length cs ≤ items → items ≤ room → (sizes : List ℕ) × IsSplitRest sums cs from sizes × (minor_from cs sizes ≤ slots)
 
@@ -45,7 +45,7 @@ fills_none : (sums : List ℕ) (room : ℕ) → room ≡ 0 → Fills sums [] roo
 unfolding IsSplitRest minor_from
 fills_none sums room e from items at many fits = ([], omega arith, omega arith)
 
--- One disk more, with so many slots of its own.
+-- One disk more, with k slots of its own.
 fills_more : (sums cs : List ℕ) (c k room slots : ℕ) → 1 ≤ c → 1 ≤ k → length cs ≤ room → Fills sums cs room slots → Fills sums (c ∷ cs) (k * c + room) (k + slots)
 unfolding IsSplitRest minor_from
 fills_more sums cs c k room slots some one wide rest from items at many fits = by (cases_lt (k * c) (items - length cs))
@@ -79,7 +79,7 @@ fills_one sums (c ∷ cs) some =
     again sums (c ∷ cs) (1 * c + sum cs) (sum (c ∷ cs)) (1 + length cs) (suc (length cs)) (let all = sum_by-cons (λ x. x) c cs in omega arith) (omega arith)
     (fills_more sums cs c 1 (sum cs) (length cs) (All-head (λ c. 1 ≤ c) c cs some) (omega arith) (sum_many cs tail) (fills_one sums cs tail))
 
--- And so many slots more on one disk.
+-- And k slots more on one disk.
 fills_most : (sums cs : List ℕ) (most k place : ℕ) → All (λ c. 1 ≤ c) cs → slice_get cs place ≡ Some most → Fills sums cs (sum cs + k * most) (length cs + k)
 fills_most sums [] most k place some at = cc at
 fills_most sums (c ∷ cs) most k zero some at =

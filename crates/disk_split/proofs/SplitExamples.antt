@@ -29,7 +29,7 @@ deck_of rates disks = record {
   settings = record { policy = FMatrix; cycles = 10; seed = 0; loss = 0; again = 0; late = 0; monitors = 0; hears = 1000000 };
 }
 
--- A disk of so many items, each aired so often.
+-- A disk of this size and this frequency.
 abbrev spec : ℕ → ℕ → DiskSpec
 spec size freq = record { size = size; freq = freq }
 
@@ -74,7 +74,7 @@ text_of_two_rows = refl
 
 -- ---- short and long
 
--- The search for eleven items on three disks goes over 363 places.
+-- The search for eleven items on three disks has the size 363.
 pub size_of_search : search_size eleven ≡ 363
 size_of_search = refl
 
