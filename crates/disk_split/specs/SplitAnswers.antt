@@ -7,17 +7,17 @@ use Rattle.disk_split.specs.declared.splits.SplitFault.TheVariants.{TooMuch, Too
 use Rattle.disk_split.specs.declared.splits.TheConstants.{MOST_SPLIT}
 use Rattle.disk_split.specs.Splits.{IsSplit, slots_of}
 
--- The search goes over so much: for each disk, each two places between which its items may stand.
+-- The size of the search: the number of items times itself, times the number of disks.
 abbrev pub search_size : Deck → ℕ
 search_size deck = length deck.items * length deck.items * length deck.disks
 
--- All splits have more slots than a program may have, and so many at least.
+-- All splits have more slots than a program may have, and this is the least number of them.
 pub record AreAllTooLong (deck : Deck) (slots : ℕ) : Type 0 where
   pub above : MOST_SLOTS < slots
   pub reached : (sizes : List ℕ) × IsSplit deck sizes × (slots_of deck sizes ≡ slots)
   pub least : (sizes : List ℕ) → IsSplit deck sizes → slots ≤ slots_of deck sizes
 
--- Too much is said with how much the search would go over, and only where that is more than it may.
+-- Too much is said with the size of the search, and only where that is above the limit.
 abbrev pub SaysTooMuch : Deck → SplitFault → Type 0
 SaysTooMuch deck (TooMuch product) = (product ≡ search_size deck) × (MOST_SPLIT < product)
 SaysTooMuch deck (TooLong slots) = search_size deck ≤ MOST_SPLIT

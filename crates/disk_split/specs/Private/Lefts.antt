@@ -4,8 +4,8 @@ use Rattle.disk_split.specs.declared.sizes.Left.{Left}
 use Rattle.disk_split.specs.Private.Rests.{chunk_slots, rates_from}
 use Rattle.disk_split.specs.Private.Tables.{IsEntry}
 
--- A disk of so many chunks takes so many of the items, and what the disks after it weigh at least in the slots that are left makes up the
--- weight that is left.
+-- A disk with this number of chunks takes `size` of the items, and what the disks after it weigh at least in the slots that are left makes
+-- up the weight that is left.
 pub record IsAfter (sums : List ℕ) (chunks : ℕ) (next : List (List (Option ℕ))) (left : Left) (size : ℕ) (rest : Left) : Type 0 where
   pub room : chunk_slots chunks size ≤ left.slots
   pub from : rest.from ≡ left.from + size

@@ -6,11 +6,11 @@ use Rattle.air_model.specs.Disks.{order}
 use Rattle.air_model.specs.Programs.{least_common_multiple}
 use Rattle.disk_split.specs.Private.Rests.{IsSplitRest, minor_from}
 
--- A cycle has so many minor cycles, whatever the sizes.
+-- The number of minor cycles of a cycle, whatever the sizes.
 unfoldable pub minors_in : Deck → ℕ
 minors_in deck = fold (λ m d. least_common_multiple m d.freq) 1 deck.disks
 
--- Each disk has so many chunks.
+-- The number of chunks of each disk.
 unfoldable pub chunks_in : Deck → List ℕ
 chunks_in deck = map (λ d. minors_in deck / d.freq) deck.disks
 
@@ -22,7 +22,7 @@ hot_rates deck = map (slice_index (rates_in deck)) (order (rates_in deck))
 unfoldable pub sums_of : List ℕ → List ℕ
 sums_of rates = map (λ k. sum (take k rates)) (range_with_len 0 (length rates + 1))
 
--- No sizes have a minor cycle of fewer slots, and some have one of just so many.
+-- No sizes have a minor cycle of fewer slots, and some have one of just this number.
 pub record IsLeastMinor (sums chunks : List ℕ) (least : ℕ) : Type 0 where
   pub reached : (sizes : List ℕ) × IsSplitRest sums chunks 0 sizes × (minor_from chunks sizes ≡ least)
   pub fewest : (sizes : List ℕ) → IsSplitRest sums chunks 0 sizes → least ≤ minor_from chunks sizes

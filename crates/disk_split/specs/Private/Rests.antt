@@ -4,11 +4,11 @@ use Rattle.std.specs.Prelude.{◌≡◌, ◌≤◌, ◌<◌, ℕ, ◌+◌, ◌-�
 use Rattle.air_base.specs.declared.limits.TheConstants.{ITEM_NUMBERS, MOST_SLOTS}
 use Rattle.disk_split.specs.Splits.{is_before}
 
--- The slots of a chunk: so many items in so many chunks, rounded up.
+-- The slots of a chunk: the items of a disk divided among its chunks, rounded up.
 abbrev pub chunk_slots : ℕ → ℕ → ℕ
 chunk_slots chunks size = (size + chunks - 1) / chunks
 
--- The rates of so many items from a place on.
+-- The rates of `size` items from a place on.
 abbrev pub rates_from : List ℕ → ℕ → ℕ → ℕ
 rates_from sums from size = slice_index sums (from + size) - slice_index sums from
 
@@ -31,7 +31,7 @@ weight_from sums [] from sizes = 0
 weight_from sums (c ∷ cs) from [] = 0
 weight_from sums (c ∷ cs) from (size ∷ sizes) = c * rates_from sums from size + weight_from sums cs (from + size) sizes
 
--- The sizes are such, with so many slots and this weight.
+-- The sizes are such, with this number of slots and this weight.
 pub record IsRestOf (sums chunks : List ℕ) (from len weight : ℕ) (sizes : List ℕ) : Type 0 where
   pub rest : IsSplitRest sums chunks from sizes
   pub slots : minor_from chunks sizes ≡ len
@@ -42,7 +42,7 @@ pub record IsFirst (sums chunks : List ℕ) (from len weight : ℕ) (sizes : Lis
   pub is : IsRestOf sums chunks from len weight sizes
   pub first : (other : List ℕ) → IsRestOf sums chunks from len weight other → is_before other sizes ≡ false
 
--- Sums don't fall, are not too great, and there are no more than so many.
+-- Sums don't fall, are below 2 ^ 32, and there are no more of them than numbers of items.
 pub record AreSums (sums : List ℕ) : Type 0 where
   pub some : 0 < length sums
   pub few : length sums ≤ ITEM_NUMBERS

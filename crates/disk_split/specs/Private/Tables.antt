@@ -3,7 +3,7 @@
 use Rattle.std.specs.Prelude.{◌≡◌, ◌≤◌, ◌<◌, ℕ, ◌+◌, ◌-◌, ◌^◌, Option, Some, None, List, [], drop, length, min, nat_lt, slice_index, slice_index_or, if◌then◌else◌}
 use Rattle.disk_split.specs.Private.Rests.{IsSplitRest, IsRestOf, minor_from, weight_from}
 
--- The entry is the least weight of all sizes with so many slots, or none where no sizes have so many.
+-- The entry is the least weight of all sizes with this number of slots, or none where no sizes have it.
 pub record IsEntry (sums chunks : List ℕ) (from len : ℕ) (entry : Option ℕ) : Type 0 where
   pub reached : (weight : ℕ) → entry ≡ Some weight → (sizes : List ℕ) × IsRestOf sums chunks from len weight sizes
   pub least : (sizes : List ℕ) → IsSplitRest sums chunks from sizes → minor_from chunks sizes ≡ len
@@ -52,7 +52,7 @@ abbrev pub lesser_weight_with : Option ℕ → Option ℕ → ℕ → Option ℕ
 lesser_weight_with old None more = old
 lesser_weight_with old (Some rest) more = lesser_weight old (rest + more)
 
--- An entry once a disk may also take the next number of items, in a chunk of so many slots.
+-- An entry once a disk may also take the next number of items, with `chunk` slots in each of its chunks.
 abbrev pub improved : List (Option ℕ) → ℕ → ℕ → ℕ → Option ℕ → Option ℕ
 improved next chunk more len old = if nat_lt len chunk then old else lesser_weight_with old (slice_index_or next (len - chunk) None) more
 
