@@ -1,5 +1,5 @@
 """Tries `cast` and `listen` of the built program at once, for .ci/air: that each listener ends, that a rate is kept and spreads the updates, that
-a silence is an end, and what a listener says on a terminal.
+a silence is an end and with 0 none is, and what a listener says on a terminal.
 """
 import os
 import pty
@@ -142,6 +142,18 @@ def try_silence(say, deck):
     say(status == 0 and heard(printed) == 1 and took > 0.9, f"a silence of a second: status {status} after {took:.2f} seconds, printed {printed}")
 
 
+def try_no_silence(say, deck, is_long):
+    """With a silence of 0 none is an end: a listener that has heard something waits on for the end mark, also longer than it does where none is set."""
+    port = free_port()
+    ear = listener(deck, port, AIRDISK_SILENCE="0")
+    send(port, [BUCKET])
+    time.sleep(31 if is_long else 1.5)
+    waits = ear.poll() is None
+    send(port, [b""])
+    printed, status = ended(ear, 20)
+    say(waits and status == 0 and heard(printed) == 1, f"a silence of 0: {'it waited' if waits else 'it had ended'}, status {status}, printed {printed}")
+
+
 def said_on_terminal(deck, port, datagrams, pause):
     """What a listener says on a terminal while these come, with a pause before the last of them, and its status."""
     ours, its = pty.openpty()
@@ -186,4 +198,5 @@ def try_casts(say, folder, casts):
     try_ends(say, deck, casts)
     try_rate(say, deck)
     try_silence(say, deck)
+    try_no_silence(say, deck, casts > 2)
     try_terminal(say, deck, casts > 2)
