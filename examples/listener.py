@@ -7,6 +7,7 @@ usage: examples/listener.py DECK PORT    hears datagrams at 127.0.0.1:PORT, and 
 
 An empty datagram is the end mark; an interrupt (Ctrl-C) sends one.
 """
+import errno
 import re
 import signal
 import socket
@@ -30,7 +31,8 @@ def datagrams(port, most):
         try:
             ear.bind(("127.0.0.1", port))
         except OSError as error:
-            sys.exit(f"listener.py: port {port} can't be had: {error.strerror}: does another program listen there?")
+            hint = ": does another program listen there?" if error.errno == errno.EADDRINUSE else ""
+            sys.exit(f"listener.py: port {port} can't be had: {error.strerror}{hint}")
         signal.signal(signal.SIGINT, lambda *_: ear.sendto(b"", ear.getsockname()))
         while most > 0 and (data := ear.recv(2048)):
             yield data
