@@ -173,11 +173,12 @@ def draw_axis(picture, columns, wide):
     picture.height += 16
     if picture.slots is None or wide < 60:
         return
-    step = max(1, math.ceil(picture.slots.count * 24 / wide))
+    count, step = picture.slots.count, max(1, math.ceil(picture.slots.count * 24 / wide))
     picture.text(LEFT - 8, picture.height + 8, "slot", FAINT, "end", 9)
     for at in columns.values():
-        for slot in range(0, picture.slots.count, step):
-            picture.text(LEFT + (at + (slot + 0.5) / picture.slots.count) * wide, picture.height + 8, str(slot), FAINT, "middle", 9)
+        # the last one leaves room for the first of the next cycle
+        for slot in range(0, max(count - step, 0) + 1, step):
+            picture.text(LEFT + (at + (slot + 0.5) / count) * wide, picture.height + 8, str(slot), FAINT, "middle", 9)
     picture.height += 14
 
 
