@@ -1,4 +1,5 @@
 mod DrillLemmas
 mod HeadlineLemmas
 mod RowLemmas
+mod SplitLemmas
 mod WordLemmas

@@ -3,7 +3,7 @@
 //! Where a command is done, the answer is the definition of its output; the other clauses say what each status leaves as it was.
 #![tactic(auto, unfolding(air_base::specs::Numbers::number_of, air_cli::specs::NamedDecks::DeckCause, air_cli::specs::Answers::QuietAnswers, air_cli::specs::Plan::PlanCause, air_cli::specs::Plan::PlanGives, air_cli::specs::Split::SplitGives, air_cli::specs::Drill::DrillGives, air_cli::specs::Script::ScriptCause, air_cli::specs::Script::ScriptGives, air_cli::specs::Audit::AuditGives, air_cli::specs::Cast::CastCause))]
 
-ghost use Rattle.std.specs.Prelude.{◌≡◌, ◌⊎◌, ◌≤◌, ◌<◌, ℕ, List, false, [], ◌∷◌, None, Some, codes, map, string_bytes};
+ghost use Rattle.std.specs.Prelude.{◌≡◌, ◌≢◌, ◌⊎◌, ◌≤◌, ◌<◌, ℕ, List, false, [], ◌∷◌, None, Some, codes, map, string_bytes};
 ghost use Rattle.air_model.specs.Decks.{Deck};
 ghost use Rattle.air_model.specs.Outputs.{plan_output, script_tape};
 ghost use Rattle.air_devices.specs.Masts.{nothing_sent};
@@ -15,6 +15,7 @@ ghost use Rattle.disk_split.specs.Splits.{IsBest, split_text};
 ghost use Rattle.live_replay.specs.FindingTexts.{findings_text, some_differ};
 ghost use Rattle.item_catalog.specs.Grammar.{Spells};
 ghost use Rattle.live_replay.specs.declared.findings.Finding.{Finding};
+ghost use Rattle.command_pins.specs.SmallDecks.{long_deck};
 
 use air_cli::{air_main, air_quiet};
 use air_devices::{Gate, MemEar, MemMast, MemShelf};
@@ -84,6 +85,32 @@ pub fn given_sizes_printed_first<R: Threads + Wait + Sync, G: Gate + Sync>(
     requires printed { (told_by shelf.old).printed ≡ Some [] }
     ensures { result ≡ Status.Ok → (d : Deck) × Spells (file_bytes (file_named (codes "d") shelf.old.files.items)) d ×
         ((sizes : List ℕ) × IsBest d sizes × ((told_by shelf.new).printed ≡ Some (split_text d sizes))) }
+{
+    air_main(rt, alloc, words, shelf, mast, ear, gate)
+}
+
+/// The deck's own program has 22,176 slots, and each split has 16,632 or more: `split d` is never done, and where it is refused for its splits,
+/// that number is told and printed.
+pub fn own_slots_printed<R: Threads + Wait + Sync, G: Gate + Sync>(
+    rt: &R,
+    alloc: Global,
+    words: &[String],
+    shelf: &mut MemShelf,
+    mast: &mut MemMast,
+    ear: &mut MemEar,
+    gate: &G,
+) -> Status
+    requires words { map (λ w. string_bytes w) words.now ≡ codes "split" ∷ codes "d" ∷ [] }
+    requires unaimed { mast.old.port ≡ None }
+    requires unsent { sent_by mast.old ≡ nothing_sent }
+    requires untuned { ear.old.port ≡ None }
+    requires printed { (told_by shelf.old).printed ≡ Some [] }
+    requires faults { shelf.old.calls.faults ≡ 0 }
+    requires spelled { Spells (file_bytes (file_named (codes "d") shelf.old.files.items)) long_deck }
+    ensures done { result ≢ Status.Ok }
+    ensures slots { (slots : ℕ) → result ≡ Status.PlanTooLong slots → slots ≡ 16_632 }
+    ensures line { (slots : ℕ) → result ≡ Status.PlanTooLong slots → shelf.new.calls.faults ≡ 0 →
+        (told_by shelf.new).printed ≡ Some (codes "fault,13,16632\n") }
 {
     air_main(rt, alloc, words, shelf, mast, ear, gate)
 }
