@@ -1,5 +1,5 @@
 -- The next of the datagrams that an ear in memory has still to hear.
-use Rattle.std.proofs.Common.{◌≡◌, ℕ, ◌+◌, ◌<◌, ◌∙◌, nat_lt, true, List, ◌∷◌, length, map, drop, take, get_or, Some, sym, ap, subst, arith, refl}
+use Rattle.std.proofs.Common.{◌≡◌, ℕ, ◌+◌, ◌<◌, ◌∙◌, nat_lt, true, List, ◌∷◌, length, map, drop, get_or, Some, sym, ap, subst, arith, refl}
 use Rattle.std.proofs.lemmas.Bool.Decides.{leb_tells}
 use Rattle.std.proofs.lemmas.List.{drop_more, get_or-map, length-map}
 use Rattle.std.specs.Prelude.{Vec}
