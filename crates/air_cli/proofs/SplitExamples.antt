@@ -2,7 +2,6 @@
 use Rattle.std.proofs.Common.{◌≡◌, ◌≤◌, ℕ, true, false, List, [], ◌∷◌, length, sum, refl, ap, subst, sym, arith}
 use Rattle.std.specs.Prelude.{codes}
 use Rattle.std.proofs.lemmas.List.Sums.{sum_by-cons}
-use Rattle.air_model.specs.Decks.{Deck}
 use Rattle.air_model.specs.Disks.{cut, order, order_with}
 use Rattle.air_model.specs.Programs.{chunk_len, least_common_multiple, minor_len, num_chunks, num_minors}
 use Rattle.air_report.specs.declared.status.Status.TheVariants as status

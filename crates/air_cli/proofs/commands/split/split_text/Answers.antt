@@ -1,4 +1,4 @@
-use Rattle.std.proofs.Common.{ap, ◌∙◌}
+use Rattle.std.proofs.Common.{◌∙◌}
 use Rattle.air_report.specs.RowWriters.{written_text}
 use Rattle.air_cli.proofs.SplitLemmas.{split_is}
 use Rattle.air_cli.proofs.commands.split.split_text.Goals as goal
