@@ -2,8 +2,8 @@
 //!
 //! `air_note` has the place of the failed call and what failed; `cut_note` the byte at which a tape's last record begins, and the pieces of
 //! the tape in hexadecimal digits; `deck_note`, `report_note` and `known_note` a row, a kind of fault, and a record that is put behind the
-//! file. `known_note` is of a report whose deck is known. `words_note` has words of no form, by a help of a few commands; `command_help` the
-//! name of one of them; `silence_note` the word `script` where the deck's script is looked at.
+//! file. `known_note` is of a report whose deck is known. By a help of a few commands, `words_note` has words of no form, `no_text_note`
+//! nothing, and `command_help` the name of a command; `silence_note` has the word `script` where the deck's script is looked at.
 
 use crate::files::Files;
 use crate::player::words_of;
@@ -11,7 +11,7 @@ use air_base::NoMemory;
 use air_base::limits::MOST_DECK_BYTES;
 use case_lines::{BadCase, Parts, add_line, add_lines, first_part};
 use fault_notes::{
-    CutTape, air_note, command_help, deck_note, report_note, silence_note, words_note,
+    CutTape, air_note, command_help, deck_note, no_text_note, report_note, silence_note, words_note,
 };
 use item_catalog::{Deck, DeckFault, read_deck};
 use std::alloc::Global;
@@ -137,6 +137,7 @@ fn note_of(
         b"air_note" => Ok(Some(failure_note(alloc, parts)?)),
         b"cut_note" => Ok(Some(cut_note(alloc, &name, parts)?)),
         b"words_note" => Ok(Some(form_note(alloc, parts)?)),
+        b"no_text_note" => Ok(Some(no_text_note(alloc, HELP)?)),
         b"command_help" => help_note(alloc, parts),
         b"silence_note" => quiet_note(alloc, files, &name, parts),
         b"deck_note" | b"known_note" | b"report_note" => {
