@@ -2,7 +2,7 @@
 //!
 //! A reader is seen as the records that it has still to give.
 
-ghost use Rattle.std.specs.Prelude.{◌≡◌, ◌∷◌, [], IfOk, if◌then◌else◌};
+ghost use Rattle.std.specs.Prelude.{◌≡◌, ◌∷◌, [], MatchResult, if◌then◌else◌};
 ghost use Rattle.csv.specs.Records.{fields_of};
 ghost use Rattle.item_catalog.specs.Records.{records_of};
 
@@ -48,7 +48,7 @@ impl<'a> Records<'a> {
 
     /// Takes the next record, and answers whether there is one.
     pub fn next(&mut self, row: &mut ByteRecord) -> Result<bool, NoMemory>
-        ensures { IfOk result (λ found. self.old ≡ (if found then fields_of row.new ∷ self.new else [])) }
+        ensures { MatchResult result (λ found. self.old ≡ (if found then fields_of row.new ∷ self.new else [])) (λ _. self.new ≡ []) }
     {
         if self.has_ended {
             return Ok(false);

@@ -8,5 +8,5 @@ returns c = elim c.match-read_byte_record.branch [
   | in-Ok w ↦ let plain = c.self.invariant c.if-self.false in
       rw w.result-is (next_seen c.self.inside.reader c.read_byte_record.new.self (fields_of c.read_byte_record.new.row) plain c.self.inside.has_ended w.in-Ok.found c.args.self.now c.match-read_byte_record.self
       c.if-self.false (w.in-Ok.ensures.reads plain.trim plain.ready) c.self.view_is w.self-is)
-  | in-Err w ↦ rw w.result-is tt
+  | in-Err w ↦ rw w.result-is w.self-is
 ]
