@@ -1,7 +1,7 @@
 //! These pins fix what `Records` of `item_catalog` takes of a record: one field or two after its tag, and no field of another record.
 //! They also fix what a reader of records finds, and what is left of its text.
 
-ghost use Rattle.std.specs.Prelude.{◌≡◌, [], ◌∷◌, codes, true, None, IfOk, IfSome, IsSome};
+ghost use Rattle.std.specs.Prelude.{◌≡◌, [], ◌∷◌, codes, true, None, IfErr, IfOk, IfSome, IsSome};
 ghost use Rattle.csv.specs.Records.{fields_of};
 
 use air_base::NoMemory;
@@ -34,6 +34,17 @@ pub fn record_of_one_field_taken_for_the_end(
     ensures found { IfOk result (λ found. found ≡ true) }
     ensures row { IfOk result (λ _. fields_of row.new ≡ codes "start" ∷ []) }
     ensures left { IfOk result (λ _. records.new ≡ []) }
+{
+    records.next(row)
+}
+
+/// After out of memory no record is given any more.
+pub fn record_given_after_no_memory(
+    records: &mut Records<'_>,
+    row: &mut ByteRecord,
+) -> Result<bool, NoMemory>
+    requires { records.old ≡ (codes "start" ∷ []) ∷ (codes "start" ∷ []) ∷ [] }
+    ensures { IfErr result (λ _. records.new ≡ []) }
 {
     records.next(row)
 }
