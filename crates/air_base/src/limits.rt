@@ -4,6 +4,13 @@
 /// The most items of a deck.
 pub const MOST_ITEMS: usize = 256;
 
+/// The most items of a deck whose buckets have their entries in full, with four bytes each.
+pub const MOST_FULL_ITEMS: usize = 256;
+
+/// From how many cycles on an entry is too old for an age, which has one byte. Reads that lie so many cycles apart can't be
+/// judged by ages.
+pub const AGE_CAP: u32 = 255;
+
 /// How many numbers there are for items: each has 16 bits.
 pub const ITEM_NUMBERS: usize = 65_536;
 

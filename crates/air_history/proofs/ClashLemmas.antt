@@ -1,5 +1,5 @@
--- The clash by the entries is the clash by the history, where the entries are the history's.
-use Rattle.std.proofs.Common.{◌≡◌, ℕ, zero, suc, ◌<◌, ◌≤◌, Bool, true, false, cond, not, ◌||◌, ◌==◌, nat_le, Option, None, List, [], ◌∷◌, ◌++◌, length, map, get_or, All, refl, sym, ◌∙◌, ap, subst, arith}
+-- The clash by the entries is the clash by the history, where the entries answer as the history's.
+use Rattle.std.proofs.Common.{◌≡◌, ℕ, zero, suc, ◌<◌, ◌≤◌, Bool, true, false, cond, not, ◌||◌, ◌==◌, nat_le, Option, None, List, [], ◌∷◌, ◌++◌, length, map, get_or, All, refl, sym, ◌∙◌, ap, subst, inl, arith}
 use Rattle.std.specs.Prelude.{AllPairs}
 use Rattle.std.proofs.lemmas.Bool.{leb-true, leb-false, both_ways, eqb-true, eq-eqb}
 use Rattle.std.proofs.lemmas.List.{get_or-map, length-map, get_or_push, get_or_append_left, length_push}
@@ -9,13 +9,14 @@ use Rattle.air_base.specs.declared.verdicts.Policy.TheVariants.{FMatrix, Datacyc
 use Rattle.air_base.specs.declared.verdicts.Clash.{Clash}
 use Rattle.air_history.specs.declared.histories.Event.{Event}
 use Rattle.air_history.specs.Histories.{front}
-use Rattle.air_history.specs.Columns.{Scheme, scheme_of, column_entry, vector_entry, entry_at}
+use Rattle.air_history.specs.Columns.{Scheme, scheme_of, column_entry, vector, vector_entry, entry_at}
 use Rattle.air_history.specs.Reads.{ReadAt, stale, same_origin}
 use Rattle.air_history.specs.Consistency.{consistent}
 use Rattle.air_history.specs.Clashes.{least, named_clash, clash_by_history, Heard, read_at, entry_of, entry_in, newest_heard, clash_by_entries}
-use Rattle.air_history.specs.ClashLaws.{HasAiredEntries, IsAllowed}
+use Rattle.air_history.specs.ClashLaws.{HasAiredEntries, HaveAiredEntries, IsAllowed, aired_entry}
 use Rattle.air_history.proofs.StaleLemmas.{pair_test, stale_is, origin_told}
 use Rattle.air_history.proofs.NamedLemmas.{clash_heard}
+use Rattle.air_history.proofs.AgeLemmas.{IsAnswered, answered, newest_at_least, new_cycle, new_within}
 use Rattle.std.proofs.lemmas.List.FromFn.{get_or-map-range_with_len}
 
 pub cond_same : {X : Type 0} (b : Bool) (x x' y y' : X) → (b ≡ true → x ≡ x') → (b ≡ false → y ≡ y') → cond b x y ≡ cond b x' y'
@@ -23,11 +24,6 @@ cond_same true x x' y y' f g = f refl
 cond_same false x x' y y' f g = g refl
 
 -- ---- cycles of held reads
-
-newest_at_least : (R : List Heard) → All (λ r. r.cycle ≤ newest_heard R) R
-newest_at_least [] k d l = absurd (omega arith)
-newest_at_least (r ∷ R) zero d l = omega arith
-newest_at_least (r ∷ R) (suc k) d l = let rest = newest_at_least R k d (omega arith) in omega arith
 
 newest_below : (R : List Heard) (c : ℕ) → 0 < c → All (λ r. r.cycle < c) R → newest_heard R < c
 newest_below [] c pos h = pos
@@ -53,40 +49,46 @@ never_later S y order k d l =
     let le : (get_or (S ++ y ∷ []) k d).cycle ≤ (get_or (S ++ y ∷ []) (length S) d).cycle = order k (length S) d l (omega (arith, length_push S y)) in
     subst (λ (r : ReadAt). r.cycle ≤ y.cycle) at (subst (λ (s : ReadAt). (get_or (S ++ y ∷ []) k d).cycle ≤ s.cycle) last le)
 
--- ---- entries that are the history's
+-- ---- entries that answer as the history's
 
-column_is : (n : ℕ) (H : List Event) (x : Heard) → HasAiredEntries (scheme_of FMatrix) n H x → (i : ℕ) → i < n → entry_of x i ≡ column_entry (front H x.cycle) x.item i
-column_is n H x heard i l = ap (λ es. get_or es i 0) heard.entries ∙ get_or-map-range_with_len (column_entry (front H x.cycle) x.item) 0 n i i 0 l (omega arith)
+-- What H airs, entry by entry.
+pub aired_column : (n : ℕ) (H : List Event) (x : Heard) (i : ℕ) → i < n → aired_entry (scheme_of FMatrix) n H x i ≡ column_entry (front H x.cycle) x.item i
+aired_column n H x i l = get_or-map-range_with_len (column_entry (front H x.cycle) x.item) 0 n i i 0 l (omega arith)
 
-vector_of : (n : ℕ) (H : List Event) (x : Heard) (c : ℕ) → x.entries ≡ Rattle.air_history.specs.Columns.vector n (front H c) → (i : ℕ) → i < n → entry_of x i ≡ vector_entry (front H c) i
-vector_of n H x c heard i l = ap (λ es. get_or es i 0) heard ∙ get_or-map-range_with_len (vector_entry (front H c)) 0 n i i 0 l (omega arith)
+pub vector_at : (n : ℕ) (H : List Event) (c i : ℕ) → i < n → get_or (vector n (front H c)) i 0 ≡ vector_entry (front H c) i
+vector_at n H c i l = get_or-map-range_with_len (vector_entry (front H c)) 0 n i i 0 l (omega arith)
 
--- The entry that came with the first held read of a cycle is the vector's at that cycle.
-entry_in_is : (n : ℕ) (H : List Event) (i m : ℕ) → i < n → (R : List Heard) → All (HasAiredEntries (scheme_of Datacycle) n H) R →
-    (All (λ r. (r.cycle == m) ≡ false) R → ⊥) → entry_in R m i ≡ vector_entry (front H m) i
-entry_in_is n H i m l [] h there = absurd (there (λ k d l. absurd (omega arith)))
-entry_in_is n H i m l (r ∷ R) h there = by (r.cycle == m) refl (entry_in_is n H i m l R (All-tail (HasAiredEntries (scheme_of Datacycle) n H) r R h))
+-- The entry that came with the first held read of a cycle answers as the vector's at that cycle.
+entry_in_is : (n : ℕ) (H : List Event) (x : Heard) (m : ℕ) → x.item < n → (R : List Heard) → All (IsAnswered (scheme_of Datacycle) n H x) R →
+    (All (λ r. (r.cycle == m) ≡ false) R → ⊥) → nat_le x.cycle (entry_in R m x.item) ≡ nat_le x.cycle (vector_entry (front H m) x.item)
+entry_in_is n H x m item [] h there = absurd (there (λ k d l. absurd (omega arith)))
+entry_in_is n H x m item (r ∷ R) h there = by (r.cycle == m) refl (entry_in_is n H x m item R (All-tail (IsAnswered (scheme_of Datacycle) n H x) r R h))
   where
-    by : (b : Bool) → (r.cycle == m) ≡ b → ((All (λ r. (r.cycle == m) ≡ false) R → ⊥) → entry_in R m i ≡ vector_entry (front H m) i) → cond b (entry_of r i) (entry_in R m i) ≡ vector_entry (front H m) i
-    by true e rest = vector_of n H r r.cycle (All-head (HasAiredEntries (scheme_of Datacycle) n H) r R h).entries i l ∙ ap (λ c. vector_entry (front H c) i) (eqb-true r.cycle m e)
+    by : (b : Bool) → (r.cycle == m) ≡ b → ((All (λ r. (r.cycle == m) ≡ false) R → ⊥) → nat_le x.cycle (entry_in R m x.item) ≡ nat_le x.cycle (vector_entry (front H m) x.item)) →
+        nat_le x.cycle (cond b (entry_of r x.item) (entry_in R m x.item)) ≡ nat_le x.cycle (vector_entry (front H m) x.item)
+    by true e rest =
+        let here = All-head (IsAnswered (scheme_of Datacycle) n H x) r R h in
+        here.by_held x.item item
+        ∙ ap (nat_le x.cycle) (vector_at n H r.cycle x.item item)
+        ∙ ap (λ c. nat_le x.cycle (vector_entry (front H c) x.item)) (eqb-true r.cycle m e)
     by false e rest = rest (λ all. there (All-cons (λ r. (r.cycle == m) ≡ false) r R e all))
 
 -- ---- each policy
 
-f_matrix : (n : ℕ) (H : List Event) (R : List Heard) (x : Heard) → All (HasAiredEntries (scheme_of FMatrix) n H) R → HasAiredEntries (scheme_of FMatrix) n H x →
+f_matrix : (n : ℕ) (H : List Event) (R : List Heard) (x : Heard) → 1 ≤ x.cycle → x.item < n → All (IsAnswered (scheme_of FMatrix) n H x) R →
     clash_by_history FMatrix H (map read_at R) (read_at x) ≡ clash_by_entries FMatrix R x
 unfolding clash_by_history clash_by_entries
-f_matrix n H R x held new = clash_heard (λ s. not (consistent H (s ∷ read_at x ∷ []))) (λ s. nat_le s.cycle (entry_of x s.item) || nat_le x.cycle (entry_of s x.item)) R (λ k d l.
+f_matrix n H R x pos item are = clash_heard (λ s. not (consistent H (s ∷ read_at x ∷ []))) (λ s. nat_le s.cycle (entry_of x s.item) || nat_le x.cycle (entry_of s x.item)) R (λ k d l.
     let r = get_or R k d in
-    let h = held k d l in
-    pair_test H (read_at r) (read_at x) h.cycle new.cycle
-    ∙ ap (λ e. nat_le r.cycle e || nat_le x.cycle (entry_at H r.cycle r.item x.item)) (sym (column_is n H x new r.item h.within))
-    ∙ ap (λ e. nat_le r.cycle (entry_of x r.item) || nat_le x.cycle e) (sym (column_is n H r h x.item new.within)))
+    let h = are k d l in
+    pair_test H (read_at r) (read_at x) h.cycle pos
+    ∙ ap (λ b. b || nat_le x.cycle (entry_at H r.cycle r.item x.item)) (sym (h.by_new r.item h.within ∙ ap (nat_le r.cycle) (aired_column n H x r.item h.within)))
+    ∙ ap (λ b. nat_le r.cycle (entry_of x r.item) || b) (sym (h.by_held x.item item ∙ ap (nat_le x.cycle) (aired_column n H r x.item item))))
 
 -- A held read is stale at the new cycle exactly if the new vector says so.
-stale_told : (n : ℕ) (H : List Event) (r x : Heard) → x.entries ≡ Rattle.air_history.specs.Columns.vector n (front H x.cycle) →
-    1 ≤ r.cycle → r.cycle ≤ x.cycle → r.item < n → stale H (read_at r) x.cycle ≡ nat_le r.cycle (entry_of x r.item)
-stale_told n H r x told pos le within = stale_is H (read_at r) x.cycle pos le ∙ ap (nat_le r.cycle) (sym (vector_of n H x x.cycle told r.item within))
+stale_told : (n : ℕ) (H : List Event) (r x : Heard) → 1 ≤ r.cycle → r.cycle ≤ x.cycle → r.item < n →
+    nat_le r.cycle (entry_of x r.item) ≡ nat_le r.cycle (get_or (vector n (front H x.cycle)) r.item 0) → stale H (read_at r) x.cycle ≡ nat_le r.cycle (entry_of x r.item)
+stale_told n H r x pos le within told = stale_is H (read_at r) x.cycle pos le ∙ ap (nat_le r.cycle) (sym (vector_at n H x.cycle r.item within)) ∙ sym told
 
 -- A choice by a test is the other way round by its opposite.
 turned : (s b : Bool) (z : Option Clash) → not s ≡ b → cond s None z ≡ cond b z None
@@ -95,17 +97,17 @@ turned true false z e = refl
 turned false true z e = refl
 turned false false z e = cc
 
-datacycle : (n : ℕ) (H : List Event) (R : List Heard) (x : Heard) → All (HasAiredEntries (scheme_of Datacycle) n H) R → HasAiredEntries (scheme_of Datacycle) n H x →
+datacycle : (n : ℕ) (H : List Event) (R : List Heard) (x : Heard) → 1 ≤ x.cycle → x.item < n → All (IsAnswered (scheme_of Datacycle) n H x) R →
     clash_by_history Datacycle H (map read_at R) (read_at x) ≡ clash_by_entries Datacycle R x
 unfolding clash_by_history clash_by_entries
-datacycle n H R x held new = cond_same (nat_le (newest_heard R) x.cycle) _ _ _ _
+datacycle n H R x pos item are = cond_same (nat_le (newest_heard R) x.cycle) _ _ _ _
     (λ ge. clash_heard (λ s. stale H s x.cycle) (λ s. nat_le s.cycle (entry_of x s.item)) R (λ k d l.
     let newest = newest_at_least R k d l in let below = leb-true (newest_heard R) x.cycle ge in
-    stale_told n H (get_or R k d) x new.entries (held k d l).cycle (omega arith) (held k d l).within))
+    stale_told n H (get_or R k d) x (are k d l).cycle (omega arith) (are k d l).within ((are k d l).by_new (get_or R k d).item (are k d l).within)))
     (λ lt. let less = leb-false (newest_heard R) x.cycle lt in
     turned (same_origin H x.item (newest_heard R) x.cycle) _ (named_clash (λ r. r.cycle == newest_heard R) (map read_at R))
-    (origin_told H x.item x.cycle (newest_heard R) new.cycle (omega arith)
-    ∙ ap (nat_le x.cycle) (sym (entry_in_is n H x.item (newest_heard R) new.within R held (newest_there R (omega arith)))))
+    (origin_told H x.item x.cycle (newest_heard R) pos (omega arith)
+    ∙ sym (entry_in_is n H x (newest_heard R) item R are (newest_there R (omega arith))))
     ∙ ap (λ o. cond (nat_le x.cycle (entry_in R (newest_heard R) x.item)) o None)
     (clash_heard (λ s. s.cycle == newest_heard R) (λ s. s.cycle == newest_heard R) R (λ k d l. refl)))
 
@@ -117,31 +119,41 @@ r_matrix_of_none : (H : List Event) (x : Heard) → clash_by_history RMatrix H [
 unfolding clash_by_history clash_by_entries least
 r_matrix_of_none H x = cond_none (same_origin H x.item x.cycle 0) None ∙ sym (cond_none (nat_le 0 (entry_of x x.item)) None)
 
-r_matrix : (n : ℕ) (H : List Event) (R : List Heard) (x : Heard) → All (HasAiredEntries (scheme_of RMatrix) n H) R → HasAiredEntries (scheme_of RMatrix) n H x →
+r_matrix : (n : ℕ) (H : List Event) (R : List Heard) (x : Heard) → x.item < n → All (IsAnswered (scheme_of RMatrix) n H x) R →
     AllPairs (λ r s. r.cycle ≤ s.cycle) (map read_at R ++ read_at x ∷ []) →
     clash_by_history RMatrix H (map read_at R) (read_at x) ≡ clash_by_entries RMatrix R x
 unfolding clash_by_history clash_by_entries
-r_matrix n H [] x held new order = r_matrix_of_none H x
-r_matrix n H (r ∷ R) x held new order =
+r_matrix n H [] x item are order = r_matrix_of_none H x
+r_matrix n H (r ∷ R) x item are order =
     let in_time = never_later (map read_at (r ∷ R)) (read_at x) order in
     let first : r.cycle ≤ x.cycle = All-head (λ (s : ReadAt). s.cycle ≤ x.cycle) (read_at r) (map read_at R) in_time in
+    let head = All-head (IsAnswered (scheme_of RMatrix) n H x) r R are in
     turned (same_origin H x.item x.cycle r.cycle) _ (named_clash (λ s. stale H s x.cycle) (map read_at (r ∷ R)))
-    (origin_told H x.item r.cycle x.cycle (All-head (HasAiredEntries (scheme_of RMatrix) n H) r R held).cycle first
-    ∙ ap (nat_le r.cycle) (sym (vector_of n H x x.cycle new.entries x.item new.within)))
+    (origin_told H x.item r.cycle x.cycle head.cycle first
+    ∙ ap (nat_le r.cycle) (sym (vector_at n H x.cycle x.item item))
+    ∙ sym (head.by_new x.item item))
     ∙ ap (λ o. cond (nat_le r.cycle (entry_of x x.item)) o None)
     (clash_heard (λ s. stale H s x.cycle) (λ s. nat_le s.cycle (entry_of x s.item)) (r ∷ R) (λ k d l.
     let at : get_or (map read_at (r ∷ R)) k (read_at d) ≡ read_at (get_or (r ∷ R) k d) = get_or-map read_at (r ∷ R) k d (read_at d) l in
     let le : (get_or (map read_at (r ∷ R)) k (read_at d)).cycle ≤ x.cycle = in_time k (read_at d) (omega (arith, length-map (r ∷ R) read_at)) in
-    stale_told n H (get_or (r ∷ R) k d) x new.entries (held k d l).cycle (subst (λ (s : ReadAt). s.cycle ≤ x.cycle) at le) (held k d l).within))
+    stale_told n H (get_or (r ∷ R) k d) x (are k d l).cycle (subst (λ (s : ReadAt). s.cycle ≤ x.cycle) at le) (are k d l).within
+    ((are k d l).by_new (get_or (r ∷ R) k d).item (are k d l).within)))
 
-by_policy : (policy : Policy) (n : ℕ) (H : List Event) (R : List Heard) (x : Heard) →
-    All (HasAiredEntries (scheme_of policy) n H) R → HasAiredEntries (scheme_of policy) n H x → IsAllowed policy (map read_at R ++ read_at x ∷ []) →
+by_policy : (policy : Policy) (n : ℕ) (H : List Event) (R : List Heard) (x : Heard) → 1 ≤ x.cycle → x.item < n →
+    All (IsAnswered (scheme_of policy) n H x) R → IsAllowed policy (map read_at R ++ read_at x ∷ []) →
     clash_by_history policy H (map read_at R) (read_at x) ≡ clash_by_entries policy R x
-by_policy FMatrix n H R x held new order = f_matrix n H R x held new
-by_policy Datacycle n H R x held new order = datacycle n H R x held new
-by_policy RMatrix n H R x held new order = r_matrix n H R x held new order
+by_policy FMatrix n H R x pos item are order = f_matrix n H R x pos item are
+by_policy Datacycle n H R x pos item are order = datacycle n H R x pos item are
+by_policy RMatrix n H R x pos item are order = r_matrix n H R x item are order
 
+pub clash_told : (scheme : Scheme) (n : ℕ) (H : List Event) (R : List Heard) (x : Heard) →
+    HaveAiredEntries scheme n H R x → IsAllowed scheme.policy (map read_at R ++ read_at x ∷ []) →
+    clash_by_history scheme.policy H (map read_at R) (read_at x) ≡ clash_by_entries scheme.policy R x
+clash_told scheme n H R x are order =
+    by_policy scheme.policy n H R x (new_cycle scheme n H R x are) (new_within scheme n H R x are) (answered scheme n H R x are) order
+
+-- The same of entries in full.
 pub clash : (scheme : Scheme) (n : ℕ) (H : List Event) (R : List Heard) (x : Heard) →
     All (HasAiredEntries scheme n H) R → HasAiredEntries scheme n H x → IsAllowed scheme.policy (map read_at R ++ read_at x ∷ []) →
     clash_by_history scheme.policy H (map read_at R) (read_at x) ≡ clash_by_entries scheme.policy R x
-clash scheme n H R x held new order = by_policy scheme.policy n H R x held new order
+clash scheme n H R x held new order = clash_told scheme n H R x (inl (held, new)) order

@@ -13,11 +13,13 @@ pub mod HistoryExamples
 pub mod ClashExamples
 pub mod RelationExamples
 pub mod HeldExamples
+pub mod AgeExamples
 pub mod ConsistencyLemmas
 pub mod StepLemmas
 pub mod RepeatLemmas
 pub mod StaleLemmas
 pub mod NamedLemmas
+pub mod AgeLemmas
 pub mod ClashLemmas
 pub mod PolicyLemmas
 pub mod AcceptedLemmas

@@ -7,6 +7,7 @@ pub mod DescentLaws
 pub mod Columns
 pub mod Tables
 pub mod Reads
+pub mod Ages
 pub mod Consistency
 pub mod ConsistencyLaws
 pub mod Clashes

@@ -1,5 +1,5 @@
 -- A read is an item and a cycle, from 1 on. Its origin is the last writer of the item before the cycle starts.
-use Rattle.std.specs.Prelude.{ℕ, ◌≤◌, max, Bool, not, List, [], ◌∷◌, Option}
+use Rattle.std.specs.Prelude.{ℕ, ◌≤◌, max, min, Bool, not, List, [], ◌∷◌, Option}
 use Rattle.air_history.specs.declared.histories.Event.{Event}
 use Rattle.air_history.specs.Places.{same_place}
 use Rattle.air_history.specs.Histories.{front, writer}
@@ -34,6 +34,12 @@ stale H r c = not (same_origin H r.item c r.cycle)
 abbrev pub newest_cycle : List ReadAt → ℕ
 newest_cycle [] = 0
 newest_cycle (r ∷ R) = max r.cycle (newest_cycle R)
+
+-- The oldest cycle of the reads, 0 where there is none.
+abbrev pub oldest_cycle : List ReadAt → ℕ
+oldest_cycle [] = 0
+oldest_cycle (r ∷ []) = r.cycle
+oldest_cycle (r ∷ s ∷ R) = min r.cycle (oldest_cycle (s ∷ R))
 
 -- The cycle of the first read, 0 where there is none.
 abbrev pub first_cycle : List ReadAt → ℕ
