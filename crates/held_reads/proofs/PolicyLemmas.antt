@@ -11,9 +11,10 @@ use Rattle.air_history.specs.declared.histories.Event.{Event}
 use Rattle.air_history.specs.Columns.{scheme_of}
 use Rattle.air_history.specs.Reads.{ReadAt, IsRead, last_cycle}
 use Rattle.air_history.specs.Clashes.{Heard, read_at, is_late, clash_by_history, clash_by_entries}
-use Rattle.air_history.specs.ClashLaws.{HasAiredEntries, IsAllowed}
+use Rattle.air_history.specs.ClashLaws.{HaveAiredEntries, IsAllowed}
 use Rattle.air_history.specs.HeldReads.{HeldReads}
-use Rattle.air_history.proofs.ClashLemmas.{clash}
+use Rattle.air_history.proofs.AgeLemmas.{answered, new_cycle}
+use Rattle.air_history.proofs.ClashLemmas.{clash_told}
 use Rattle.air_history.proofs.PolicyLemmas.{stays_consistent, stays_current, takes}
 use Rattle.held_reads.specs.Policies.{MayFollow, IsNoneIfTaken}
 
@@ -66,13 +67,14 @@ none_by_history RMatrix H R x are is late = takes H R x late
 
 -- A clash by the entries is the one by each history that aired them.
 pub told_by_history : (p : Policy) (held : HeldReads) (x : Heard) (answer : Option Clash) → IsAllowed p (map read_at held.reads) → MayFollow p held x → answer ≡ clash_by_entries p held.reads x →
-    (H : List Event) → All (HasAiredEntries (scheme_of p) held.n H) held.reads → HasAiredEntries (scheme_of p) held.n H x → answer ≡ clash_by_history p H (map read_at held.reads) (read_at x)
-told_by_history p held x answer allowed follows by_entries H old new =
-    by_entries ∙ sym (clash (scheme_of p) held.n H held.reads x old new (allowed_with p held x allowed follows))
+    (H : List Event) → HaveAiredEntries (scheme_of p) held.n H held.reads x → answer ≡ clash_by_history p H (map read_at held.reads) (read_at x)
+told_by_history p held x answer allowed follows by_entries H are =
+    by_entries ∙ sym (clash_told (scheme_of p) held.n H held.reads x are (allowed_with p held x allowed follows))
 
 -- And it is None exactly where the policy goes on with the read.
 pub none_if_taken : (p : Policy) (held : HeldReads) (x : Heard) (answer : Option Clash) → IsAllowed p (map read_at held.reads) → MayFollow p held x → answer ≡ clash_by_entries p held.reads x →
-    (H : List Event) → All (HasAiredEntries (scheme_of p) held.n H) held.reads → HasAiredEntries (scheme_of p) held.n H x → IsNoneIfTaken p H (map read_at held.reads) (read_at x) answer
-none_if_taken p held x answer allowed follows by_entries H old new =
-    subst (IsNoneIfTaken p H (map read_at held.reads) (read_at x)) (sym (told_by_history p held x answer allowed follows by_entries H old new))
-    (none_by_history p H (map read_at held.reads) (read_at x) (All-map IsRead read_at held.reads (λ k d l. (old k d l).cycle)) new.cycle (not_late p held x follows))
+    (H : List Event) → HaveAiredEntries (scheme_of p) held.n H held.reads x → IsNoneIfTaken p H (map read_at held.reads) (read_at x) answer
+none_if_taken p held x answer allowed follows by_entries H are =
+    let told = answered (scheme_of p) held.n H held.reads x are in
+    subst (IsNoneIfTaken p H (map read_at held.reads) (read_at x)) (sym (told_by_history p held x answer allowed follows by_entries H are))
+    (none_by_history p H (map read_at held.reads) (read_at x) (All-map IsRead read_at held.reads (λ k d l. (told k d l).cycle)) (new_cycle (scheme_of p) held.n H held.reads x are) (not_late p held x follows))

@@ -3,11 +3,12 @@
 //! Contracts see the number of items and the held reads in order. `clashes` is the clash by the entries, and by every history that
 //! aired them. The crate of a policy names this type for its own check. All memory is taken by `new`.
 
-ghost use Rattle.std.specs.Prelude.{◌≡◌, ◌↔◌, ◌<◌, ◌≤◌, [], ◌∷◌, ◌++◌, List, length, map, All, IsNone, IfSome, IfOk, None};
+ghost use Rattle.std.specs.Prelude.{◌≡◌, ◌↔◌, ℕ, ◌<◌, ◌≤◌, [], ◌∷◌, ◌++◌, List, length, map, IsNone, IfSome, IfOk, None};
 ghost use Rattle.air_history.specs.declared.histories.Event.{Event};
+ghost use Rattle.air_history.specs.Ages.{spans_too_far};
 ghost use Rattle.air_history.specs.Reads.{last_cycle};
 ghost use Rattle.air_history.specs.Clashes.{read_at, clash_by_history, clash_by_entries};
-ghost use Rattle.air_history.specs.ClashLaws.{HasAiredEntries};
+ghost use Rattle.air_history.specs.ClashLaws.{HaveAiredEntries};
 ghost use Rattle.air_history.specs.Columns.{scheme_of};
 ghost use Rattle.air_history.specs.HeldReads.{IsNew};
 ghost use Rattle.held_reads.specs.HeardReads.{heard_read};
@@ -67,6 +68,13 @@ impl<C: PolicyCheck> CheckedReads<C> {
         self.held.last()
     }
 
+    /// Whether the held reads with one of this cycle, of whatever item, lie too far apart to be judged by ages.
+    pub fn spans(&self, cycle: u32) -> bool
+        ensures { (item : ℕ) → result ≡ spans_too_far (map read_at self.now.reads ++ record { item = item; cycle = cycle } ∷ []) }
+    {
+        self.held.spans(cycle)
+    }
+
     /// The cycle in which each of the `n` items is held, and the greatest `u32` where it isn't.
     pub fn cycles(&self) -> &[u32]
         ensures { result.now ≡ cycles_of self.now }
@@ -82,12 +90,12 @@ impl<C: PolicyCheck> CheckedReads<C> {
         // By the entries, for every order of reads that the policy allows.
         ensures entries { result ≡ clash_by_entries C.policy self.now.reads (heard_read item cycle entries.now) }
 
-        // By each history that has these entries at their cycles.
+        // By each history that has these entries at their cycles, in full or, of reads that don't lie too far apart, as ages tell them.
         ensures history { let x = heard_read item cycle entries.now in (H : List Event) →
-            All (HasAiredEntries (scheme_of C.policy) self.now.n H) self.now.reads → HasAiredEntries (scheme_of C.policy) self.now.n H x →
+            HaveAiredEntries (scheme_of C.policy) self.now.n H self.now.reads x →
             result ≡ clash_by_history C.policy H (map read_at self.now.reads) (read_at x) }
         ensures taken { let x = heard_read item cycle entries.now in (H : List Event) →
-            All (HasAiredEntries (scheme_of C.policy) self.now.n H) self.now.reads → HasAiredEntries (scheme_of C.policy) self.now.n H x →
+            HaveAiredEntries (scheme_of C.policy) self.now.n H self.now.reads x →
             IsNoneIfTaken C.policy H (map read_at self.now.reads) (read_at x) result }
     {
         C::clash(&self.held, item, cycle, entries)

@@ -3,7 +3,8 @@
 //! Beside the list of reads stands an array of their cycles, by which one search tests new entries against all of them.
 //! Contracts see the number of items and the held reads in order. All memory is taken by `new`.
 
-ghost use Rattle.std.specs.Prelude.{◌≡◌, ◌↔◌, ◌<◌, ◌≤◌, ◌==◌, [], ◌∷◌, ◌++◌, length, map, All, IsNone, IfSome, IfOk};
+ghost use Rattle.std.specs.Prelude.{◌≡◌, ◌↔◌, ℕ, ◌<◌, ◌≤◌, ◌==◌, [], ◌∷◌, ◌++◌, length, map, All, IsNone, IfSome, IfOk};
+ghost use Rattle.air_history.specs.Ages.{spans_too_far};
 ghost use Rattle.air_history.specs.Reads.{last_cycle};
 ghost use Rattle.air_history.specs.Clashes.{read_at, entry_in, heard_clash, newest_heard, first_heard};
 ghost use Rattle.air_history.specs.HeldReads.{IsNew};
@@ -12,8 +13,8 @@ ghost use Rattle.held_reads.specs.Searches.{has_since, is_reached};
 ghost use Rattle.held_reads.specs.HeldCycles.{cycles_of, AreHeldOnce};
 
 use crate::cycles::{NOT_HELD, first_clash};
-use crate::reads::{HeldRead, first_entry, least_having, least_of_cycle, newest_of};
-use air_base::limits::MOST_ASKED;
+use crate::reads::{HeldRead, first_entry, least_having, least_of_cycle, newest_of, span_with};
+use air_base::limits::{AGE_CAP, MOST_ASKED};
 use air_base::{Clash, NoMemory};
 use std::alloc::Global;
 use std::marker::Model;
@@ -95,6 +96,14 @@ impl HeldEntries {
         ensures { result ≡ newest_heard self.now.reads }
     {
         newest_of(&self.places[..self.len])
+    }
+
+    /// Whether the held reads with one of this cycle, of whatever item, lie too far apart to be judged by ages.
+    #[tactic(auto, unfolding(air_history::specs::Ages::spans_too_far))]
+    pub fn spans(&self, cycle: u32) -> bool
+        ensures { (item : ℕ) → result ≡ spans_too_far (map read_at self.now.reads ++ record { item = item; cycle = cycle } ∷ []) }
+    {
+        span_with(&self.places[..self.len], cycle) >= AGE_CAP
     }
 
     /// The cycle in which each of the `n` items is held, and the greatest `u32` where it isn't.

@@ -1,9 +1,10 @@
-//! One held read, and what is asked of several: their newest cycle, an entry of a cycle, and the least that passes a test.
+//! One held read, and what is asked of several: their newest cycle, their span, an entry of a cycle, and the least that passes a test.
 //!
 //! The reads are gone through one by one. `held` stands on it.
 
-ghost use Rattle.std.specs.Prelude.{◌≡◌, ◌<◌, ◌==◌, length, map, All, IfOk};
-ghost use Rattle.air_history.specs.Clashes.{entry_in, newest_heard, heard_clash};
+ghost use Rattle.std.specs.Prelude.{◌≡◌, ◌<◌, ◌==◌, ℕ, [], ◌∷◌, ◌++◌, length, map, All, IfOk};
+ghost use Rattle.air_history.specs.Ages.{span};
+ghost use Rattle.air_history.specs.Clashes.{read_at, entry_in, newest_heard, heard_clash};
 ghost use Rattle.held_reads.specs.HeardReads.{heard_of_held};
 ghost use Rattle.held_reads.specs.Searches.{clash_of, lesser_of, has_since};
 
@@ -60,6 +61,19 @@ pub fn newest_of(reads: &[HeldRead]) -> u32
         newest = newest.max(read.cycle);
     }
     newest
+}
+
+/// The span of the reads with one of this cycle, of whatever item.
+pub fn span_with(reads: &[HeldRead], cycle: u32) -> u32
+    ensures { (item : ℕ) → result ≡ span (map read_at (map heard_of_held reads.now) ++ record { item = item; cycle = cycle } ∷ []) }
+{
+    let mut newest = cycle;
+    let mut oldest = cycle;
+    for read in reads {
+        newest = newest.max(read.cycle);
+        oldest = oldest.min(read.cycle);
+    }
+    newest - oldest
 }
 
 /// The entry of an item that was heard with the first read of the cycle, 0 where no read has it.
