@@ -10,7 +10,7 @@ use Rattle.air_base.specs.declared.verdicts.Policy.{Policy}
 use Rattle.air_base.specs.declared.verdicts.Policy.TheVariants.{FMatrix, Datacycle, RMatrix}
 use Rattle.air_history.specs.declared.histories.Event.{Event}
 use Rattle.air_history.specs.Histories.{front}
-use Rattle.air_history.specs.Columns.{Scheme, aired_entries, policy_entries, column_entry, vector_entry}
+use Rattle.air_history.specs.Columns.{Scheme, policy_entries, column_entry, vector_entry}
 use Rattle.air_history.specs.Reads.{ReadAt, newest_cycle, oldest_cycle}
 use Rattle.air_history.specs.Ages.{capped, span, spans_too_far}
 use Rattle.air_history.specs.Clashes.{Heard, read_at, entry_of, newest_heard}

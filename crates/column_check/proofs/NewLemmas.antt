@@ -1,17 +1,16 @@
--- What a history airs in a cycle was written before it: each entry of a column is below the column's cycle.
-use Rattle.std.proofs.Common.{ℕ, ◌≢◌, ◌<◌, ◌≤◌, ◌&&◌, List, length, All, sym, ◌∙◌, ap, subst}
-use Rattle.std.specs.List.{range_with_len}
-use Rattle.std.proofs.lemmas.List.Elements.{All-map}
-use Rattle.std.proofs.lemmas.List.FromFn.{length-map-range_with_len}
+-- What a history airs in a cycle was written before it: each entry of a column is below the column's cycle, also as ages tell it.
+use Rattle.std.proofs.Common.{ℕ, ◌≢◌, ◌<◌, ◌≤◌, ◌&&◌, List, length, All, sym, subst}
 use Rattle.air_history.specs.declared.histories.Event.{Event}
 use Rattle.air_history.specs.Places.{place_and}
 use Rattle.air_history.specs.Histories.{writes, event_at, cycle_at, front, writer}
 use Rattle.air_history.specs.Descents.{descends}
-use Rattle.air_history.specs.Columns.{column_entry, column, scheme_of}
+use Rattle.air_history.specs.Columns.{column_entry, scheme_of}
 use Rattle.air_history.proofs.PlaceLemmas.{greatest_below}
 use Rattle.air_history.proofs.HistoryLemmas.{front_cycle, front_cycle_same}
+use Rattle.air_history.proofs.AgeLemmas.{capped_below, full_is_capped}
+use Rattle.air_history.proofs.ClashLemmas.{aired_column}
 use Rattle.air_base.specs.declared.verdicts.Policy.TheVariants.{FMatrix}
-use Rattle.air_history.specs.ClashLaws.{HasAiredEntries}
+use Rattle.air_history.specs.ClashLaws.{HasAiredEntries, HasCappedEntries}
 use Rattle.air_history.specs.Clashes.{Heard}
 use Rattle.air_history.specs.HeldReads.{HeldReads, IsNew}
 
@@ -22,14 +21,16 @@ entry_before H c j i pos =
     greatest_below (length G) (λ p. place_and (writer G j) (λ w. descends G w p) && writes (event_at G p) i) (cycle_at G) c pos
     (λ p l passes. subst (λ k. k < c) (sym (front_cycle_same H c p l)) (front_cycle H c p l))
 
-pub column_before : (n : ℕ) (H : List Event) (c j : ℕ) → 1 ≤ c → All (λ entry. entry < c) (column n (front H c) j)
-column_before n H c j pos = All-map (λ entry. entry < c) (column_entry (front H c) j) (range_with_len 0 n) (λ k d l. entry_before H c j _ pos)
+pub capped_is_new : (held : HeldReads) (H : List Event) (x : Heard) →
+    HasCappedEntries (scheme_of FMatrix) held.n H x → All (λ r. r.item ≢ x.item) held.reads → IsNew held x
+capped_is_new held H x heard free = record {
+  within = heard.within;
+  free = free;
+  sized = heard.sized;
+  below = capped_below (scheme_of FMatrix) held.n H x x.cycle heard
+      (λ i l. subst (λ entry. entry < x.cycle) (sym (aired_column held.n H x i l)) (entry_before H x.cycle x.item i heard.cycle));
+}
 
 pub aired_is_new : (held : HeldReads) (H : List Event) (x : Heard) →
     HasAiredEntries (scheme_of FMatrix) held.n H x → All (λ r. r.item ≢ x.item) held.reads → IsNew held x
-aired_is_new held H x heard free = record {
-  within = heard.within;
-  free = free;
-  sized = ap length heard.entries ∙ length-map-range_with_len (column_entry (front H x.cycle) x.item) 0 held.n;
-  below = subst (All (λ entry. entry < x.cycle)) (sym heard.entries) (column_before held.n H x.cycle x.item heard.cycle);
-}
+aired_is_new held H x heard free = capped_is_new held H x (full_is_capped (scheme_of FMatrix) held.n H x heard) free

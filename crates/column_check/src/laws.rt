@@ -4,7 +4,7 @@ ghost use Rattle.std.specs.Prelude.{◌≡◌, ◌≢◌, false, List, All, Matc
 ghost use Rattle.air_base.specs.declared.verdicts.Policy.TheVariants.{FMatrix};
 ghost use Rattle.air_history.specs.declared.histories.Event.{Event};
 ghost use Rattle.air_history.specs.Clashes.{Heard, clash_by_entries};
-ghost use Rattle.air_history.specs.ClashLaws.{HasAiredEntries};
+ghost use Rattle.air_history.specs.ClashLaws.{HasAiredEntries, HasCappedEntries};
 ghost use Rattle.air_history.specs.Columns.{scheme_of};
 ghost use Rattle.air_history.specs.HeldReads.{HeldReads, IsNew};
 ghost use Rattle.column_check.specs.Searches.{disagree, IsLeastClash};
@@ -15,8 +15,11 @@ pub fn names_least_law()
         MatchOption (clash_by_entries FMatrix R x) (All (λ r. disagree x r ≡ false) R) (IsLeastClash R x) }
 {}
 
-/// A read of an item that isn't held, with the column of a history at its cycle, is a new one: it may be tried.
+/// A read of an item that isn't held, with the column of a history at its cycle, in full or as ages tell it, is a new one: it may
+/// be tried.
 pub fn aired_is_new_law()
-    ensures { (held : HeldReads) (H : List Event) (x : Heard) →
+    ensures capped { (held : HeldReads) (H : List Event) (x : Heard) →
+        HasCappedEntries (scheme_of FMatrix) held.n H x → All (λ r. r.item ≢ x.item) held.reads → IsNew held x }
+    ensures full { (held : HeldReads) (H : List Event) (x : Heard) →
         HasAiredEntries (scheme_of FMatrix) held.n H x → All (λ r. r.item ≢ x.item) held.reads → IsNew held x }
 {}
