@@ -3,7 +3,7 @@
 //! A clash names a held read by its item and cycle.
 #![tactic(auto, unfolding(air_history::specs::Clashes::least))]
 
-ghost use Rattle.std.specs.Prelude.{◌≡◌, [], ◌∷◌, Some};
+ghost use Rattle.std.specs.Prelude.{◌≡◌, [], ◌∷◌, Some, true, false};
 ghost use Rattle.core_pins.specs.SmallReads.{heard, two};
 
 use air_base::Clash;
@@ -16,6 +16,31 @@ pub fn entry_for_the_held_cycle(held: &HeldEntries, entries: &[u32]) -> Option<C
     ensures { result ≡ Some (record { item = 1; cycle = 2 }) }
 {
     held.least_reached(entries)
+}
+
+/// Reads whose cycles are 254 apart lie close enough. It refuses that 254 are too many.
+pub fn apart_at_254(held: &HeldEntries) -> bool
+    requires { held.now ≡ two (heard 0 1 0 0 0) (heard 1 3 0 0 0) }
+    ensures { result ≡ false }
+{
+    held.spans(255)
+}
+
+/// Reads whose cycles are 255 apart lie too far apart. It refuses that only more than 255 are too many, that the new read is left
+/// out, and that the last held cycle alone is asked.
+pub fn apart_above_255(held: &HeldEntries) -> bool
+    requires { held.now ≡ two (heard 0 300 0 0 0) (heard 1 299 0 0 0) }
+    ensures { result ≡ true }
+{
+    held.spans(45)
+}
+
+/// The held reads count among themselves too. It refuses that each of them is asked of the new one alone.
+pub fn apart_from_the_new_alone(held: &HeldEntries) -> bool
+    requires { held.now ≡ two (heard 0 1 0 0 0) (heard 1 256 0 0 0) }
+    ensures { result ≡ true }
+{
+    held.spans(128)
 }
 
 /// The last cycle isn't the first.

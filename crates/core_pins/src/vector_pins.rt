@@ -6,9 +6,9 @@
 ghost use Rattle.std.specs.Prelude.{◌≡◌, ◌↔◌, [], ◌∷◌, List, All, Some, None};
 ghost use Rattle.air_base.specs.declared.verdicts.Policy.TheVariants.{Datacycle};
 ghost use Rattle.air_history.specs.declared.histories.Event.{Event};
-ghost use Rattle.air_history.specs.Clashes.{IsCurrent, read_at};
+ghost use Rattle.air_history.specs.Clashes.{IsCurrent, clash_by_history, read_at};
 ghost use Rattle.air_history.specs.ClashLaws.{HasAiredEntries};
-ghost use Rattle.air_history.specs.Columns.{scheme_of};
+ghost use Rattle.air_history.specs.Columns.{aired_entries, scheme_of};
 ghost use Rattle.core_pins.specs.SmallReads.{heard, two};
 
 use air_base::Clash;
@@ -32,6 +32,17 @@ pub fn first_named_for_the_stale(held: &RHeld, vector: &[u32]) -> Option<Clash>
     ensures { result ≡ Some (record { item = 1; cycle = 3 }) }
 {
     held.clashes(2, 5, vector)
+}
+
+/// A write that is 255 cycles old may be heard as none: by every history that has it so the answer stays its own. It refuses a cap
+/// that is one cycle late.
+pub fn capped_one_cycle_late(held: &DataHeld, vector: &[u32]) -> Option<Clash>
+    requires held { held.now ≡ record { n = 3; reads = heard 0 2 0 1 0 ∷ [] } }
+    requires vector { vector.now ≡ 0 ∷ 0 ∷ 2 ∷ [] }
+    ensures { (H : List Event) → aired_entries (scheme_of Datacycle) 3 H 2 0 ≡ 0 ∷ 1 ∷ 0 ∷ [] → aired_entries (scheme_of Datacycle) 3 H 256 2 ≡ 0 ∷ 1 ∷ 2 ∷ [] →
+        result ≡ clash_by_history Datacycle H (read_at (heard 0 2 0 1 0) ∷ []) (read_at (heard 2 256 0 0 2)) }
+{
+    held.clashes(2, 256, vector)
 }
 
 /// In a new newest cycle Datacycle names the held read that is stale there.
