@@ -8,7 +8,7 @@ use Rattle.std.proofs.lemmas.Grind.{flat_map-append}
 use Rattle.std.proofs.lemmas.Option.{slice_get-get_or}
 use Rattle.csv.specs.Writing.{row_text}
 use Rattle.air_base.specs.Numbers.{number_text}
-use Rattle.air_model.specs.Decks.{Deck, IsDeck, Item, disks_in, rates_in}
+use Rattle.air_model.specs.Decks.{Deck, Item, disks_in, rates_in}
 use Rattle.air_model.specs.Disks.{Disk, DiskSpec, all_items, cut, order}
 use Rattle.air_model.specs.Programs.{chunk_len, minor_cycle, minor_len, num_chunks, num_minors, program}
 use Rattle.air_model.specs.Airings.{slot_item}
@@ -16,7 +16,6 @@ use Rattle.air_model.specs.PlanTexts.{disk_row, item_row, minor_row, plan_rows, 
 use Rattle.air_model.specs.Outputs.{plan_output}
 use Rattle.air_model.specs.Rows.{row_writer, rows_text}
 use Rattle.air_model.proofs.SlotPlaces.{get_or_even, length_minor}
-use Rattle.air_sender.proofs.AiredLemmas.{items_aired}
 use Rattle.air_report.proofs.RowLemmas.{rows_more}
 
 -- ---- disks
@@ -61,8 +60,8 @@ disk_text (Some disk) m n f c l before after freq chunks len told =
     ∙ ap (λ l. before ++ row_text row_writer (codes "disk" ∷ map number_text (n ∷ disk.freq ∷ num_chunks m disk ∷ l ∷ []))) len
 
 -- An item of the deck is one of the program's.
-pub held_item : (d : Deck) (disks : List Disk) (i : ℕ) → IsDeck d → disks ≡ disks_in d → i < length d.items → i < length (all_items disks)
-held_item d disks i made same below = rw same (omega (arith, items_aired d made))
+pub held_item : (d : Deck) (disks : List Disk) (i : ℕ) → length (all_items (disks_in d)) ≡ length d.items → disks ≡ disks_in d → i < length d.items → i < length (all_items disks)
+held_item d disks i all same below = rw same (omega arith)
 
 -- ---- rows one after another
 

@@ -1,26 +1,23 @@
 -- From what airing a script wrote to what its status says.
-use Rattle.std.proofs.Common.{◌≡◌, ℕ, List, [], ◌++◌, length, take, Option, Some, None, refl, sym, ap, ◌∙◌, subst, inl, inr, arith}
+use Rattle.std.proofs.Common.{◌≡◌, ℕ, List, length, take, Option, Some, None, refl, sym, ap, ◌∙◌, subst, inl, inr, arith}
 use Rattle.std.specs.Prelude.{◌⊎◌}
 use Rattle.std.specs.Io.KnownBytes.{Appends}
 use Rattle.std.proofs.Math.Seq.{take-append_seam}
-use Rattle.std.proofs.lemmas.List.{append-nil}
 use Rattle.air_devices.specs.Counts.{KeepsCounts, NoCountFalls, Rose}
 use Rattle.air_devices.specs.Shelves.{ShelfState}
 use Rattle.air_devices.specs.Told.{AppendsPart, Becomes}
 use Rattle.air_devices.specs.Unchanged.{KeepsButPrinted}
-use Rattle.air_model.specs.Aired.{air_of, history_tape}
-use Rattle.air_model.specs.Decks.{Deck, script_history, values_in}
+use Rattle.air_model.specs.Decks.{Deck}
 use Rattle.air_model.specs.Outputs.{script_output, script_tape}
 use Rattle.air_report.specs.declared.status.Status.{Status}
 use Rattle.air_report.specs.declared.status.Status.TheVariants as status
 use Rattle.air_cli.specs.Deliveries.{Delivers, KeepsButDelivered}
-use Rattle.air_cli.specs.OutputPieces.{IsCutOff, IsPartWritten, IsWritten}
+use Rattle.air_cli.specs.OutputPieces.{IsWritten}
 use Rattle.air_cli.specs.Outputs.{OutputHoldsPart}
 use Rattle.air_cli.proofs.CountLemmas.{kept_twice}
 use Rattle.air_cli.proofs.DeliveryLemmas.{delivers_all, delivers_none, delivers_part}
 use Rattle.air_cli.proofs.OutputLemmas.{no_fall}
-use Rattle.scripts.specs.Pieces.{tape_so_far}
-use Rattle.scripts.specs.declared.script_airing.ScriptAiring.{ScriptAiring}
+use Rattle.scripts.specs.Sinks.{HasBeginning}
 use Rattle.air_cli.specs.Answers.{HasBegun, IsWanting, Leaves, QuietAnswers}
 use Rattle.air_cli.specs.Script.{script_given, script_meaning}
 use Rattle.air_cli.specs.Private.BeforeDelivery.{IsMade, ReadsInputs}
@@ -33,25 +30,25 @@ use Rattle.air_cli.proofs.ScriptLemmas.{made_for, reads_for}
 -- ---- memory ran out
 
 -- An output to which a beginning of the tape was written.
-begun_part : (name tape : List ℕ) (before mid now : ShelfState) → mid.told.output name ≡ before.told.output name → IsPartWritten (Some name) tape mid now → OutputHoldsPart name tape before now
+begun_part : (name tape : List ℕ) (before mid now : ShelfState) → mid.told.output name ≡ before.told.output name → HasBeginning (λ bytes. IsWritten (Some name) bytes mid now) tape → OutputHoldsPart name tape before now
 begun_part name tape before mid now same part =
     let front : part.so_far ≡ take (length part.so_far) tape = sym (take-append_seam part.so_far part.left) ∙ ap (take (length part.so_far)) (sym part.joined) in
-    inr (length part.so_far, subst (λ o. Becomes o (now.told.output name) (take (length part.so_far) tape)) same (subst (Becomes (mid.told.output name) (now.told.output name)) front part.written.holds))
+    inr (length part.so_far, subst (λ o. Becomes o (now.told.output name) (take (length part.so_far) tape)) same (subst (Becomes (mid.told.output name) (now.told.output name)) front part.taken.holds))
 
 untouched_or_begun : (deck : List ℕ) (output : Option (List ℕ)) (d : Deck) (before mid now : ShelfState) → IsMade (script_meaning deck None) before mid (script_given d) → ReadsInputs (script_meaning deck None) before mid
-    → IsPartWritten output (script_tape d) mid now → IsUntouched before now ⊎ HasBegun (script_meaning deck output) before now
+    → HasBeginning (λ bytes. IsWritten output bytes mid now) (script_tape d) → IsUntouched before now ⊎ HasBegun (script_meaning deck output) before now
 untouched_or_begun deck None d before mid now made reads part = inl (record {
-  printed = part.written.printed ∙ reads.printed;
-  outputs = λ name. part.written.rest.outputs name (λ e. cc) ∙ reads.outputs name;
+  printed = part.taken.printed ∙ reads.printed;
+  outputs = λ name. part.taken.rest.outputs name (λ e. cc) ∙ reads.outputs name;
 })
 untouched_or_begun deck (Some name) d before mid now made reads part = inr (record {
   pieces = refl;
   name = name;
   named = refl;
   gives = (script_given d, made.gives, begun_part name (script_tape d) before mid now (reads.outputs name) part);
-  others = λ other differs. part.written.rest.outputs other (λ e. differs (cc)) ∙ reads.outputs other;
-  printed = part.written.printed ∙ reads.printed;
-  calm = kept_twice before.faults mid.faults now.faults made.calm part.written.calm;
+  others = λ other differs. part.taken.rest.outputs other (λ e. differs (cc)) ∙ reads.outputs other;
+  printed = part.taken.printed ∙ reads.printed;
+  calm = kept_twice before.faults mid.faults now.faults made.calm part.taken.calm;
 })
 
 -- ---- the answer
@@ -65,7 +62,7 @@ answers_aired deck output d before mid now s made reads (inl delivers) keeps =
 answers_aired deck output d before mid now s made reads (inr (wanting, part)) keeps =
     let h : IsWanting (script_meaning deck output) before now = record {
       untouched = untouched_or_begun deck output d before mid now made reads part;
-      counts = inl (kept_twice before.faults mid.faults now.faults made.calm part.written.calm);
+      counts = inl (kept_twice before.faults mid.faults now.faults made.calm part.taken.calm);
     } in
     subst (QuietAnswers (script_meaning deck output) before now) (sym wanting) h
 
@@ -100,36 +97,9 @@ stopped_airs output d before now s (inr (failed, cut)) =
     inl (subst (Delivers output (script_given d) before now) (sym failed) (delivers_none output (script_given d) (script_tape d) before now refl cut.fails cut.printed))
 
 pub stopped_rest : (output : Option (List ℕ)) (d : Deck) (before now : ShelfState) (s : Status) → IsStopped output d before now s → KeepsButDelivered output before.told now.told
-stopped_rest output d before now s (inl (wanting, part)) = part.written.rest
+stopped_rest output d before now s (inl (wanting, part)) = part.taken.rest
 stopped_rest output d before now s (inr (failed, cut)) = cut.rest
 
 pub stopped_counts : (output : Option (List ℕ)) (d : Deck) (before now : ShelfState) (s : Status) → IsStopped output d before now s → NoCountFalls before.faults now.faults
-stopped_counts output d before now s (inl (wanting, part)) = no_fall before.faults now.faults part.written.calm
+stopped_counts output d before now s (inl (wanting, part)) = no_fall before.faults now.faults part.taken.calm
 stopped_counts output d before now s (inr (failed, cut)) = cut.counts
-
--- ---- piece by piece
-
--- Memory ran out after a beginning of the tape.
-pub wanting_after : (output : Option (List ℕ)) (d : Deck) (before now : ShelfState) (so_far : List ℕ) → (rest : List ℕ) × (script_tape d ≡ so_far ++ rest) → IsWritten output so_far before now
-    → IsStopped output d before now status.NoMemory
-wanting_after output d before now so_far begins was = inl (refl, record { so_far = so_far; left = begins.0; joined = begins.1; written = was })
-
--- Or after all of it.
-pub wanting_all : (output : Option (List ℕ)) (d : Deck) (before now : ShelfState) → IsWritten output (script_tape d) before now → IsStopped output d before now status.NoMemory
-wanting_all output d before now was = wanting_after output d before now (script_tape d) ([], sym (append-nil (script_tape d))) was
-
--- One piece more.
-pub written_on : (output : Option (List ℕ)) (first now : ShelfState) (so_far piece bytes more : List ℕ) → bytes ≡ piece → more ≡ so_far ++ piece → IsWritten output (so_far ++ bytes) first now → IsWritten output more first now
-written_on output first now so_far piece bytes more same joined was =
-    subst (λ t. IsWritten output t first now) (ap (λ p. so_far ++ p) same ∙ sym joined) was
-
--- A piece that wasn't added whole.
-pub failed_after : (output : Option (List ℕ)) (d : Deck) (first now : ShelfState) (so_far piece bytes more : List ℕ) → bytes ≡ piece → more ≡ so_far ++ piece → (rest : List ℕ) × (script_tape d ≡ more ++ rest)
-    → ((rest : List ℕ) → IsCutOff output ((so_far ++ bytes) ++ rest) first now) → IsStopped output d first now status.WriteFault
-failed_after output d first now so_far piece bytes more same joined begins cut =
-    inr (refl, subst (λ t. IsCutOff output t first now) (ap (λ p. (so_far ++ p) ++ begins.0) same ∙ ap (λ t. t ++ begins.0) (sym joined) ∙ sym begins.1) (cut begins.0))
-
--- The whole script was aired.
-pub all_written : (output : Option (List ℕ)) (d : Deck) (before now : ShelfState) (a : ScriptAiring) → a.run.events.items ≡ script_history d → IsWritten output (tape_so_far d a) before now
-    → IsWritten output (script_tape d) before now
-all_written output d before now a done was = subst (λ t. IsWritten output t before now) (ap (history_tape (values_in d) (air_of d)) done) was

@@ -1,6 +1,6 @@
 -- An output that is written piece by piece: what it holds so far, and what it holds where a write failed.
 -- Facts about bytes are said where the shelf tells them; over real files nothing is told.
-use Rattle.std.specs.Prelude.{◌≡◌, ◌++◌, ℕ, List, Option}
+use Rattle.std.specs.Prelude.{◌≡◌, ℕ, List, Option}
 use Rattle.air_devices.specs.Counts.{KeepsCounts, NoCountFalls}
 use Rattle.air_devices.specs.Shelves.{ShelfState}
 use Rattle.air_cli.specs.Deliveries.{KeepsButDelivered}
@@ -12,13 +12,6 @@ pub record IsWritten (output : Option (List ℕ)) (bytes : List ℕ) (before now
   pub printed : now.told.printed ≡ before.told.printed
   pub rest : KeepsButDelivered output before.told now.told
   pub calm : KeepsCounts before.faults now.faults
-
--- Since then a beginning of these bytes was written, and nothing else.
-pub record IsPartWritten (output : Option (List ℕ)) (bytes : List ℕ) (before now : ShelfState) : Type 0 where
-  pub so_far : List ℕ
-  pub left : List ℕ
-  pub joined : bytes ≡ so_far ++ left
-  pub written : IsWritten output so_far before now
 
 -- Since then writing the named output failed: it is as it was, or holds the first of these bytes; nothing was printed.
 pub record IsCutOff (output : Option (List ℕ)) (bytes : List ℕ) (before now : ShelfState) : Type 0 where

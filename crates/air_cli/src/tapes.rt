@@ -1,7 +1,6 @@
 //! A named tape that is read by pieces to its end, and the sessions of a deck's readers over it.
 
 ghost use Rattle.std.specs.Prelude.{◌≡◌, ◌≤◌, [], All, IfErr, IfOk, MatchResult, OnOk, length};
-ghost use Rattle.air_model.specs.Decks.{disks_in};
 ghost use Rattle.air_cli.specs.FileLimits.{tape_limit};
 ghost use Rattle.air_cli.specs.NamedFiles.{ReadsInput};
 ghost use Rattle.receiver_core.specs.Receivers.{heard_count};
@@ -16,8 +15,7 @@ use crate::tapes::whole_records::hear_whole_records;
 use air_base::limits::MOST_TAPE_BYTES;
 use air_devices::Shelf;
 use air_report::Status;
-use chunk_program::Program;
-use item_catalog::Deck;
+use chunk_program::Planned;
 use listeners::{Sessions, Together};
 use std::alloc::Global;
 use std::thread::Threads;
@@ -32,17 +30,15 @@ pub struct PieceSizes {
     pub piece: usize,
 }
 
-/// The sessions of all readers of a deck over the records of a named tape, which they hear side by side. `Program::plan` makes the deck's program.
+/// The sessions of all readers of a deck over the records of a named tape, which they hear side by side.
 pub fn file_sessions<T: Threads + Sync, S: Shelf>(
     threads: &T,
     alloc: Global,
     shelf: &mut S,
     name: &str,
-    deck: &Deck,
-    program: &Program,
+    planned: &Planned,
 ) -> Result<Sessions, Status>
-    requires planned { program.now ≡ disks_in deck.now }
-    ensures heard { IfOk result (AreFileSessions name.now tape_limit (S.state shelf.old) deck.now) }
+    ensures heard { IfOk result (AreFileSessions name.now tape_limit (S.state shelf.old) planned.now) }
     ensures refused { IfErr result (UnheardCause name.now tape_limit (S.state shelf.old) (S.state shelf.new)) }
     ensures reads { ReadsInput name.now result (S.state shelf.old) (S.state shelf.new) }
 {
@@ -50,7 +46,7 @@ pub fn file_sessions<T: Threads + Sync, S: Shelf>(
         tape: MOST_TAPE_BYTES,
         piece: READ_PIECE_BYTES,
     };
-    piece_sessions(threads, alloc, shelf, name, deck, program, sizes)
+    piece_sessions(threads, alloc, shelf, name, planned, sizes)
 }
 
 /// The same, where the tape is read by pieces of the given sizes.
@@ -60,16 +56,14 @@ pub fn piece_sessions<T: Threads + Sync, S: Shelf>(
     alloc: Global,
     shelf: &mut S,
     name: &str,
-    deck: &Deck,
-    program: &Program,
+    planned: &Planned,
     sizes: PieceSizes,
 ) -> Result<Sessions, Status>
-    requires planned { program.now ≡ disks_in deck.now }
-    ensures heard { IfOk result (AreFileSessions name.now sizes.tape (S.state shelf.old) deck.now) }
+    ensures heard { IfOk result (AreFileSessions name.now sizes.tape (S.state shelf.old) planned.now) }
     ensures refused { IfErr result (UnheardCause name.now sizes.tape (S.state shelf.old) (S.state shelf.new)) }
     ensures reads { ReadsInput name.now result (S.state shelf.old) (S.state shelf.new) }
 {
-    let mut readers = Together::new(alloc, deck, program)?;
+    let mut readers = Together::new(alloc, planned)?;
     hear_pieces(threads, alloc, shelf, name, &mut readers, sizes)?;
     let sessions = readers.end(alloc)?;
     Ok(sessions)

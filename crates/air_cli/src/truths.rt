@@ -2,7 +2,6 @@
 
 ghost use Rattle.std.specs.Prelude.{ℕ, ◌≤◌, List};
 ghost use Rattle.air_model.specs.Drills.{drill_deck};
-ghost use Rattle.air_cli.specs.RunnableDecks.{HasShortProgram};
 ghost use Rattle.air_model.specs.Outputs.{cast_output};
 ghost use Rattle.deck_runs.specs.RunTruths.{IsTrueRun, TellsHistory};
 ghost use Rattle.air_model.specs.Runs.{IsRun, Run};
@@ -14,16 +13,16 @@ use air_model::deck::{events_law, script_law};
 use air_model::ether::heard_was_pushed_law;
 use air_model::sessions::receiver_law;
 use air_report::one_history_law;
+use chunk_program::Planned;
 use deck_runs::laws::true_run_law;
-use item_catalog::{Deck, drill_law};
+use item_catalog::drill_law;
 use scripts::laws::drill_slots_law;
 
 /// The sessions over a script's history are true of it.
-pub(crate) fn shows_script_truth(deck: &Deck)
-    requires { HasShortProgram deck.now }
-    ensures { IsTrueScript deck.now }
+pub(crate) fn shows_script_truth(planned: &Planned)
+    ensures { IsTrueScript planned.now }
 {
-    deck.shows_well_made();
+    planned.shows_planned();
     script_law();
     events_law();
     bytes_law();
@@ -47,19 +46,18 @@ pub(crate) fn shows_drill_truth(seed: u64, size: u32)
 }
 
 /// The sessions over a tape are true of every history that aired it.
-pub(crate) fn shows_tape_truth(deck: &Deck)
-    ensures { (records : List (List ℕ)) → IsTrueTape deck.now records }
+pub(crate) fn shows_tape_truth(planned: &Planned)
+    ensures { (records : List (List ℕ)) → IsTrueTape planned.now records }
 {
-    deck.shows_well_made();
+    planned.shows_planned();
     receiver_law();
 }
 
 /// So are the runs of a deck, and a cast's report tells the history of its run.
-pub(crate) fn shows_cast_truth(deck: &Deck)
-    requires { HasShortProgram deck.now }
-    ensures { (run : Run) → IsRun deck.now run → IsTrueRun deck.now run × TellsHistory deck.now run.history (cast_output run.history run.glances run.looks) }
+pub(crate) fn shows_run_truth(planned: &Planned)
+    ensures { (run : Run) → IsRun planned.now run → IsTrueRun planned.now run × TellsHistory planned.now run.history (cast_output run.history run.glances run.looks) }
 {
-    deck.shows_well_made();
+    planned.shows_planned();
     true_run_law();
     one_history_law();
 }

@@ -11,9 +11,19 @@ ghost use Rattle.chunk_program.specs.declared.programs.PlanFault.TheVariants as 
 ghost use Rattle.air_pins.specs.SmallPrograms.{disk, spec, four_slots, two_and_four};
 
 use air_base::NoMemory;
-use chunk_program::{Cut, PlanFault, Program, cut};
+use chunk_program::{Cut, PlanFault, Planned, Program, cut};
 use item_catalog::Deck;
 use std::alloc::Global;
+
+/// The deck that is planned is the one that was handed in, here with three items on two disks.
+pub fn another_deck_planned(alloc: Global, deck: Deck, cut: &Cut) -> Result<Planned, PlanFault>
+    requires rates { rates_in deck ≡ 5 ∷ 5 ∷ 9 ∷ [] }
+    requires disks { deck.disks ≡ spec 1 2 ∷ spec 2 1 ∷ [] }
+    requires cut { cut.now ≡ disks_in deck }
+    ensures { IfOk result (λ p. disks_in p ≡ disk (2 ∷ []) 2 ∷ disk (0 ∷ 1 ∷ []) 1 ∷ []) }
+{
+    Planned::new(alloc, deck, cut)
+}
 
 /// A cycle airs an item as often as its disk's frequency says.
 pub fn as_often_as_it_has_chunks(program: &Program) -> u32
@@ -55,12 +65,34 @@ pub fn pix_forgets_the_chunks(program: &Program) -> u64
     program.pix(1, 5)
 }
 
+/// A planned deck of just as many slots as there may be isn't too long.
+pub fn planned_too_long_from_the_limit_on(
+    alloc: Global,
+    deck: Deck,
+    cut: &Cut,
+) -> Result<Planned, PlanFault>
+    requires cut { cut.now ≡ disks_in deck }
+    requires slots { length (program (disks_in deck)) ≡ MOST_SLOTS }
+    ensures { IfErr result (λ e. e ≡ fault.NoMemory) }
+{
+    Planned::new(alloc, deck, cut)
+}
+
 /// There are as many minor cycles as the least common multiple says.
 pub fn product_for_the_common_multiple(program: &Program) -> u32
     requires { program.now ≡ two_and_four }
     ensures { result ≡ 4 }
 {
     program.minors()
+}
+
+/// The program of a planned deck is its own, here of three items on two disks.
+pub fn program_of_another_deck(planned: &Planned) -> &Program
+    requires rates { rates_in planned.now ≡ 5 ∷ 5 ∷ 9 ∷ [] }
+    requires disks { planned.now.disks ≡ spec 1 2 ∷ spec 2 1 ∷ [] }
+    ensures { result.now ≡ disk (2 ∷ []) 2 ∷ disk (0 ∷ 1 ∷ []) 1 ∷ [] }
+{
+    planned.program()
 }
 
 /// Items are ordered by their own rates, and of two with one rate that of smaller number comes first. It also refuses that the one

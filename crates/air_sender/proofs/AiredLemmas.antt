@@ -1,7 +1,7 @@
 -- How the buckets of a history grow with it: by none with a commit, and by those of the new cycle with a start.
 --
--- What comes later changes no bucket of a started cycle, so the buckets that were sent stay those of the history. The
--- program of a deck has all its items, and its board has as many values. The steps of a run cite these.
+-- What comes later changes no bucket of a started cycle, so the buckets that were sent stay those of the history. The board of
+-- a deck has as many values as the deck has items. The steps of a run cite these.
 use Rattle.std.proofs.Common.{◌≡◌, ℕ, zero, suc, ◌+◌, ◌≤◌, true, false, cond, List, [], ◌∷◌, ◌++◌, Some, length, map, refl, sym, ◌∙◌, ap, inl, inr, arith}
 use Rattle.std.specs.Prelude.{sum_by}
 use Rattle.std.specs.List.{flat_map, range_with_len}
@@ -18,15 +18,14 @@ use Rattle.air_history.specs.Tables.{table, values_of}
 use Rattle.air_base.specs.declared.verdicts.Policy.{Policy}
 use Rattle.air_model.specs.Buckets.{Bucket, spelling}
 use Rattle.air_model.specs.Aired.{Air, air_of, bucket_of, buckets_of}
-use Rattle.air_model.specs.Decks.{Deck, IsDeck, disks_in, rates_in, values_in}
-use Rattle.air_model.specs.Disks.{Disk, all_items, order}
+use Rattle.air_model.specs.Decks.{Deck, IsDeck, disks_in, values_in}
+use Rattle.air_model.specs.Disks.{Disk}
 use Rattle.air_model.specs.Programs.{program}
 use Rattle.air_sender.specs.BoardBuckets.{cycle_buckets, cycle_bytes}
 use Rattle.air_sender.proofs.StartedBoards.{OwnCycleLaw}
 use Rattle.air_devices.specs.Masts.{SentBuckets}
 use Rattle.air_sender.specs.AiredBytes.{aired_bytes}
 use Rattle.air_model.proofs.DeckLemmas.{air}
-use Rattle.air_model.proofs.ItemOrder.{cut_items, length-order}
 use Rattle.air_model.proofs.LaterLemmas.{later}
 
 -- ---- histories
@@ -97,13 +96,6 @@ module _ (values : List ℕ) (air : Air) where
       ∙ ap (λ l. flat_map (buckets_in H) (range_with_len 1 n) ++ l) (append-nil (buckets_in after (1 + n)) ∙ ap (buckets_in after) last)
 
 -- ---- a deck's boards
-
--- The program of a deck has all its items.
-pub items_aired : (deck : Deck) → IsDeck deck → length (all_items (disks_in deck)) ≡ length deck.items
-items_aired deck is =
-    let rates = rates_in deck in
-    let all : length (order rates) ≡ length deck.items = length-order rates ∙ length-map deck.items (λ i. i.rate) in
-    ap length (cut_items (order rates) deck.disks (is.sizes ∙ sym all)) ∙ all
 
 -- What is told twice alike is alike.
 pub told_alike : {s t : SentBuckets} → Some s ≡ Some t → s ≡ t

@@ -57,3 +57,7 @@ deck_cuttable deck made within = record {
 
 pub deck_limits : (deck : Deck) → IsDeck deck → WithinLimits deck → AreDeckDisks (disks_in deck)
 deck_limits deck made within = cut_limits (rates_in deck) deck.disks (deck_cuttable deck made within)
+
+-- The program of a deck has the deck's items.
+pub deck_items : (deck : Deck) → IsDeck deck → WithinLimits deck → length (all_items (disks_in deck)) ≡ length deck.items
+deck_items deck made within = cut_length (rates_in deck) deck.disks (deck_cuttable deck made within) ∙ length-map deck.items (λ (i : Item). i.rate)

@@ -2,15 +2,13 @@
 //! They tell the port, the end of what was sent, and the cause of each failure of a device.
 
 ghost use Rattle.std.specs.Prelude.{◌≡◌, ◌≤◌, ◌+◌, ℕ, [], ◌∷◌, length, Err, None, Some, IsSome, OnErr, OnOk};
-ghost use Rattle.air_model.specs.Decks.{disks_in};
 ghost use Rattle.air_devices.specs.Masts.{nothing_sent};
 ghost use Rattle.air_devices.specs.MemoryMasts.{told_by_mast};
 
 use air_cli::{HearFault, ear_sessions};
 use air_devices::{Gate, MemEar, MemMast};
-use chunk_program::Program;
+use chunk_program::Planned;
 use deck_runs::{Run, RunFault, cast_run};
-use item_catalog::Deck;
 use listeners::Sessions;
 use std::alloc::Global;
 use std::sync::Wait;
@@ -22,12 +20,10 @@ use std::thread::Threads;
 pub fn cast_to_another_port<R: Threads + Wait + Sync, G: Gate + Sync>(
     rt: &R,
     alloc: Global,
-    deck: &Deck,
-    program: &Program,
+    planned: &Planned,
     mast: &mut MemMast,
     gate: &G,
 ) -> Result<Run, RunFault>
-    requires planned { program.now ≡ disks_in deck.now }
     requires unaimed { mast.old.port ≡ None }
     requires unsent { told_by_mast mast.old ≡ nothing_sent }
     requires faults { mast.old.calls.faults ≡ 0 }
@@ -37,7 +33,7 @@ pub fn cast_to_another_port<R: Threads + Wait + Sync, G: Gate + Sync>(
     ensures sent { (sent : ℕ) → result ≡ Err (RunFault.Mast sent) → length (told_by_mast mast.new).buckets ≡ sent }
     ensures cause { (sent : ℕ) → result ≡ Err (RunFault.Mast sent) → 1 ≤ mast.new.calls.faults }
 {
-    cast_run(rt, alloc, deck, program, mast, gate, 4001)
+    cast_run(rt, alloc, planned, mast, gate, 4001)
 }
 
 /// Readers that hear two datagrams on a port leave the third, and no call of the ear failed; or the ear failed, its count rose, and as
@@ -45,12 +41,10 @@ pub fn cast_to_another_port<R: Threads + Wait + Sync, G: Gate + Sync>(
 /// too, and a failed ear that is taken for the end.
 pub fn tuned_to_another_port(
     alloc: Global,
-    deck: &Deck,
-    program: &Program,
+    planned: &Planned,
     ear: &mut MemEar,
 ) -> Result<Sessions, HearFault>
-    requires planned { program.now ≡ disks_in deck.now }
-    requires hears { deck.now.settings.hears ≡ 2 }
+    requires hears { planned.now.settings.hears ≡ 2 }
     requires untuned { ear.old.port ≡ None }
     requires waiting { ear.old.waiting ≡ (1 ∷ []) ∷ (2 ∷ []) ∷ (3 ∷ []) ∷ [] }
     requires faults { ear.old.calls.faults ≡ 0 }
@@ -60,5 +54,5 @@ pub fn tuned_to_another_port(
     ensures left { (heard : ℕ) → result ≡ Err (HearFault.Ear heard) → heard + length ear.new.waiting ≡ 3 }
     ensures cause { (heard : ℕ) → result ≡ Err (HearFault.Ear heard) → 1 ≤ ear.new.calls.faults }
 {
-    ear_sessions(alloc, deck, program, ear, 4001)
+    ear_sessions(alloc, planned, ear, 4001)
 }

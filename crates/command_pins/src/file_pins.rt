@@ -11,7 +11,7 @@ ghost use Rattle.item_catalog.specs.Grammar.{Spells};
 use air_cli::{plan_deck, read_bytes, read_deck_file, read_runnable_deck};
 use air_devices::MemShelf;
 use air_report::Status;
-use chunk_program::{Cut, Program};
+use chunk_program::{Cut, Planned};
 use item_catalog::{Deck, not_both_law};
 use std::alloc::Global;
 
@@ -70,11 +70,7 @@ pub fn reads_again_after_a_read_fault(
 }
 
 /// A file that spells a deck isn't refused as a faulty one.
-pub fn always_a_deck_fault(
-    alloc: Global,
-    shelf: &mut MemShelf,
-    name: &str,
-) -> Result<Deck, Status>
+pub fn always_a_deck_fault(alloc: Global, shelf: &mut MemShelf, name: &str) -> Result<Deck, Status>
     requires { (text : List ℕ) × (deck : PlainDeck) × ((told_by shelf.old).file name.now ≡ Some text) × Spells text deck }
     ensures { (row kind : ℕ) → result ≢ Err (Status.Deck row kind) }
 {
@@ -99,15 +95,15 @@ pub fn short_program_told_as_too_long(
     alloc: Global,
     shelf: &mut MemShelf,
     name: &str,
-) -> Result<(Deck, Program), Status>
+) -> Result<Planned, Status>
     ensures { (slots : ℕ) → result ≡ Err (Status.PlanTooLong slots) → 16_384 < slots }
 {
     read_runnable_deck(alloc, shelf, name)
 }
 
 /// A program that is too long is refused with its own number of slots.
-pub fn too_long_by_another_number(alloc: Global, deck: &Deck) -> Result<(Cut, Program), Status>
-    requires { length (program (disks_in deck.now)) ≡ 20_160 }
+pub fn too_long_by_another_number(alloc: Global, deck: Deck) -> Result<(Cut, Planned), Status>
+    requires { length (program (disks_in deck)) ≡ 20_160 }
     ensures { (slots : ℕ) → result ≡ Err (Status.PlanTooLong slots) → slots ≡ 20_160 }
 {
     plan_deck(alloc, deck)

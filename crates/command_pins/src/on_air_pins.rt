@@ -13,9 +13,8 @@ ghost use Rattle.air_model.specs.Runs.{Run};
 use air_cli::{ReportAndTape, run_on_air};
 use air_devices::Gate;
 use air_report::Status;
-use chunk_program::Program;
+use chunk_program::Planned;
 use deck_runs::long_run;
-use item_catalog::Deck;
 use std::alloc::Global;
 use std::sync::Wait;
 use std::thread::Threads;
@@ -26,35 +25,31 @@ use std::thread::Threads;
 pub fn always_a_read_fault<R: Threads + Wait + Sync, G: Gate + Sync>(
     rt: &R,
     alloc: Global,
-    deck: &Deck,
-    program: &Program,
+    planned: &Planned,
     gate: &G,
 ) -> Result<ReportAndTape, Status>
-    requires planned { program.now ≡ disks_in deck.now }
-    requires monitors { deck.now.settings.monitors ≡ 2 }
-    ensures gives { IfOk result (λ given. (run : Run) × IsWhole deck.now run.history
+    requires { planned.now.settings.monitors ≡ 2 }
+    ensures gives { IfOk result (λ given. (run : Run) × IsWhole planned.now run.history
         × (map (λ (line : LookLine). line.monitor) run.looks ≡ 0 ∷ 1 ∷ [])
-        × (given.text ≡ run_output deck.now run.history run.glances run.looks)
-        × (given.tape ≡ run_tape deck.now run.history)) }
+        × (given.text ≡ run_output planned.now run.history run.glances run.looks)
+        × (given.tape ≡ run_tape planned.now run.history)) }
     ensures read { result ≢ Err Status.ReadFault }
     ensures written { result ≢ Err Status.WriteFault }
 {
-    run_on_air(rt, alloc, deck, program, gate)
+    run_on_air(rt, alloc, planned, gate)
 }
 
 /// A tape is too long only where it has more bytes than a tape may have.
-pub fn longest_run_refused(deck: &Deck, program: &Program) -> Option<u64>
-    requires { program.now ≡ disks_in deck.now }
+pub fn longest_run_refused(planned: &Planned) -> Option<u64>
     ensures { IfSome result (λ bytes. 1_073_741_824 < bytes) }
 {
-    long_run(deck, program)
+    long_run(planned)
 }
 
 /// A tape that is too long has the bytes of each of the deck's three cycles.
-pub fn monitors_for_cycles(deck: &Deck, program: &Program) -> Option<u64>
-    requires planned { program.now ≡ disks_in deck.now }
-    requires cycles { deck.now.settings.cycles ≡ 3 }
-    ensures { IfSome result (λ bytes. bytes ≡ 3 * cycle_size (length deck.now.items) (slots_of (disks_in deck.now))) }
+pub fn monitors_for_cycles(planned: &Planned) -> Option<u64>
+    requires { planned.now.settings.cycles ≡ 3 }
+    ensures { IfSome result (λ bytes. bytes ≡ 3 * cycle_size (length planned.now.items) (slots_of (disks_in planned.now))) }
 {
-    long_run(deck, program)
+    long_run(planned)
 }

@@ -6,11 +6,10 @@ use Rattle.air_base.specs.declared.verdicts.Policy.{Policy}
 use Rattle.air_history.specs.declared.histories.Event.{Event}
 use Rattle.air_history.specs.Histories.{starts}
 use Rattle.air_history.specs.Boards.{Board, board_of}
-use Rattle.air_model.specs.Disks.{Disk, all_items, order}
+use Rattle.air_model.specs.Disks.{Disk}
 use Rattle.air_model.specs.Programs.{program as slots_of}
-use Rattle.air_model.specs.Decks.{Deck, IsDeck, disks_in, rates_in, values_in}
+use Rattle.air_model.specs.Decks.{Deck, disks_in, values_in}
 use Rattle.air_model.specs.Aired.{Air, air_of, buckets_of}
-use Rattle.air_model.proofs.ItemOrder.{cut_items, length-order}
 use Rattle.air_devices.specs.Masts.{Changes, MastState, SentBuckets, with_buckets}
 use Rattle.air_sender.specs.AirFaults.{FailedAt}
 use Rattle.station.specs.PassStates.{PassState}
@@ -27,13 +26,6 @@ use Rattle.deck_runs.specs.declared.jobs.conductors.ConductFault.TheVariants as 
 -- The values are as many as the items.
 pub values_sized : (deck : Deck) → length (values_in deck) ≡ length deck.items
 values_sized deck = length-map deck.items (λ i. i.value)
-
--- The program has all items.
-pub items_aired : (deck : Deck) (disks : List Disk) → IsDeck deck → disks ≡ disks_in deck → length (all_items disks) ≡ length (values_in deck)
-items_aired deck disks is same =
-    let rates = rates_in deck in
-    let all : length (order rates) ≡ length deck.items = length-order rates ∙ length-map deck.items (λ i. i.rate) in
-    ap (λ d. length (all_items d)) same ∙ ap length (cut_items (order rates) deck.disks (is.sizes ∙ sym all)) ∙ all ∙ sym (values_sized deck)
 
 -- A new pass, a new publisher and a new board are in step.
 pub new_in_step : (p : PassState) (f : PublisherState) (b : Board) (values : List ℕ) → p.values ≡ values → p.seen ≡ [] → f.values ≡ values → f.batches ≡ [] → b ≡ board_of values [] → AreInStep p f b

@@ -92,11 +92,16 @@ pub can_conduct : (deck : Deck) (at : TurnstileId) (run : ConductorRun) (station
 can_conduct deck at run station pass same is new board buffer = record { pass = is ∙ new ∙ ap (λ t. new_pass t deck (length deck.updates)) (sym same); board = board; buffer = buffer }
 
 -- A stage after the jobs.
-pub is_played : (deck : Deck) (s t : Stage) → CanConduct s.station deck s.conductor → AreNewUpdaters s.station deck s.updaters.items → s.passes.items ≡ [] → length s.updaters.items ≤ vec_capacity s.passes
-    → GoesOn s.conductor.pass t.conductor.pass → starts t.conductor.pass.seen ≤ deck.settings.cycles → EachDone deck s.updaters.items t.updaters.items → t.station ≡ s.station → t.passes ≡ s.passes → IsPlayed deck t
-is_played deck s t can new empty room on few done station passes = record {
-  pass = on.same ∙ ap (λ p. with_seen p t.conductor.pass.seen) (can.pass ∙ ap (λ at. new_pass at deck (length deck.updates)) (sym station));
-  few = few;
-  updaters = subst (λ at. HaveEnded at deck t.updaters.items) (sym station) (have_ended s.station deck s.updaters.items t.updaters.items new done);
-  room = (ap (λ p. p.items) passes ∙ empty, let size = ap vec_capacity passes in let count = done.0 in omega arith);
-}
+pub is_played : (s t : Stage) → CanConduct s.station s.planned.now s.conductor → AreNewUpdaters s.station s.planned.now s.updaters.items → s.passes.items ≡ [] → length s.updaters.items ≤ vec_capacity s.passes
+    → GoesOn s.conductor.pass t.conductor.pass → starts t.conductor.pass.seen ≤ s.planned.now.settings.cycles → EachDone s.planned.now s.updaters.items t.updaters.items → t.planned ≡ s.planned → t.station ≡ s.station → t.passes ≡ s.passes → IsPlayed t
+is_played s t can new empty room on few done planned station passes =
+    let same : t.planned.now ≡ s.planned.now = ap (λ p. p.now) planned in
+    let at_first : (s.conductor.pass ≡ new_pass t.station t.planned.now (length t.planned.now.updates)) =
+    can.pass ∙ ap (λ d. new_pass s.station d (length d.updates)) (sym same) ∙ ap (λ at. new_pass at t.planned.now (length t.planned.now.updates)) (sym station) in
+    record {
+      pass = on.same ∙ ap (λ p. with_seen p t.conductor.pass.seen) at_first;
+      few = subst (λ d. starts t.conductor.pass.seen ≤ d.settings.cycles) (sym same) few;
+      updaters = subst (λ d. HaveEnded t.station d t.updaters.items) (sym same)
+          (subst (λ at. HaveEnded at s.planned.now t.updaters.items) (sym station) (have_ended s.station s.planned.now s.updaters.items t.updaters.items new done));
+      room = (ap (λ p. p.items) passes ∙ empty, let size = ap vec_capacity passes in let count = done.0 in omega arith);
+    }

@@ -1,7 +1,6 @@
 //! A deck's run, cast to a mast.
 
 ghost use Rattle.std.specs.Prelude.{◌≡◌, None, Some, IfErr, IfOk, OnErr, OnOk};
-ghost use Rattle.air_model.specs.Decks.{disks_in};
 ghost use Rattle.air_devices.specs.Counts.{Rose};
 ghost use Rattle.air_devices.specs.Masts.{Changes, nothing_sent, with_end};
 ghost use Rattle.air_devices.specs.Told.{WhereTold};
@@ -12,18 +11,16 @@ ghost use Rattle.deck_runs.specs.Private.CastSteps.{bucket_count};
 
 use crate::threads::{Run, RunFault, run_threads};
 use air_devices::{Gate, Mast};
-use chunk_program::Program;
-use item_catalog::Deck;
+use chunk_program::Planned;
 use std::alloc::Global;
 use std::sync::Wait;
 use std::thread::Threads;
 
 /// How many buckets the deck's cycles have.
-fn bucket_count(deck: &Deck, program: &Program) -> u64
-    requires { program.now ≡ disks_in deck.now }
-    ensures { result ≡ bucket_count deck.now }
+fn bucket_count(planned: &Planned) -> u64
+    ensures { result ≡ bucket_count planned.now }
 {
-    u64::from(program.slots()) * u64::from(deck.settings().cycles)
+    u64::from(planned.program().slots()) * u64::from(planned.deck().settings().cycles)
 }
 
 /// Sends the end behind so many buckets.
@@ -47,25 +44,23 @@ fn send_end<M: Mast>(mast: &mut M, sent: u64) -> Result<(), RunFault>
 pub fn cast_run<R: Threads + Wait + Sync, M: Mast + Send, G: Gate + Sync>(
     rt: &R,
     alloc: Global,
-    deck: &Deck,
-    program: &Program,
+    planned: &Planned,
     mast: &mut M,
     gate: &G,
     port: u16,
 ) -> Result<Run, RunFault>
-    requires planned { program.now ≡ disks_in deck.now }
     requires unaimed { (M.state mast.old).port ≡ None }
     requires unsent { WhereTold (M.state mast.old).told (λ s. s ≡ nothing_sent) }
-    ensures run { IfOk result (IsRun deck.now) }
-    ensures sent { IfOk result (λ run. Changes (λ _. all_sent (deck_bytes deck.now run.history)) (M.state mast.old).told (M.state mast.new).told) }
+    ensures run { IfOk result (IsRun planned.now) }
+    ensures sent { IfOk result (λ run. Changes (λ _. all_sent (deck_bytes planned.now run.history)) (M.state mast.old).told (M.state mast.new).told) }
     ensures calm { OnOk result ((M.state mast.new).faults ≡ (M.state mast.old).faults) }
-    ensures fault { IfErr result (IsCastAnswer deck.now (M.state mast.old) (M.state mast.new)) }
+    ensures fault { IfErr result (IsCastAnswer planned.now (M.state mast.old) (M.state mast.new)) }
     ensures port { (M.state mast.new).port ≡ Some port }
 {
     if mast.aim(port).is_err() {
         return Err(RunFault::Mast { sent: 0 });
     }
-    let run = run_threads(rt, alloc, deck, program, mast, gate)?;
-    send_end(mast, bucket_count(deck, program))?;
+    let run = run_threads(rt, alloc, planned, mast, gate)?;
+    send_end(mast, bucket_count(planned))?;
     Ok(run)
 }

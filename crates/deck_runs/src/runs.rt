@@ -2,7 +2,6 @@
 
 ghost use Rattle.std.specs.Prelude.{◌≡◌, ◌≤◌, IfOk};
 ghost use Rattle.air_base.specs.declared.limits.TheConstants.{MOST_TAPE_BYTES};
-ghost use Rattle.air_model.specs.Decks.{disks_in};
 ghost use Rattle.air_model.specs.Outputs.{run_tape, true_sessions};
 ghost use Rattle.air_model.specs.Reports.{counts_lines, verdict_lines};
 ghost use Rattle.air_model.specs.Tapes.{tape_of};
@@ -15,8 +14,7 @@ use crate::threads::{Run, run_threads};
 use air_base::NoMemory;
 use air_devices::Gate;
 use air_sender::TapeMast;
-use chunk_program::Program;
-use item_catalog::Deck;
+use chunk_program::Planned;
 use listeners::{Sessions, history_sessions};
 use std::alloc::Global;
 use std::sync::Wait;
@@ -34,24 +32,21 @@ pub struct HeardRun {
 pub fn air_run<R: Threads + Wait + Sync, G: Gate + Sync>(
     rt: &R,
     alloc: Global,
-    deck: &Deck,
-    program: &Program,
+    planned: &Planned,
     gate: &G,
 ) -> Result<HeardRun, NoMemory>
-    requires planned { program.now ≡ disks_in deck.now }
-    requires few { run_tape_len deck.now ≤ MOST_TAPE_BYTES }
-    ensures run { IfOk result (λ a. IsRun deck.now a.run) }
-    ensures verdicts { IfOk result (λ a. a.sessions.verdicts.items ≡ verdict_lines (true_sessions deck.now a.run.history)) }
-    ensures counts { IfOk result (λ a. a.sessions.counts.items ≡ counts_lines (true_sessions deck.now a.run.history)) }
-    ensures tape { IfOk result (λ a. tape_of (told_by_tape a.tape).buckets ≡ run_tape deck.now a.run.history) }
+    requires { run_tape_len planned.now ≤ MOST_TAPE_BYTES }
+    ensures run { IfOk result (λ a. IsRun planned.now a.run) }
+    ensures verdicts { IfOk result (λ a. a.sessions.verdicts.items ≡ verdict_lines (true_sessions planned.now a.run.history)) }
+    ensures counts { IfOk result (λ a. a.sessions.counts.items ≡ counts_lines (true_sessions planned.now a.run.history)) }
+    ensures tape { IfOk result (λ a. tape_of (told_by_tape a.tape).buckets ≡ run_tape planned.now a.run.history) }
 {
-    deck.shows_well_made();
-    let _slots = program.slots();
-    let mut tape = TapeMast::new(alloc, run_bytes(deck, program))?;
-    let Ok(run) = run_threads(rt, alloc, deck, program, &mut tape, gate) else {
+    planned.shows_planned();
+    let mut tape = TapeMast::new(alloc, run_bytes(planned))?;
+    let Ok(run) = run_threads(rt, alloc, planned, &mut tape, gate) else {
         return Err(NoMemory);
     };
-    let sessions = history_sessions(rt, alloc, deck, program, tape.tape())?;
+    let sessions = history_sessions(rt, alloc, planned, tape.tape())?;
     Ok(HeardRun {
         run,
         sessions,

@@ -2,29 +2,25 @@
 
 ghost use Rattle.std.specs.Prelude.{◌≡◌, ◌≤◌, MatchOption};
 ghost use Rattle.air_base.specs.declared.limits.TheConstants.{MOST_TAPE_BYTES};
-ghost use Rattle.air_model.specs.Decks.{disks_in};
 ghost use Rattle.deck_runs.specs.RunTapes.{IsLongRun, run_tape_len};
 
 use air_base::limits::MOST_TAPE_BYTES;
 use air_sender::tape_bytes;
-use chunk_program::Program;
-use item_catalog::Deck;
+use chunk_program::Planned;
 
 /// The number of bytes of the tape of each run of a deck.
-pub(crate) fn run_bytes(deck: &Deck, program: &Program) -> u64
-    requires { program.now ≡ disks_in deck.now }
-    ensures { result ≡ run_tape_len deck.now }
+pub(crate) fn run_bytes(planned: &Planned) -> u64
+    ensures { result ≡ run_tape_len planned.now }
 {
-    deck.shows_well_made();
-    tape_bytes(program, deck.items(), deck.settings().cycles)
+    let deck = planned.deck();
+    tape_bytes(planned.program(), deck.items(), deck.settings().cycles)
 }
 
 /// How many bytes the tape of each run of a deck would have, where that is more than a tape may have.
-pub fn long_run(deck: &Deck, program: &Program) -> Option<u64>
-    requires { program.now ≡ disks_in deck.now }
-    ensures { MatchOption result (run_tape_len deck.now ≤ MOST_TAPE_BYTES) (IsLongRun deck.now) }
+pub fn long_run(planned: &Planned) -> Option<u64>
+    ensures { MatchOption result (run_tape_len planned.now ≤ MOST_TAPE_BYTES) (IsLongRun planned.now) }
 {
-    let bytes = run_bytes(deck, program);
+    let bytes = run_bytes(planned);
     if bytes > MOST_TAPE_BYTES as u64 {
         Some(bytes)
     } else {

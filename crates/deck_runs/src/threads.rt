@@ -1,7 +1,6 @@
 //! A run of a deck.
 
 ghost use Rattle.std.specs.Prelude.{◌≡◌, IfErr, IfOk, OnOk};
-ghost use Rattle.air_model.specs.Decks.{disks_in};
 ghost use Rattle.air_devices.specs.Masts.{Changes, with_buckets};
 ghost use Rattle.air_model.specs.Runs.{IsRun};
 ghost use Rattle.deck_runs.specs.DeckBytes.{deck_bytes};
@@ -17,9 +16,8 @@ use air_base::NoMemory;
 use air_devices::{Gate, Mast};
 use air_history::History;
 use air_model::reports::LookLine;
-use chunk_program::Program;
+use chunk_program::Planned;
 use cycle_snapshot::Told;
-use item_catalog::Deck;
 use std::alloc::Global;
 use std::marker::Model;
 use std::sync::Wait;
@@ -98,35 +96,23 @@ impl From<ConductFault> for RunFault {
 pub fn run_threads<R: Threads + Wait + Sync, M: Mast + Send, G: Gate + Sync>(
     rt: &R,
     alloc: Global,
-    deck: &Deck,
-    program: &Program,
+    planned: &Planned,
     mast: &mut M,
     gate: &G,
 ) -> Result<Run, RunFault>
-    requires { program.now ≡ disks_in deck.now }
-    ensures run { IfOk result (IsRun deck.now) }
-    ensures aired { IfOk result (λ run. Changes (with_buckets (deck_bytes deck.now run.history)) (M.state mast.old).told (M.state mast.new).told) }
+    ensures run { IfOk result (IsRun planned.now) }
+    ensures aired { IfOk result (λ run. Changes (with_buckets (deck_bytes planned.now run.history)) (M.state mast.old).told (M.state mast.new).told) }
     ensures calm { OnOk result ((M.state mast.new).faults ≡ (M.state mast.old).faults) }
-    ensures fault { IfErr result (IsRunAnswer M.state deck.now mast.old mast.new) }
+    ensures fault { IfErr result (IsRunAnswer M.state planned.now mast.old mast.new) }
     ensures port { (M.state mast.new).port ≡ (M.state mast.old).port }
 {
-    deck.shows_well_made();
-    let mut stage = open_stage(alloc, deck)?;
-    let (mut source, mut watchers) = open_publisher(rt, alloc, deck)?;
-    let conducted = stage.play(
-        rt,
-        alloc,
-        deck,
-        program,
-        &mut source,
-        &mut watchers,
-        mast,
-        gate,
-    );
+    let mut stage = open_stage(alloc, planned)?;
+    let (mut source, mut watchers) = open_publisher(rt, alloc, stage.planned)?;
+    let conducted = stage.play(rt, alloc, &mut source, &mut watchers, mast, gate);
     let sights = all_sights(alloc, &source, watchers);
     let note = source.tell();
     source.close(rt);
-    let history = stage.end(deck);
+    let history = stage.end();
     conducted?;
     let history = history?;
     let sights = sights?;

@@ -5,7 +5,7 @@ ghost use Rattle.air_base.specs.declared.limits.TheConstants.{MOST_DECK_BYTES};
 
 use air_devices::Gate;
 use air_sender::TapeMast;
-use chunk_program::{Program, cut};
+use chunk_program::{Planned, cut};
 use deck_runs::{Run, RunFault, run_threads};
 use item_catalog::read_deck;
 use std::alloc::Global;
@@ -32,8 +32,8 @@ pub fn play<R: Threads + Wait + Sync, G: Gate + Sync>(
 {
     let deck = read_deck(alloc, text)?;
     let order = cut(alloc, &deck)?;
-    let program = Program::plan(alloc, &deck, &order)?;
+    let planned = Planned::new(alloc, deck, &order)?;
     let mut mast = TapeMast::new(alloc, room)?;
-    let run = run_threads(rt, alloc, &deck, &program, &mut mast, gate);
+    let run = run_threads(rt, alloc, &planned, &mut mast, gate);
     Ok(Left { run, mast })
 }

@@ -4,7 +4,6 @@ ghost use Rattle.std.specs.Prelude.{◌≡◌, ◌↔◌, ◌≤◌, ◌+◌, �
 ghost use Rattle.std.specs.List.{range_with_len};
 ghost use Rattle.air_model.specs.Aired.{scheme_in};
 ghost use Rattle.air_model.specs.Buckets.{bucket_in};
-ghost use Rattle.air_model.specs.Decks.{disks_in};
 ghost use Rattle.air_model.specs.Ethers.{heard_by};
 ghost use Rattle.air_model.specs.Judges.{by_entries};
 ghost use Rattle.air_model.specs.Outputs.{odds_in, sessions_over};
@@ -20,8 +19,7 @@ use crate::ethers::EtherListener;
 use crate::listener::Listener;
 use crate::readers::{MOST_THREADS, Sessions, end_all};
 use air_base::NoMemory;
-use chunk_program::Program;
-use item_catalog::Deck;
+use chunk_program::Planned;
 use std::alloc::Global;
 use std::thread;
 use std::thread::Threads;
@@ -82,14 +80,14 @@ fn are_done(readers: &[PieceReader]) -> bool
 fn hear_apart<T: Threads + Sync>(
     threads: &T,
     alloc: Global,
-    deck: &Deck,
+    planned: &Planned,
     readers: &mut [PieceReader],
     piece: &[u8],
 ) -> Result<(), NoMemory>
     requires whole { (tape_read piece.now).cut ≡ None }
-    requires room { All (λ r. length r ≤ HEAD_BYTES + ENTRY_BYTES * length deck.now.items) (tape_read piece.now).records }
-    requires few { (pushed : List (List ℕ)) × AreApart deck.now pushed readers.old × (length pushed + length (tape_read piece.now).records ≤ MOST_TAPE_RECORDS) }
-    ensures { (pushed : List (List ℕ)) → AreApart deck.now pushed readers.old → OnOk result (AreApart deck.now (pushed ++ (tape_read piece.now).records) readers.new) }
+    requires room { All (λ r. length r ≤ HEAD_BYTES + ENTRY_BYTES * length planned.now.items) (tape_read piece.now).records }
+    requires few { (pushed : List (List ℕ)) × AreApart planned.now pushed readers.old × (length pushed + length (tape_read piece.now).records ≤ MOST_TAPE_RECORDS) }
+    ensures { (pushed : List (List ℕ)) → AreApart planned.now pushed readers.old → OnOk result (AreApart planned.now (pushed ++ (tape_read piece.now).records) readers.new) }
 {
     hear_side_by_side(threads, alloc, readers, piece);
     if !are_done(readers) {
@@ -127,14 +125,14 @@ fn listeners_of_readers(alloc: Global, readers: Vec<PieceReader>) -> Result<Vec<
 fn end_apart<T: Threads + Sync>(
     threads: &T,
     alloc: Global,
-    deck: &Deck,
+    planned: &Planned,
     readers: Vec<PieceReader>,
 ) -> Result<Vec<Listener>, NoMemory>
-    requires { (pushed : List (List ℕ)) × AreApart deck.now pushed readers.items × (length pushed ≤ MOST_TAPE_RECORDS) }
-    ensures { (pushed : List (List ℕ)) → AreApart deck.now pushed readers.items →
-        IfOk result (λ ls. ls.items ≡ map (λ r. hears (map bucket_in (heard_by deck.now.settings.seed r (odds_in deck.now) pushed)) (listener_of deck.now r)) (range_with_len 0 (length deck.now.readers))) }
+    requires { (pushed : List (List ℕ)) × AreApart planned.now pushed readers.items × (length pushed ≤ MOST_TAPE_RECORDS) }
+    ensures { (pushed : List (List ℕ)) → AreApart planned.now pushed readers.items →
+        IfOk result (λ ls. ls.items ≡ map (λ r. hears (map bucket_in (heard_by planned.now.settings.seed r (odds_in planned.now) pushed)) (listener_of planned.now r)) (range_with_len 0 (length planned.now.readers))) }
 {
-    let _readers = deck.readers();
+    let _readers = planned.deck().readers();
     let mut readers = readers;
     end_side_by_side(threads, alloc, &mut readers);
     let listeners = listeners_of_readers(alloc, readers)?;
@@ -148,15 +146,14 @@ pub struct Apart {
 }
 
 impl Apart {
-    /// Before anything is heard. `Program::plan` makes the deck's program.
-    pub fn new(alloc: Global, deck: &Deck, program: &Program) -> Result<Apart, NoMemory>
-        requires { program.now ≡ disks_in deck.now }
-        ensures { IfOk result (λ apart. AreApart deck.now [] apart.readers.items) }
+    /// Before anything is heard.
+    pub fn new(alloc: Global, planned: &Planned) -> Result<Apart, NoMemory>
+        ensures { IfOk result (λ apart. AreApart planned.now [] apart.readers.items) }
     {
         let mut readers = Vec::new(alloc);
-        for r in 0..deck.readers() {
+        for r in 0..planned.deck().readers() {
             readers.push(PieceReader {
-                reader: EtherListener::new(alloc, deck, r, program)?,
+                reader: EtherListener::new(alloc, planned, r)?,
                 done: true,
             })?;
         }
@@ -168,16 +165,16 @@ impl Apart {
         &mut self,
         threads: &T,
         alloc: Global,
-        deck: &Deck,
+        planned: &Planned,
         piece: &[u8],
     ) -> Result<(), NoMemory>
         requires whole { (tape_read piece.now).cut ≡ None }
-        requires room { All (λ r. length r ≤ HEAD_BYTES + ENTRY_BYTES * length deck.now.items) (tape_read piece.now).records }
-        requires few { (pushed : List (List ℕ)) × AreApart deck.now pushed self.old.readers.items × (length pushed + length (tape_read piece.now).records ≤ MOST_TAPE_RECORDS) }
-        ensures { (pushed : List (List ℕ)) → AreApart deck.now pushed self.old.readers.items →
-            OnOk result (AreApart deck.now (pushed ++ (tape_read piece.now).records) self.new.readers.items) }
+        requires room { All (λ r. length r ≤ HEAD_BYTES + ENTRY_BYTES * length planned.now.items) (tape_read piece.now).records }
+        requires few { (pushed : List (List ℕ)) × AreApart planned.now pushed self.old.readers.items × (length pushed + length (tape_read piece.now).records ≤ MOST_TAPE_RECORDS) }
+        ensures { (pushed : List (List ℕ)) → AreApart planned.now pushed self.old.readers.items →
+            OnOk result (AreApart planned.now (pushed ++ (tape_read piece.now).records) self.new.readers.items) }
     {
-        hear_apart(threads, alloc, deck, &mut self.readers, piece)?;
+        hear_apart(threads, alloc, planned, &mut self.readers, piece)?;
         Ok(())
     }
 
@@ -186,15 +183,15 @@ impl Apart {
         self,
         threads: &T,
         alloc: Global,
-        deck: &Deck,
+        planned: &Planned,
     ) -> Result<Sessions, NoMemory>
-        requires { (pushed : List (List ℕ)) × AreApart deck.now pushed self.readers.items × (length pushed ≤ MOST_TAPE_RECORDS) }
-        ensures verdicts { (pushed : List (List ℕ)) → AreApart deck.now pushed self.readers.items → IfOk result (λ s. s.verdicts.items
-            ≡ verdict_lines (sessions_over (by_entries (scheme_in deck.now)) deck.now (λ r. heard_by deck.now.settings.seed r (odds_in deck.now) pushed))) }
-        ensures counts { (pushed : List (List ℕ)) → AreApart deck.now pushed self.readers.items → IfOk result (λ s. s.counts.items
-            ≡ counts_lines (sessions_over (by_entries (scheme_in deck.now)) deck.now (λ r. heard_by deck.now.settings.seed r (odds_in deck.now) pushed))) }
+        requires { (pushed : List (List ℕ)) × AreApart planned.now pushed self.readers.items × (length pushed ≤ MOST_TAPE_RECORDS) }
+        ensures verdicts { (pushed : List (List ℕ)) → AreApart planned.now pushed self.readers.items → IfOk result (λ s. s.verdicts.items
+            ≡ verdict_lines (sessions_over (by_entries (scheme_in planned.now)) planned.now (λ r. heard_by planned.now.settings.seed r (odds_in planned.now) pushed))) }
+        ensures counts { (pushed : List (List ℕ)) → AreApart planned.now pushed self.readers.items → IfOk result (λ s. s.counts.items
+            ≡ counts_lines (sessions_over (by_entries (scheme_in planned.now)) planned.now (λ r. heard_by planned.now.settings.seed r (odds_in planned.now) pushed))) }
     {
-        let listeners = end_apart(threads, alloc, deck, self.readers)?;
+        let listeners = end_apart(threads, alloc, planned, self.readers)?;
         let sessions = end_all(alloc, listeners)?;
         Ok(sessions)
     }

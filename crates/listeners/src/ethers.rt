@@ -6,7 +6,6 @@
 ghost use Rattle.std.specs.Prelude.{◌≡◌, ℕ, ◌<◌, ◌≤◌, ◌+◌, ◌^◌, ◌++◌, ◌∷◌, List, [], All, None, IfOk, OnOk, length, map};
 ghost use Rattle.air_ether.specs.HeardSoFar.{IsQuiet, left_of};
 ghost use Rattle.air_model.specs.Buckets.{bucket_in};
-ghost use Rattle.air_model.specs.Decks.{disks_in};
 ghost use Rattle.air_model.specs.Ethers.{heard_by};
 ghost use Rattle.air_model.specs.Tapes.{tape_read};
 ghost use Rattle.receiver_core.specs.Receivers.{heard_count};
@@ -20,8 +19,7 @@ use air_base::NoMemory;
 use air_ether::Ether;
 use bucket_codec::offsets::{ENTRY_BYTES, HEAD_BYTES};
 use bucket_codec::{TapeReader, decode};
-use chunk_program::Program;
-use item_catalog::Deck;
+use chunk_program::Planned;
 use std::alloc::Global;
 
 /// How many records listeners hear of one tape: what they count of them fits 64 bits.
@@ -54,22 +52,16 @@ fn hear_due(alloc: Global, ether: &mut Ether, listener: &mut Listener) -> Result
 
 impl EtherListener {
     /// The deck's reader of a number with its ether, before anything was pushed.
-    pub fn new(
-        alloc: Global,
-        deck: &Deck,
-        number: u32,
-        program: &Program,
-    ) -> Result<EtherListener, NoMemory>
-        requires number { number < length deck.now.readers }
-        requires planned { program.now ≡ disks_in deck.now }
-        ensures { IfOk result (IsEtherListener deck.now number []) }
+    pub fn new(alloc: Global, planned: &Planned, number: u32) -> Result<EtherListener, NoMemory>
+        requires { number < length planned.now.readers }
+        ensures { IfOk result (IsEtherListener planned.now number []) }
     {
-        deck.shows_well_made();
+        let deck = planned.deck();
         let set = deck.settings();
         let most = HEAD_BYTES + ENTRY_BYTES * deck.items() as usize;
         Ok(EtherListener {
             ether: Ether::new(alloc, set.seed, number, set.loss, set.again, set.late, most)?,
-            listener: Listener::new(alloc, deck, number, program)?,
+            listener: Listener::new(alloc, planned, number)?,
         })
     }
 

@@ -5,7 +5,6 @@
 
 ghost use Rattle.std.specs.Prelude.{◌≡◌, ◌↔◌, ◌≤◌, ◌+◌, ◌*◌, ◌++◌, ℕ, List, [], All, IfOk, IsTrue, None, OnOk, length};
 ghost use Rattle.air_model.specs.Aired.{scheme_in};
-ghost use Rattle.air_model.specs.Decks.{disks_in};
 ghost use Rattle.air_model.specs.Ethers.{heard_by};
 ghost use Rattle.air_model.specs.Judges.{by_entries};
 ghost use Rattle.air_model.specs.Outputs.{odds_in, sessions_over};
@@ -20,7 +19,7 @@ use crate::apart::Apart;
 use crate::readers::Sessions;
 use crate::together::Together;
 use air_base::NoMemory;
-use chunk_program::Program;
+use chunk_program::Planned;
 use item_catalog::Deck;
 use std::alloc::Global;
 use std::thread::Threads;
@@ -35,15 +34,14 @@ pub enum Hearers {
 }
 
 impl Hearers {
-    /// Before anything is heard. `Program::plan` makes the deck's program.
-    pub fn new(alloc: Global, deck: &Deck, program: &Program) -> Result<Hearers, NoMemory>
-        requires { program.now ≡ disks_in deck.now }
-        ensures { IfOk result (AreHearing deck.now []) }
+    /// Before anything is heard.
+    pub fn new(alloc: Global, planned: &Planned) -> Result<Hearers, NoMemory>
+        ensures { IfOk result (AreHearing planned.now []) }
     {
-        if is_perfect(deck) {
-            return Ok(Hearers::Together(Together::new(alloc, deck, program)?));
+        if is_perfect(planned.deck()) {
+            return Ok(Hearers::Together(Together::new(alloc, planned)?));
         }
-        Ok(Hearers::Apart(Apart::new(alloc, deck, program)?))
+        Ok(Hearers::Apart(Apart::new(alloc, planned)?))
     }
 
     /// Lets all hear a piece of the tape: a whole one, as `TapeReader` tells, whose records are of the sizes of the deck's buckets.
@@ -51,17 +49,17 @@ impl Hearers {
         &mut self,
         threads: &T,
         alloc: Global,
-        deck: &Deck,
+        planned: &Planned,
         piece: &[u8],
     ) -> Result<(), NoMemory>
         requires whole { (tape_read piece.now).cut ≡ None }
-        requires room { All (λ r. length r ≤ HEAD_BYTES + ENTRY_BYTES * length deck.now.items) (tape_read piece.now).records }
-        requires few { (pushed : List (List ℕ)) × AreHearing deck.now pushed self.old × (length pushed + length (tape_read piece.now).records ≤ MOST_TAPE_RECORDS) }
-        ensures { (pushed : List (List ℕ)) → AreHearing deck.now pushed self.old → OnOk result (AreHearing deck.now (pushed ++ (tape_read piece.now).records) self.new) }
+        requires room { All (λ r. length r ≤ HEAD_BYTES + ENTRY_BYTES * length planned.now.items) (tape_read piece.now).records }
+        requires few { (pushed : List (List ℕ)) × AreHearing planned.now pushed self.old × (length pushed + length (tape_read piece.now).records ≤ MOST_TAPE_RECORDS) }
+        ensures { (pushed : List (List ℕ)) → AreHearing planned.now pushed self.old → OnOk result (AreHearing planned.now (pushed ++ (tape_read piece.now).records) self.new) }
     {
         match self {
-            Hearers::Together(together) => hear_together(threads, alloc, deck, together, piece),
-            Hearers::Apart(apart) => apart.hear(threads, alloc, deck, piece),
+            Hearers::Together(together) => hear_together(threads, alloc, planned, together, piece),
+            Hearers::Apart(apart) => apart.hear(threads, alloc, planned, piece),
         }
     }
 
@@ -70,17 +68,17 @@ impl Hearers {
         self,
         threads: &T,
         alloc: Global,
-        deck: &Deck,
+        planned: &Planned,
     ) -> Result<Sessions, NoMemory>
-        requires { (pushed : List (List ℕ)) × AreHearing deck.now pushed self × (length pushed ≤ MOST_TAPE_RECORDS) }
-        ensures verdicts { (pushed : List (List ℕ)) → AreHearing deck.now pushed self → IfOk result (λ s. s.verdicts.items
-            ≡ verdict_lines (sessions_over (by_entries (scheme_in deck.now)) deck.now (λ r. heard_by deck.now.settings.seed r (odds_in deck.now) pushed))) }
-        ensures counts { (pushed : List (List ℕ)) → AreHearing deck.now pushed self → IfOk result (λ s. s.counts.items
-            ≡ counts_lines (sessions_over (by_entries (scheme_in deck.now)) deck.now (λ r. heard_by deck.now.settings.seed r (odds_in deck.now) pushed))) }
+        requires { (pushed : List (List ℕ)) × AreHearing planned.now pushed self × (length pushed ≤ MOST_TAPE_RECORDS) }
+        ensures verdicts { (pushed : List (List ℕ)) → AreHearing planned.now pushed self → IfOk result (λ s. s.verdicts.items
+            ≡ verdict_lines (sessions_over (by_entries (scheme_in planned.now)) planned.now (λ r. heard_by planned.now.settings.seed r (odds_in planned.now) pushed))) }
+        ensures counts { (pushed : List (List ℕ)) → AreHearing planned.now pushed self → IfOk result (λ s. s.counts.items
+            ≡ counts_lines (sessions_over (by_entries (scheme_in planned.now)) planned.now (λ r. heard_by planned.now.settings.seed r (odds_in planned.now) pushed))) }
     {
         match self {
-            Hearers::Together(together) => end_together(alloc, deck, together),
-            Hearers::Apart(apart) => apart.end(threads, alloc, deck),
+            Hearers::Together(together) => end_together(alloc, planned, together),
+            Hearers::Apart(apart) => apart.end(threads, alloc, planned),
         }
     }
 }
@@ -97,25 +95,25 @@ fn is_perfect(deck: &Deck) -> bool
 fn hear_together<T: Threads + Sync>(
     threads: &T,
     alloc: Global,
-    deck: &Deck,
+    planned: &Planned,
     together: &mut Together,
     piece: &[u8],
 ) -> Result<(), NoMemory>
     requires whole { (tape_read piece.now).cut ≡ None }
-    requires few { (pushed : List (List ℕ)) × AreTogether deck.now pushed together.old × (length pushed + length (tape_read piece.now).records ≤ MOST_TAPE_RECORDS) }
-    ensures { (pushed : List (List ℕ)) → AreTogether deck.now pushed together.old → OnOk result (AreTogether deck.now (pushed ++ (tape_read piece.now).records) together.new) }
+    requires few { (pushed : List (List ℕ)) × AreTogether planned.now pushed together.old × (length pushed + length (tape_read piece.now).records ≤ MOST_TAPE_RECORDS) }
+    ensures { (pushed : List (List ℕ)) → AreTogether planned.now pushed together.old → OnOk result (AreTogether planned.now (pushed ++ (tape_read piece.now).records) together.new) }
 {
     together.hear(threads, alloc, piece)?;
     Ok(())
 }
 
 /// Ends the sessions of readers who heard the pieces together.
-fn end_together(alloc: Global, deck: &Deck, together: Together) -> Result<Sessions, NoMemory>
-    requires { (pushed : List (List ℕ)) × AreTogether deck.now pushed together }
-    ensures verdicts { (pushed : List (List ℕ)) → AreTogether deck.now pushed together → IfOk result (λ s. s.verdicts.items
-        ≡ verdict_lines (sessions_over (by_entries (scheme_in deck.now)) deck.now (λ r. heard_by deck.now.settings.seed r (odds_in deck.now) pushed))) }
-    ensures counts { (pushed : List (List ℕ)) → AreTogether deck.now pushed together → IfOk result (λ s. s.counts.items
-        ≡ counts_lines (sessions_over (by_entries (scheme_in deck.now)) deck.now (λ r. heard_by deck.now.settings.seed r (odds_in deck.now) pushed))) }
+fn end_together(alloc: Global, planned: &Planned, together: Together) -> Result<Sessions, NoMemory>
+    requires { (pushed : List (List ℕ)) × AreTogether planned.now pushed together }
+    ensures verdicts { (pushed : List (List ℕ)) → AreTogether planned.now pushed together → IfOk result (λ s. s.verdicts.items
+        ≡ verdict_lines (sessions_over (by_entries (scheme_in planned.now)) planned.now (λ r. heard_by planned.now.settings.seed r (odds_in planned.now) pushed))) }
+    ensures counts { (pushed : List (List ℕ)) → AreTogether planned.now pushed together → IfOk result (λ s. s.counts.items
+        ≡ counts_lines (sessions_over (by_entries (scheme_in planned.now)) planned.now (λ r. heard_by planned.now.settings.seed r (odds_in planned.now) pushed))) }
 {
     let sessions = together.end(alloc)?;
     Ok(sessions)

@@ -6,7 +6,6 @@
 ghost use Rattle.std.specs.Prelude.{◌≡◌, ◌≤◌, ◌+◌, ◌*◌, All, List, None, IfOk, length};
 ghost use Rattle.air_base.specs.declared.limits.TheConstants.{MOST_TAPE_BYTES};
 ghost use Rattle.air_history.specs.declared.histories.Event.{Event};
-ghost use Rattle.air_model.specs.Decks.{disks_in};
 ghost use Rattle.air_model.specs.Outputs.{true_sessions};
 ghost use Rattle.air_model.specs.Reports.{counts_lines, verdict_lines};
 ghost use Rattle.air_model.specs.Tapes.{tape_read};
@@ -17,8 +16,7 @@ ghost use Rattle.listeners.specs.declared.ethers.TheConstants.{MOST_TAPE_RECORDS
 use crate::readers::Sessions;
 use crate::runs::ether_sessions;
 use air_base::NoMemory;
-use chunk_program::Program;
-use item_catalog::Deck;
+use chunk_program::Planned;
 use std::alloc::Global;
 use std::thread::Threads;
 
@@ -27,26 +25,24 @@ use std::thread::Threads;
 pub fn history_sessions<T: Threads + Sync>(
     threads: &T,
     alloc: Global,
-    deck: &Deck,
-    program: &Program,
+    planned: &Planned,
     tape: &[u8],
 ) -> Result<Sessions, NoMemory>
-    requires planned { program.now ≡ disks_in deck.now }
     requires few { length tape.now ≤ MOST_TAPE_BYTES }
-    requires aired { (H : List Event) × HasTape deck.now H tape.now }
-    ensures verdicts { (H : List Event) → HasTape deck.now H tape.now → IfOk result (λ s. s.verdicts.items ≡ verdict_lines (true_sessions deck.now H)) }
-    ensures counts { (H : List Event) → HasTape deck.now H tape.now → IfOk result (λ s. s.counts.items ≡ counts_lines (true_sessions deck.now H)) }
+    requires aired { (H : List Event) × HasTape planned.now H tape.now }
+    ensures verdicts { (H : List Event) → HasTape planned.now H tape.now → IfOk result (λ s. s.verdicts.items ≡ verdict_lines (true_sessions planned.now H)) }
+    ensures counts { (H : List Event) → HasTape planned.now H tape.now → IfOk result (λ s. s.counts.items ≡ counts_lines (true_sessions planned.now H)) }
 {
-    shows_whole_tape(deck, tape);
-    let sessions = ether_sessions(threads, alloc, deck, program, tape)?;
+    shows_whole_tape(planned, tape);
+    let sessions = ether_sessions(threads, alloc, planned, tape)?;
     Ok(sessions)
 }
 
 /// The tape of a history is whole, and it has few records, none of them longer than a bucket of the deck.
-fn shows_whole_tape(deck: &Deck, tape: &[u8])
+fn shows_whole_tape(planned: &Planned, tape: &[u8])
     requires few { length tape.now ≤ MOST_TAPE_BYTES }
-    requires aired { (H : List Event) × HasTape deck.now H tape.now }
+    requires aired { (H : List Event) × HasTape planned.now H tape.now }
     ensures whole { (tape_read tape.now).cut ≡ None }
-    ensures room { All (λ r. length r ≤ HEAD_BYTES + ENTRY_BYTES * length deck.now.items) (tape_read tape.now).records }
+    ensures room { All (λ r. length r ≤ HEAD_BYTES + ENTRY_BYTES * length planned.now.items) (tape_read tape.now).records }
     ensures few { length (tape_read tape.now).records ≤ MOST_TAPE_RECORDS }
 {}

@@ -5,7 +5,6 @@
 ghost use Rattle.std.specs.Prelude.{◌≡◌, ◌<◌, ◌+◌, ◌^◌, ◌++◌, ◌∷◌, [], IfOk, OnOk, length, map};
 ghost use Rattle.std.specs.Result.{result_ok};
 ghost use Rattle.air_model.specs.Buckets.{IsInRange};
-ghost use Rattle.air_model.specs.Decks.{disks_in};
 ghost use Rattle.air_model.specs.Reports.{line_by};
 ghost use Rattle.receiver_core.specs.Receivers.{heard_count};
 ghost use Rattle.listeners.specs.Listeners.{ChangesNoAttempt, end_state, hears, hears_one, listener_of};
@@ -15,8 +14,7 @@ use air_base::NoMemory;
 use air_model::bucket::BucketFault;
 use air_model::reports::{CountsLine, VerdictLine};
 use bucket_codec::BucketView;
-use chunk_program::Program;
-use item_catalog::Deck;
+use chunk_program::Planned;
 use receiver_core::Receiver;
 use std::alloc::Global;
 use std::marker::Model;
@@ -39,20 +37,14 @@ impl Model for Listener {
 }
 
 impl Listener {
-    /// The deck's reader of a number, before it hears anything. `Program::plan` makes the deck's program.
-    pub fn new(
-        alloc: Global,
-        deck: &Deck,
-        number: u32,
-        program: &Program,
-    ) -> Result<Listener, NoMemory>
-        requires number { number < length deck.now.readers }
-        requires planned { program.now ≡ disks_in deck.now }
-        ensures { IfOk result (λ l. l ≡ listener_of deck.now number) }
+    /// The deck's reader of a number, before it hears anything.
+    pub fn new(alloc: Global, planned: &Planned, number: u32) -> Result<Listener, NoMemory>
+        requires { number < length planned.now.readers }
+        ensures { IfOk result (λ l. l ≡ listener_of planned.now number) }
     {
         Ok(Listener {
             number,
-            receiver: Receiver::new(alloc, deck, number, program)?,
+            receiver: Receiver::new(alloc, planned.deck(), number, planned.program())?,
             lines: Vec::new(alloc),
         })
     }

@@ -7,7 +7,6 @@ ghost use Rattle.std.specs.Prelude.{◌≡◌, ◌<◌, ◌+◌, ◌^◌, All, I
 ghost use Rattle.std.specs.List.{range_with_len};
 ghost use Rattle.std.specs.Result.{result_ok};
 ghost use Rattle.air_model.specs.Buckets.{IsInRange};
-ghost use Rattle.air_model.specs.Decks.{disks_in};
 ghost use Rattle.air_model.specs.Reports.{counts_lines, verdict_lines};
 ghost use Rattle.receiver_core.specs.Receivers.{heard_count};
 ghost use Rattle.listeners.specs.Listeners.{AreNumbered, end_state, hears_one, listener_of};
@@ -17,8 +16,7 @@ use air_base::NoMemory;
 use air_model::bucket::BucketFault;
 use air_model::reports::{CountsLine, VerdictLine};
 use bucket_codec::BucketView;
-use chunk_program::Program;
-use item_catalog::Deck;
+use chunk_program::Planned;
 use std::alloc::Global;
 
 /// In how many threads readers hear at most.
@@ -31,18 +29,13 @@ pub struct Sessions {
     pub counts: Vec<CountsLine>,
 }
 
-/// All readers of a deck, before they hear anything. `Program::plan` makes the deck's program.
-pub fn listeners_of(
-    alloc: Global,
-    deck: &Deck,
-    program: &Program,
-) -> Result<Vec<Listener>, NoMemory>
-    requires planned { program.now ≡ disks_in deck.now }
-    ensures { IfOk result (λ ls. ls.items ≡ map (listener_of deck.now) (range_with_len 0 (length deck.now.readers))) }
+/// All readers of a deck, before they hear anything.
+pub fn listeners_of(alloc: Global, planned: &Planned) -> Result<Vec<Listener>, NoMemory>
+    ensures { IfOk result (λ ls. ls.items ≡ map (listener_of planned.now) (range_with_len 0 (length planned.now.readers))) }
 {
     let mut listeners = Vec::new(alloc);
-    for r in 0..deck.readers() {
-        listeners.push(Listener::new(alloc, deck, r, program)?)?;
+    for r in 0..planned.deck().readers() {
+        listeners.push(Listener::new(alloc, planned, r)?)?;
     }
     Ok(listeners)
 }

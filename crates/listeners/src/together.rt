@@ -7,7 +7,6 @@ ghost use Rattle.std.specs.Prelude.{◌≡◌, ◌↔◌, ◌<◌, ◌+◌, ◌^
 ghost use Rattle.std.specs.List.{range_with_len};
 ghost use Rattle.std.specs.Result.{result_ok};
 ghost use Rattle.air_model.specs.Buckets.{bucket_in};
-ghost use Rattle.air_model.specs.Decks.{disks_in};
 ghost use Rattle.air_model.specs.Reports.{counts_lines, verdict_lines};
 ghost use Rattle.air_model.specs.Tapes.{tape_read};
 ghost use Rattle.receiver_core.specs.Receivers.{heard_count};
@@ -20,8 +19,7 @@ use crate::readers::{MOST_THREADS, Sessions, end_all};
 use air_base::NoMemory;
 use air_model::bucket::BucketFault;
 use bucket_codec::{BucketView, TapeReader};
-use chunk_program::Program;
-use item_catalog::Deck;
+use chunk_program::Planned;
 use std::alloc::Global;
 use std::marker::Model;
 use std::thread;
@@ -135,15 +133,14 @@ impl Model for Together {
 }
 
 impl Together {
-    /// Before anything is heard. `Program::plan` makes the deck's program.
-    pub fn new(alloc: Global, deck: &Deck, program: &Program) -> Result<Together, NoMemory>
-        requires { program.now ≡ disks_in deck.now }
-        ensures { IfOk result (λ t. t ≡ map (listener_of deck.now) (range_with_len 0 (length deck.now.readers))) }
+    /// Before anything is heard.
+    pub fn new(alloc: Global, planned: &Planned) -> Result<Together, NoMemory>
+        ensures { IfOk result (λ t. t ≡ map (listener_of planned.now) (range_with_len 0 (length planned.now.readers))) }
     {
         let mut runs = Vec::new(alloc);
-        for r in 0..deck.readers() {
+        for r in 0..planned.deck().readers() {
             runs.push(TogetherRun {
-                listener: Listener::new(alloc, deck, r, program)?,
+                listener: Listener::new(alloc, planned, r)?,
                 done: true,
             })?;
         }

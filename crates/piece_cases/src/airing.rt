@@ -3,19 +3,17 @@
 //! After each piece it is told how many starts it has, how many bytes, and how many events were run; at the end the tape's sum, and the
 //! report.
 
-ghost use Rattle.std.specs.Prelude.{◌≡◌, ◌≤◌, length};
+ghost use Rattle.std.specs.Prelude.{◌≤◌, length};
 ghost use Rattle.air_base.specs.declared.limits.TheConstants.{MOST_TAPE_BYTES};
-ghost use Rattle.air_model.specs.Decks.{disks_in};
 ghost use Rattle.air_model.specs.Outputs.{script_tape};
 
-use crate::decks::deck_and_program;
+use crate::decks::planned_deck;
 use crate::reports::{add_piece, add_report, add_tape};
 use air_base::NoMemory;
 use air_base::limits::MOST_TAPE_BYTES;
 use air_sender::{TapeMast, tape_len};
 use case_lines::{Parts, add_line};
-use chunk_program::Program;
-use item_catalog::Deck;
+use chunk_program::Planned;
 use listeners::Sessions;
 use scripts::{PieceRun, ScriptAiring, piece_cycles};
 use std::alloc::Global;
@@ -35,15 +33,11 @@ pub fn sizes(
     for _ in 0..parts.number() {
         text.extend_from_slice(b"script,s\n")?;
     }
-    let Some((deck, program)) = deck_and_program(alloc, &text) else {
+    let Some(planned) = planned_deck(alloc, &text) else {
         return add_line(b"no deck", &[], came);
     };
-    let cycles = u64::from(piece_cycles(&deck, &program));
-    add_line(
-        b"bytes and cycles",
-        &[tape_len(&deck, &program), cycles],
-        came,
-    )
+    let cycles = u64::from(piece_cycles(&planned));
+    add_line(b"bytes and cycles", &[tape_len(&planned), cycles], came)
 }
 
 /// Airs the deck's script to all its readers, by pieces of a number of cycles.
@@ -55,42 +49,40 @@ pub fn air<T: Threads + Sync>(
     came: &mut Vec<u8>,
 ) -> Result<(), NoMemory> {
     let cycles = parts.narrow().max(1);
-    let Some((deck, program)) = deck_and_program(alloc, text) else {
+    let Some(planned) = planned_deck(alloc, text) else {
         return add_line(b"no deck", &[], came);
     };
-    if tape_len(&deck, &program) > MOST_TAPE_BYTES as u64 {
+    if tape_len(&planned) > MOST_TAPE_BYTES as u64 {
         return add_line(b"too long", &[], came);
     }
-    air_pieces(threads, alloc, &deck, &program, cycles, came)
+    air_pieces(threads, alloc, &planned, cycles, came)
 }
 
 /// The same, of a deck with its program.
 fn air_pieces<T: Threads + Sync>(
     threads: &T,
     alloc: Global,
-    deck: &Deck,
-    program: &Program,
+    planned: &Planned,
     cycles: u32,
     came: &mut Vec<u8>,
 ) -> Result<(), NoMemory>
-    requires planned { program.now ≡ disks_in deck.now }
-    requires few { length (script_tape deck.now) ≤ MOST_TAPE_BYTES }
+    requires few { length (script_tape planned.now) ≤ MOST_TAPE_BYTES }
     requires some { 1 ≤ cycles }
 {
     let mut tape = Vec::new(alloc);
-    let mut aired = ScriptAiring::new(alloc, deck, program, cycles)?;
+    let mut aired = ScriptAiring::new(alloc, planned, cycles)?;
     for _ in 0..MOST_PIECES {
-        if aired.is_done(deck) {
+        if aired.is_done(planned) {
             break;
         }
         let first = aired.run.events.len();
-        aired.next_piece(threads, alloc, deck, program)?;
+        aired.next_piece(threads, alloc, planned)?;
         add_piece(&aired.run.events, first, aired.piece(), &mut tape, came)?;
     }
-    if !aired.is_done(deck) {
+    if !aired.is_done(planned) {
         return add_line(b"not done", &[], came);
     }
-    let (events, sessions) = aired.end(threads, alloc, deck, program)?;
+    let (events, sessions) = aired.end(threads, alloc, planned)?;
     add_tape(&tape, came)?;
     add_report(alloc, events, sessions, came)
 }
@@ -104,34 +96,31 @@ pub fn run(
 ) -> Result<(), NoMemory> {
     let room = parts.number();
     let pieces = parts.entries(alloc)?;
-    let Some((deck, program)) = deck_and_program(alloc, text) else {
+    let Some(planned) = planned_deck(alloc, text) else {
         return add_line(b"no deck", &[], came);
     };
-    run_pieces(alloc, &deck, &program, room, &pieces, came)
+    run_pieces(alloc, &planned, room, &pieces, came)
 }
 
 /// The same, of a deck with its program. After each piece it is told whether all events were run.
 fn run_pieces(
     alloc: Global,
-    deck: &Deck,
-    program: &Program,
+    planned: &Planned,
     room: u64,
     pieces: &[u32],
     came: &mut Vec<u8>,
-) -> Result<(), NoMemory>
-    requires { program.now ≡ disks_in deck.now }
-{
+) -> Result<(), NoMemory> {
     let mut tape = Vec::new(alloc);
     let mut mast = TapeMast::new(alloc, room)?;
-    let mut run = PieceRun::new(alloc, deck)?;
+    let mut run = PieceRun::new(alloc, planned)?;
     for cycles in pieces {
         let cycles = (*cycles).max(1);
         let first = run.events.len();
-        let Ok(()) = run.next_piece(alloc, deck, program, cycles, &mut mast) else {
+        let Ok(()) = run.next_piece(alloc, planned, cycles, &mut mast) else {
             return add_line(b"no room", &[], came);
         };
         add_piece(&run.events, first, mast.tape(), &mut tape, came)?;
-        if run.is_done(deck) {
+        if run.is_done(planned) {
             add_line(b"done", &[], came)?;
         }
     }

@@ -2,23 +2,17 @@
 //!
 //! A case whose deck has none is told `no deck`.
 
-ghost use Rattle.std.specs.Prelude.{◌≡◌, IfSome};
-ghost use Rattle.air_model.specs.Decks.{disks_in};
-
 use air_base::limits::MOST_DECK_BYTES;
-use chunk_program::{Program, cut};
-use item_catalog::{Deck, read_deck};
+use chunk_program::{Planned, cut};
+use item_catalog::read_deck;
 use std::alloc::Global;
 
 /// The deck of a text with its program; none where the text spells no deck, or its program is too long.
-pub fn deck_and_program(alloc: Global, text: &[u8]) -> Option<(Deck, Program)>
-    ensures { IfSome result (λ both. both.1 ≡ disks_in both.0) }
-{
+pub fn planned_deck(alloc: Global, text: &[u8]) -> Option<Planned> {
     if text.len() > MOST_DECK_BYTES {
         return None;
     }
     let deck = read_deck(alloc, text).ok()?;
     let order = cut(alloc, &deck).ok()?;
-    let program = Program::plan(alloc, &deck, &order).ok()?;
-    Some((deck, program))
+    Planned::new(alloc, deck, &order).ok()
 }

@@ -3,7 +3,7 @@
 //! `hear` has the name of a file, its limit and the size of a piece, each `own` where they are the program's, and the calls that fail.
 //! `fronts` has the size of a piece.
 
-use crate::decks::deck_and_program;
+use crate::decks::planned_deck;
 use crate::reports::add_report;
 use air_base::NoMemory;
 use air_cli::{PieceSizes, file_sessions, piece_sessions};
@@ -33,13 +33,13 @@ fn heard<R: Threads + Sync>(
     sizes: Option<PieceSizes>,
 ) -> Result<Vec<u8>, NoMemory> {
     let mut came = Vec::new(alloc);
-    let Some((deck, program)) = deck_and_program(alloc, deck) else {
+    let Some(planned) = planned_deck(alloc, deck) else {
         add_line(b"no deck", &[], &mut came)?;
         return Ok(came);
     };
     let sessions = match sizes {
-        Some(sizes) => piece_sessions(rt, alloc, shelf, name, &deck, &program, sizes),
-        None => file_sessions(rt, alloc, shelf, name, &deck, &program),
+        Some(sizes) => piece_sessions(rt, alloc, shelf, name, &planned, sizes),
+        None => file_sessions(rt, alloc, shelf, name, &planned),
     };
     match sessions {
         Ok(sessions) => add_report(alloc, Vec::new(alloc), sessions, &mut came)?,

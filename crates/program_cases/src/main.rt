@@ -45,18 +45,19 @@ impl ProgramPlayer {
         let Ok(deck) = read_deck(alloc, &text) else {
             return add_line(b"no deck", &[], came);
         };
-        let (cut, program) = match plans::planned(alloc, &deck) {
+        let (cut, planned) = match plans::plan_deck(alloc, deck) {
             Ok(made) => made,
             Err(fault) => return plans::tell_fault(alloc, &fault, came),
         };
         match word {
-            b"slots" => add_line(b"slots", &[u64::from(program.slots())], came),
-            b"plan" => plans::tell_plan(&deck, &cut, &program, came),
+            b"slots" => add_line(b"slots", &[u64::from(planned.program().slots())], came),
+            b"plan" => plans::tell_plan(&planned, &cut, came),
             b"cut" => plans::tell_cut(&cut, came),
-            b"wait" => plans::tell_wait(&program, &cut, parts, came),
-            _ => match boards::started_board(alloc, &deck)? {
+            b"wait" => plans::tell_wait(planned.program(), &cut, parts, came),
+            _ => match boards::started_board(alloc, planned.deck())? {
                 Some(board) if cut.order().len() == board.n() as usize => {
-                    airing::tell_aired(alloc, &program, &board, word, parts, &mut self.mast, came)
+                    let program = planned.program();
+                    airing::tell_aired(alloc, program, &board, word, parts, &mut self.mast, came)
                 }
                 _ => add_line(b"no board", &[], came),
             },

@@ -7,20 +7,19 @@ ghost use Rattle.air_model.specs.Decks.{disks_in};
 
 use air_base::{NoMemory, write_u64};
 use case_lines::{Parts, add_line};
-use chunk_program::{Cut, PlanFault, Program, cut};
+use chunk_program::{Cut, PlanFault, Planned, Program, cut};
 use item_catalog::Deck;
 use std::alloc::Global;
 
-/// The cut of a deck and its program, or why there is none.
-pub fn planned(alloc: Global, deck: &Deck) -> Result<(Cut, Program), PlanFault>
-    ensures cut { IfOk result (λ p. p.0 ≡ disks_in deck.now) }
-    ensures program { IfOk result (λ p. p.1 ≡ disks_in deck.now) }
+/// The cut of a deck, and the deck with its program, or why there is none.
+pub fn plan_deck(alloc: Global, deck: Deck) -> Result<(Cut, Planned), PlanFault>
+    ensures { IfOk result (λ p. p.0 ≡ disks_in p.1) }
 {
-    let Ok(cut) = cut(alloc, deck) else {
+    let Ok(cut) = cut(alloc, &deck) else {
         return Err(PlanFault::NoMemory);
     };
-    let program = Program::plan(alloc, deck, &cut)?;
-    Ok((cut, program))
+    let planned = Planned::new(alloc, deck, &cut)?;
+    Ok((cut, planned))
 }
 
 /// Adds the text of the fault.
@@ -30,9 +29,9 @@ pub fn tell_fault(alloc: Global, fault: &PlanFault, came: &mut Vec<u8>) -> Resul
 
 /// Adds for each disk its frequency, the number of its chunks and their length.
 #[tactic(auto, using(crate::proofs::DiskCounts::length_disks_in))]
-fn add_disks(deck: &Deck, program: &Program, out: &mut Vec<u8>) -> Result<(), NoMemory>
-    requires { program.now ≡ disks_in deck.now }
-{
+fn add_disks(planned: &Planned, out: &mut Vec<u8>) -> Result<(), NoMemory> {
+    let deck = planned.deck();
+    let program = planned.program();
     for disk in 0..deck.disks() {
         let numbers = [
             u64::from(disk),
@@ -76,11 +75,11 @@ fn rate_of(deck: &Deck, item: u16) -> u32
 }
 
 /// Adds for each item its disk, how often and how far apart it comes, its first slot, and its PIX number at its rate.
-fn add_items(deck: &Deck, cut: &Cut, program: &Program, out: &mut Vec<u8>) -> Result<(), NoMemory>
-    requires { cut.now ≡ program.now }
+fn add_items(planned: &Planned, cut: &Cut, out: &mut Vec<u8>) -> Result<(), NoMemory>
+    requires { cut.now ≡ disks_in planned.now }
 {
-    program.shows_well_made();
-    let _some = program.slots();
+    let deck = planned.deck();
+    let program = planned.program();
     for item in 0..cut.order().len() as u16 {
         let numbers = [
             u64::from(item),
@@ -96,24 +95,19 @@ fn add_items(deck: &Deck, cut: &Cut, program: &Program, out: &mut Vec<u8>) -> Re
 }
 
 /// The plan: slots, minor cycles and their length, the disks, the slots of each minor cycle, and the items.
-pub fn tell_plan(
-    deck: &Deck,
-    cut: &Cut,
-    program: &Program,
-    came: &mut Vec<u8>,
-) -> Result<(), NoMemory>
-    requires cut { cut.now ≡ program.now }
-    requires program { program.now ≡ disks_in deck.now }
+pub fn tell_plan(planned: &Planned, cut: &Cut, came: &mut Vec<u8>) -> Result<(), NoMemory>
+    requires { cut.now ≡ disks_in planned.now }
 {
+    let program = planned.program();
     let numbers = [
         u64::from(program.slots()),
         u64::from(program.minors()),
         u64::from(program.minor_len()),
     ];
     add_line(b"program", &numbers, came)?;
-    add_disks(deck, program, came)?;
+    add_disks(planned, came)?;
     add_slots(program, came)?;
-    add_items(deck, cut, program, came)
+    add_items(planned, cut, came)
 }
 
 /// The order of the items, and of each its disk and its place there.

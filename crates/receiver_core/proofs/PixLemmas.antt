@@ -5,15 +5,8 @@ use Rattle.std.proofs.lemmas.List.{get_or-map, length-map, take_more}
 use Rattle.std.proofs.lemmas.List.FromFn.{get_or-enumerate_from, length-enumerate_from}
 use Rattle.std.proofs.lemmas.Option.{slice_get-get_or}
 use Rattle.air_model.specs.Airings.{pix_number}
-use Rattle.air_model.specs.Decks.{Deck, IsDeck, Item, disks_in, rates_in}
-use Rattle.air_model.specs.Disks.{Disk, all_items, order}
-use Rattle.air_model.proofs.ItemOrder.{cut_items, length-order}
-
--- The disks have as many items as the deck.
-pub items_counted : (deck : Deck) → IsDeck deck → length (all_items (disks_in deck)) ≡ length deck.items
-items_counted deck is =
-    let long : length (order (rates_in deck)) ≡ length deck.items = length-order (rates_in deck) ∙ length-map deck.items (λ i. i.rate) in
-    ap length (cut_items (order (rates_in deck)) deck.disks (is.sizes ∙ sym long)) ∙ long
+use Rattle.air_model.specs.Decks.{Deck, Item, disks_in, rates_in}
+use Rattle.air_model.specs.Disks.{Disk}
 
 -- The PIX numbers of all items.
 abbrev pub all_pix : Deck → List ℕ

@@ -12,8 +12,7 @@ ghost use Rattle.receiver_core.specs.Private.SlotKinds.{kind_fits};
 
 use air_base::{NoMemory, Policy};
 use bucket_codec::{BucketView, ViewKind};
-use chunk_program::Program;
-use item_catalog::Deck;
+use chunk_program::{PlannedRef, Program};
 use std::alloc::Global;
 use std::marker::Model;
 
@@ -38,18 +37,17 @@ impl Model for Air {
 
 impl Air {
     /// What the receivers of a deck know.
-    pub fn new(alloc: Global, deck: &Deck, program: &Program) -> Result<Air, NoMemory>
-        requires { program.now ≡ disks_in deck.now }
-        ensures told { IfOk result (λ a. a ≡ air_of deck.now) }
+    pub fn new(alloc: Global, planned: &PlannedRef<'_>) -> Result<Air, NoMemory>
+        ensures told { IfOk result (λ a. a ≡ air_of planned.now) }
         ensures numbers { IfOk result (λ a. length a.pix ≡ a.items) }
         ensures few { IfOk result (λ a. a.items ≤ MOST_ITEMS) }
     {
-        deck.shows_well_made();
+        let deck = planned.deck();
         Ok(Air {
             policy: deck.settings().policy,
             items: deck.items(),
-            slots: slots(alloc, program)?,
-            pix: pix_numbers(alloc, deck, program)?,
+            slots: slots(alloc, planned.program())?,
+            pix: pix_numbers(alloc, planned)?,
         })
     }
 
@@ -130,11 +128,11 @@ fn slots(alloc: Global, program: &Program) -> Result<Vec<Option<u16>>, NoMemory>
 }
 
 /// The PIX number of each item.
-fn pix_numbers(alloc: Global, deck: &Deck, program: &Program) -> Result<Vec<u64>, NoMemory>
-    requires { program.now ≡ disks_in deck.now }
-    ensures { IfOk result (λ pix. pix.items ≡ map (λ p. pix_number (disks_in deck.now) p.0 p.1) (enumerate_from 0 (rates_in deck.now))) }
+fn pix_numbers(alloc: Global, planned: &PlannedRef<'_>) -> Result<Vec<u64>, NoMemory>
+    ensures { IfOk result (λ pix. pix.items ≡ map (λ p. pix_number (disks_in planned.now) p.0 p.1) (enumerate_from 0 (rates_in planned.now))) }
 {
-    deck.shows_well_made();
+    let deck = planned.deck();
+    let program = planned.program();
     let mut numbers = Vec::new(alloc);
     for item in 0..deck.items() {
         numbers.push(program.pix(item, deck.rate(item)))?;

@@ -25,7 +25,7 @@ use crate::receivers::settling::drop_all;
 use air_base::{Counts, NoMemory, ReadOf, Verdict, VerdictKind};
 use air_model::bucket::BucketFault;
 use bucket_codec::{BucketView, decode};
-use chunk_program::Program;
+use chunk_program::{PlannedRef, Program};
 use item_catalog::Deck;
 use pix_cache::PixCache;
 use std::alloc::Global;
@@ -97,7 +97,7 @@ impl Receiver {
         requires program { program.now ≡ disks_in deck.now }
         ensures { IfOk result (λ r. r ≡ receiver_of deck.now number) }
     {
-        let air = Air::new(alloc, deck, program)?;
+        let air = Air::new(alloc, &PlannedRef::of(deck, program))?;
         let reader = Reader::new(alloc, deck, number)?;
         let held = Attempt::new(alloc, air.policy(), air.items())?;
         let copies = PixCache::new(alloc, reader.room(), air.pix())?;

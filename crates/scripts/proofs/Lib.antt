@@ -1,6 +1,7 @@
 pub mod PartLemmas
 pub mod PieceLemmas
 mod TapePieceLemmas
+mod SinkLemmas
 mod DrillSlots
 mod DrillTapes
 mod CountBounds

@@ -16,11 +16,12 @@ use crate::drills::sums::{
     sum_dozed, sum_opened,
 };
 use crate::laws::{drill_counts_law, drill_slots_law, drill_tape_law};
+use crate::sinks::Discard;
 use crate::whole_scripts::{AiredScript, air_script};
 use air_base::NoMemory;
 use air_report::{finish, put_numbers, row_writer};
 use air_sender::tape_len;
-use chunk_program::{PlanFault, Program, cut};
+use chunk_program::{Planned, cut};
 use item_catalog::{Deck, drill_deck};
 use std::alloc::Global;
 use std::thread::Threads;
@@ -40,40 +41,38 @@ pub fn run_drill<T: Threads + Sync>(
     drill_tape_law();
     drill_counts_law();
     let deck = drill_deck(alloc, seed, size)?;
-    let program = short_program(alloc, &deck)?;
-    let aired = air_script(threads, alloc, &deck, &program)?;
-    let text = line_of(alloc, &numbers_of(&deck, &program, &aired))?;
+    let planned = plan_short(alloc, deck)?;
+    let aired = air_script(threads, alloc, &planned, &Discard, &mut ())?;
+    let text = line_of(alloc, &numbers_of(&planned, &aired))?;
     Ok(text)
 }
 
-/// The program of a deck that is short enough.
-fn short_program(alloc: Global, deck: &Deck) -> Result<Program, NoMemory>
-    requires { length (program (disks_in deck.now)) ≤ MOST_SLOTS }
-    ensures { IfOk result (λ p. p ≡ disks_in deck.now) }
+/// A deck whose program is short enough, with its program: so nothing but memory is wanting where it fails.
+fn plan_short(alloc: Global, deck: Deck) -> Result<Planned, NoMemory>
+    requires { length (program (disks_in deck)) ≤ MOST_SLOTS }
+    ensures { IfOk result (λ p. p ≡ deck) }
 {
-    let cut = cut(alloc, deck)?;
-    match Program::plan(alloc, deck, &cut) {
-        Ok(program) => Ok(program),
-        Err(PlanFault::NoMemory) => Err(NoMemory),
-        Err(PlanFault::TooLong { .. }) => unreachable!(),
+    let cut = cut(alloc, &deck)?;
+    match Planned::new(alloc, deck, &cut) {
+        Ok(planned) => Ok(planned),
+        Err(_) => Err(NoMemory),
     }
 }
 
 /// The numbers of a deck, of its script's history and tape, and of what its readers' sessions tell.
-fn numbers_of(deck: &Deck, program: &Program, aired: &AiredScript) -> [u64; 11]
-    requires planned { program.now ≡ disks_in deck.now }
-    requires sums { SumsFit aired.now.sessions.counts.items }
+fn numbers_of(planned: &Planned, aired: &AiredScript) -> [u64; 11]
+    requires { SumsFit aired.now.sessions.counts.items }
     ensures { result
-        ≡ drill_numbers deck.now aired.now.events.items (script_tape deck.now) aired.now.sessions.verdicts.items aired.now.sessions.counts.items }
+        ≡ drill_numbers planned.now aired.now.events.items (script_tape planned.now) aired.now.sessions.verdicts.items aired.now.sessions.counts.items }
 {
     let verdicts = &aired.sessions.verdicts;
     let counts = &aired.sessions.counts;
     [
-        u64::from(deck.items()),
+        u64::from(planned.deck().items()),
         count_commits(&aired.events),
         count_starts(&aired.events),
-        u64::from(program.slots()),
-        tape_len(deck, program),
+        u64::from(planned.program().slots()),
+        tape_len(planned),
         count_accepted(verdicts),
         count_aborted(verdicts),
         count_unfinished(verdicts),

@@ -1,8 +1,8 @@
 //! A deck's script on the air: its events, the buckets of the cycles that they start, and the sessions of the deck's readers.
 //!
 //! `PieceRun` airs some cycles at a time (`piece_runs`), and its pieces, one behind the other, are what the script's whole history
-//! airs. `ScriptAiring` has the readers hear each piece (`script_airing`), `air_script` the whole (`whole_scripts`), and `run_drill` does so
-//! for the deck of a drill and sums up what came of it (`drills`).
+//! airs. `ScriptAiring` has the readers hear each piece (`script_airing`), and `air_script` goes through all pieces and gives each to a
+//! sink (`whole_scripts`, `sinks`). `run_drill` does so for the deck of a drill, keeps no piece, and sums up what came of it (`drills`).
 #![tactic(auto)]
 
 mod drills;
@@ -10,11 +10,13 @@ pub mod laws;
 mod parts;
 mod piece_runs;
 mod script_airing;
+mod sinks;
 mod sizes;
 mod whole_scripts;
 
 pub use drills::run_drill;
 pub use piece_runs::PieceRun;
 pub use script_airing::ScriptAiring;
+pub use sinks::{Discard, PieceSink};
 pub use sizes::piece_cycles;
 pub use whole_scripts::{AiredScript, air_script};

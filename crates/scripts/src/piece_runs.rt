@@ -6,7 +6,7 @@
 ghost use Rattle.std.specs.Prelude.{◌≡◌, ◌↔◌, ◌<◌, ◌≤◌, ◌+◌, ◌*◌, ◌++◌, ◌∷◌, [], ℕ, List, false, cond, IfOk, IsTrue, OnOk, length};
 ghost use Rattle.air_history.specs.Boards.{board_of};
 ghost use Rattle.air_history.specs.Histories.{starts};
-ghost use Rattle.air_model.specs.Decks.{disks_in, script_history, values_in};
+ghost use Rattle.air_model.specs.Decks.{script_history, values_in};
 ghost use Rattle.air_sender.specs.TapeMasts.{told_by_tape};
 ghost use Rattle.air_sender.specs.AiredBytes.{aired_bytes};
 ghost use Rattle.scripts.specs.PieceRuns.{IsPieceRun};
@@ -16,9 +16,8 @@ use air_base::NoMemory;
 use air_history::Event;
 use air_sender::{TapeMast, air_cycle, below_law, own_cycle_law};
 use bucket_codec::offsets::{ENTRY_BYTES, HEAD_BYTES};
-use chunk_program::Program;
+use chunk_program::Planned;
 use control_matrix::Board;
-use item_catalog::Deck;
 use std::alloc::Global;
 
 /// The events so far, how many of them are each updater's, their board, and room for a bucket's bytes.
@@ -32,11 +31,11 @@ pub struct PieceRun {
 
 impl PieceRun {
     /// No event yet.
-    pub fn new(alloc: Global, deck: &Deck) -> Result<PieceRun, NoMemory>
-        ensures kept { IfOk result (IsPieceRun deck.now) }
+    pub fn new(alloc: Global, planned: &Planned) -> Result<PieceRun, NoMemory>
+        ensures kept { IfOk result (IsPieceRun planned.now) }
         ensures empty { IfOk result (λ r. r.events.items ≡ []) }
     {
-        deck.shows_well_made();
+        let deck = planned.deck();
         let values = values_of(alloc, deck)?;
         Ok(PieceRun {
             events: Vec::new(alloc),
@@ -47,41 +46,39 @@ impl PieceRun {
     }
 
     /// Whether all events of the script were run.
-    pub fn is_done(&self, deck: &Deck) -> bool
-        requires { IsPieceRun deck.now self.now }
-        ensures done { IsTrue result ↔ (self.now.events.items ≡ script_history deck.now) }
-        ensures left { result ≡ false → length self.now.events.items < length deck.now.script }
+    pub fn is_done(&self, planned: &Planned) -> bool
+        requires { IsPieceRun planned.now self.now }
+        ensures done { IsTrue result ↔ (self.now.events.items ≡ script_history planned.now) }
+        ensures left { result ≡ false → length self.now.events.items < length planned.now.script }
     {
-        self.events.len() == deck.script_len() as usize
+        self.events.len() == planned.deck().script_len() as usize
     }
 
     /// Runs on until so many cycles were aired, or to the end of the script: afterwards the mast has the buckets of these cycles alone.
-    /// `Program::plan` makes the deck's program. The mast wants room for so many cycles, as `tape_bytes` tells it; a send that it has no
-    /// room for counts as out of memory. The run is kept from `new` on, until a call runs out of memory.
+    /// The mast wants room for so many cycles, as `tape_bytes` tells it; a send that it has no room for counts as out of memory. The run is
+    /// kept from `new` on, until a call runs out of memory.
     pub fn next_piece(
         &mut self,
         alloc: Global,
-        deck: &Deck,
-        program: &Program,
+        planned: &Planned,
         cycles: u32,
         piece: &mut TapeMast,
     ) -> Result<(), NoMemory>
-        requires planned { program.now ≡ disks_in deck.now }
         requires some { 1 ≤ cycles }
-        requires kept { IsPieceRun deck.now self.old }
-        ensures kept { OnOk result (IsPieceRun deck.now self.new) }
-        ensures aired { OnOk result (aired_bytes deck.now self.new.events.items ≡ aired_bytes deck.now self.old.events.items ++ (told_by_tape piece.new).buckets) }
-        ensures on { OnOk result (length self.old.events.items < length deck.now.script → length self.old.events.items < length self.new.events.items) }
+        requires kept { IsPieceRun planned.now self.old }
+        ensures kept { OnOk result (IsPieceRun planned.now self.new) }
+        ensures aired { OnOk result (aired_bytes planned.now self.new.events.items ≡ aired_bytes planned.now self.old.events.items ++ (told_by_tape piece.new).buckets) }
+        ensures on { OnOk result (length self.old.events.items < length planned.now.script → length self.old.events.items < length self.new.events.items) }
         ensures cycles { OnOk result (starts self.new.events.items ≤ starts self.old.events.items + cycles) }
-        ensures full { OnOk result (length self.new.events.items < length deck.now.script → starts self.new.events.items ≡ starts self.old.events.items + cycles) }
+        ensures full { OnOk result (length self.new.events.items < length planned.now.script → starts self.new.events.items ≡ starts self.old.events.items + cycles) }
     {
         piece.clear();
         let mut left = cycles;
-        for next in self.events.len()..deck.script_len() as usize {
+        for next in self.events.len()..planned.deck().script_len() as usize {
             if left == 0 {
                 break;
             }
-            if self.step(alloc, deck, program, piece)? {
+            if self.step(alloc, planned, piece)? {
                 left -= 1;
             }
         }
@@ -92,26 +89,23 @@ impl PieceRun {
     fn step(
         &mut self,
         alloc: Global,
-        deck: &Deck,
-        program: &Program,
+        planned: &Planned,
         piece: &mut TapeMast,
     ) -> Result<bool, NoMemory>
-        requires planned { program.now ≡ disks_in deck.now }
-        requires kept { IsPieceRun deck.now self.old }
-        requires more { length self.old.events.items < length deck.now.script }
-        ensures kept { OnOk result (IsPieceRun deck.now self.new) }
+        requires kept { IsPieceRun planned.now self.old }
+        requires more { length self.old.events.items < length planned.now.script }
+        ensures kept { OnOk result (IsPieceRun planned.now self.new) }
         ensures one { OnOk result (length self.new.events.items ≡ length self.old.events.items + 1) }
         ensures cycle { IfOk result (λ started. starts self.new.events.items ≡ starts self.old.events.items + cond started 1 0) }
-        ensures aired { (before : List (List ℕ)) → aired_bytes deck.now self.old.events.items ≡ before ++ (told_by_tape piece.old).buckets →
-            OnOk result (aired_bytes deck.now self.new.events.items ≡ before ++ (told_by_tape piece.new).buckets) }
+        ensures aired { (before : List (List ℕ)) → aired_bytes planned.now self.old.events.items ≡ before ++ (told_by_tape piece.old).buckets →
+            OnOk result (aired_bytes planned.now self.new.events.items ≡ before ++ (told_by_tape piece.new).buckets) }
     {
-        deck.shows_well_made();
+        let deck = planned.deck();
         let k = self.events.len() as u32;
-        let _few = deck.script_len();
         let event = event_at(alloc, deck, &self.made, k)?;
         count_part(deck, &mut self.made, k);
         self.board.apply(&event);
-        self.air(deck, program, &event, piece)?;
+        self.air(planned, &event, piece)?;
         let started = event.is_start();
         self.events.push(event)?;
         Ok(started)
@@ -120,17 +114,15 @@ impl PieceRun {
     /// Airs the cycle that an event starts, from the board that the event leaves; a commit starts none.
     fn air(
         &mut self,
-        deck: &Deck,
-        program: &Program,
+        planned: &Planned,
         event: &Event,
         piece: &mut TapeMast,
     ) -> Result<(), NoMemory>
-        requires planned { program.now ≡ disks_in deck.now }
-        requires stepped { self.old.board ≡ board_of (values_in deck.now) (self.old.events.items ++ event.now ∷ []) }
-        requires room { length self.old.room.items ≡ HEAD_BYTES + ENTRY_BYTES * length deck.now.items }
-        ensures aired { (before : List (List ℕ)) → aired_bytes deck.now self.old.events.items ≡ before ++ (told_by_tape piece.old).buckets →
-            OnOk result (aired_bytes deck.now (self.old.events.items ++ event.now ∷ []) ≡ before ++ (told_by_tape piece.new).buckets) }
-        ensures room { length self.new.room.items ≡ HEAD_BYTES + ENTRY_BYTES * length deck.now.items }
+        requires stepped { self.old.board ≡ board_of (values_in planned.now) (self.old.events.items ++ event.now ∷ []) }
+        requires room { length self.old.room.items ≡ HEAD_BYTES + ENTRY_BYTES * length planned.now.items }
+        ensures aired { (before : List (List ℕ)) → aired_bytes planned.now self.old.events.items ≡ before ++ (told_by_tape piece.old).buckets →
+            OnOk result (aired_bytes planned.now (self.old.events.items ++ event.now ∷ []) ≡ before ++ (told_by_tape piece.new).buckets) }
+        ensures room { length self.new.room.items ≡ HEAD_BYTES + ENTRY_BYTES * length planned.now.items }
         ensures events { self.new.events ≡ self.old.events }
         ensures made { self.new.made ≡ self.old.made }
         ensures board { self.new.board ≡ self.old.board }
@@ -138,11 +130,16 @@ impl PieceRun {
         if !event.is_start() {
             return Ok(());
         }
-        deck.shows_well_made();
         own_cycle_law();
         below_law();
-        let policy = deck.settings().policy;
-        match air_cycle(program, &self.board, policy, piece, &mut self.room) {
+        let policy = planned.deck().settings().policy;
+        match air_cycle(
+            planned.program(),
+            &self.board,
+            policy,
+            piece,
+            &mut self.room,
+        ) {
             Ok(()) => Ok(()),
             Err(_) => Err(NoMemory),
         }

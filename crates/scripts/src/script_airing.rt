@@ -1,6 +1,6 @@
 //! A deck's script on the air piece by piece, with all its readers.
 
-ghost use Rattle.std.specs.Prelude.{◌≡◌, ◌↔◌, ◌<◌, ◌≤◌, ◌+◌, ◌*◌, ◌++◌, ℕ, List, [], false, IfOk, IsTrue, OnOk, length};
+ghost use Rattle.std.specs.Prelude.{◌≡◌, ◌↔◌, ◌<◌, ◌≤◌, ◌+◌, ◌*◌, ◌++◌, [], false, IfOk, IsTrue, OnOk, length};
 ghost use Rattle.air_base.specs.declared.limits.TheConstants.{MOST_TAPE_BYTES};
 ghost use Rattle.air_history.specs.Histories.{starts};
 ghost use Rattle.air_model.specs.Decks.{disks_in, script_history};
@@ -14,8 +14,7 @@ use crate::piece_runs::PieceRun;
 use air_base::NoMemory;
 use air_history::Event;
 use air_sender::{TapeMast, tape_bytes};
-use chunk_program::Program;
-use item_catalog::Deck;
+use chunk_program::Planned;
 use listeners::{Hearers, Sessions};
 use std::alloc::Global;
 use std::thread::Threads;
@@ -30,37 +29,31 @@ pub struct ScriptAiring {
 }
 
 impl ScriptAiring {
-    /// Nothing was aired yet; a piece is to have so many cycles, and the mast has room for the tape of these. `Program::plan` makes the deck's program.
-    pub fn new(
-        alloc: Global,
-        deck: &Deck,
-        program: &Program,
-        cycles: u32,
-    ) -> Result<ScriptAiring, NoMemory>
-        requires planned { program.now ≡ disks_in deck.now }
-        requires some { 1 ≤ cycles }
-        ensures kept { IfOk result (IsAiring deck.now) }
+    /// Nothing was aired yet; a piece is to have so many cycles, and the mast has room for the tape of these.
+    pub fn new(alloc: Global, planned: &Planned, cycles: u32) -> Result<ScriptAiring, NoMemory>
+        requires { 1 ≤ cycles }
+        ensures kept { IfOk result (IsAiring planned.now) }
         ensures empty { IfOk result (λ a. a.run.events.items ≡ []) }
-        ensures nothing { IfOk result (λ a. tape_so_far deck.now a ≡ []) }
+        ensures nothing { IfOk result (λ a. tape_so_far planned.now a ≡ []) }
         ensures size { IfOk result (λ a. a.cycles ≡ cycles) }
-        ensures room { IfOk result (λ a. a.mast.tape.room ≡ cycles * cycle_size (length deck.now.items) (slots_of program.now)) }
+        ensures room { IfOk result (λ a. a.mast.tape.room ≡ cycles * cycle_size (length planned.now.items) (slots_of (disks_in planned.now))) }
     {
-        deck.shows_well_made();
+        let items = planned.deck().items();
         Ok(ScriptAiring {
-            run: PieceRun::new(alloc, deck)?,
-            hearers: Hearers::new(alloc, deck, program)?,
-            mast: TapeMast::new(alloc, tape_bytes(program, deck.items(), cycles))?,
+            run: PieceRun::new(alloc, planned)?,
+            hearers: Hearers::new(alloc, planned)?,
+            mast: TapeMast::new(alloc, tape_bytes(planned.program(), items, cycles))?,
             cycles,
         })
     }
 
     /// Whether the whole script was aired.
-    pub fn is_done(&self, deck: &Deck) -> bool
-        requires { IsAiring deck.now self.now }
-        ensures done { IsTrue result ↔ (self.now.run.events.items ≡ script_history deck.now) }
-        ensures left { result ≡ false → length self.now.run.events.items < length deck.now.script }
+    pub fn is_done(&self, planned: &Planned) -> bool
+        requires { IsAiring planned.now self.now }
+        ensures done { IsTrue result ↔ (self.now.run.events.items ≡ script_history planned.now) }
+        ensures left { result ≡ false → length self.now.run.events.items < length planned.now.script }
     {
-        self.run.is_done(deck)
+        self.run.is_done(planned)
     }
 
     /// The tape of the piece that was aired last.
@@ -70,35 +63,28 @@ impl ScriptAiring {
         self.mast.tape()
     }
 
-    /// What was aired so far is a beginning of the script's tape.
-    pub fn shows_beginning(&self, deck: &Deck)
-        requires { IsAiring deck.now self.now }
-        ensures { (rest : List ℕ) × (script_tape deck.now ≡ tape_so_far deck.now self.now ++ rest) }
-    {}
-
     /// Airs the next piece, up to the end of the script, and lets every reader hear it. It is kept from `new` on, until a call runs out
     /// of memory.
     pub fn next_piece<T: Threads + Sync>(
         &mut self,
         threads: &T,
         alloc: Global,
-        deck: &Deck,
-        program: &Program,
+        planned: &Planned,
     ) -> Result<(), NoMemory>
-        requires planned { program.now ≡ disks_in deck.now }
-        requires few { length (script_tape deck.now) ≤ MOST_TAPE_BYTES }
-        requires kept { IsAiring deck.now self.old }
-        ensures kept { OnOk result (IsAiring deck.now self.new) }
-        ensures aired { OnOk result (tape_so_far deck.now self.new ≡ tape_so_far deck.now self.old ++ piece_in self.new) }
-        ensures on { OnOk result (length self.old.run.events.items < length deck.now.script → length self.old.run.events.items < length self.new.run.events.items) }
+        requires few { length (script_tape planned.now) ≤ MOST_TAPE_BYTES }
+        requires kept { IsAiring planned.now self.old }
+        ensures kept { OnOk result (IsAiring planned.now self.new) }
+        ensures aired { OnOk result (tape_so_far planned.now self.new ≡ tape_so_far planned.now self.old ++ piece_in self.new) }
+        ensures on { OnOk result (length self.old.run.events.items < length planned.now.script → length self.old.run.events.items < length self.new.run.events.items) }
         ensures size { OnOk result (self.new.cycles ≡ self.old.cycles) }
         ensures cycles { OnOk result (starts self.new.run.events.items ≤ starts self.old.run.events.items + self.old.cycles) }
-        ensures full { OnOk result (length self.new.run.events.items < length deck.now.script → starts self.new.run.events.items ≡ starts self.old.run.events.items + self.old.cycles) }
+        ensures full { OnOk result (length self.new.run.events.items < length planned.now.script → starts self.new.run.events.items ≡ starts self.old.run.events.items + self.old.cycles) }
     {
-        let _items = deck.items();
+        planned.shows_planned();
         self.run
-            .next_piece(alloc, deck, program, self.cycles, &mut self.mast)?;
-        self.hearers.hear(threads, alloc, deck, self.mast.tape())?;
+            .next_piece(alloc, planned, self.cycles, &mut self.mast)?;
+        self.hearers
+            .hear(threads, alloc, planned, self.mast.tape())?;
         Ok(())
     }
 
@@ -107,21 +93,18 @@ impl ScriptAiring {
         self,
         threads: &T,
         alloc: Global,
-        deck: &Deck,
-        program: &Program,
+        planned: &Planned,
     ) -> Result<(Vec<Event>, Sessions), NoMemory>
-        requires planned { program.now ≡ disks_in deck.now }
-        requires few { length (script_tape deck.now) ≤ MOST_TAPE_BYTES }
-        requires kept { IsAiring deck.now self }
-        requires done { self.run.events.items ≡ script_history deck.now }
-        ensures events { IfOk result (λ r. r.0.items ≡ script_history deck.now) }
-        ensures verdicts { IfOk result (λ r. r.1.verdicts.items ≡ verdict_lines (true_sessions deck.now (script_history deck.now))) }
-        ensures counts { IfOk result (λ r. r.1.counts.items ≡ counts_lines (true_sessions deck.now (script_history deck.now))) }
+        requires few { length (script_tape planned.now) ≤ MOST_TAPE_BYTES }
+        requires kept { IsAiring planned.now self }
+        requires done { self.run.events.items ≡ script_history planned.now }
+        ensures events { IfOk result (λ r. r.0.items ≡ script_history planned.now) }
+        ensures verdicts { IfOk result (λ r. r.1.verdicts.items ≡ verdict_lines (true_sessions planned.now (script_history planned.now))) }
+        ensures counts { IfOk result (λ r. r.1.counts.items ≡ counts_lines (true_sessions planned.now (script_history planned.now))) }
     {
-        deck.shows_well_made();
-        let _slots = program.slots();
+        planned.shows_planned();
         let ScriptAiring { run, hearers, .. } = self;
-        let sessions = hearers.end(threads, alloc, deck)?;
+        let sessions = hearers.end(threads, alloc, planned)?;
         Ok((run.events, sessions))
     }
 }

@@ -1,28 +1,26 @@
 //! How much of a script's tape is aired at a time.
 
-ghost use Rattle.std.specs.Prelude.{◌≡◌, ◌<◌, ◌≤◌, ◌*◌, length};
+ghost use Rattle.std.specs.Prelude.{◌<◌, ◌≤◌, ◌*◌, length};
 ghost use Rattle.air_model.specs.Decks.{disks_in};
 ghost use Rattle.air_model.specs.Programs.{program as slots_of};
 ghost use Rattle.air_sender.specs.TapeSizes.{cycle_size};
 ghost use Rattle.item_catalog.specs.DeckLimits.{script_starts};
 
 use air_sender::tape_bytes;
-use chunk_program::Program;
-use item_catalog::Deck;
+use chunk_program::Planned;
 
 /// The most bytes of a tape that are aired at a time, where a cycle has no more.
 pub const AIRED_PIECE_BYTES: u64 = 4_194_304;
 
 /// How many cycles are aired at a time: one, or more where the script starts as many and they have at most `AIRED_PIECE_BYTES` bytes of the
-/// tape. `Program::plan` makes the deck's program.
-pub fn piece_cycles(deck: &Deck, program: &Program) -> u32
-    requires { program.now ≡ disks_in deck.now }
+/// tape.
+pub fn piece_cycles(planned: &Planned) -> u32
     ensures some { 1 ≤ result }
-    ensures few { 1 < result → result * cycle_size (length deck.now.items) (slots_of program.now) ≤ AIRED_PIECE_BYTES }
-    ensures within { 1 < result → result ≤ script_starts deck.now }
+    ensures few { 1 < result → result * cycle_size (length planned.now.items) (slots_of (disks_in planned.now)) ≤ AIRED_PIECE_BYTES }
+    ensures within { 1 < result → result ≤ script_starts planned.now }
 {
-    deck.shows_well_made();
-    let cycle = tape_bytes(program, deck.items(), 1);
+    let deck = planned.deck();
+    let cycle = tape_bytes(planned.program(), deck.items(), 1);
     let most = (AIRED_PIECE_BYTES / cycle.max(1)) as u32;
     most.min(deck.script_starts()).max(1)
 }

@@ -1,17 +1,17 @@
-//! A deck's script on the air: its history, and the sessions of its readers.
+//! A deck's script on the air: its pieces, its history, and the sessions of its readers.
 
-ghost use Rattle.std.specs.Prelude.{◌≡◌, ◌≤◌, IfOk, length};
+ghost use Rattle.std.specs.Prelude.{◌≡◌, ◌≤◌, [], IfErr, IfOk, OnOk, length};
 ghost use Rattle.air_base.specs.declared.limits.TheConstants.{MOST_TAPE_BYTES};
-ghost use Rattle.air_model.specs.Decks.{disks_in, script_history};
+ghost use Rattle.air_model.specs.Decks.{script_history};
 ghost use Rattle.air_model.specs.Outputs.{script_tape, true_sessions};
 ghost use Rattle.air_model.specs.Reports.{counts_lines, verdict_lines};
+ghost use Rattle.scripts.specs.Sinks.{StopsAt};
 
 use crate::script_airing::ScriptAiring;
+use crate::sinks::PieceSink;
 use crate::sizes::piece_cycles;
-use air_base::NoMemory;
 use air_history::Event;
-use chunk_program::Program;
-use item_catalog::Deck;
+use chunk_program::Planned;
 use listeners::Sessions;
 use std::alloc::Global;
 use std::thread::Threads;
@@ -23,24 +23,28 @@ pub struct AiredScript {
     pub sessions: Sessions,
 }
 
-/// Airs the script of a deck piece by piece, and lets each reader hear its own ether of the tape, of which no more than a piece is
-/// kept, beside what waits in the ethers.
-pub fn air_script<T: Threads + Sync>(
+/// Airs the script of a deck piece by piece: each reader hears its own ether of the tape, and the sink takes the piece. No more of the
+/// tape than a piece is kept, beside what waits in the ethers. Told of the moment when nothing was taken.
+pub fn air_script<T: Threads + Sync, P, S: PieceSink<P>>(
     threads: &T,
     alloc: Global,
-    deck: &Deck,
-    program: &Program,
-) -> Result<AiredScript, NoMemory>
-    requires planned { program.now ≡ disks_in deck.now }
-    requires few { length (script_tape deck.now) ≤ MOST_TAPE_BYTES }
-    ensures events { IfOk result (λ s. s.events.items ≡ script_history deck.now) }
-    ensures verdicts { IfOk result (λ s. s.sessions.verdicts.items ≡ verdict_lines (true_sessions deck.now (script_history deck.now))) }
-    ensures counts { IfOk result (λ s. s.sessions.counts.items ≡ counts_lines (true_sessions deck.now (script_history deck.now))) }
+    planned: &Planned,
+    sink: &S,
+    place: &mut P,
+) -> Result<AiredScript, S::Fault>
+    requires { length (script_tape planned.now) ≤ MOST_TAPE_BYTES }
+    ensures events { IfOk result (λ s. s.events.items ≡ script_history planned.now) }
+    ensures verdicts { IfOk result (λ s. s.sessions.verdicts.items ≡ verdict_lines (true_sessions planned.now (script_history planned.now))) }
+    ensures counts { IfOk result (λ s. s.sessions.counts.items ≡ counts_lines (true_sessions planned.now (script_history planned.now))) }
+    ensures taken { (first : P) → S.HasTaken sink.now [] first place.old → OnOk result (S.HasTaken sink.now (script_tape planned.now) first place.new) }
+    ensures stopped { (first : P) → S.HasTaken sink.now [] first place.old →
+        IfErr result (StopsAt (S.Fault.from_gives (record {})) (λ bytes. S.HasTaken sink.now bytes first place.new) (λ bytes. S.HasFailed sink.now bytes first place.new) (script_tape planned.now)) }
 {
-    let mut aired = ScriptAiring::new(alloc, deck, program, piece_cycles(deck, program))?;
-    while !aired.is_done(deck) {
-        aired.next_piece(threads, alloc, deck, program)?;
+    let mut aired = ScriptAiring::new(alloc, planned, piece_cycles(planned))?;
+    while !aired.is_done(planned) {
+        aired.next_piece(threads, alloc, planned)?;
+        sink.take(place, aired.piece())?;
     }
-    let (events, sessions) = aired.end(threads, alloc, deck, program)?;
+    let (events, sessions) = aired.end(threads, alloc, planned)?;
     Ok(AiredScript { events, sessions })
 }

@@ -132,16 +132,20 @@ pair_history deck is_pair = ap script_history is_pair ∙ scripted_computed.pair
 -- ---- short tapes
 
 record Short : Type 0 where
-  pair_tape : length (script_tape pair) ≡ 72
+  pair_bytes : script_tape pair ≡ pair_tape
+  pair_len : length (script_tape pair) ≡ 72
   updated_tape : length (script_tape (updated around_a_start)) ≡ 72
   one_cycle : length (history_tape (values_in pair) (air_of pair) (Start ∷ [])) ≡ 72
 
 short_computed : Short
 unfolding last_place greatest cycle_at front starts writer writer_before writes reads is_start descends descends_in column_entry vector_entry value_on_base write_of value_after table origin stale descends_from runs_alone last_alone consistent least is_late clash_by_history clash_by_entries body_at bucket_at count_of entries_at entries_of entry_count is_placed is_shaped item_of kind_of reading spelling value_of words_by due_at due_number heard_list heard_by heard_places places_due times_heard keep without_item with_copy order order_with cut program least_common_multiple num_minors num_chunks chunk_len chunk minor_cycle minor_len disk_number chunks_of pix_number event_of script_history body_of bucket_of buckets_of body_fits fits by_history by_entries session query_of wanted line_of with_line count_copied count_opened count_dozed count_late count_refused count_foreign next_query next_attempt accept_if_whole hold abort is_unusable drop_copy copy_of turn_with turn settle decide offer open_bucket hear_read hear hear_all end_query end true_sessions read_from ends_inside record_bytes tape_of
-short_computed = record { pair_tape = refl; updated_tape = refl; one_cycle = refl }
+short_computed = record { pair_bytes = refl; pair_len = refl; updated_tape = refl; one_cycle = refl }
+
+pub pair_taped : (deck : Deck) → deck ≡ pair → script_tape deck ≡ pair_tape
+pair_taped deck is_pair = ap script_tape is_pair ∙ short_computed.pair_bytes
 
 pub pair_short : (deck : Deck) → deck ≡ pair → length (script_tape deck) ≤ MOST_TAPE_BYTES
-pair_short deck is_pair = omega (arith, ap (λ d. length (script_tape d)) is_pair, short_computed.pair_tape)
+pair_short deck is_pair = omega (arith, ap (λ d. length (script_tape d)) is_pair, short_computed.pair_len)
 
 pub updated_short : (deck : Deck) → deck ≡ updated around_a_start → length (script_tape deck) ≤ MOST_TAPE_BYTES
 updated_short deck is_updated = omega (arith, ap (λ d. length (script_tape d)) is_updated, short_computed.updated_tape)

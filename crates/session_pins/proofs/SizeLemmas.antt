@@ -1,7 +1,7 @@
 -- How many bytes a cycle of a small deck has.
 use Rattle.std.proofs.Common.{◌≡◌, ◌≤◌, ◌<◌, ◌*◌, ◌∙◌, ℕ, zero, suc, List, length, map, None, [], ◌∷◌, ap, refl, arith}
 use Rattle.air_model.specs.Decks.{Deck, Item, disks_in}
-use Rattle.air_model.specs.Disks.{Disk, DiskSpec, cut, order, order_with}
+use Rattle.air_model.specs.Disks.{DiskSpec, cut, order, order_with}
 use Rattle.air_model.specs.Programs.{chunk, chunk_len, least_common_multiple, minor_cycle, num_chunks, num_minors, program}
 use Rattle.air_sender.specs.TapeSizes.{cycle_size}
 use Rattle.session_pins.specs.SmallDecks.{frequent, pair, scripted}
@@ -19,17 +19,15 @@ sizes_computed : Sizes
 unfolding cut order order_with chunk chunk_len least_common_multiple minor_cycle num_chunks num_minors program
 sizes_computed = record { pair_size = refl; frequent_size = refl }
 
--- Items, disks and program that are these have this size.
-size_at : (deck : Deck) (disks : List Disk) (items : List Item) (specs : List DiskSpec) (size : ℕ) → deck.items ≡ items → deck.disks ≡ specs → disks ≡ disks_in deck →
-    size_of items specs ≡ size → cycle_size (length deck.items) (program disks) ≡ size
-size_at deck disks items specs size same_items same_disks planned sized =
-    ap (λ ds. cycle_size (length deck.items) (program ds)) planned ∙ ap (λ is. size_of is deck.disks) same_items ∙ ap (size_of items) same_disks ∙ sized
+-- A deck of these items and disks has this size.
+size_at : (deck : Deck) (items : List Item) (specs : List DiskSpec) (size : ℕ) → deck.items ≡ items → deck.disks ≡ specs → size_of items specs ≡ size
+    → cycle_size (length deck.items) (program (disks_in deck)) ≡ size
+size_at deck items specs size same_items same_disks sized = ap (λ is. size_of is deck.disks) same_items ∙ ap (size_of items) same_disks ∙ sized
 
 -- The size of a cycle of the pair with a script of its own.
-pub scripted_size : (deck : Deck) (disks : List Disk) → deck ≡ scripted (None ∷ None ∷ []) → disks ≡ disks_in deck →
-    1 * cycle_size (length deck.items) (program disks) ≡ 72
-scripted_size deck disks is_scripted planned =
-    omega (arith, size_at deck disks pair.items pair.disks 72 (ap (λ d. d.items) is_scripted) (ap (λ d. d.disks) is_scripted) planned sizes_computed.pair_size)
+pub scripted_size : (deck : Deck) → deck ≡ scripted (None ∷ None ∷ []) → 1 * cycle_size (length deck.items) (program (disks_in deck)) ≡ 72
+scripted_size deck is_scripted =
+    omega (arith, size_at deck pair.items pair.disks 72 (ap (λ d. d.items) is_scripted) (ap (λ d. d.disks) is_scripted) sizes_computed.pair_size)
 
 -- Where a piece has 4,194,304 bytes at most, or one cycle, it has no more than 2,048 cycles of 2,048 bytes.
 few_cycles : (n size : ℕ) → size ≡ 2048 → (1 < n → n * size ≤ 4194304) → n ≤ 2048
@@ -41,7 +39,7 @@ few_cycles (suc (suc n)) size e few =
     omega (arith, fits, same)
 
 -- So it is of the deck whose item is frequent.
-pub few_frequent : (deck : Deck) (disks : List Disk) (n : ℕ) → deck.items ≡ frequent.items → deck.disks ≡ frequent.disks → disks ≡ disks_in deck →
-    (1 < n → n * cycle_size (length deck.items) (program disks) ≤ 4194304) → n ≤ 2048
-few_frequent deck disks n same_items same_disks planned few =
-    few_cycles n (cycle_size (length deck.items) (program disks)) (size_at deck disks frequent.items frequent.disks 2048 same_items same_disks planned sizes_computed.frequent_size) few
+pub few_frequent : (deck : Deck) (n : ℕ) → deck.items ≡ frequent.items → deck.disks ≡ frequent.disks
+    → (1 < n → n * cycle_size (length deck.items) (program (disks_in deck)) ≤ 4194304) → n ≤ 2048
+few_frequent deck n same_items same_disks few =
+    few_cycles n (cycle_size (length deck.items) (program (disks_in deck))) (size_at deck frequent.items frequent.disks 2048 same_items same_disks sizes_computed.frequent_size) few

@@ -4,7 +4,6 @@
 ghost use Rattle.std.specs.Prelude.{◌≡◌, [], ◌∷◌, IfOk, Ok, OnOk};
 ghost use Rattle.air_base.specs.declared.verdicts.VerdictKind.TheVariants.{Unfinished};
 ghost use Rattle.air_model.specs.Buckets.{Column};
-ghost use Rattle.air_model.specs.Decks.{disks_in};
 ghost use Rattle.air_model.specs.Sessions.{start};
 ghost use Rattle.air_model.specs.Tapes.{tape_read};
 ghost use Rattle.session_pins.specs.SmallBuckets.{both_records, bucket};
@@ -16,8 +15,7 @@ use air_base::NoMemory;
 use air_model::bucket::BucketFault;
 use air_model::reports::{CountsLine, VerdictLine};
 use bucket_codec::BucketView;
-use chunk_program::Program;
-use item_catalog::Deck;
+use chunk_program::Planned;
 use listeners::{Listener, Sessions, Together, ether_sessions};
 use std::alloc::Global;
 use std::thread::Threads;
@@ -56,17 +54,15 @@ pub fn lines_of_the_first_reader(
 pub fn lossy_ethers_heard_together<T: Threads + Sync>(
     threads: &T,
     alloc: Global,
-    deck: &Deck,
-    program: &Program,
+    planned: &Planned,
     tape: &[u8],
 ) -> Result<Sessions, NoMemory>
-    requires deck { deck.now ≡ noisy }
-    requires planned { program.now ≡ disks_in noisy }
+    requires deck { planned.now ≡ noisy }
     requires tape { tape_read tape.now ≡ both_records }
     ensures verdicts { IfOk result (λ s. s.verdicts.items ≡ told 0 Unfinished [] ∷ told 1 Unfinished (read 0 1 10 ∷ []) ∷ []) }
     ensures lines { IfOk result (λ s. s.counts.items ≡ counted 0 (counts 0 0 0 0 0 0) ∷ counted 1 (counts 1 1 0 0 0 0) ∷ []) }
 {
-    let sessions = ether_sessions(threads, alloc, deck, program, tape)?;
+    let sessions = ether_sessions(threads, alloc, planned, tape)?;
     Ok(sessions)
 }
 

@@ -3,7 +3,6 @@
 
 ghost use Rattle.std.specs.Prelude.{◌≡◌, [], ◌∷◌, None, OnOk, Some};
 ghost use Rattle.air_history.specs.declared.histories.Event.TheVariants.{Start};
-ghost use Rattle.air_model.specs.Decks.{disks_in};
 ghost use Rattle.air_sender.specs.TapeMasts.{told_by_tape};
 ghost use Rattle.scripts.specs.PieceRuns.{IsPieceRun};
 ghost use Rattle.session_pins.specs.SmallBuckets.{item_bytes};
@@ -11,8 +10,7 @@ ghost use Rattle.session_pins.specs.SmallDecks.{commit, scripted, set_to, update
 
 use air_base::NoMemory;
 use air_sender::TapeMast;
-use chunk_program::Program;
-use item_catalog::Deck;
+use chunk_program::Planned;
 use scripts::PieceRun;
 use std::alloc::Global;
 
@@ -20,17 +18,15 @@ use std::alloc::Global;
 pub fn another_update_of_the_updater(
     run: &mut PieceRun,
     alloc: Global,
-    deck: &Deck,
-    program: &Program,
+    planned: &Planned,
     piece: &mut TapeMast,
 ) -> Result<(), NoMemory>
-    requires deck { deck.now ≡ updated (Some 0 ∷ Some 0 ∷ []) }
-    requires planned { program.now ≡ disks_in deck.now }
-    requires kept { IsPieceRun deck.now run.old }
+    requires deck { planned.now ≡ updated (Some 0 ∷ Some 0 ∷ []) }
+    requires kept { IsPieceRun planned.now run.old }
     requires events { run.old.events.items ≡ commit 0 (set_to 0 11) ∷ [] }
     ensures { OnOk result (run.new.events.items ≡ commit 0 (set_to 0 11) ∷ commit 1 (set_to 1 21) ∷ []) }
 {
-    run.next_piece(alloc, deck, program, 1, piece)?;
+    run.next_piece(alloc, planned, 1, piece)?;
     Ok(())
 }
 
@@ -38,17 +34,15 @@ pub fn another_update_of_the_updater(
 pub fn mast_not_emptied(
     run: &mut PieceRun,
     alloc: Global,
-    deck: &Deck,
-    program: &Program,
+    planned: &Planned,
     piece: &mut TapeMast,
 ) -> Result<(), NoMemory>
-    requires deck { deck.now ≡ scripted (None ∷ None ∷ []) }
-    requires planned { program.now ≡ disks_in deck.now }
-    requires kept { IsPieceRun deck.now run.old }
+    requires deck { planned.now ≡ scripted (None ∷ None ∷ []) }
+    requires kept { IsPieceRun planned.now run.old }
     requires events { run.old.events.items ≡ Start ∷ [] }
     ensures { OnOk result ((told_by_tape piece.new).buckets ≡ item_bytes 2 0 10 ∷ item_bytes 2 1 20 ∷ []) }
 {
-    run.next_piece(alloc, deck, program, 1, piece)?;
+    run.next_piece(alloc, planned, 1, piece)?;
     Ok(())
 }
 
@@ -56,16 +50,14 @@ pub fn mast_not_emptied(
 pub fn piece_ends_early(
     run: &mut PieceRun,
     alloc: Global,
-    deck: &Deck,
-    program: &Program,
+    planned: &Planned,
     piece: &mut TapeMast,
 ) -> Result<(), NoMemory>
-    requires deck { deck.now ≡ scripted (None ∷ None ∷ None ∷ []) }
-    requires planned { program.now ≡ disks_in deck.now }
-    requires kept { IsPieceRun deck.now run.old }
+    requires deck { planned.now ≡ scripted (None ∷ None ∷ None ∷ []) }
+    requires kept { IsPieceRun planned.now run.old }
     requires events { run.old.events.items ≡ [] }
     ensures { OnOk result (run.new.events.items ≡ Start ∷ Start ∷ []) }
 {
-    run.next_piece(alloc, deck, program, 2, piece)?;
+    run.next_piece(alloc, planned, 2, piece)?;
     Ok(())
 }

@@ -1,19 +1,18 @@
-//! Pins of `air_script` and `history_sessions`: a small deck's script on the air, and the sessions of its reader.
+//! Pins of `air_script` and `history_sessions`: a small deck's script on the air, what a sink takes of it, and the sessions of its reader.
 #![tactic(auto)]
 
-ghost use Rattle.std.specs.Prelude.{◌≡◌, [], ◌∷◌, IfOk, None, Some};
+ghost use Rattle.std.specs.Prelude.{◌≡◌, [], ◌∷◌, IfOk, None, OnOk, Some};
 ghost use Rattle.air_base.specs.declared.verdicts.VerdictKind.TheVariants.{Accept};
 ghost use Rattle.air_history.specs.declared.histories.Event.TheVariants.{Start};
-ghost use Rattle.air_model.specs.Decks.{disks_in};
 ghost use Rattle.listeners.specs.HistoryTapes.{HasTape};
+ghost use Rattle.session_pins.specs.SmallBuckets.{pair_tape};
 ghost use Rattle.session_pins.specs.SmallDecks.{commit, pair, set_to, updated};
 ghost use Rattle.session_pins.specs.SmallReceivers.{counted, counts, read, told};
 
 use air_base::NoMemory;
-use chunk_program::Program;
-use item_catalog::Deck;
+use chunk_program::Planned;
 use listeners::{Sessions, history_sessions};
-use scripts::{AiredScript, air_script};
+use scripts::{AiredScript, Discard, PieceSink, air_script};
 use std::alloc::Global;
 use std::thread::Threads;
 
@@ -22,16 +21,14 @@ use std::thread::Threads;
 pub fn history_left_out_of_the_report<T: Threads + Sync>(
     threads: &T,
     alloc: Global,
-    deck: &Deck,
-    program: &Program,
+    planned: &Planned,
 ) -> Result<AiredScript, NoMemory>
-    requires deck { deck.now ≡ updated (Some 0 ∷ None ∷ Some 0 ∷ []) }
-    requires planned { program.now ≡ disks_in deck.now }
+    requires { planned.now ≡ updated (Some 0 ∷ None ∷ Some 0 ∷ []) }
     ensures events { IfOk result (λ s. s.events.items ≡ commit 0 (set_to 0 11) ∷ Start ∷ commit 1 (set_to 1 21) ∷ []) }
     ensures verdicts { IfOk result (λ s. s.sessions.verdicts.items ≡ told 0 Accept (read 0 1 11 ∷ read 1 1 20 ∷ []) ∷ []) }
     ensures lines { IfOk result (λ s. s.sessions.counts.items ≡ counted 0 (counts 2 0 0 0 0 0) ∷ []) }
 {
-    let aired = air_script(threads, alloc, deck, program)?;
+    let aired = air_script(threads, alloc, planned, &Discard, &mut ())?;
     Ok(aired)
 }
 
@@ -39,14 +36,28 @@ pub fn history_left_out_of_the_report<T: Threads + Sync>(
 pub fn last_piece_not_heard<T: Threads + Sync>(
     threads: &T,
     alloc: Global,
-    deck: &Deck,
-    program: &Program,
+    planned: &Planned,
 ) -> Result<AiredScript, NoMemory>
-    requires deck { deck.now ≡ pair }
-    requires planned { program.now ≡ disks_in deck.now }
+    requires { planned.now ≡ pair }
     ensures { IfOk result (λ s. s.sessions.verdicts.items ≡ told 0 Accept (read 0 1 10 ∷ read 1 1 20 ∷ []) ∷ []) }
 {
-    let aired = air_script(threads, alloc, deck, program)?;
+    let aired = air_script(threads, alloc, planned, &Discard, &mut ())?;
+    Ok(aired)
+}
+
+/// Each piece is given to the sink: here the only one, with both items of one cycle.
+pub fn last_piece_not_taken<T: Threads + Sync, P, S: PieceSink<P>>(
+    threads: &T,
+    alloc: Global,
+    planned: &Planned,
+    sink: &S,
+    place: &mut P,
+) -> Result<AiredScript, S::Fault>
+    requires deck { planned.now ≡ pair }
+    requires begun { S.HasTaken sink.now [] place.old place.old }
+    ensures { OnOk result (S.HasTaken sink.now pair_tape place.old place.new) }
+{
+    let aired = air_script(threads, alloc, planned, sink, place)?;
     Ok(aired)
 }
 
@@ -54,16 +65,14 @@ pub fn last_piece_not_heard<T: Threads + Sync>(
 pub fn sessions_without_their_counts<T: Threads + Sync>(
     threads: &T,
     alloc: Global,
-    deck: &Deck,
-    program: &Program,
+    planned: &Planned,
     tape: &[u8],
 ) -> Result<Sessions, NoMemory>
-    requires deck { deck.now ≡ pair }
-    requires planned { program.now ≡ disks_in deck.now }
-    requires tape { HasTape deck.now (Start ∷ []) tape.now }
+    requires deck { planned.now ≡ pair }
+    requires tape { HasTape planned.now (Start ∷ []) tape.now }
     ensures verdicts { IfOk result (λ s. s.verdicts.items ≡ told 0 Accept (read 0 1 10 ∷ read 1 1 20 ∷ []) ∷ []) }
     ensures lines { IfOk result (λ s. s.counts.items ≡ counted 0 (counts 2 0 0 0 0 0) ∷ []) }
 {
-    let sessions = history_sessions(threads, alloc, deck, program, tape)?;
+    let sessions = history_sessions(threads, alloc, planned, tape)?;
     Ok(sessions)
 }

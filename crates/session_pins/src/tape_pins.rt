@@ -3,7 +3,6 @@
 
 ghost use Rattle.std.specs.Prelude.{◌≡◌, [], ◌∷◌, IfErr, IfOk, MatchResult, Some};
 ghost use Rattle.air_base.specs.declared.verdicts.VerdictKind.TheVariants.{Accept};
-ghost use Rattle.air_model.specs.Decks.{disks_in};
 ghost use Rattle.session_pins.specs.SmallBuckets.{cut_tape, pair_tape};
 ghost use Rattle.session_pins.specs.SmallDecks.{pair};
 ghost use Rattle.session_pins.specs.SmallReceivers.{counted, counts, read, told};
@@ -12,8 +11,7 @@ ghost use Rattle.session_pins.specs.Refusals.{IsCutAt, IsUnread};
 use air_cli::{PieceSizes, file_sessions, piece_sessions};
 use air_devices::Shelf;
 use air_report::Status;
-use chunk_program::Program;
-use item_catalog::Deck;
+use chunk_program::Planned;
 use listeners::Sessions;
 use std::alloc::Global;
 use std::thread::Threads;
@@ -24,15 +22,13 @@ pub fn always_a_cut_tape<T: Threads + Sync, S: Shelf>(
     alloc: Global,
     shelf: &mut S,
     name: &str,
-    deck: &Deck,
-    program: &Program,
+    planned: &Planned,
 ) -> Result<Sessions, Status>
-    requires deck { deck.now ≡ pair }
-    requires planned { program.now ≡ disks_in deck.now }
+    requires deck { planned.now ≡ pair }
     requires file { (S.state shelf.old).told.file name.now ≡ Some pair_tape }
     ensures { IfErr result IsUnread }
 {
-    file_sessions(threads, alloc, shelf, name, deck, program)
+    file_sessions(threads, alloc, shelf, name, planned)
 }
 
 /// The record that a piece's end divides is put together again (divided record lost), and each record is heard (records of a piece
@@ -42,11 +38,9 @@ pub fn carried_rest_forgotten<T: Threads + Sync, S: Shelf>(
     alloc: Global,
     shelf: &mut S,
     name: &str,
-    deck: &Deck,
-    program: &Program,
+    planned: &Planned,
 ) -> Result<Sessions, Status>
-    requires deck { deck.now ≡ pair }
-    requires planned { program.now ≡ disks_in deck.now }
+    requires deck { planned.now ≡ pair }
     requires file { (S.state shelf.old).told.file name.now ≡ Some pair_tape }
     ensures verdicts { IfOk result (λ s. s.verdicts.items ≡ told 0 Accept (read 0 1 10 ∷ read 1 1 20 ∷ []) ∷ []) }
     ensures lines { IfOk result (λ s. s.counts.items ≡ counted 0 (counts 2 0 0 0 0 0) ∷ []) }
@@ -56,7 +50,7 @@ pub fn carried_rest_forgotten<T: Threads + Sync, S: Shelf>(
         tape: 72,
         piece: 40,
     };
-    piece_sessions(threads, alloc, shelf, name, deck, program, sizes)
+    piece_sessions(threads, alloc, shelf, name, planned, sizes)
 }
 
 /// A tape that ends inside a record is cut where that record begins, at the tape's own byte.
@@ -65,11 +59,9 @@ pub fn cut_at_the_byte_of_its_piece<T: Threads + Sync, S: Shelf>(
     alloc: Global,
     shelf: &mut S,
     name: &str,
-    deck: &Deck,
-    program: &Program,
+    planned: &Planned,
 ) -> Result<Sessions, Status>
-    requires deck { deck.now ≡ pair }
-    requires planned { program.now ≡ disks_in deck.now }
+    requires deck { planned.now ≡ pair }
     requires file { (S.state shelf.old).told.file name.now ≡ Some cut_tape }
     ensures { MatchResult result (λ _. ⊥) (IsCutAt 36) }
 {
@@ -77,5 +69,5 @@ pub fn cut_at_the_byte_of_its_piece<T: Threads + Sync, S: Shelf>(
         tape: 72,
         piece: 40,
     };
-    piece_sessions(threads, alloc, shelf, name, deck, program, sizes)
+    piece_sessions(threads, alloc, shelf, name, planned, sizes)
 }

@@ -4,15 +4,14 @@
 
 ghost use Rattle.std.specs.Prelude.{◌≡◌, ◌≤◌, ℕ, [], ◌∷◌, length, map, All, Err, Some, IfOk};
 ghost use Rattle.air_history.specs.Histories.{starts};
-ghost use Rattle.air_model.specs.Decks.{count_made, disks_in};
+ghost use Rattle.air_model.specs.Decks.{count_made};
 ghost use Rattle.air_model.specs.declared.reports.LookLine.{LookLine};
 ghost use Rattle.air_devices.specs.Masts.{SentBuckets, nothing_sent};
 ghost use Rattle.thread_pins.specs.SmallBatches.{adds_to};
 
 use air_devices::{Gate, Mast};
-use chunk_program::Program;
+use chunk_program::Planned;
 use deck_runs::{Run, RunFault, run_threads};
-use item_catalog::Deck;
 use std::alloc::Global;
 use std::sync::Wait;
 use std::thread::Threads;
@@ -23,37 +22,33 @@ use std::thread::Threads;
 pub fn every_look_of_monitor_0<R: Threads + Wait + Sync, M: Mast + Send, G: Gate + Sync>(
     rt: &R,
     alloc: Global,
-    deck: &Deck,
-    program: &Program,
+    planned: &Planned,
     mast: &mut M,
     gate: &G,
 ) -> Result<Run, RunFault>
-    requires planned { program.now ≡ disks_in deck.now }
-    requires cycles { deck.now.settings.cycles ≡ 3 }
-    requires monitors { deck.now.settings.monitors ≡ 2 }
+    requires cycles { planned.now.settings.cycles ≡ 3 }
+    requires monitors { planned.now.settings.monitors ≡ 2 }
     ensures started { IfOk result (λ run. starts run.history ≡ 3) }
     ensures published { IfOk result (λ run. length run.batches ≡ 3) }
     ensures glances { IfOk result (λ run. map (λ (line : LookLine). line.monitor) run.glances ≡ 0 ∷ 1 ∷ []) }
     ensures looks { IfOk result (λ run. map (λ (line : LookLine). line.monitor) run.looks ≡ 0 ∷ 1 ∷ []) }
     ensures last { IfOk result (λ run. All (λ (line : LookLine). line.cycle ≡ 3) run.looks) }
 {
-    run_threads(rt, alloc, deck, program, mast, gate)
+    run_threads(rt, alloc, planned, mast, gate)
 }
 
 /// The history of a run has the one update of the second updater, though the first has none.
 pub fn one_updater_done_for_all<R: Threads + Wait + Sync, M: Mast + Send, G: Gate + Sync>(
     rt: &R,
     alloc: Global,
-    deck: &Deck,
-    program: &Program,
+    planned: &Planned,
     mast: &mut M,
     gate: &G,
 ) -> Result<Run, RunFault>
-    requires planned { program.now ≡ disks_in deck.now }
-    requires updates { deck.now.updates ≡ [] ∷ (adds_to 1 0 3 ∷ []) ∷ [] }
+    requires { planned.now.updates ≡ [] ∷ (adds_to 1 0 3 ∷ []) ∷ [] }
     ensures { IfOk result (λ run. count_made 1 run.history ≡ 1) }
 {
-    run_threads(rt, alloc, deck, program, mast, gate)
+    run_threads(rt, alloc, planned, mast, gate)
 }
 
 /// A run that tells that the mast failed tells how many buckets it had sent, and the mast's count rose. It also refuses that the mast
@@ -61,16 +56,14 @@ pub fn one_updater_done_for_all<R: Threads + Wait + Sync, M: Mast + Send, G: Gat
 pub fn sent_buckets_not_counted<R: Threads + Wait + Sync, M: Mast + Send, G: Gate + Sync>(
     rt: &R,
     alloc: Global,
-    deck: &Deck,
-    program: &Program,
+    planned: &Planned,
     mast: &mut M,
     gate: &G,
 ) -> Result<Run, RunFault>
-    requires planned { program.now ≡ disks_in deck.now }
     requires unsent { (M.state mast.old).told ≡ Some nothing_sent }
     requires faults { (M.state mast.old).faults ≡ 0 }
     ensures sent { (sent : ℕ) (now : SentBuckets) → result ≡ Err (RunFault.Mast sent) → (M.state mast.new).told ≡ Some now → length now.buckets ≡ sent }
     ensures cause { (sent : ℕ) → result ≡ Err (RunFault.Mast sent) → 1 ≤ (M.state mast.new).faults }
 {
-    run_threads(rt, alloc, deck, program, mast, gate)
+    run_threads(rt, alloc, planned, mast, gate)
 }

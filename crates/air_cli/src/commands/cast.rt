@@ -3,10 +3,8 @@
 ghost use Rattle.std.specs.Prelude.{◌≡◌, ◌≤◌, ◌⊎◌, None, Some, IfErr, IfOk};
 ghost use Rattle.air_devices.specs.Masts.{nothing_sent};
 ghost use Rattle.air_devices.specs.Told.{WhereTold};
-ghost use Rattle.air_model.specs.Decks.{disks_in};
 ghost use Rattle.deck_runs.specs.RunTapes.{run_tape_len};
 ghost use Rattle.air_cli.specs.FileLimits.{tape_limit};
-ghost use Rattle.air_cli.specs.RunnableDecks.{HasShortProgram};
 ghost use Rattle.air_model.specs.Runs.{Run};
 ghost use Rattle.air_cli.specs.Cast.{HasSent, IsCast, cast_meaning};
 ghost use Rattle.air_cli.specs.Words.{AsksCast};
@@ -17,12 +15,11 @@ ghost use Rattle.air_cli.specs.Private.BeforeDelivery.{IsMade, IsUnmade, ReadsIn
 use crate::commands::reports::cast_report;
 use crate::files::runnable::read_runnable_deck;
 use crate::outputs::report_and_tape::ReportAndTape;
-use crate::truths::shows_cast_truth;
+use crate::truths::shows_run_truth;
 use air_devices::{Gate, Mast, Shelf};
 use air_report::Status;
-use chunk_program::Program;
+use chunk_program::Planned;
 use deck_runs::{RunFault, cast_run, long_run};
-use item_catalog::Deck;
 use std::alloc::Global;
 use std::sync::Wait;
 use std::thread::Threads;
@@ -45,9 +42,8 @@ pub(crate) fn cast<R: Threads + Wait + Sync, S: Shelf, M: Mast + Send, G: Gate +
     ensures reads { ReadsInputs (cast_meaning name.now port (M.state mast.old) (M.state mast.new)) (S.state shelf.old) (S.state shelf.new) }
     ensures mast { LeavesMast (Some (AsksCast name.now port)) (S.state shelf.old) (M.state mast.old) (M.state mast.new) }
 {
-    let (deck, program) = read_runnable_deck(alloc, shelf, name)?;
-    deck.shows_well_made();
-    let given = cast_on_air(rt, alloc, &deck, &program, mast, port, gate)?;
+    let planned = read_runnable_deck(alloc, shelf, name)?;
+    let given = cast_on_air(rt, alloc, &planned, mast, port, gate)?;
     Ok(given)
 }
 
@@ -56,26 +52,23 @@ pub(crate) fn cast<R: Threads + Wait + Sync, S: Shelf, M: Mast + Send, G: Gate +
 fn cast_on_air<R: Threads + Wait + Sync, M: Mast + Send, G: Gate + Sync>(
     rt: &R,
     alloc: Global,
-    deck: &Deck,
-    program: &Program,
+    planned: &Planned,
     mast: &mut M,
     port: u16,
     gate: &G,
 ) -> Result<ReportAndTape, Status>
-    requires planned { program.now ≡ disks_in deck.now }
-    requires short { HasShortProgram deck.now }
     requires unaimed { (M.state mast.old).port ≡ None }
     requires unsent { WhereTold (M.state mast.old).told (λ s. s ≡ nothing_sent) }
-    ensures few { IfOk result (λ given. run_tape_len deck.now ≤ tape_limit) }
-    ensures gives { IfOk result (λ given. (run : Run) × IsCast deck.now port (M.state mast.old) (M.state mast.new) given run) }
-    ensures refused { IfErr result (IsCastRefusal deck.now port (M.state mast.old) (M.state mast.new)) }
-    ensures mast { (M.state mast.new ≡ M.state mast.old) ⊎ HasSent deck.now port (M.state mast.old) (M.state mast.new) }
+    ensures few { IfOk result (λ given. run_tape_len planned.now ≤ tape_limit) }
+    ensures gives { IfOk result (λ given. (run : Run) × IsCast planned.now port (M.state mast.old) (M.state mast.new) given run) }
+    ensures refused { IfErr result (IsCastRefusal planned.now port (M.state mast.old) (M.state mast.new)) }
+    ensures mast { (M.state mast.new ≡ M.state mast.old) ⊎ HasSent planned.now port (M.state mast.old) (M.state mast.new) }
 {
-    if let Some(bytes) = long_run(deck, program) {
+    if let Some(bytes) = long_run(planned) {
         return Err(Status::TooLong { bytes });
     }
-    shows_cast_truth(deck);
-    match cast_run(rt, alloc, deck, program, mast, gate, port) {
+    shows_run_truth(planned);
+    match cast_run(rt, alloc, planned, mast, gate, port) {
         Ok(run) => {
             let text = cast_report(alloc, run)?;
             Ok(ReportAndTape {

@@ -2,7 +2,6 @@
 
 ghost use Rattle.std.specs.Prelude.{◌≡◌, ◌<◌, ◌+◌, ◌^◌, None, Some, All, IfErr, IfOk, IsSome, OnOk, length, map};
 ghost use Rattle.air_model.specs.Buckets.{bucket_in};
-ghost use Rattle.air_model.specs.Decks.{disks_in};
 ghost use Rattle.receiver_core.specs.Receivers.{heard_count};
 ghost use Rattle.listeners.specs.Listeners.{hears_one};
 ghost use Rattle.air_cli.specs.Hearings.{AreEarSessions, IsHearAnswer};
@@ -11,8 +10,7 @@ ghost use Rattle.air_cli.specs.Private.EarSteps.{HaveHeardEar};
 use air_base::NoMemory;
 use air_devices::{Ear, Heard};
 use bucket_codec::decode;
-use chunk_program::Program;
-use item_catalog::Deck;
+use chunk_program::Planned;
 use listeners::{Listener, Sessions, all_hear, end_all, listeners_of};
 use std::alloc::Global;
 
@@ -81,25 +79,23 @@ fn all_hear_ear<E: Ear>(
 /// ear failed, so many datagrams had been heard before: none where it could not be tuned.
 pub fn ear_sessions<E: Ear>(
     alloc: Global,
-    deck: &Deck,
-    program: &Program,
+    planned: &Planned,
     ear: &mut E,
     port: u16,
 ) -> Result<Sessions, HearFault>
-    requires planned { program.now ≡ disks_in deck.now }
-    requires untuned { (E.state ear.old).port ≡ None }
-    ensures sessions { IfOk result (λ s. AreEarSessions deck.now (E.state ear.old).told (E.state ear.new).told s.verdicts.items s.counts.items) }
+    requires { (E.state ear.old).port ≡ None }
+    ensures sessions { IfOk result (λ s. AreEarSessions planned.now (E.state ear.old).told (E.state ear.new).told s.verdicts.items s.counts.items) }
     ensures calm { OnOk result ((E.state ear.new).faults ≡ (E.state ear.old).faults) }
-    ensures fault { IfErr result (IsHearAnswer deck.now.settings.hears (E.state ear.old) (E.state ear.new)) }
+    ensures fault { IfErr result (IsHearAnswer planned.now.settings.hears (E.state ear.old) (E.state ear.new)) }
     ensures port { (E.state ear.new).port ≡ Some port }
 {
-    deck.shows_well_made();
     if ear.tune_in(port).is_err() {
         return Err(HearFault::Ear { heard: 0 });
     }
-    let mut listeners = listeners_of(alloc, deck, program)?;
+    let mut listeners = listeners_of(alloc, planned)?;
     let mut buf = [0; MOST_HEARD_BYTES];
-    all_hear_ear(alloc, &mut listeners, ear, &mut buf, deck.settings().hears)?;
+    let hears = planned.deck().settings().hears;
+    all_hear_ear(alloc, &mut listeners, ear, &mut buf, hears)?;
     let sessions = end_all(alloc, listeners)?;
     Ok(sessions)
 }

@@ -1,7 +1,6 @@
 //! The command `listen`: what a named deck's readers hear on a port.
 
 ghost use Rattle.std.specs.Prelude.{◌≡◌, ◌⊎◌, ℕ, List, None, Some, IfErr, IfOk};
-ghost use Rattle.air_model.specs.Decks.{disks_in};
 ghost use Rattle.air_cli.specs.Listen.{HasHeardPort, IsListening, listen_meaning};
 ghost use Rattle.air_cli.specs.Words.{AsksListen};
 ghost use Rattle.air_cli.specs.OnAir.{LeavesEar};
@@ -15,8 +14,7 @@ use crate::outputs::report_and_tape::ReportAndTape;
 use crate::truths::shows_tape_truth;
 use air_devices::{Ear, Shelf};
 use air_report::Status;
-use chunk_program::Program;
-use item_catalog::Deck;
+use chunk_program::Planned;
 use std::alloc::Global;
 
 /// The report of the named deck's readers over what they hear on a port.
@@ -34,9 +32,8 @@ pub(crate) fn listen<S: Shelf, E: Ear>(
     ensures reads { ReadsInputs (listen_meaning name.now port (E.state ear.old) (E.state ear.new)) (S.state shelf.old) (S.state shelf.new) }
     ensures ear { LeavesEar (Some (AsksListen name.now port)) (S.state shelf.old) (E.state ear.old) (E.state ear.new) }
 {
-    let (deck, program) = read_runnable_deck(alloc, shelf, name)?;
-    deck.shows_well_made();
-    let given = hear_on_air(alloc, &deck, &program, ear, port)?;
+    let planned = read_runnable_deck(alloc, shelf, name)?;
+    let given = hear_on_air(alloc, &planned, ear, port)?;
     Ok(given)
 }
 
@@ -44,19 +41,17 @@ pub(crate) fn listen<S: Shelf, E: Ear>(
 #[tactic(auto, unfolding(crate::specs::Private::Airing::IsListenRefusal), using(crate::proofs::ListenLemmas::all_heard, crate::proofs::ListenLemmas::part_heard, crate::proofs::ListenLemmas::is_listening, crate::proofs::ListenLemmas::fault_refused))]
 fn hear_on_air<E: Ear>(
     alloc: Global,
-    deck: &Deck,
-    program: &Program,
+    planned: &Planned,
     ear: &mut E,
     port: u16,
 ) -> Result<ReportAndTape, Status>
-    requires planned { program.now ≡ disks_in deck.now }
     requires untuned { (E.state ear.old).port ≡ None }
-    ensures gives { IfOk result (λ given. (heard : List (List ℕ)) × IsListening deck.now port (E.state ear.old) (E.state ear.new) given heard) }
-    ensures refused { IfErr result (IsListenRefusal deck.now port (E.state ear.old) (E.state ear.new)) }
-    ensures ear { (E.state ear.new ≡ E.state ear.old) ⊎ HasHeardPort deck.now port (E.state ear.old) (E.state ear.new) }
+    ensures gives { IfOk result (λ given. (heard : List (List ℕ)) × IsListening planned.now port (E.state ear.old) (E.state ear.new) given heard) }
+    ensures refused { IfErr result (IsListenRefusal planned.now port (E.state ear.old) (E.state ear.new)) }
+    ensures ear { (E.state ear.new ≡ E.state ear.old) ⊎ HasHeardPort planned.now port (E.state ear.old) (E.state ear.new) }
 {
-    shows_tape_truth(deck);
-    match ear_sessions(alloc, deck, program, ear, port) {
+    shows_tape_truth(planned);
+    match ear_sessions(alloc, planned, ear, port) {
         Ok(sessions) => {
             let text = heard_report(alloc, sessions)?;
             Ok(ReportAndTape {

@@ -27,8 +27,8 @@ pub(crate) fn plan<S: Shelf>(
 {
     let deck = read_deck_file(alloc, shelf, name)?;
     deck.shows_well_made();
-    let (cut, program) = plan_deck(alloc, &deck)?;
-    let text = plan_text(alloc, &deck, &cut, &program)?;
+    let (cut, planned) = plan_deck(alloc, deck)?;
+    let text = plan_text(alloc, &cut, &planned)?;
     Ok(ReportAndTape {
         text,
         tape: None,

@@ -3,42 +3,34 @@
 //! `script` reports of the deck's script and of what its readers heard of it, `tune` of what they heard of a given tape, `listen` of
 //! an ear, and `cast` of a run that readers may hear elsewhere.
 
-ghost use Rattle.std.specs.Prelude.{◌≡◌, ◌<◌, ◌≤◌, ◌^◌, [], IfOk, length};
-ghost use Rattle.air_base.specs.declared.limits.TheConstants.{MOST_TAPE_BYTES};
+ghost use Rattle.std.specs.Prelude.{◌≡◌, ◌<◌, ◌^◌, [], IfOk};
 ghost use Rattle.air_history.specs.Histories.{starts};
-ghost use Rattle.air_model.specs.Decks.{disks_in, script_history};
-ghost use Rattle.air_model.specs.Outputs.{cast_output, script_output, script_tape};
-ghost use Rattle.air_model.specs.Reports.{report_text};
-ghost use Rattle.scripts.specs.Pieces.{IsAiring};
+ghost use Rattle.air_model.specs.Decks.{script_history};
+ghost use Rattle.air_model.specs.Outputs.{cast_output, script_output, true_sessions};
+ghost use Rattle.air_model.specs.Reports.{counts_lines, report_text, verdict_lines};
 
 use air_base::NoMemory;
 use air_history::{Event, History};
 use air_report::{Report, write_report};
-use chunk_program::Program;
+use chunk_program::Planned;
 use deck_runs::Run;
-use item_catalog::Deck;
 use listeners::Sessions;
-use scripts::ScriptAiring;
+use scripts::AiredScript;
 use std::alloc::Global;
-use std::thread::Threads;
 
-/// The report of a script that was aired to its end: its history, and what its readers' sessions tell.
-pub(crate) fn script_report<T: Threads + Sync>(
-    threads: &T,
+/// The report of a deck's script, from its history and what its readers' sessions tell.
+pub(crate) fn script_report(
     alloc: Global,
-    deck: &Deck,
-    program: &Program,
-    aired: ScriptAiring,
+    planned: &Planned,
+    aired: AiredScript,
 ) -> Result<Vec<u8>, NoMemory>
-    requires planned { program.now ≡ disks_in deck.now }
-    requires few { length (script_tape deck.now) ≤ MOST_TAPE_BYTES }
-    requires kept { IsAiring deck.now aired }
-    requires done { aired.run.events.items ≡ script_history deck.now }
-    ensures { IfOk result (λ text. text.items ≡ script_output deck.now) }
+    requires events { aired.events.items ≡ script_history planned.now }
+    requires verdicts { aired.sessions.verdicts.items ≡ verdict_lines (true_sessions planned.now (script_history planned.now)) }
+    requires counts { aired.sessions.counts.items ≡ counts_lines (true_sessions planned.now (script_history planned.now)) }
+    ensures { IfOk result (λ text. text.items ≡ script_output planned.now) }
 {
-    deck.shows_well_made();
-    let (events, sessions) = aired.end(threads, alloc, deck, program)?;
-    let report = report_of(alloc, events, sessions)?;
+    planned.shows_planned();
+    let report = report_of(alloc, aired.events, aired.sessions)?;
     Ok(report)
 }
 

@@ -26,8 +26,7 @@ pub(crate) fn run<R: Threads + Wait + Sync, S: Shelf, G: Gate + Sync>(
     ensures unmade { (tape : List ℕ) → IfErr result (IsUnmade (run_meaning name.now tape) (S.state shelf.old) (S.state shelf.new)) }
     ensures reads { (tape : List ℕ) → ReadsInputs (run_meaning name.now tape) (S.state shelf.old) (S.state shelf.new) }
 {
-    let (deck, program) = read_runnable_deck(alloc, shelf, name)?;
-    deck.shows_well_made();
-    let given = run_on_air(rt, alloc, &deck, &program, gate)?;
+    let planned = read_runnable_deck(alloc, shelf, name)?;
+    let given = run_on_air(rt, alloc, &planned, gate)?;
     Ok(given)
 }

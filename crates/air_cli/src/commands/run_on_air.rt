@@ -1,8 +1,7 @@
 //! A run, where its tape isn't too long.
 
-ghost use Rattle.std.specs.Prelude.{◌≡◌, ◌≤◌, IfErr, IfOk};
+ghost use Rattle.std.specs.Prelude.{◌≤◌, IfErr, IfOk};
 ghost use Rattle.air_base.specs.declared.limits.TheConstants.{MOST_TAPE_BYTES};
-ghost use Rattle.air_model.specs.Decks.{disks_in};
 ghost use Rattle.air_model.specs.Runs.{Run};
 ghost use Rattle.air_cli.specs.GivenRuns.{IsGivenRun, IsRunRefusal};
 ghost use Rattle.deck_runs.specs.RunTapes.{run_tape_len};
@@ -11,9 +10,8 @@ use crate::commands::run_reports::make_run;
 use crate::outputs::report_and_tape::ReportAndTape;
 use air_devices::Gate;
 use air_report::Status;
-use chunk_program::Program;
+use chunk_program::Planned;
 use deck_runs::long_run;
-use item_catalog::Deck;
 use std::alloc::Global;
 use std::sync::Wait;
 use std::thread::Threads;
@@ -23,18 +21,16 @@ use std::thread::Threads;
 pub fn run_on_air<R: Threads + Wait + Sync, G: Gate + Sync>(
     rt: &R,
     alloc: Global,
-    deck: &Deck,
-    program: &Program,
+    planned: &Planned,
     gate: &G,
 ) -> Result<ReportAndTape, Status>
-    requires planned { program.now ≡ disks_in deck.now }
-    ensures short { IfOk result (λ given. run_tape_len deck.now ≤ MOST_TAPE_BYTES) }
-    ensures gives { IfOk result (λ given. (run : Run) × IsGivenRun deck.now given run) }
-    ensures refused { IfErr result (IsRunRefusal deck.now) }
+    ensures short { IfOk result (λ given. run_tape_len planned.now ≤ MOST_TAPE_BYTES) }
+    ensures gives { IfOk result (λ given. (run : Run) × IsGivenRun planned.now given run) }
+    ensures refused { IfErr result (IsRunRefusal planned.now) }
 {
-    if let Some(bytes) = long_run(deck, program) {
+    if let Some(bytes) = long_run(planned) {
         return Err(Status::TooLong { bytes });
     }
-    let given = make_run(rt, alloc, deck, program, gate)?;
+    let given = make_run(rt, alloc, planned, gate)?;
     Ok(given)
 }

@@ -1,19 +1,18 @@
 //! What a run gives: its report and its tape.
 
-ghost use Rattle.std.specs.Prelude.{◌≡◌, ◌≤◌, IfOk};
+ghost use Rattle.std.specs.Prelude.{◌≤◌, IfOk};
 ghost use Rattle.air_base.specs.declared.limits.TheConstants.{MOST_TAPE_BYTES};
-ghost use Rattle.air_model.specs.Decks.{disks_in};
 ghost use Rattle.air_model.specs.Runs.{Run};
 ghost use Rattle.air_cli.specs.GivenRuns.{IsGivenRun};
 ghost use Rattle.deck_runs.specs.RunTapes.{run_tape_len};
 
 use crate::outputs::report_and_tape::ReportAndTape;
+use crate::truths::shows_run_truth;
 use air_base::NoMemory;
 use air_devices::Gate;
 use air_report::{Report, write_report};
-use chunk_program::Program;
-use deck_runs::{HeardRun, air_run, true_run_law};
-use item_catalog::Deck;
+use chunk_program::Planned;
+use deck_runs::{HeardRun, air_run};
 use std::alloc::Global;
 use std::sync::Wait;
 use std::thread::Threads;
@@ -22,22 +21,18 @@ use std::thread::Threads;
 pub(crate) fn make_run<R: Threads + Wait + Sync, G: Gate + Sync>(
     rt: &R,
     alloc: Global,
-    deck: &Deck,
-    program: &Program,
+    planned: &Planned,
     gate: &G,
 ) -> Result<ReportAndTape, NoMemory>
-    requires planned { program.now ≡ disks_in deck.now }
-    requires few { run_tape_len deck.now ≤ MOST_TAPE_BYTES }
-    ensures { IfOk result (λ given. (run : Run) × IsGivenRun deck.now given run) }
+    requires { run_tape_len planned.now ≤ MOST_TAPE_BYTES }
+    ensures { IfOk result (λ given. (run : Run) × IsGivenRun planned.now given run) }
 {
-    deck.shows_well_made();
-    let _slots = program.slots();
-    true_run_law();
+    shows_run_truth(planned);
     let HeardRun {
         run,
         sessions,
         tape,
-    } = air_run(rt, alloc, deck, program, gate)?;
+    } = air_run(rt, alloc, planned, gate)?;
     let report = Report {
         history: run.history,
         verdicts: sessions.verdicts,

@@ -29,10 +29,9 @@ pub(crate) fn tune<T: Threads + Sync, S: Shelf>(
     ensures unmade { IfErr result (IsUnmade (tune_meaning name.now tape.now) (S.state shelf.old) (S.state shelf.new)) }
     ensures reads { ReadsInputs (tune_meaning name.now tape.now) (S.state shelf.old) (S.state shelf.new) }
 {
-    let (deck, program) = read_runnable_deck(alloc, shelf, name)?;
-    deck.shows_well_made();
-    let sessions = file_sessions(threads, alloc, shelf, tape, &deck, &program)?;
-    shows_tape_truth(&deck);
+    let planned = read_runnable_deck(alloc, shelf, name)?;
+    let sessions = file_sessions(threads, alloc, shelf, tape, &planned)?;
+    shows_tape_truth(&planned);
     let text = heard_report(alloc, sessions)?;
     Ok(ReportAndTape {
         text,

@@ -1,10 +1,13 @@
 //! An output that is written piece by piece: begun, and then each piece is added behind those before.
 
-ghost use Rattle.std.specs.Prelude.{◌++◌, [], ℕ, List, OnErr, OnOk, option_map};
+ghost use Rattle.std.specs.Prelude.{◌≡◌, ◌++◌, [], ℕ, List, OnErr, OnOk, option_map};
 ghost use Rattle.air_devices.specs.Shelves.{ShelfState};
+ghost use Rattle.air_report.specs.declared.status.Status.TheVariants as status;
 ghost use Rattle.air_cli.specs.OutputPieces.{IsCutOff, IsWritten};
 
 use air_devices::{Failed, Shelf};
+use air_report::Status;
+use scripts::PieceSink;
 
 /// Makes the output of this name empty, if one is named.
 pub fn begin_output<S: Shelf>(shelf: &mut S, output: Option<&str>) -> Result<(), Failed>
@@ -36,5 +39,26 @@ pub fn append_piece<S: Shelf>(
     match output {
         Some(name) => shelf.append(name, piece),
         None => Ok(()),
+    }
+}
+
+/// The output of this name on a shelf, if one is named, to which the pieces of a script's tape are added.
+#[derive(Clone, Copy, Debug)]
+pub struct NamedOutput<'a> {
+    pub name: Option<&'a str>,
+}
+
+impl<S: Shelf> PieceSink<S> for NamedOutput<'_> {
+    type Fault = Status;
+
+    ghost HasTaken = { λ output bytes first now. IsWritten (option_map (λ name. name.now) output.name) bytes (S.state first) (S.state now) };
+
+    ghost HasFailed = { λ output bytes first now fault. (fault ≡ status.WriteFault) × IsCutOff (option_map (λ name. name.now) output.name) bytes (S.state first) (S.state now) };
+
+    fn take(&self, place: &mut S, piece: &[u8]) -> Result<(), Status> {
+        match append_piece(place, self.name, piece) {
+            Ok(()) => Ok(()),
+            Err(_) => Err(Status::WriteFault),
+        }
     }
 }

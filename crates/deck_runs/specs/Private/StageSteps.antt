@@ -36,10 +36,10 @@ pub record HaveEnded (station : TurnstileId) (deck : Deck) (updaters : List Upda
   pub each : (by : ℕ) (run : UpdaterRun) → slice_get updaters by ≡ Some run → HasEndedUpdates station deck by run
 
 -- A stage after the jobs.
-pub record IsPlayed (deck : Deck) (s : Stage) : Type 0 where
-  pub pass : s.conductor.pass ≡ with_seen (new_pass s.station deck (length deck.updates)) s.conductor.pass.seen
-  pub few : starts s.conductor.pass.seen ≤ deck.settings.cycles
-  pub updaters : HaveEnded s.station deck s.updaters.items
+pub record IsPlayed (s : Stage) : Type 0 where
+  pub pass : s.conductor.pass ≡ with_seen (new_pass s.station s.planned.now (length s.planned.now.updates)) s.conductor.pass.seen
+  pub few : starts s.conductor.pass.seen ≤ s.planned.now.settings.cycles
+  pub updaters : HaveEnded s.station s.planned.now s.updaters.items
   pub room : (s.passes.items ≡ []) × (length s.updaters.items ≤ vec_capacity s.passes)
 
 -- What the conductor has seen begins a whole history.

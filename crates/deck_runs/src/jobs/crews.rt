@@ -4,7 +4,7 @@
 //! the others to go on to their own ends.
 ghost use Rattle.std.specs.Prelude.{◌≡◌, ◌≤◌, All};
 ghost use Rattle.std.specs.Thread.{IsSync};
-ghost use Rattle.air_model.specs.Decks.{disks_in, values_in};
+ghost use Rattle.air_model.specs.Decks.{values_in};
 ghost use Rattle.cycle_snapshot.specs.SnapshotStates.{new_publisher};
 ghost use Rattle.deck_runs.specs.Crews.{CanConduct, EachDone, EachWatched, HasMadeUpdates, HasNewPass, IsWatched};
 ghost use Rattle.deck_runs.specs.Private.StageSteps.{HasAired};
@@ -15,10 +15,9 @@ use crate::jobs::updaters::updater_job;
 use air_base::limits::{MOST_MONITORS, MOST_UPDATERS};
 use air_devices::{Gate, Mast};
 use air_model::reports::LookLine;
-use chunk_program::Program;
+use chunk_program::Planned;
 use control_matrix::Board;
 use cycle_snapshot::{Monitor, Publisher};
-use item_catalog::Deck;
 use station::{ConductorPass, Station, UpdaterPass};
 use std::alloc::Global;
 use std::sync::Wait;
@@ -41,19 +40,16 @@ impl ConductorRun {
         wait: &R,
         alloc: Global,
         station: &Station,
-        deck: &Deck,
-        program: &Program,
+        planned: &Planned,
         publisher: &mut Publisher,
         mast: &mut M,
         gate: &G,
     ) -> Result<(), ConductFault>
-        requires ready { CanConduct station.now deck.now self.old }
-        requires publisher { publisher.old ≡ new_publisher publisher.old.id (values_in deck.now) deck.now.settings.cycles }
-        requires program { program.now ≡ disks_in deck.now }
-        ensures { HasAired M.state deck.now self.old.pass self.new.pass publisher.old publisher.new mast.old mast.new result }
+        requires ready { CanConduct station.now planned.now self.old }
+        requires publisher { publisher.old ≡ new_publisher publisher.old.id (values_in planned.now) planned.now.settings.cycles }
+        ensures { HasAired M.state planned.now self.old.pass self.new.pass publisher.old publisher.new mast.old mast.new result }
     {
-        deck.shows_well_made();
-        let settings = deck.settings();
+        let settings = planned.deck().settings();
         conductor_job(
             wait,
             alloc,
@@ -61,7 +57,7 @@ impl ConductorRun {
             &mut self.pass,
             publisher,
             &mut self.board,
-            program,
+            planned.program(),
             settings.policy,
             settings.cycles,
             mast,
@@ -86,13 +82,13 @@ impl UpdaterRun {
         wait: &R,
         alloc: Global,
         station: &Station,
-        deck: &Deck,
+        planned: &Planned,
         gate: &G,
     )
-        requires ready { HasNewPass station.now deck.now self.old }
-        ensures done { HasMadeUpdates deck.now self.old self.new }
+        requires ready { HasNewPass station.now planned.now self.old }
+        ensures done { HasMadeUpdates planned.now self.old self.new }
     {
-        deck.shows_well_made();
+        let deck = planned.deck();
         let number = self.pass.by();
         let mine = deck.updates(number);
         match updater_job(wait, alloc, station, &mut self.pass, mine, gate) {
@@ -128,18 +124,18 @@ fn update_all<R: Threads + Wait + Sync, G: Gate + Sync>(
     rt: &R,
     alloc: Global,
     station: &Station,
-    deck: &Deck,
+    planned: &Planned,
     updaters: &mut [UpdaterRun],
     gate: &G,
 )
-    requires { All (HasNewPass station.now deck.now) updaters.old }
-    ensures { EachDone deck.now updaters.old updaters.new }
+    requires { All (HasNewPass station.now planned.now) updaters.old }
+    ensures { EachDone planned.now updaters.old updaters.new }
 {
     thread::for_each_mut(
         rt,
         updaters,
         MOST_UPDATERS,
-        &|_, run| run.work(rt, alloc, station, deck, gate),
+        &|_, run| run.work(rt, alloc, station, planned, gate),
     );
 }
 
@@ -166,15 +162,15 @@ pub(crate) fn update_and_watch<R: Threads + Wait + Sync, G: Gate + Sync>(
     rt: &R,
     alloc: Global,
     station: &Station,
-    deck: &Deck,
+    planned: &Planned,
     updaters: &mut [UpdaterRun],
     monitors: &mut [MonitorRun],
     looks: u32,
     gate: &G,
 )
-    requires ready { All (HasNewPass station.now deck.now) updaters.old }
+    requires ready { All (HasNewPass station.now planned.now) updaters.old }
     requires some { 1 ≤ looks }
-    ensures updaters { EachDone deck.now updaters.old updaters.new }
+    ensures updaters { EachDone planned.now updaters.old updaters.new }
     ensures monitors { EachWatched looks monitors.old monitors.new }
 {
     join_mut(
@@ -184,8 +180,8 @@ pub(crate) fn update_and_watch<R: Threads + Wait + Sync, G: Gate + Sync>(
             ensures { EachWatched looks monitors.entry.now monitors.exit.now }
         { watch_all(rt, monitors, looks, gate) },
         &mut ||
-            requires { IsSync R.row × IsSync G.row × All (HasNewPass station.now deck.now) updaters.now }
-            ensures { EachDone deck.entry.now updaters.entry.now updaters.exit.now }
-        { update_all(rt, alloc, station, deck, updaters, gate) },
+            requires { IsSync R.row × IsSync G.row × All (HasNewPass station.now planned.now) updaters.now }
+            ensures { EachDone planned.entry.now updaters.entry.now updaters.exit.now }
+        { update_all(rt, alloc, station, planned, updaters, gate) },
     );
 }

@@ -1,8 +1,8 @@
 //! What the jobs of a run work on: how it is made, how they run on it, and how it ends.
 
-ghost use Rattle.std.specs.Prelude.{◌≡◌, ◌↔◌, ◌≤◌, [], length, All, IfOk, IsTrue, MatchResult, OnOk, vec_capacity};
+ghost use Rattle.std.specs.Prelude.{◌≡◌, ◌↔◌, ◌<◌, ◌≤◌, ◌^◌, [], length, All, IfOk, IsTrue, MatchResult, OnOk, vec_capacity};
 ghost use Rattle.air_history.specs.Histories.{starts};
-ghost use Rattle.air_model.specs.Decks.{disks_in, values_in};
+ghost use Rattle.air_model.specs.Decks.{values_in};
 ghost use Rattle.air_devices.specs.Masts.{Changes, with_buckets};
 ghost use Rattle.air_model.specs.Batches.{AirsByBatches};
 ghost use Rattle.cycle_snapshot.specs.SnapshotStates.{new_monitor, new_publisher};
@@ -23,18 +23,19 @@ use air_base::NoMemory;
 use air_devices::{Gate, Mast};
 use air_history::History;
 use bucket_codec::offsets::{ENTRY_BYTES, HEAD_BYTES};
-use chunk_program::Program;
+use chunk_program::Planned;
 use control_matrix::Board;
 use cycle_snapshot::{Publisher, publisher};
-use item_catalog::Deck;
 use station::{Station, UpdaterPass};
 use std::alloc::Global;
 use std::sync::Wait;
 use std::thread::{Threads, join_mut};
 
-/// The station, and those who work at it. The passes of the updaters come back into `passes`, which has the room from the beginning.
+/// The planned deck that is run, its station, and those who work there. The passes of the updaters come back into `passes`, which has
+/// the room from the beginning.
 #[derive(Drop)]
-pub(crate) struct Stage {
+pub(crate) struct Stage<'a> {
+    pub planned: &'a Planned,
     pub station: Station,
     pub conductor: ConductorRun,
     pub updaters: Vec<UpdaterRun>,
@@ -42,18 +43,20 @@ pub(crate) struct Stage {
 }
 
 /// A stage of the deck, before all events.
-pub(crate) fn open_stage(alloc: Global, deck: &Deck) -> Result<Stage, NoMemory>
-    ensures conductor { IfOk result (λ s. CanConduct s.station deck.now s.conductor) }
-    ensures updaters { IfOk result (λ s. AreNewUpdaters s.station deck.now s.updaters.items) }
-    ensures ready { IfOk result (λ s. All (HasNewPass s.station deck.now) s.updaters.items) }
+pub(crate) fn open_stage<'a>(alloc: Global, planned: &'a Planned) -> Result<Stage<'a>, NoMemory>
+    ensures planned { IfOk result (λ s. s.planned.now ≡ planned.now) }
+    ensures conductor { IfOk result (λ s. CanConduct s.station s.planned.now s.conductor) }
+    ensures updaters { IfOk result (λ s. AreNewUpdaters s.station s.planned.now s.updaters.items) }
+    ensures ready { IfOk result (λ s. All (HasNewPass s.station s.planned.now) s.updaters.items) }
     ensures empty { IfOk result (λ s. s.passes.items ≡ []) }
     ensures room { IfOk result (λ s. length s.updaters.items ≤ vec_capacity s.passes) }
 {
-    deck.shows_well_made();
+    let deck = planned.deck();
     let (station, passes, pass) = Station::new(alloc, deck)?;
     let updaters = updaters_of(alloc, &station, deck, passes)?;
     let values = first_values(alloc, deck)?;
     Ok(Stage {
+        planned,
         station,
         conductor: ConductorRun {
             pass,
@@ -69,13 +72,14 @@ pub(crate) fn open_stage(alloc: Global, deck: &Deck) -> Result<Stage, NoMemory>
 pub(crate) fn open_publisher<R: Wait>(
     wait: &R,
     alloc: Global,
-    deck: &Deck,
+    planned: &Planned,
 ) -> Result<(Publisher, Vec<MonitorRun>), NoMemory>
-    ensures publisher { IfOk result (λ made. made.0 ≡ new_publisher made.0.id (values_in deck.now) deck.now.settings.cycles) }
-    ensures count { IfOk result (λ made. length made.1.items ≡ deck.now.settings.monitors) }
+    ensures publisher { IfOk result (λ made. made.0 ≡ new_publisher made.0.id (values_in planned.now) planned.now.settings.cycles) }
+    ensures count { IfOk result (λ made. length made.1.items ≡ planned.now.settings.monitors) }
+    ensures few { IfOk result (λ made. length made.1.items < 2 ^ 32) }
     ensures each { IfOk result (λ made. All (λ (run : Watcher). run.monitor ≡ new_monitor made.0) made.1.items) }
 {
-    deck.shows_well_made();
+    let deck = planned.deck();
     let settings = deck.settings();
     let values = first_values(alloc, deck)?;
     let (source, monitors) = publisher(wait, alloc, &values, settings.monitors, settings.cycles)?;
@@ -88,7 +92,7 @@ pub(crate) fn open_publisher<R: Wait>(
     }
 }
 
-impl Stage {
+impl Stage<'_> {
     /// Runs the conductor beside all updaters and all monitors, on threads where there are some. Whatever the schedule, each updater
     /// committed its updates in order, or the first of them; each monitor made its looks, or the first of them; and what was sent are
     /// the buckets of the history that the conductor has seen. A job that ends before its time leaves the others to go on.
@@ -96,44 +100,36 @@ impl Stage {
         &mut self,
         rt: &R,
         alloc: Global,
-        deck: &Deck,
-        program: &Program,
         source: &mut Publisher,
         watchers: &mut [MonitorRun],
         mast: &mut M,
         gate: &G,
     ) -> Result<(), ConductFault>
-        requires conductor { CanConduct self.old.station deck.now self.old.conductor }
-        requires updaters { All (HasNewPass self.old.station deck.now) self.old.updaters.items }
-        requires publisher { source.old ≡ new_publisher source.old.id (values_in deck.now) deck.now.settings.cycles }
-        requires program { program.now ≡ disks_in deck.now }
-        ensures conducted { HasAired M.state deck.now self.old.conductor.pass self.new.conductor.pass source.old source.new mast.old mast.new result }
-        ensures updaters { EachDone deck.now self.old.updaters.items self.new.updaters.items }
+        requires conductor { CanConduct self.old.station self.old.planned.now self.old.conductor }
+        requires updaters { All (HasNewPass self.old.station self.old.planned.now) self.old.updaters.items }
+        requires publisher { source.old ≡ new_publisher source.old.id (values_in self.old.planned.now) self.old.planned.now.settings.cycles }
+        ensures conducted { HasAired M.state self.old.planned.now self.old.conductor.pass self.new.conductor.pass source.old source.new mast.old mast.new result }
+        ensures updaters { EachDone self.old.planned.now self.old.updaters.items self.new.updaters.items }
         ensures watched { EachWatched LOOKS watchers.old watchers.new }
+        ensures planned { self.new.planned ≡ self.old.planned }
         ensures station { self.new.station ≡ self.old.station }
         ensures passes { self.new.passes ≡ self.old.passes }
     {
+        let planned = self.planned;
         let (conducted, _) = join_mut(
             rt,
-            &mut || self.conductor.work(
-                rt,
-                alloc,
-                &self.station,
-                deck,
-                program,
-                source,
-                mast,
-                gate,
-            ),
+            &mut || self
+                .conductor
+                .work(rt, alloc, &self.station, planned, source, mast, gate),
             &mut ||
-                requires { IsSync R.row × IsSync G.row × All (HasNewPass self.now.station deck.now) self.now.updaters.items }
-                ensures { EachDone deck.entry.now self.entry.now.updaters.items self.exit.now.updaters.items × EachWatched LOOKS watchers.entry.now watchers.exit.now }
+                requires { IsSync R.row × IsSync G.row × All (HasNewPass self.now.station planned.now) self.now.updaters.items }
+                ensures { EachDone planned.entry.now self.entry.now.updaters.items self.exit.now.updaters.items × EachWatched LOOKS watchers.entry.now watchers.exit.now }
             {
                 update_and_watch(
                     rt,
                     alloc,
                     &self.station,
-                    deck,
+                    planned,
                     &mut self.updaters,
                     watchers,
                     LOOKS,
@@ -145,16 +141,17 @@ impl Stage {
     }
 
     /// Closes the station. The answer is `NoMemory` where an updater ended before its time.
-    pub(crate) fn end(self, deck: &Deck) -> Result<History, NoMemory>
-        requires { IsPlayed deck.now self }
-        ensures begins { BeginsWhole deck.now self.conductor.pass.seen }
-        ensures end { IfOk result (IsEnd deck.now self.conductor.pass.seen) }
+    pub(crate) fn end(self) -> Result<History, NoMemory>
+        requires { IsPlayed self }
+        ensures begins { BeginsWhole self.entry.planned.now self.entry.conductor.pass.seen }
+        ensures end { IfOk result (IsEnd self.entry.planned.now self.entry.conductor.pass.seen) }
     {
         let Stage {
             station,
             conductor,
             updaters,
             mut passes,
+            ..
         } = self;
         let ConductorRun { pass, .. } = conductor;
         let done = are_done(&updaters);

@@ -11,7 +11,7 @@ use Rattle.air_cli.proofs.tapes.piece_sessions.Goals as goal
 
 pub hear_pieces-requires-after_bounds : goal.hear_pieces-requires-after_bounds
 hear_pieces-requires-after_bounds g c κs within =
-    let deck = c.args.deck.now in
+    let deck = c.args.planned.now in
     subst (All (λ l. heard_by l.state ≡ 0)) (sym c.in_ok-readers.ensures)
     (All-map (λ l. heard_by l.state ≡ 0) (listener_of deck) (range_with_len 0 (length deck.readers)) (λ k d below. omega arith))
 
@@ -19,11 +19,11 @@ pub end-requires : goal.end-requires
 end-requires g c =
     let all = c.in_ok-hear_pieces.ensures.heard in
     let members = map bucket_in (tape_read all.bytes).records in
-    subst AreNumbered (sym (all.heard ∙ ap (map (hears members)) c.in_ok-readers.ensures)) (are_numbered c.args.deck.now members)
+    subst AreNumbered (sym (all.heard ∙ ap (map (hears members)) c.in_ok-readers.ensures)) (are_numbered c.args.planned.now members)
 
 pub returns-clause-heard : goal.returns-clause-heard
 returns-clause-heard g c =
-    let deck = c.args.deck.now in
+    let deck = c.args.planned.now in
     let all = c.in_ok-hear_pieces.ensures.heard in
     let records = (tape_read all.bytes).records in
     let heard = all.heard ∙ ap (map (hears (map bucket_in records))) c.in_ok-readers.ensures in

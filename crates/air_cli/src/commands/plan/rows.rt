@@ -17,27 +17,21 @@ ghost use Rattle.air_report.specs.RowWriters.{IsRowWriter, written_text};
 use air_base::{NoMemory, write_u64};
 use air_model::program::slots_law;
 use air_report::{finish, put_numbers, put_row, row_writer};
-use chunk_program::{Cut, Program};
+use chunk_program::{Cut, Planned, Program};
 use csv::Writer;
-use item_catalog::Deck;
 use std::alloc::Global;
 
 /// The text of the plan of a deck.
-pub(crate) fn plan_text(
-    alloc: Global,
-    deck: &Deck,
-    cut: &Cut,
-    program: &Program,
-) -> Result<Vec<u8>, NoMemory>
-    requires cut { cut.now ≡ disks_in deck.now }
-    requires planned { program.now ≡ disks_in deck.now }
-    ensures { IfOk result (λ text. text.items ≡ plan_output deck.now) }
+pub(crate) fn plan_text(alloc: Global, cut: &Cut, planned: &Planned) -> Result<Vec<u8>, NoMemory>
+    requires { cut.now ≡ disks_in planned.now }
+    ensures { IfOk result (λ text. text.items ≡ plan_output planned.now) }
 {
+    let program = planned.program();
     let mut wtr = row_writer(Vec::new(alloc));
     put_program(alloc, &mut wtr, program)?;
-    put_disks(alloc, &mut wtr, deck, program)?;
+    put_disks(alloc, &mut wtr, planned)?;
     put_minors(alloc, &mut wtr, program)?;
-    put_items(alloc, &mut wtr, deck, cut, program)?;
+    put_items(alloc, &mut wtr, cut, planned)?;
     let text = finish(wtr)?;
     Ok(text)
 }
@@ -59,20 +53,15 @@ fn put_program(alloc: Global, wtr: &mut Writer<Vec<u8>>, program: &Program) -> R
 }
 
 /// Adds the rows of the disks.
-fn put_disks(
-    alloc: Global,
-    wtr: &mut Writer<Vec<u8>>,
-    deck: &Deck,
-    program: &Program,
-) -> Result<(), NoMemory>
-    requires ready { IsRowWriter wtr.old }
-    requires planned { program.now ≡ disks_in deck.now }
+fn put_disks(alloc: Global, wtr: &mut Writer<Vec<u8>>, planned: &Planned) -> Result<(), NoMemory>
+    requires { IsRowWriter wtr.old }
     ensures ready { OnOk result (IsRowWriter wtr.new) }
     ensures text { OnOk result (written_text wtr.new
-        ≡ written_text wtr.old ++ rows_text (map (disk_row (num_minors program.now)) (enumerate_from 0 program.now))) }
+        ≡ written_text wtr.old ++ rows_text (map (disk_row (num_minors (disks_in planned.now))) (enumerate_from 0 (disks_in planned.now)))) }
 {
+    let deck = planned.deck();
     for d in 0..deck.disks() {
-        put_disk(alloc, wtr, deck, program, d)?;
+        put_disk(alloc, wtr, planned, d)?;
     }
     Ok(())
 }
@@ -81,17 +70,17 @@ fn put_disks(
 fn put_disk(
     alloc: Global,
     wtr: &mut Writer<Vec<u8>>,
-    deck: &Deck,
-    program: &Program,
+    planned: &Planned,
     d: u32,
 ) -> Result<(), NoMemory>
     requires ready { IsRowWriter wtr.old }
-    requires planned { program.now ≡ disks_in deck.now }
-    requires disk { d < length deck.now.disks }
+    requires disk { d < length planned.now.disks }
     ensures ready { OnOk result (IsRowWriter wtr.new) }
-    ensures text { OnOk result (IfSome (slice_get program.now d) (λ disk.
-        written_text wtr.new ≡ written_text wtr.old ++ row_text row_writer (disk_row (num_minors program.now) (d, disk)))) }
+    ensures text { OnOk result (IfSome (slice_get (disks_in planned.now) d) (λ disk.
+        written_text wtr.new ≡ written_text wtr.old ++ row_text row_writer (disk_row (num_minors (disks_in planned.now)) (d, disk)))) }
 {
+    let deck = planned.deck();
+    let program = planned.program();
     let ns = [
         u64::from(d),
         u64::from(deck.freq(d)),
@@ -180,19 +169,18 @@ fn put_slot(slot: Option<u16>, text: &mut Vec<u8>) -> Result<(), NoMemory>
 fn put_items(
     alloc: Global,
     wtr: &mut Writer<Vec<u8>>,
-    deck: &Deck,
     cut: &Cut,
-    program: &Program,
+    planned: &Planned,
 ) -> Result<(), NoMemory>
     requires ready { IsRowWriter wtr.old }
-    requires cut { cut.now ≡ disks_in deck.now }
-    requires planned { program.now ≡ disks_in deck.now }
+    requires cut { cut.now ≡ disks_in planned.now }
     ensures ready { OnOk result (IsRowWriter wtr.new) }
     ensures text { OnOk result (written_text wtr.new
-        ≡ written_text wtr.old ++ rows_text (map (item_row program.now) (enumerate_from 0 (rates_in deck.now)))) }
+        ≡ written_text wtr.old ++ rows_text (map (item_row (disks_in planned.now)) (enumerate_from 0 (rates_in planned.now)))) }
 {
+    let deck = planned.deck();
     for i in 0..deck.items() {
-        put_item(alloc, wtr, deck, cut, program, i)?;
+        put_item(alloc, wtr, cut, planned, i)?;
     }
     Ok(())
 }
@@ -201,21 +189,19 @@ fn put_items(
 fn put_item(
     alloc: Global,
     wtr: &mut Writer<Vec<u8>>,
-    deck: &Deck,
     cut: &Cut,
-    program: &Program,
+    planned: &Planned,
     i: u16,
 ) -> Result<(), NoMemory>
     requires ready { IsRowWriter wtr.old }
-    requires cut { cut.now ≡ disks_in deck.now }
-    requires planned { program.now ≡ disks_in deck.now }
-    requires item { i < length deck.now.items }
+    requires cut { cut.now ≡ disks_in planned.now }
+    requires item { i < length planned.now.items }
     ensures ready { OnOk result (IsRowWriter wtr.new) }
-    ensures text { OnOk result (IfSome (slice_get deck.now.items i) (λ item.
-        written_text wtr.new ≡ written_text wtr.old ++ row_text row_writer (item_row program.now (i, item.rate)))) }
+    ensures text { OnOk result (IfSome (slice_get planned.now.items i) (λ item.
+        written_text wtr.new ≡ written_text wtr.old ++ row_text row_writer (item_row (disks_in planned.now) (i, item.rate)))) }
 {
-    deck.shows_well_made();
-    let _slots = program.slots();
+    let deck = planned.deck();
+    let program = planned.program();
     let ns = [
         u64::from(i),
         u64::from(cut.disk_of(i)),

@@ -8,12 +8,12 @@ use Rattle.deck_runs.proofs.casts.cast_run.Goals as goal
 pub returns-then-is_err-clause-fault : goal.returns-then-is_err-clause-fault
 returns-then-is_err-clause-fault g c =
     let state = g.M.Mast.state in
-    (search rules, none_cast state c.args.deck.now c.args.mast.now c.aim.new.self c.requires.unsent c.aim.ensures.kept)
+    (search rules, none_cast state c.args.planned.now c.args.mast.now c.aim.new.self c.requires.unsent c.aim.ensures.kept)
 
 pub returns-in_err-run-clause-fault : goal.returns-in_err-run-clause-fault
 returns-in_err-run-clause-fault g c =
     let state = g.M.Mast.state in
-    let deck = c.args.deck.now in
+    let deck = c.args.planned.now in
     let old = c.args.mast.now in
     let aimed = c.aim.new.self in
     let new = c.run_threads.new.mast in
@@ -25,7 +25,7 @@ returns-in_err-run-clause-fault g c =
 pub returns-in_err-send_end-clause-fault : goal.returns-in_err-send_end-clause-fault
 returns-in_err-send_end-clause-fault g c =
     let state = g.M.Mast.state in
-    let deck = c.args.deck.now in
+    let deck = c.args.planned.now in
     let old = state c.args.mast.now in
     let aimed = state c.aim.new.self in
     let ran = state c.run_threads.new.mast in

@@ -8,11 +8,11 @@ use Rattle.listeners.proofs.apart.end_apart.Goals as goal
 
 pub end_side_by_side-requires-after_bounds : goal.end_side_by_side-requires-after_bounds
 end_side_by_side-requires-after_bounds g c κs within =
-    subst (All IsOpenStill) (sym c.deref_mut.ensures.value) (still_open c.args.deck.now c.requires.0 c.args.readers.items c.requires.1 c.requires.2)
+    subst (All IsOpenStill) (sym c.deref_mut.ensures.value) (still_open c.args.planned.now c.requires.0 c.args.readers.items c.requires.1 c.requires.2)
 
 pub returns : goal.returns
 returns g c = λ pushed h.
-    let deck = c.args.deck.now in
+    let deck = c.args.planned.now in
     let now = c.end_side_by_side.new.readers in
     let long : length now ≡ c.args.readers.len = omega (arith, c.end_side_by_side.auto.readers, c.deref_mut.ensures.len) in
     let whole = with_items_is c.args.readers now long in

@@ -6,7 +6,7 @@ use Rattle.listeners.proofs.histories.shows_whole_tape.Goals as goal
 
 pub returns : goal.returns
 returns c =
-    let deck = c.args.deck.now in
+    let deck = c.args.planned.now in
     let tape = c.args.tape.now in
     record {
       whole = ap (λ t. t.cut) (tape_back deck c.requires.aired.0 tape c.requires.aired.1.same c.requires.few);

@@ -21,8 +21,8 @@ line_told deck H verdicts counts ran judged counted =
 pub returns : goal.returns
 unfolding drill_output
 returns g c =
-    let deck = c.in_ok-deck.deck in
+    let deck = c.in_ok-planned.planned in
     let aired = c.in_ok-aired.aired in
     c.in_ok-text.ensures ∙ ap drill_line c.numbers_of.ensures
     ∙ line_told deck aired.events.items aired.sessions.verdicts.items aired.sessions.counts.items c.in_ok-aired.ensures.events c.in_ok-aired.ensures.verdicts c.in_ok-aired.ensures.counts
-    ∙ ap script_line c.in_ok-deck.ensures
+    ∙ ap script_line (c.in_ok-planned.ensures ∙ c.in_ok-deck.ensures)

@@ -1,9 +1,14 @@
-use Rattle.std.proofs.Common.{length, ◌-◌}
-use Rattle.scripts.specs.Pieces.{IsAiring}
+use Rattle.std.proofs.Common.{length, ◌-◌, []}
+use Rattle.scripts.specs.Pieces.{IsAiring, tape_so_far}
 use Rattle.scripts.proofs.whole_scripts.air_script.Given as goal
 
 abbrev pub invariant-loop-aired : goal.invariant-loop-aired
-invariant-loop-aired g l = IsAiring l.deck l.aired
+invariant-loop-aired g l =
+    let Taken = g.S.PieceSink.HasTaken l.sink in
+    record {
+      kept : IsAiring l.planned l.aired;
+      taken : (first : g.row.P.Denot) → Taken [] first l.fn.place → Taken (tape_so_far l.planned l.aired) first l.place;
+    }
 
 abbrev pub decreases-loop-aired : goal.decreases-loop-aired
-decreases-loop-aired g l = length l.deck.script - length l.aired.run.events.items
+decreases-loop-aired g l = length l.planned.script - length l.aired.run.events.items

@@ -7,5 +7,5 @@ returns c =
     let kept = c.in_ok-next_piece.ensures.kept in
     let one = ap length c.requires.events in
     let two = ap (λ d. length d.script) c.requires.deck in
-    both_commits c.args.deck.now c.next_piece.new.self.events.items c.requires.deck kept.begun kept.within
+    both_commits c.args.planned.now c.next_piece.new.self.events.items c.requires.deck kept.begun kept.within
     (omega (arith, one, c.in_ok-next_piece.ensures.on (omega (arith, one, two))))

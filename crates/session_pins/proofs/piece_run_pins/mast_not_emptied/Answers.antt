@@ -8,5 +8,5 @@ returns c =
     let kept = c.in_ok-next_piece.ensures.kept in
     let one = ap length c.requires.events in
     let two = ap (λ d. length d.script) c.requires.deck in
-    second_cycle c.args.deck.now c.args.run.now.events.items c.next_piece.new.self.events.items (told_by_tape c.next_piece.new.piece).buckets c.requires.deck c.requires.events kept.begun kept.within
+    second_cycle c.args.planned.now c.args.run.now.events.items c.next_piece.new.self.events.items (told_by_tape c.next_piece.new.piece).buckets c.requires.deck c.requires.events kept.begun kept.within
     (c.in_ok-next_piece.ensures.on (omega (arith, one, two))) c.in_ok-next_piece.ensures.aired

@@ -12,15 +12,15 @@ use Rattle.session_pins.proofs.tape_pins.carried_rest_forgotten.Goals as goal
 pub returns-clause-verdicts : goal.returns-clause-verdicts
 returns-clause-verdicts g c =
     let before = g.S.Shelf.state c.args.shelf.now in
-    IfOk-weaker c.piece_sessions.result (AreFileSessions c.args.name.now 72 before c.args.deck.now) (λ s. s.verdicts.items ≡ told 0 Accept (read 0 1 10 ∷ read 1 1 20 ∷ []) ∷ [])
-    (λ s h. h.verdicts ∙ heard_verdicts c.args.deck.now h.bytes c.requires.deck (told_bytes (before.told.file c.args.name.now) h.bytes pair_tape c.requires.file h.told))
+    IfOk-weaker c.piece_sessions.result (AreFileSessions c.args.name.now 72 before c.args.planned.now) (λ s. s.verdicts.items ≡ told 0 Accept (read 0 1 10 ∷ read 1 1 20 ∷ []) ∷ [])
+    (λ s h. h.verdicts ∙ heard_verdicts c.args.planned.now h.bytes c.requires.deck (told_bytes (before.told.file c.args.name.now) h.bytes pair_tape c.requires.file h.told))
     c.piece_sessions.ensures.heard
 
 pub returns-clause-lines : goal.returns-clause-lines
 returns-clause-lines g c =
     let before = g.S.Shelf.state c.args.shelf.now in
-    IfOk-weaker c.piece_sessions.result (AreFileSessions c.args.name.now 72 before c.args.deck.now) (λ s. s.counts.items ≡ counted 0 (counts 2 0 0 0 0 0) ∷ [])
-    (λ s h. h.counts ∙ heard_lines c.args.deck.now h.bytes c.requires.deck (told_bytes (before.told.file c.args.name.now) h.bytes pair_tape c.requires.file h.told))
+    IfOk-weaker c.piece_sessions.result (AreFileSessions c.args.name.now 72 before c.args.planned.now) (λ s. s.counts.items ≡ counted 0 (counts 2 0 0 0 0 0) ∷ [])
+    (λ s h. h.counts ∙ heard_lines c.args.planned.now h.bytes c.requires.deck (told_bytes (before.told.file c.args.name.now) h.bytes pair_tape c.requires.file h.told))
     c.piece_sessions.ensures.heard
 
 pub returns-clause-refused : goal.returns-clause-refused

@@ -10,7 +10,7 @@ returns g c =
     let before = g.S.Shelf.state c.args.shelf.now in
     let now = g.S.Shelf.state c.piece_sessions.new.shelf in
     of_both c.piece_sessions.result (λ s. ⊥) (IsCutAt 36)
-    (IfOk-weaker c.piece_sessions.result (AreFileSessions c.args.name.now 72 before c.args.deck.now) (λ s. ⊥)
+    (IfOk-weaker c.piece_sessions.result (AreFileSessions c.args.name.now 72 before c.args.planned.now) (λ s. ⊥)
     (λ s h. not_whole h.bytes (told_bytes (before.told.file c.args.name.now) h.bytes cut_tape c.requires.file h.told) h.whole) c.piece_sessions.ensures.heard)
     (IfErr-weaker c.piece_sessions.result (UnheardCause c.args.name.now 72 before now) (IsCutAt 36)
     (λ s cause. cut_cause c.args.name.now before now s c.requires.file cause) c.piece_sessions.ensures.refused)

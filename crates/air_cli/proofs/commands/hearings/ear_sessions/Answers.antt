@@ -1,6 +1,7 @@
 use Rattle.std.proofs.Common.{rules, ◌≡◌, ◌<◌, ◌^◌, ◌∙◌, All, length, map, ap, sym, subst, arith}
 use Rattle.std.specs.List.{range_with_len}
 use Rattle.air_model.specs.Buckets.{bucket_in}
+use Rattle.air_model.specs.Decks.{Deck}
 use Rattle.air_model.specs.Reports.{counts_lines, verdict_lines}
 use Rattle.listeners.specs.Listeners.{AreNumbered, end_state}
 use Rattle.listeners.proofs.ReaderLemmas.{HasRoom, are_numbered, heard_whole, room_at_first, sessions_are}
@@ -11,16 +12,16 @@ use Rattle.air_cli.proofs.commands.hearings.ear_sessions.Goals as goal
 
 pub all_hear_ear-requires-clause-counts : goal.all_hear_ear-requires-clause-counts
 all_hear_ear-requires-clause-counts g c =
-    let deck = c.args.deck.now in
-    let n = c.settings.result.hears in
-    let most = c.shows_well_made.ensures.limits.settings.hears in
-    let same = ap (λ s. s.hears) c.settings.ensures in
+    let deck = c.args.planned.now in
+    let n = c.settings-hears.result.hears in
+    let most = c.deck.ensures.limits.settings.hears in
+    let same = ap (λ s. s.hears) c.settings-hears.ensures ∙ ap (λ (d : Deck). d.settings.hears) c.deck.ensures.told in
     let few : n < 2 ^ 64 = omega (arith, same, most) in
     subst (All (HasRoom n)) (sym (c.deref_mut.ensures.value ∙ c.in_ok-listeners.ensures)) (room_at_first deck n (range_with_len 0 (length deck.readers)) few)
 
 pub end_all-requires : goal.end_all-requires
 end_all-requires g c =
-    let deck = c.args.deck.now in
+    let deck = c.args.planned.now in
     let h = c.in_ok-all_hear_ear.ensures.heard in
     let now = c.all_hear_ear.new.listeners in
     let long : length now ≡ c.in_ok-listeners.listeners.len = omega (arith, c.all_hear_ear.auto.listeners, c.deref_mut.ensures.len) in
@@ -30,21 +31,21 @@ end_all-requires g c =
 pub returns-in_err-sessions-clause-fault : goal.returns-in_err-sessions-clause-fault
 returns-in_err-sessions-clause-fault g c =
     let E = g.E.Ear in
-    let most = c.args.deck.now.settings.hears in
+    let most = c.args.planned.now.settings.hears in
     let old = E.state c.args.ear.now in
     let tuned = E.state c.tune_in.new.self in
     let new = E.state c.all_hear_ear.new.ear in
     let calm : tuned.faults ≡ old.faults = search rules in
     let heard = c.in_ok-all_hear_ear.ensures.heard in
-    let hears = ap (λ s. s.hears) c.settings.ensures in
-    let taken : TakesUpTo most old.told new.told = subst (λ n. TakesUpTo n old.told new.told) hears (subst (λ o. TakesUpTo c.settings.result.hears o new.told) c.tune_in.ensures.kept heard.is.taken) in
+    let hears = ap (λ s. s.hears) c.settings-hears.ensures ∙ ap (λ (d : Deck). d.settings.hears) c.deck.ensures.told in
+    let taken : TakesUpTo most old.told new.told = subst (λ n. TakesUpTo n old.told new.told) hears (subst (λ o. TakesUpTo c.settings-hears.result.hears o new.told) c.tune_in.ensures.kept heard.is.taken) in
     let h : IsHearAnswer most old new fault.NoMemory = (c.in_ok-all_hear_ear.ensures.calm ∙ calm, just_taken most old.told new.told taken) in
     search (rules, h)
 
 pub returns-clause-sessions : goal.returns-clause-sessions
 returns-clause-sessions g c =
     let E = g.E.Ear in
-    let deck = c.args.deck.now in
+    let deck = c.args.planned.now in
     let h = c.in_ok-all_hear_ear.ensures.heard in
     let old = (E.state c.args.ear.now).told in
     let tuned = (E.state c.tune_in.new.self).told in
@@ -53,10 +54,10 @@ returns-clause-sessions g c =
     let long : length now ≡ c.in_ok-listeners.listeners.len = omega (arith, c.all_hear_ear.auto.listeners, c.deref_mut.ensures.len) in
     let heard = heard_whole deck (map bucket_in h.heard) c.in_ok-listeners.listeners.len c.in_ok-listeners.listeners.items c.deref_mut.result.now now long
     (c.deref_mut.ensures.value ∙ c.in_ok-listeners.ensures) h.same in
-    let hears = ap (λ s. s.hears) c.settings.ensures in
+    let hears = ap (λ s. s.hears) c.settings-hears.ensures ∙ ap (λ (d : Deck). d.settings.hears) c.deck.ensures.told in
     record {
       heard = h.heard;
-      is = subst (λ n. IsHeardOnEar n old last h.heard) hears (subst (λ o. IsHeardOnEar c.settings.result.hears o last h.heard) c.tune_in.ensures.kept h.is);
+      is = subst (λ n. IsHeardOnEar n old last h.heard) hears (subst (λ o. IsHeardOnEar c.settings-hears.result.hears o last h.heard) c.tune_in.ensures.kept h.is);
       verdicts_are = c.in_ok-sessions.ensures.verdicts ∙ ap (λ ls. verdict_lines (map end_state ls)) heard ∙ ap verdict_lines (sessions_are deck h.heard);
       counts_are = c.in_ok-sessions.ensures.counts ∙ ap (λ ls. counts_lines (map end_state ls)) heard ∙ ap counts_lines (sessions_are deck h.heard);
     }

@@ -10,7 +10,7 @@ pub returns-in-Ok-print : goal.returns-in-Ok-print
 returns-in-Ok-print g c =
     let S = g.S.Shelf in
     let output : Option (List ℕ) = option_map (λ (name : Bor (List ℕ)). name.now) c.args.output in
-    let d = c.args.deck.now in
+    let d = c.args.planned.now in
     let before = S.state c.args.shelf.now in
     let mid = S.state c.air_to_output.new.shelf in
     let now = S.state c.print.new.self in
@@ -25,7 +25,7 @@ pub returns-in-Ok : goal.returns-in-Ok
 returns-in-Ok g c =
     let S = g.S.Shelf in
     let output : Option (List ℕ) = option_map (λ (name : Bor (List ℕ)). name.now) c.args.output in
-    let d = c.args.deck.now in
+    let d = c.args.planned.now in
     let before = S.state c.args.shelf.now in
     let mid = S.state c.air_to_output.new.shelf in
     let now = S.state c.print.new.self in
@@ -40,7 +40,7 @@ pub returns : goal.returns
 returns g c =
     let S = g.S.Shelf in
     let output : Option (List ℕ) = option_map (λ (name : Bor (List ℕ)). name.now) c.args.output in
-    let d = c.args.deck.now in
+    let d = c.args.planned.now in
     let before = S.state c.args.shelf.now in
     let now = S.state c.air_to_output.new.shelf in
     let stopped = c.in-Err.ensures.stopped in

@@ -5,14 +5,14 @@ use Rattle.air_cli.specs.Script.{ScriptCause, ScriptGives, script_meaning}
 use Rattle.air_cli.proofs.ScriptLemmas.{unrunnable_script}
 use Rattle.air_cli.proofs.commands.script.read_script.Goals as goal
 
-pub returns-in_err-deck-clause-unmade : goal.returns-in_err-deck-clause-unmade
-returns-in_err-deck-clause-unmade g c =
+pub returns-in_err-planned-clause-unmade : goal.returns-in_err-planned-clause-unmade
+returns-in_err-planned-clause-unmade g c =
     let S = g.S.Shelf in
     let before = S.state c.args.shelf.now in
     let now = S.state c.read_runnable_deck.new.shelf in
-    let h : IsUnmade (script_meaning c.args.name.now None) before now c.in_err-deck.field-0.0 = record {
-      cause = unrunnable_script c.args.name.now before now c.in_err-deck.field-0.0 c.in_err-deck.ensures.refused;
-      kept = c.in_err-deck.ensures.reads.kept;
+    let h : IsUnmade (script_meaning c.args.name.now None) before now c.in_err-planned.field-0.0 = record {
+      cause = unrunnable_script c.args.name.now before now c.in_err-planned.field-0.0 c.in_err-planned.ensures.refused;
+      kept = c.in_err-planned.ensures.reads.kept;
     } in
     search (rules, h)
 
@@ -23,12 +23,12 @@ returns-then-bytes-clause-unmade g c =
     let before = S.state c.args.shelf.now in
     record {
       cause = (
-        c.in_ok-deck.deck,
-        c.in_ok-deck.ensures.deck,
-        c.shows_well_made.ensures.made,
-        record { runnable = c.in_ok-deck.ensures.runnable; counted = c.tape_len-bytes.ensures; above = omega (arith, c.if-bytes.true) },
+        c.in_ok-planned.planned,
+        c.in_ok-planned.ensures.deck,
+        c.in_ok-planned.ensures.made,
+        record { runnable = c.in_ok-planned.ensures.runnable; counted = c.tape_len-bytes.ensures; above = omega (arith, c.if-bytes.true) },
       );
-      kept = λ read. c.in_ok-deck.ensures.reads.calm;
+      kept = λ read. c.in_ok-planned.ensures.reads.calm;
     }
 
 pub returns-clause-made : goal.returns-clause-made
@@ -37,22 +37,22 @@ returns-clause-made g c =
     let S = g.S.Shelf in
     let before = S.state c.args.shelf.now in
     let now = S.state c.read_runnable_deck.new.shelf in
-    let d = c.in_ok-deck.deck in
+    let d = c.in_ok-planned.planned in
     record {
       gives = (
         refl,
         (
           d,
-          c.in_ok-deck.ensures.deck,
-          c.shows_well_made.ensures.made,
+          c.in_ok-planned.ensures.deck,
+          c.in_ok-planned.ensures.made,
           (
-            c.in_ok-deck.ensures.runnable,
+            c.in_ok-planned.ensures.runnable,
             omega (arith, c.if-bytes.false, c.tape_len-bytes.ensures),
             record { legal = c.shows_script_truth.ensures.legal; bases = c.shows_script_truth.ensures.bases; sessions = c.shows_script_truth.ensures.sessions },
             refl,
           ),
         ),
       );
-      read = λ other same. subst (λ input. IsAtEnd (now.told.left input)) (sym same) c.in_ok-deck.ensures.reads.end;
-      calm = c.in_ok-deck.ensures.reads.calm;
+      read = λ other same. subst (λ input. IsAtEnd (now.told.left input)) (sym same) c.in_ok-planned.ensures.reads.end;
+      calm = c.in_ok-planned.ensures.reads.calm;
     }

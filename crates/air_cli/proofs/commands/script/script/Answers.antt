@@ -16,7 +16,7 @@ returns-in-Ok g c =
     let mid = S.state c.read_script.new.shelf in
     let now = S.state c.air_and_print.new.shelf in
     record {
-      answers = answers_aired deck output c.in-Ok.deck before mid now c.air_and_print.result c.in-Ok.ensures.made c.read_script.ensures.reads c.air_and_print.ensures.airs c.air_and_print.ensures.rest;
+      answers = answers_aired deck output c.in-Ok.planned before mid now c.air_and_print.result c.in-Ok.ensures.made c.read_script.ensures.reads c.air_and_print.ensures.airs c.air_and_print.ensures.rest;
       leaves = leaves_aired deck output before mid now c.read_script.ensures.reads c.air_and_print.ensures.rest c.air_and_print.ensures.counts;
     }
 

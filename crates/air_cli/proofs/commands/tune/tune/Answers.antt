@@ -13,14 +13,14 @@ use Rattle.air_cli.proofs.CountLemmas.{kept_twice}
 use Rattle.air_cli.proofs.TuneLemmas.{heard_text, of_heard, unheard_since, unheard_tune, unrunnable_tune, wanting_tune}
 use Rattle.air_cli.proofs.commands.tune.tune.Goals as goal
 
-pub returns-in_err-deck-clause-unmade : goal.returns-in_err-deck-clause-unmade
-returns-in_err-deck-clause-unmade g c =
+pub returns-in_err-planned-clause-unmade : goal.returns-in_err-planned-clause-unmade
+returns-in_err-planned-clause-unmade g c =
     let S = g.S.Shelf in
     let before = S.state c.args.shelf.now in
     let now = S.state c.read_runnable_deck.new.shelf in
-    let h : IsUnmade (tune_meaning c.args.name.now c.args.tape.now) before now c.in_err-deck.field-0.0 = record {
-      cause = unrunnable_tune c.args.name.now c.args.tape.now before now c.in_err-deck.field-0.0 c.in_err-deck.ensures.refused;
-      kept = c.in_err-deck.ensures.reads.kept;
+    let h : IsUnmade (tune_meaning c.args.name.now c.args.tape.now) before now c.in_err-planned.field-0.0 = record {
+      cause = unrunnable_tune c.args.name.now c.args.tape.now before now c.in_err-planned.field-0.0 c.in_err-planned.ensures.refused;
+      kept = c.in_err-planned.ensures.reads.kept;
     } in
     search (rules, h)
 
@@ -31,11 +31,11 @@ returns-in_err-sessions-clause-unmade g c =
     let before = S.state c.args.shelf.now in
     let mid = S.state c.read_runnable_deck.new.shelf in
     let now = S.state c.file_sessions.new.shelf in
-    let can : HasDeck c.args.name.now before HasShortProgram = (c.in_ok-deck.deck, c.in_ok-deck.ensures.deck, c.shows_well_made.ensures.made, c.in_ok-deck.ensures.runnable) in
-    let unheard = unheard_since tape tape_limit before mid now c.in_err-sessions.field-0.0 (c.read_runnable_deck.ensures.reads.rest.files tape) c.in_ok-deck.ensures.reads.calm c.in_err-sessions.ensures.refused in
+    let can : HasDeck c.args.name.now before HasShortProgram = (c.in_ok-planned.planned, c.in_ok-planned.ensures.deck, c.in_ok-planned.ensures.made, c.in_ok-planned.ensures.runnable) in
+    let unheard = unheard_since tape tape_limit before mid now c.in_err-sessions.field-0.0 (c.read_runnable_deck.ensures.reads.rest.files tape) c.in_ok-planned.ensures.reads.calm c.in_err-sessions.ensures.refused in
     let h : IsUnmade (tune_meaning c.args.name.now tape) before now c.in_err-sessions.field-0.0 = record {
       cause = unheard_tune c.args.name.now tape before now c.in_err-sessions.field-0.0 can unheard;
-      kept = λ read. kept_twice before.faults mid.faults now.faults c.in_ok-deck.ensures.reads.calm (c.in_err-sessions.ensures.reads.kept read);
+      kept = λ read. kept_twice before.faults mid.faults now.faults c.in_ok-planned.ensures.reads.calm (c.in_err-sessions.ensures.reads.kept read);
     } in
     search (rules, h)
 
@@ -47,7 +47,7 @@ returns-in_err-text-clause-unmade g c =
     let now = S.state c.file_sessions.new.shelf in
     let h : IsUnmade (tune_meaning c.args.name.now c.args.tape.now) before now status.NoMemory = record {
       cause = wanting_tune c.args.name.now c.args.tape.now before now;
-      kept = λ read. kept_twice before.faults mid.faults now.faults c.in_ok-deck.ensures.reads.calm c.in_ok-sessions.ensures.reads.calm;
+      kept = λ read. kept_twice before.faults mid.faults now.faults c.in_ok-planned.ensures.reads.calm c.in_ok-sessions.ensures.reads.calm;
     } in
     search (rules, h)
 
@@ -59,21 +59,21 @@ returns-clause-made g c =
     let before = S.state c.args.shelf.now in
     let mid = S.state c.read_runnable_deck.new.shelf in
     let now = S.state c.file_sessions.new.shelf in
-    let deck = c.in_ok-deck.deck in
+    let deck = c.in_ok-planned.planned in
     let sessions = c.in_ok-sessions.sessions in
     let heard = c.in_ok-sessions.ensures.heard in
     let work : ReportAndTape = only_text c.in_ok-text.text.items in
     let text = heard_text tape mid deck sessions c.in_ok-text.text.items heard c.in_ok-text.ensures in
-    let deck_end = end_still c.args.name.now tape mid now c.file_sessions.ensures.reads.rest c.in_ok-deck.ensures.reads.end c.in_ok-sessions.ensures.reads.end in
+    let deck_end = end_still c.args.name.now tape mid now c.file_sessions.ensures.reads.rest c.in_ok-planned.ensures.reads.end c.in_ok-sessions.ensures.reads.end in
     record {
       gives = (
         refl,
         (
           deck,
-          c.in_ok-deck.ensures.deck,
-          c.shows_well_made.ensures.made,
+          c.in_ok-planned.ensures.deck,
+          c.in_ok-planned.ensures.made,
           (
-            c.in_ok-deck.ensures.runnable,
+            c.in_ok-planned.ensures.runnable,
             of_heard tape before mid deck sessions work heard (c.read_runnable_deck.ensures.reads.rest.files tape) (c.shows_tape_truth.ensures _) (ap only_text text),
           ),
         ),
@@ -82,5 +82,5 @@ returns-clause-made g c =
         | inl same ↦ subst (λ input. IsAtEnd (now.told.left input)) (sym same) deck_end
         | inr same ↦ subst (λ input. IsAtEnd (now.told.left input)) (sym same) c.in_ok-sessions.ensures.reads.end
       ];
-      calm = kept_twice before.faults mid.faults now.faults c.in_ok-deck.ensures.reads.calm c.in_ok-sessions.ensures.reads.calm;
+      calm = kept_twice before.faults mid.faults now.faults c.in_ok-planned.ensures.reads.calm c.in_ok-sessions.ensures.reads.calm;
     }

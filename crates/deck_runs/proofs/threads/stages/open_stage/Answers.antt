@@ -1,5 +1,7 @@
-use Rattle.std.proofs.Common.{◌∙◌, All, sym, ap, subst, arith}
+use Rattle.std.proofs.Common.{◌∙◌, All, length, refl, sym, ap, subst, arith}
 use Rattle.air_history.specs.Boards.{board_of}
+use Rattle.air_model.specs.Decks.{values_in}
+use Rattle.station.specs.PassStates.{new_pass}
 use Rattle.deck_runs.specs.Crews.{HasNewPass}
 use Rattle.deck_runs.specs.Private.StageSteps.{AreNewUpdaters}
 use Rattle.deck_runs.proofs.StageLemmas.{all_ready, can_conduct, new_updaters}
@@ -7,14 +9,17 @@ use Rattle.deck_runs.proofs.threads.stages.open_stage.Goals as goal
 
 pub returns : goal.returns
 returns c =
-    let deck = c.args.deck.now in
+    let deck = c.args.planned.now in
+    let told = c.deck-deck.ensures.told in
     let station = c.in_ok-station.station in
     let updaters = c.in_ok-updaters.updaters.items in
-    let new = new_updaters station deck updaters c.in_ok-station.passes.items c.in_ok-updaters.ensures.passes c.in_ok-station.ensures.count c.in_ok-station.ensures.each in
+    let first = c.in_ok-station.ensures in
+    let new = new_updaters station deck updaters c.in_ok-station.passes.items c.in_ok-updaters.ensures.passes (first.count ∙ ap (λ d. length d.updates) told) (λ by p at. first.each by p at ∙ ap (λ d. new_pass station d by) told) in
     record {
-      conductor = can_conduct deck _ _ station c.in_ok-station.pass c.station.view_is c.pass.view_is c.in_ok-station.ensures.conductor
-          (c.in_ok-new.ensures.empty ∙ ap (λ values. board_of values _) (c.deref.ensures.value ∙ c.in_ok-values.ensures))
-          (omega (arith, c.in_ok-vec.ensures.len, c.items.ensures.told, c.in_ok-vec.field-0.ok.0));
+      planned = refl;
+      conductor = can_conduct deck _ _ station c.in_ok-station.pass c.station.view_is c.pass.view_is (first.conductor ∙ ap (λ d. new_pass station d (length d.updates)) told)
+          (c.in_ok-new.ensures.empty ∙ ap (λ values. board_of values _) (c.deref.ensures.value ∙ c.in_ok-values.ensures ∙ ap values_in told))
+          (omega (arith, c.in_ok-vec.ensures.len, c.items.ensures.told, ap (λ d. length d.items) told, c.in_ok-vec.field-0.ok.0));
       updaters = subst (λ t. AreNewUpdaters t deck updaters) (sym c.station.view_is) new;
       ready = subst (λ t. All (HasNewPass t deck) updaters) (sym c.station.view_is) (all_ready station deck updaters new);
       empty = c.in_ok-with_capacity.ensures.items;

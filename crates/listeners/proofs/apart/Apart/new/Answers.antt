@@ -9,5 +9,5 @@ loop-r-preserved c =
     let run : PieceReader = record { reader = c.in_ok-new.field-0; done = true } in
     let one : length (runs ++ run ∷ []) ≡ length runs + 1 = length-append runs (run ∷ []) in (
       ap length c.in_ok-push.ensures.items ∙ one ∙ ap (λ n. n + 1) c.loop-r.invariant.0,
-      one_more_hearing c.args.deck.now c.loop-r.r [] runs c.push.new.self.items run c.loop-r.invariant.0 c.loop-r.invariant.1 c.in_ok-new.ensures c.in_ok-push.ensures.items,
+      one_more_hearing c.args.planned.now c.loop-r.r [] runs c.push.new.self.items run c.loop-r.invariant.0 c.loop-r.invariant.1 c.in_ok-new.ensures c.in_ok-push.ensures.items,
     )

@@ -10,5 +10,5 @@ pub loop-r-preserved : goal.loop-r-preserved
 loop-r-preserved c =
     let run : TogetherRun = record { listener = c.in_ok-new.field-0; done = true } in
     let listener : TogetherRun → Listener = λ run. run.listener in
-    one_more_reader (listener_of c.args.deck.now) c.loop-r.r (listeners_in c.loop-r.runs.items) (listeners_in c.push.new.self.items) c.in_ok-new.field-0 c.loop-r.invariant c.in_ok-new.ensures
+    one_more_reader (listener_of c.args.planned.now) c.loop-r.r (listeners_in c.loop-r.runs.items) (listeners_in c.push.new.self.items) c.in_ok-new.field-0 c.loop-r.invariant c.in_ok-new.ensures
     (ap listeners_in c.in_ok-push.ensures.items ∙ map-append listener c.loop-r.runs.items (run ∷ []))

@@ -7,9 +7,9 @@ use Rattle.scripts.proofs.piece_runs.PieceRun.next_piece.Given as goal
 
 abbrev pub invariant-loop-next : goal.invariant-loop-next
 invariant-loop-next l = record {
-  kept : IsPieceRun l.deck l.self;
+  kept : IsPieceRun l.planned l.self;
   at : l.next ≡ length l.self.events.items;
-  aired : aired_bytes l.deck l.self.events.items ≡ aired_bytes l.deck l.fn.self.events.items ++ (told_by_tape l.piece).buckets;
+  aired : aired_bytes l.planned l.self.events.items ≡ aired_bytes l.planned l.fn.self.events.items ++ (told_by_tape l.piece).buckets;
   cycles : starts l.self.events.items + l.left ≤ starts l.fn.self.events.items + l.cycles;
   full : starts l.fn.self.events.items + l.cycles ≤ starts l.self.events.items + l.left;
   left : l.left ≤ l.cycles;

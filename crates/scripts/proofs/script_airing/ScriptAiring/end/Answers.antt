@@ -1,6 +1,5 @@
 use Rattle.std.proofs.Common.{◌≤◌, length, ap, arith}
 use Rattle.air_model.specs.Aired.{air_of}
-use Rattle.air_model.specs.Programs.{program}
 use Rattle.air_model.specs.Reports.{counts_lines, verdict_lines}
 use Rattle.listeners.specs.declared.ethers.TheConstants.{MOST_TAPE_RECORDS}
 use Rattle.air_sender.specs.AiredBytes.{aired_bytes}
@@ -10,23 +9,23 @@ use Rattle.scripts.proofs.script_airing.ScriptAiring.end.Goals as goal
 
 pub end-requires-after_bounds : goal.end-requires-after_bounds
 end-requires-after_bounds g c κs within =
-    let deck = c.args.deck.now in
+    let deck = c.args.planned.now in
     let records = aired_bytes deck c.args.self.run.events.items in
     let few : length records ≤ MOST_TAPE_RECORDS = omega (arith, few_aired deck c.requires.few, ap (λ H. length (aired_bytes deck H)) c.requires.done) in
     (records, c.requires.kept.hearers, few)
 
 pub returns-clause-verdicts : goal.returns-clause-verdicts
 returns-clause-verdicts g c =
-    let deck = c.args.deck.now in
+    let deck = c.args.planned.now in
     let events = c.args.self.run.events.items in
-    let slots : length ((air_of deck).slots) ≤ 16384 = omega (arith, c.slots-slots.ensures.few, c.slots-slots.ensures.counted, ap (λ disks. length (program disks)) c.requires.planned) in
-    ended_told deck events verdict_lines c.in_ok-sessions.sessions.verdicts.items (script_airs deck c.shows_well_made.ensures.made c.shows_well_made.ensures.limits.script slots) c.requires.done
+    let slots : length ((air_of deck).slots) ≤ 16384 = omega (arith, c.shows_planned.ensures.short) in
+    ended_told deck events verdict_lines c.in_ok-sessions.sessions.verdicts.items (script_airs deck c.shows_planned.ensures.made c.shows_planned.ensures.limits.script slots) c.requires.done
     (c.in_ok-sessions.ensures.verdicts (aired_bytes deck events) c.requires.kept.hearers)
 
 pub returns-clause-counts : goal.returns-clause-counts
 returns-clause-counts g c =
-    let deck = c.args.deck.now in
+    let deck = c.args.planned.now in
     let events = c.args.self.run.events.items in
-    let slots : length ((air_of deck).slots) ≤ 16384 = omega (arith, c.slots-slots.ensures.few, c.slots-slots.ensures.counted, ap (λ disks. length (program disks)) c.requires.planned) in
-    ended_told deck events counts_lines c.in_ok-sessions.sessions.counts.items (script_airs deck c.shows_well_made.ensures.made c.shows_well_made.ensures.limits.script slots) c.requires.done
+    let slots : length ((air_of deck).slots) ≤ 16384 = omega (arith, c.shows_planned.ensures.short) in
+    ended_told deck events counts_lines c.in_ok-sessions.sessions.counts.items (script_airs deck c.shows_planned.ensures.made c.shows_planned.ensures.limits.script slots) c.requires.done
     (c.in_ok-sessions.ensures.counts (aired_bytes deck events) c.requires.kept.hearers)

@@ -1,7 +1,9 @@
-use Rattle.std.proofs.Common.{◌++◌, ap, ◌∙◌}
+use Rattle.std.proofs.Common.{◌++◌, ap, map, ◌∙◌}
+use Rattle.std.specs.List.{range_with_len}
 use Rattle.csv.specs.Writing.{row_text}
-use Rattle.air_model.specs.Decks.{rates_in}
-use Rattle.air_model.specs.PlanTexts.{plan_rows, program_row}
+use Rattle.air_model.specs.Decks.{disks_in, rates_in}
+use Rattle.air_model.specs.PlanTexts.{minor_row, program_row}
+use Rattle.air_model.specs.Programs.{num_minors}
 use Rattle.air_model.specs.Rows.{row_writer, rows_text}
 use Rattle.air_report.specs.RowWriters.{written_text}
 use Rattle.air_cli.proofs.PlanLemmas.{plan_is, plan_text_is}
@@ -9,9 +11,11 @@ use Rattle.air_cli.proofs.commands.plan.rows.plan_text.Goals as goal
 
 pub returns : goal.returns
 returns c =
-    let d = c.args.deck.now in
-    let disks = c.args.program.now in
+    let d = c.args.planned.now in
+    let told = c.program-program.ensures.told in
+    let disks = written_text c.put_disks.new.wtr in
     let empty = c.row_writer-wtr.ensures.text ∙ c.new.ensures.items in
-    let all = plan_is disks (rates_in d) (written_text c.put_program.new.wtr) (written_text c.put_disks.new.wtr) (written_text c.put_minors.new.wtr) (written_text c.put_items.new.wtr)
-    (c.in_ok-put_program.ensures.text ∙ ap (λ t. t ++ row_text row_writer (program_row disks)) empty) c.in_ok-put_disks.ensures.text c.in_ok-put_minors.ensures.text c.in_ok-put_items.ensures.text in
-    plan_text_is d c.in_ok-text.text.items (c.in_ok-text.ensures ∙ all ∙ ap (λ p. rows_text (plan_rows p (rates_in d))) c.requires.planned)
+    let all = plan_is (disks_in d) (rates_in d) (written_text c.put_program.new.wtr) disks (written_text c.put_minors.new.wtr) (written_text c.put_items.new.wtr)
+    (c.in_ok-put_program.ensures.text ∙ ap (λ t. t ++ row_text row_writer (program_row c.program-program.result.now)) empty ∙ ap (λ p. row_text row_writer (program_row p)) told)
+    c.in_ok-put_disks.ensures.text (c.in_ok-put_minors.ensures.text ∙ ap (λ p. disks ++ rows_text (map (minor_row p) (range_with_len 0 (num_minors p)))) told) c.in_ok-put_items.ensures.text in
+    plan_text_is d c.in_ok-text.text.items (c.in_ok-text.ensures ∙ all)

@@ -1,12 +1,13 @@
 use Rattle.std.proofs.Common.{◌≡◌, ◌∙◌, length, sym, ap, arith}
 use Rattle.air_history.specs.Histories.{starts}
 use Rattle.air_model.specs.declared.deck.Settings.{Settings}
-use Rattle.air_model.specs.Decks.{values_in}
+use Rattle.air_model.specs.Decks.{Deck, values_in}
+use Rattle.air_model.specs.Disks.{all_items}
 use Rattle.station.specs.PassStates.{PassState}
 use Rattle.cycle_snapshot.specs.SnapshotStates.{PublisherState}
 use Rattle.update_commit.proofs.EventLemmas.{starts_none}
 use Rattle.deck_runs.specs.Private.StageSteps.{HasAired}
-use Rattle.deck_runs.proofs.RunLemmas.{items_aired, new_in_step, own_air, run_aired, run_batches, run_few, run_whole, values_sized}
+use Rattle.deck_runs.proofs.RunLemmas.{new_in_step, own_air, run_aired, run_batches, run_few, run_whole, values_sized}
 use Rattle.deck_runs.proofs.SentLemmas.{run_answer}
 use Rattle.deck_runs.proofs.jobs.crews.ConductorRun.work.Goals as goal
 
@@ -17,24 +18,25 @@ pub conductor_job-requires-clause-step : goal.conductor_job-requires-clause-step
 conductor_job-requires-clause-step g c =
     let p = c.requires.ready.pass in
     let f = c.requires.publisher in
-    new_in_step c.args.self.now.pass c.args.publisher.now c.args.self.now.board (values_in c.args.deck.now) (ap (λ (p : PassState). p.values) p) (ap (λ (p : PassState). p.seen) p)
+    new_in_step c.args.self.now.pass c.args.publisher.now c.args.self.now.board (values_in c.args.planned.now) (ap (λ (p : PassState). p.values) p) (ap (λ (p : PassState). p.seen) p)
     (ap (λ (f : PublisherState). f.values) f) (ap (λ (f : PublisherState). f.batches) f) c.requires.ready.board
 
 pub conductor_job-requires-clause-room : goal.conductor_job-requires-clause-room
 conductor_job-requires-clause-room g c =
     let none : starts c.args.self.now.pass.seen ≡ 0 = ap (λ (p : PassState). starts p.seen) c.requires.ready.pass ∙ starts_none in
     let most = ap (λ (f : PublisherState). f.most) c.requires.publisher in
-    let cycles = ap (λ (s : Settings). s.cycles) c.settings-settings.ensures in
-    let few = c.shows_well_made.ensures.limits.settings.cycles in
+    let settings_are : c.settings-settings.result ≡ c.args.planned.now.settings = c.settings-settings.ensures ∙ ap (λ (d : Deck). d.settings) c.deck.ensures.told in
+    let cycles = ap (λ (s : Settings). s.cycles) settings_are in
+    let few = c.deck.ensures.limits.settings.cycles in
     (omega arith, omega arith)
 
 pub conductor_job-requires-clause-items : goal.conductor_job-requires-clause-items
 conductor_job-requires-clause-items g c =
-    items_aired c.args.deck.now c.args.program.now c.shows_well_made.ensures.made c.requires.program ∙ ap (λ (p : PassState). length p.values) (sym c.requires.ready.pass)
+    ap (λ disks. length (all_items disks)) c.program.ensures.told ∙ c.program.ensures.items ∙ sym (values_sized c.args.planned.now) ∙ ap (λ (p : PassState). length p.values) (sym c.requires.ready.pass)
 
 pub conductor_job-requires-clause-buffer : goal.conductor_job-requires-clause-buffer
 conductor_job-requires-clause-buffer g c =
-    let values = ap (λ (p : PassState). length p.values) c.requires.ready.pass ∙ values_sized c.args.deck.now in
+    let values = ap (λ (p : PassState). length p.values) c.requires.ready.pass ∙ values_sized c.args.planned.now in
     let size = ap length c.deref_mut.ensures.value in
     let room = c.requires.ready.buffer in
     omega arith
@@ -43,7 +45,7 @@ pub returns : goal.returns
 unfolding HasAired
 returns g c =
     let state = g.M.Mast.state in
-    let deck = c.args.deck.now in
+    let deck = c.args.planned.now in
     let p = c.args.self.now.pass in
     let new = c.conductor_job.new in
     let e = c.conductor_job.ensures in
@@ -51,8 +53,9 @@ returns g c =
     let values = ap (λ (p : PassState). p.values) c.requires.ready.pass in
     let none = ap (λ (p : PassState). p.seen) c.requires.ready.pass in
     let empty = ap (λ (f : PublisherState). f.batches) c.requires.publisher in
-    let cycles = ap (λ (s : Settings). s.cycles) c.settings-settings.ensures in
-    let is = own_air deck c.args.program.now p.values c.settings-settings.result.policy c.requires.program values (ap (λ (s : Settings). s.policy) c.settings-settings.ensures) in
+    let settings_are : c.settings-settings.result ≡ c.args.planned.now.settings = c.settings-settings.ensures ∙ ap (λ (d : Deck). d.settings) c.deck.ensures.told in
+    let cycles = ap (λ (s : Settings). s.cycles) settings_are in
+    let is = own_air deck c.program.result.now p.values c.settings-settings.result.policy c.program.ensures.told values (ap (λ (s : Settings). s.policy) settings_are) in
     let aired = run_aired state deck p new.pass c.args.publisher.now new.publisher _ c.args.mast.now new.mast values none empty result (e.aired _ is) in
     record {
       pass = e.pass;

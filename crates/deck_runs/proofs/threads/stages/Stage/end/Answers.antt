@@ -10,30 +10,30 @@ pub close-history-requires-clause-own : goal.close-history-requires-clause-own
 close-history-requires-clause-own c =
     let s = c.args.self in (
       ap (λ (p : PassState). p.station) c.requires.pass,
-      subst (All (λ (p : PassState). p.station ≡ s.station)) (sym c.hand_in.ensures) (same_station s.station c.args.deck.now s.updaters.items c.requires.updaters),
+      subst (All (λ (p : PassState). p.station ≡ s.station)) (sym c.hand_in.ensures) (same_station s.station s.planned.now s.updaters.items c.requires.updaters),
     )
 
 pub close-history-requires-clause-all : goal.close-history-requires-clause-all
 close-history-requires-clause-all c = λ by l.
     let s = c.args.self in
     let count = ap (λ (p : PassState). p.updaters) c.requires.pass in
-    subst (λ ps. Contains (numbers_of ps) by) (sym c.hand_in.ensures) (all_numbers s.station c.args.deck.now s.updaters.items c.requires.updaters by (omega arith))
+    subst (λ ps. Contains (numbers_of ps) by) (sym c.hand_in.ensures) (all_numbers s.station s.planned.now s.updaters.items c.requires.updaters by (omega arith))
 
 pub returns-then-not-done-clause-begins : goal.returns-then-not-done-clause-begins
 returns-then-not-done-clause-begins c =
     let s = c.args.self in
     let e = c.close-history.ensures in
-    begins s.station c.args.deck.now s.updaters.items c.requires.updaters s.conductor.pass c.close-history.result c.hand_in.new.passes.items c.requires.pass c.hand_in.ensures e.each e.conductor e.fits c.requires.few
+    begins s.station s.planned.now s.updaters.items c.requires.updaters s.conductor.pass c.close-history.result c.hand_in.new.passes.items c.requires.pass c.hand_in.ensures e.each e.conductor e.fits c.requires.few
 
 pub returns-clause-begins : goal.returns-clause-begins
 returns-clause-begins c =
     let s = c.args.self in
     let e = c.close-history.ensures in
-    begins s.station c.args.deck.now s.updaters.items c.requires.updaters s.conductor.pass c.close-history.result c.hand_in.new.passes.items c.requires.pass c.hand_in.ensures e.each e.conductor e.fits c.requires.few
+    begins s.station s.planned.now s.updaters.items c.requires.updaters s.conductor.pass c.close-history.result c.hand_in.new.passes.items c.requires.pass c.hand_in.ensures e.each e.conductor e.fits c.requires.few
 
 pub returns-clause-end : goal.returns-clause-end
 returns-clause-end c =
     let s = c.args.self in
     let e = c.close-history.ensures in
-    ends s.station c.args.deck.now s.updaters.items c.requires.updaters s.conductor.pass c.close-history.result c.hand_in.new.passes.items c.requires.pass c.hand_in.ensures e.each e.conductor e.fits
+    ends s.station s.planned.now s.updaters.items c.requires.updaters s.conductor.pass c.close-history.result c.hand_in.new.passes.items c.requires.pass c.hand_in.ensures e.each e.conductor e.fits
     (subst (All (λ (run : UpdaterRun). IsTrue run.done)) c.deref.ensures.value (c.are_done-done.ensures.0 c.if-not-done.false))
