@@ -15,19 +15,21 @@ use Rattle.air_model.specs.Reports.{fault_line}
 use Rattle.air_model.specs.Rows.{rows_text}
 use Rattle.air_report.specs.declared.status.Status.TheVariants as status
 use Rattle.live_replay.proofs.AuditExamples.{small}
-use Rattle.air_cli.specs.Answers.{Completes, HasBegun, InputFailed, IsDone, IsWanting, Leaves, NoCountRose, OutputFailed, PrintFailed, QuietAnswers, Succeeds}
+use Rattle.air_cli.specs.Answers.{Completes, HasBegun, InputFailed, IsDone, IsWanting, Leaves, NoCountRose, OutputFailed, PrintFailed, QuietAnswers}
 use Rattle.air_cli.specs.Deliveries.{IsGiven, IsGivenInPart}
-use Rattle.air_cli.specs.ReportsAndTapes.{given_status}
+use Rattle.air_cli.specs.ReportsAndTapes.{ReportAndTape, given_status}
 use Rattle.air_cli.specs.Meanings.{Meaning}
 use Rattle.air_cli.specs.NamedDecks.{DeckCause}
 use Rattle.air_cli.specs.NamedFiles.{UnreadCause}
 use Rattle.air_cli.specs.OnAir.{LeavesEar, LeavesMast}
 use Rattle.air_cli.specs.Outputs.{OutputHolds, OutputHoldsPart}
-use Rattle.air_cli.specs.Plan.{PlanCause, plan_given, plan_meaning}
+use Rattle.air_cli.specs.Plan.{plan_meaning}
 use Rattle.air_cli.specs.Refusals.{IsSteady, PrintsUnlessFailed}
-use Rattle.air_cli.specs.Script.{script_given, script_meaning}
+use Rattle.air_cli.specs.RunnableDecks.{UnrunnableCause}
+use Rattle.air_cli.specs.Script.{script_meaning}
 use Rattle.air_cli.specs.Words.{AsksCast, AsksListen}
 use Rattle.air_cli.specs.Untouched.{IsRefusal, IsUntouched, KeepsOutputs}
+use Rattle.air_cli.specs.Private.GivenTexts.{plan_given, script_given}
 use Rattle.air_cli.proofs.CommandExamples.{plan_gives, script_gives}
 use Rattle.air_cli.proofs.ToldExamples.{files, its_deck, plan_suits, shelf, tells_plan}
 
@@ -155,7 +157,7 @@ answers = done
 
 -- A plan has no tape that could be cut.
 not_answers : QuietAnswers plan shelf (with_printed (codes "fault,6,0\n")) (status.TapeCut 0) → ⊥
-unfolding QuietAnswers PlanCause DeckCause UnreadCause
+unfolding QuietAnswers UnrunnableCause DeckCause UnreadCause
 not_answers h = h.0
 
 output_failed : OutputFailed (script_meaning (codes "d") (Some (codes "o"))) shelf (write_failed (holding [] shelf))
@@ -219,11 +221,8 @@ no_count_rose = record { reading = λ name. no_rise; writing = λ name. no_rise;
 count_rose : NoCountRose shelf.faults (print_failed shelf).faults → ⊥
 count_rose h = h.printing (inl (omega arith))
 
-succeeds : Succeeds plan shelf status.Ok
-succeeds = (plan_given small, plan_gives, refl)
-
 completes : Completes plan shelf shelf status.Ok
-completes tells suits calm = inl succeeds
+completes tells suits calm = inl (plan_given small, plan_gives, refl)
 
 -- With another status it didn't, where its told inputs suit it and no count rose: all three hold of the told shelf.
 not_completes : Completes plan shelf shelf status.ReadFault → ⊥
@@ -233,7 +232,7 @@ not_completes h = by (h tells_plan plan_suits no_count_rose)
     no_success false e = cc
     no_success true e = cc
 
-    by : Succeeds plan shelf status.ReadFault ⊎ (status.ReadFault ≡ status.NoMemory) → ⊥
+    by : ((given : ReportAndTape) × plan.Gives shelf given × (status.ReadFault ≡ given_status given.differs)) ⊎ (status.ReadFault ≡ status.NoMemory) → ⊥
     by (inl (given, gives, is)) = no_success given.differs is
     by (inr e) = cc
 

@@ -2,6 +2,7 @@
 use Rattle.std.proofs.Common.{◌≡◌, ◌≢◌, ℕ, ◌≤◌, Bool, List, [], length, Some, refl, sym, ap, ap₂, ◌∙◌, subst, inl, inr, arith}
 use Rattle.std.specs.Prelude.{◌<◌, ⊤}
 use Rattle.std.specs.Io.KnownBytes.{IsAtEnd}
+use Rattle.air_report.specs.declared.reading.limits.TheConstants.{MOST_REPORT_BYTES}
 use Rattle.air_devices.specs.Counts.{KeepsCounts, NoCountFalls}
 use Rattle.air_devices.specs.Unchanged.{KeepsButLeft, KeepsButPrinted}
 use Rattle.air_devices.specs.Shelves.{ShelfState}
@@ -15,7 +16,7 @@ use Rattle.live_replay.specs.FindingTexts.{findings_text, some_differ}
 use Rattle.live_replay.proofs.AuditLemmas.{no_report_fault, one_report}
 use Rattle.air_cli.specs.NamedDecks.{DeckCause, HasDeck, SpellsDeck}
 use Rattle.air_cli.specs.NamedFiles.{UnreadCause}
-use Rattle.air_cli.proofs.CauseLemmas.{of_bytes, of_deck}
+use Rattle.air_cli.proofs.CauseLemmas.{OfDeck, of_bytes, of_deck}
 use Rattle.air_cli.specs.ReportsAndTapes.{ReportAndTape}
 use Rattle.air_cli.proofs.CountLemmas.{kept_twice}
 use Rattle.item_catalog.specs.Grammar.{Spells}
@@ -25,9 +26,10 @@ use Rattle.live_replay.specs.declared.findings.Finding.{Finding}
 use Rattle.live_replay.specs.declared.limits.TheConstants.{MOST_REPLAYED}
 use Rattle.air_report.specs.ReportGrammar.{HasReportFault}
 use Rattle.air_cli.specs.Answers.{InputFailed, NoCountRose}
-use Rattle.air_cli.specs.Audit.{AuditCause, AuditGives, HasReport, OfReport, audit_given, audit_meaning, report_limit}
+use Rattle.air_cli.specs.Audit.{AuditCause, AuditGives, HasReport, audit_meaning}
 use Rattle.air_cli.specs.Private.BeforeDelivery.{IsMade, IsUnmade, ReadsInputs}
 use Rattle.air_cli.specs.ToldInputs.{TellSameInputs, TellsInputs}
+use Rattle.air_cli.specs.Private.GivenTexts.{audit_given}
 use Rattle.air_cli.proofs.InputLemmas.{CommandFacts, deck_fits, deck_told, of_told, unread_fits}
 use Rattle.air_cli.proofs.MakeLemmas.{both_ends}
 use Rattle.air_cli.proofs.ReadLemmas.{end_still, falls_twice, unread_since}
@@ -43,7 +45,7 @@ deck_audit deck report before now (status.TooMuch product) h = absurd h
 deck_audit deck report before now s h = inl h
 
 -- A report that can't be read isn't audited.
-pub unread_audit : (deck report : List ℕ) (before now : ShelfState) (s : Status) → HasDeck deck before (λ d. ⊤) → UnreadCause report report_limit before now s → AuditCause deck report before now s
+pub unread_audit : (deck report : List ℕ) (before now : ShelfState) (s : Status) → HasDeck deck before (λ d. ⊤) → UnreadCause report MOST_REPORT_BYTES before now s → AuditCause deck report before now s
 unfolding AuditCause UnreadCause
 unread_audit deck report before now (status.Report row kind) has h = absurd h
 unread_audit deck report before now (status.TooMuch product) has h = absurd h
@@ -54,14 +56,18 @@ pub told_first : (report : List ℕ) (before mid : ShelfState) (bytes read : Lis
     → ToldIs (before.told.file report) read
 told_first report before mid bytes read known same is = subst (λ file. ToldIs file read) same (subst (ToldIs (mid.told.file report)) (sym is) known)
 
+-- This is so of the named deck, and of the bytes of the named report, where they are told.
+abbrev OfReport : List ℕ → List ℕ → ShelfState → (Deck → List ℕ → Type 0) → Type 0
+OfReport deck report before P = OfDeck deck before (λ d. WhereTold (before.told.file report) (λ bytes. (length bytes ≤ MOST_REPORT_BYTES) × P d bytes))
+
 -- Where the files are told, what is so of the deck and of the report that there are is so of those that they spell.
-pub of_report : (deck report : List ℕ) (before : ShelfState) (P : Deck → List ℕ → Type 0) → HasReport deck report before P → OfReport deck report before P
-of_report deck report before P (d, spells, made, has) = of_deck deck before d (λ d. WhereTold (before.told.file report) (λ bytes. (length bytes ≤ report_limit) × P d bytes)) spells
-    (of_bytes report before (λ bytes. (length bytes ≤ report_limit) × P d bytes) has)
+of_report : (deck report : List ℕ) (before : ShelfState) (P : Deck → List ℕ → Type 0) → HasReport deck report before P → OfReport deck report before P
+of_report deck report before P (d, spells, made, has) = of_deck deck before d (λ d. WhereTold (before.told.file report) (λ bytes. (length bytes ≤ MOST_REPORT_BYTES) × P d bytes)) spells
+    (of_bytes report before (λ bytes. (length bytes ≤ MOST_REPORT_BYTES) × P d bytes) has)
 
 -- Bytes that were read to their end and aren't audited have no audit.
 pub unaudited : (deck report : List ℕ) (before now : ShelfState) (d : Deck) (read : List ℕ) (s : Status) → IsAtEnd (now.told.left report) → SpellsDeck deck before d → IsDeck d
-    → ToldIs (before.told.file report) read → length read ≤ report_limit → UnauditedCause d read s → AuditCause deck report before now s
+    → ToldIs (before.told.file report) read → length read ≤ MOST_REPORT_BYTES → UnauditedCause d read s → AuditCause deck report before now s
 unfolding AuditCause DeckCause UnreadCause UnauditedCause
 unaudited deck report before now d read (status.Report row kind) end spells made known few h = (end, (d, spells, made, (read, known, (few, h))))
 unaudited deck report before now d read (status.TooMuch product) end spells made known few h = (end, (d, spells, made, (read, known, (few, h))))
@@ -72,26 +78,26 @@ unaudited deck report before now d read s end spells made known few h = absurd h
 
 -- The report could not be read.
 pub unread_later : (deck report : List ℕ) (before mid now : ShelfState) (d : Deck) (s : Status) → SpellsDeck deck before d → IsDeck d → KeepsButLeft deck before.told mid.told
-    → KeepsCounts before.faults mid.faults → UnreadCause report report_limit mid now s → (s ≢ status.ReadFault → KeepsCounts mid.faults now.faults)
+    → KeepsCounts before.faults mid.faults → UnreadCause report MOST_REPORT_BYTES mid now s → (s ≢ status.ReadFault → KeepsCounts mid.faults now.faults)
     → IsUnmade (audit_meaning deck report) before now s
 unread_later deck report before mid now d s spells made first calm unread kept = record {
-  cause = unread_audit deck report before now s (d, spells, made, tt) (unread_since report report_limit before mid now s (first.files report) calm unread);
+  cause = unread_audit deck report before now s (d, spells, made, tt) (unread_since report MOST_REPORT_BYTES before mid now s (first.files report) calm unread);
   kept = λ read. kept_twice before.faults mid.faults now.faults calm (kept read);
 }
 
 -- It was read, and isn't audited.
 pub unaudited_later : (deck report : List ℕ) (before mid now : ShelfState) (d : Deck) (bytes read : List ℕ) (s : Status) → SpellsDeck deck before d → IsDeck d
-    → KeepsButLeft deck before.told mid.told → KeepsCounts before.faults mid.faults → ToldIs (mid.told.file report) bytes → length bytes ≤ report_limit → read ≡ bytes
+    → KeepsButLeft deck before.told mid.told → KeepsCounts before.faults mid.faults → ToldIs (mid.told.file report) bytes → length bytes ≤ MOST_REPORT_BYTES → read ≡ bytes
     → IsAtEnd (now.told.left report) → KeepsCounts mid.faults now.faults → UnauditedCause d read s → IsUnmade (audit_meaning deck report) before now s
 unaudited_later deck report before mid now d bytes read s spells made first calm known few is end later cause = record {
-  cause = unaudited deck report before now d read s end spells made (told_first report before mid bytes read known (first.files report) is) (subst (λ b. length b ≤ report_limit) (sym is) few) cause;
+  cause = unaudited deck report before now d read s end spells made (told_first report before mid bytes read known (first.files report) is) (subst (λ b. length b ≤ MOST_REPORT_BYTES) (sym is) few) cause;
   kept = λ none. kept_twice before.faults mid.faults now.faults calm later;
 }
 
 -- It was audited.
 pub audited_later : (deck report : List ℕ) (before mid now : ShelfState) (d : Deck) (bytes read text : List ℕ) (differs : Bool) → SpellsDeck deck before d → IsDeck d
     → KeepsButLeft deck before.told mid.told → IsAtEnd (mid.told.left deck) → KeepsCounts before.faults mid.faults → ToldIs (mid.told.file report) bytes
-    → length bytes ≤ report_limit → read ≡ bytes → KeepsButLeft report mid.told now.told → IsAtEnd (now.told.left report) → KeepsCounts mid.faults now.faults
+    → length bytes ≤ MOST_REPORT_BYTES → read ≡ bytes → KeepsButLeft report mid.told now.told → IsAtEnd (now.told.left report) → KeepsCounts mid.faults now.faults
     → (found : List Finding) × (text ≡ findings_text found) × (differs ≡ some_differ found) × IsAudit d read found
     → IsMade (audit_meaning deck report) before now (record { text = text; tape = []; differs = differs })
 unfolding AuditGives
@@ -99,7 +105,7 @@ audited_later deck report before mid now d bytes read text differs spells made f
   gives = (
     found,
     ap₂ (λ text differs. record { text = text; tape = []; differs = differs }) texts differ,
-    (d, spells, made, (read, told_first report before mid bytes read known (first.files report) is, (subst (λ b. length b ≤ report_limit) (sym is) few, audit))),
+    (d, spells, made, (read, told_first report before mid bytes read known (first.files report) is, (subst (λ b. length b ≤ MOST_REPORT_BYTES) (sym is) few, audit))),
   );
   read = λ name. both_ends now deck report name (end_still deck report mid now second deck_end end) end;
   calm = kept_twice before.faults mid.faults now.faults calm later;
@@ -124,7 +130,7 @@ unfolding AuditCause
 audit_still deck report before mid now (status.Report row kind) rest counts h = (subst IsAtEnd (sym (rest.left report)) h.0, h.1)
 audit_still deck report before mid now (status.TooMuch product) rest counts h = (subst IsAtEnd (sym (rest.left report)) h.0, h.1)
 audit_still deck report before mid now s rest counts (inl h) = inl (deck_still deck before mid now s rest counts h)
-audit_still deck report before mid now s rest counts (inr h) = inr (h.0, unread_still report report_limit before mid now s rest counts h.1)
+audit_still deck report before mid now s rest counts (inr h) = inr (h.0, unread_still report MOST_REPORT_BYTES before mid now s rest counts h.1)
 
 audit_input : (deck report : List ℕ) (before now : ShelfState) → AuditCause deck report before now status.ReadFault → InputFailed (audit_meaning deck report) before now
 unfolding AuditCause DeckCause UnreadCause
@@ -159,10 +165,10 @@ audit_sound deck report = record {
 
 -- What is so of the named files is so of the deck that the told bytes spell, and of the report's told bytes.
 both_told : (deck report : List ℕ) (before : ShelfState) (db rb : List ℕ) (P : Deck → List ℕ → Type 0) → before.told.file deck ≡ Some db → before.told.file report ≡ Some rb
-    → OfReport deck report before P → (d : Deck) × Spells db d × (length rb ≤ report_limit) × P d rb
+    → OfReport deck report before P → (d : Deck) × Spells db d × (length rb ≤ MOST_REPORT_BYTES) × P d rb
 both_told deck report before db rb P first second h =
-    let x = deck_told deck before db (λ d. WhereTold (before.told.file report) (λ bytes. (length bytes ≤ report_limit) × P d bytes)) first h in
-    let y = of_told (before.told.file report) rb (λ bytes. (length bytes ≤ report_limit) × P x.1.0 bytes) second x.1.2 in
+    let x = deck_told deck before db (λ d. WhereTold (before.told.file report) (λ bytes. (length bytes ≤ MOST_REPORT_BYTES) × P d bytes)) first h in
+    let y = of_told (before.told.file report) rb (λ bytes. (length bytes ≤ MOST_REPORT_BYTES) × P x.1.0 bytes) second x.1.2 in
     (x.1.0, x.1.1, y.0, y.1)
 
 -- So it is of one deck where two things are so.
@@ -200,11 +206,11 @@ audit_fits deck report before now (status.TooMuch product) told suits calm h =
     absurd (can_or_too_much two.0 r.0 product two.1 two.2)
 audit_fits deck report before now s told suits calm (inl h) =
     let d = told deck (inl refl) in
-    deck_fits deck before now s d.0 (λ d. WhereTold (before.told.file report) (λ bytes. (length bytes ≤ report_limit) × CanBeAudited d bytes)) d.1 suits calm h
+    deck_fits deck before now s d.0 (λ d. WhereTold (before.told.file report) (λ bytes. (length bytes ≤ MOST_REPORT_BYTES) × CanBeAudited d bytes)) d.1 suits calm h
 audit_fits deck report before now s told suits calm (inr h) =
     let d = told deck (inl refl) in
     let r = told report (inr refl) in
-    unread_fits report report_limit before now s r.0 r.1 (both_told deck report before d.0 r.0 CanBeAudited d.1 r.1 suits).2 calm h.1
+    unread_fits report MOST_REPORT_BYTES before now s r.0 r.1 (both_told deck report before d.0 r.0 CanBeAudited d.1 r.1 suits).2 calm h.1
 
 -- Findings of the same bytes are the same.
 same_found : (d : Deck) (bytes : List ℕ) (a b : List Finding) → IsAudit d bytes a → IsAudit d bytes b → a ≡ b
@@ -216,7 +222,7 @@ audit_told : (deck report : List ℕ) (before : ShelfState) (given : ReportAndTa
 unfolding AuditGives
 audit_told deck report before given (found, is, has) = (found, is, of_report deck report before (λ d bytes. IsAudit d bytes found) has)
 
-audit_one : (deck report : List ℕ) (before other : ShelfState) (a b : ReportAndTape) → TellSameInputs (audit_meaning deck report) before other
+pub audit_one : (deck report : List ℕ) (before other : ShelfState) (a b : ReportAndTape) → TellSameInputs (audit_meaning deck report) before other
     → AuditGives deck report before a → AuditGives deck report other b → a ≡ b
 audit_one deck report before other a b same one two =
     let first = audit_told deck report before a one in
@@ -227,4 +233,4 @@ audit_one deck report before other a b same one two =
     first.1 ∙ ap audit_given (same_found pair.0 r.0 first.0 second.0 pair.1 pair.2) ∙ sym second.1
 
 pub audit_facts : (deck report : List ℕ) → CommandFacts (audit_meaning deck report)
-audit_facts deck report = record { sound = audit_sound deck report; inputs = record { fits = audit_fits deck report; one = λ decided. audit_one deck report } }
+audit_facts deck report = record { sound = audit_sound deck report; inputs = record { fits = λ before now s told suits. audit_fits deck report before now s told (of_report deck report before CanBeAudited suits) } }

@@ -1,6 +1,7 @@
 -- What the proofs of `cast` need of its definitions.
 use Rattle.std.proofs.Common.{◌≡◌, ℕ, ◌≤◌, List, Some, refl, sym, ap, subst, inl, inr, arith}
 use Rattle.std.specs.Prelude.{◌⊎◌}
+use Rattle.air_base.specs.declared.limits.TheConstants.{MOST_TAPE_BYTES}
 use Rattle.deck_runs.specs.Casts.{IsCastAnswer, all_sent}
 use Rattle.air_devices.specs.Counts.{NoCountFalls, Rose}
 use Rattle.air_devices.specs.Masts.{Changes, MastState}
@@ -15,8 +16,8 @@ use Rattle.air_report.specs.declared.status.Status.{Status}
 use Rattle.air_report.specs.declared.status.Status.TheVariants as status
 use Rattle.deck_runs.specs.RunTapes.{run_tape_len}
 use Rattle.deck_runs.specs.RunTruths.{IsTrueRun, TellsHistory}
-use Rattle.air_cli.specs.FileLimits.{tape_limit}
-use Rattle.air_cli.specs.NamedDecks.{DeckCause, OfDeck, SpellsDeck}
+use Rattle.air_cli.specs.NamedDecks.{DeckCause, HasDeck, SpellsDeck}
+use Rattle.air_cli.proofs.CauseLemmas.{of_had}
 use Rattle.air_cli.specs.NamedFiles.{UnreadCause}
 use Rattle.air_cli.specs.RunnableDecks.{HasShortProgram, UnrunnableCause}
 use Rattle.air_model.specs.Runs.{IsRun, Run}
@@ -45,7 +46,7 @@ unrunnable_cast deck to mast before now s h = (unrunnable_run deck before now s 
 pub refused_cast : (deck : List ℕ) (to : ℕ) (old new : MastState) (before now : ShelfState) (d : Deck) (s : Status) → SpellsDeck deck before d → IsDeck d → HasShortProgram d
     → IsCastRefusal d to old new s → CastCause deck to old new before now s
 unfolding CastCause RunCause UnrunnableCause DeckCause UnreadCause IsCastRefusal
-refused_cast deck to old new before now d (status.TooLong bytes) spells made short h = ((d, spells, made, (short, h.0)), h.1)
+refused_cast deck to old new before now d (status.TooLong bytes) spells made short h = ((d, spells, made, (short, h.0.counted, h.0.above)), h.1)
 refused_cast deck to old new before now d (status.AirFault at) spells made short h = (d, spells, made, (short, h.0), h.1)
 refused_cast deck to old new before now d status.NoMemory spells made short h = tt
 refused_cast deck to old new before now d s spells made short h = absurd h
@@ -68,16 +69,16 @@ cast_sound deck to old new = record {
 }
 
 cast_fits : (deck : List ℕ) (to : ℕ) (old new : MastState) (before now : ShelfState) (s : Status) → TellsInputs (cast_meaning deck to old new) before
-    → OfDeck deck before CanRun × (Rose old.faults new.faults → ⊥) → NoCountRose before.faults now.faults → CastCause deck to old new before now s → s ≡ status.NoMemory
+    → HasDeck deck before CanRun × (Rose old.faults new.faults → ⊥) → NoCountRose before.faults now.faults → CastCause deck to old new before now s → s ≡ status.NoMemory
 unfolding CastCause
 cast_fits deck to old new before now (status.AirFault at) told suits calm h = let broken = h.4 in absurd (suits.1 broken.rose)
 cast_fits deck to old new before now status.NoMemory told suits calm h = refl
-cast_fits deck to old new before now s told suits calm h = run_fits deck deck before now s told suits.0 calm h.0
+cast_fits deck to old new before now s told suits calm h = run_fits deck deck before now s told (of_had deck before CanRun suits.0) calm h.0
 
 pub cast_facts : (deck : List ℕ) (to : ℕ) (old new : MastState) → CommandFacts (cast_meaning deck to old new)
 cast_facts deck to old new = record {
   sound = cast_sound deck to old new;
-  inputs = record { fits = cast_fits deck to old new; one = λ decided before other a b same first second. cc };
+  inputs = record { fits = cast_fits deck to old new };
 }
 
 -- ---- what was sent
@@ -98,7 +99,7 @@ part_cast d to before now (fault.Mast at) h port = record { sent = inl (at, h.1)
 part_cast d to before now fault.NoMemory h port = record { sent = inl h.1; later = omega (arith, h.0); port = port }
 
 -- Why it wasn't.
-pub fault_refused : (d : Deck) (to : ℕ) (before now : MastState) (f : RunFault) → run_tape_len d ≤ tape_limit → IsCastAnswer d before now f → now.port ≡ Some to
+pub fault_refused : (d : Deck) (to : ℕ) (before now : MastState) (f : RunFault) → run_tape_len d ≤ MOST_TAPE_BYTES → IsCastAnswer d before now f → now.port ≡ Some to
     → IsCastRefusal d to before now (cast_status f)
 unfolding IsCastRefusal
 fault_refused d to before now (fault.Mast at) few h port = (few, record { rose = h.0; sent = h.1; port = port })

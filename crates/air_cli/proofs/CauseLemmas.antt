@@ -1,14 +1,14 @@
 -- What is known of a named deck, and how a cause at one stage is one at the next.
 use Rattle.std.proofs.Common.{ℕ, ◌≤◌, List, length, Option, Some, None, subst}
+use Rattle.air_base.specs.declared.limits.TheConstants.{MOST_DECK_BYTES}
 use Rattle.item_catalog.specs.Grammar.{Spells}
 use Rattle.air_devices.specs.Told.{ToldIs, WhereTold}
 use Rattle.air_devices.specs.Shelves.{ShelfState}
 use Rattle.air_model.specs.Decks.{Deck, IsDeck}
 use Rattle.air_report.specs.declared.status.Status.{Status}
 use Rattle.air_report.specs.declared.status.Status.TheVariants as status
-use Rattle.air_cli.specs.FileLimits.{deck_limit}
 use Rattle.air_cli.specs.NamedFiles.{HasBytes, UnreadCause}
-use Rattle.air_cli.specs.NamedDecks.{DeckCause, HasDeck, OfDeck, SpellsDeck}
+use Rattle.air_cli.specs.NamedDecks.{DeckCause, HasDeck, SpellsDeck}
 use Rattle.air_cli.specs.RunnableDecks.{LengthCause, UnrunnableCause}
 
 -- ---- told bytes
@@ -23,10 +23,14 @@ pub where_so : (file : Option (List ℕ)) (P Q : List ℕ → Type 0) → ((byte
 where_so None P Q so p = tt
 where_so (Some xs) P Q so p = so xs p
 
+-- The named file's bytes, where they are told, spell a deck, and this is so of the deck.
+abbrev pub OfDeck : List ℕ → ShelfState → (Deck → Type 0) → Type 0
+OfDeck name before P = WhereTold (before.told.file name) (λ bytes. (length bytes ≤ MOST_DECK_BYTES) × ((d : Deck) × Spells bytes d × P d))
+
 -- What is so of the deck that was read is so of the named deck.
 pub of_deck : (name : List ℕ) (before : ShelfState) (d : Deck) (P : Deck → Type 0) → SpellsDeck name before d → P d → OfDeck name before P
-of_deck name before d P spells p = where_so (before.told.file name) (λ bytes. (length bytes ≤ deck_limit) × Spells bytes d)
-    (λ bytes. (length bytes ≤ deck_limit) × ((d : Deck) × Spells bytes d × P d)) (λ bytes h. (h.0, (d, h.1, p))) spells
+of_deck name before d P spells p = where_so (before.told.file name) (λ bytes. (length bytes ≤ MOST_DECK_BYTES) × Spells bytes d)
+    (λ bytes. (length bytes ≤ MOST_DECK_BYTES) × ((d : Deck) × Spells bytes d × P d)) (λ bytes h. (h.0, (d, h.1, p))) spells
 
 -- Where the deck's file is told, what is so of the deck that there is is so of the one that the file spells.
 pub of_had : (name : List ℕ) (before : ShelfState) (P : Deck → Type 0) → HasDeck name before P → OfDeck name before P
@@ -39,7 +43,7 @@ of_bytes name before P (bytes, known, p) = where_read (before.told.file name) by
 -- ---- causes
 
 -- A file that can't be read gives no deck.
-pub unread_deck : (name : List ℕ) (before now : ShelfState) (s : Status) → UnreadCause name deck_limit before now s → DeckCause name before now s
+pub unread_deck : (name : List ℕ) (before now : ShelfState) (s : Status) → UnreadCause name MOST_DECK_BYTES before now s → DeckCause name before now s
 unfolding DeckCause UnreadCause
 unread_deck name before now (status.Deck row kind) h = absurd h
 unread_deck name before now s h = h

@@ -2,7 +2,7 @@
 use Rattle.std.proofs.Common.{◌≡◌, ◌<◌, ◌≤◌, ℕ, true, false, List, [], ◌∷◌, Option, Some, None, All, length, refl, sym, ap, subst, ◌∙◌, inl, inr, arith}
 use Rattle.std.specs.Prelude.{codes}
 use Rattle.std.proofs.lemmas.List.Elements.{All-from_recursion}
-use Rattle.air_base.specs.declared.limits.TheConstants.{MOST_ASKED, MOST_RATE}
+use Rattle.air_base.specs.declared.limits.TheConstants.{MOST_ASKED, MOST_DECK_BYTES, MOST_RATE}
 use Rattle.air_devices.specs.Counts.{Rose}
 use Rattle.air_devices.specs.Shelves.{ShelfState}
 use Rattle.air_devices.specs.Told.{WhereTold}
@@ -21,18 +21,18 @@ use Rattle.chunk_program.specs.Plans.{IsTooLong}
 use Rattle.item_catalog.specs.DeckLimits.{DiskWithin, ReaderWithin, WithinLimits}
 use Rattle.item_catalog.specs.Grammar.{Spells}
 use Rattle.item_catalog.proofs.GrammarLemmas.{one_deck}
-use Rattle.live_replay.proofs.AuditExamples.{is_audit, its_bytes, one_finding, small, small_is_deck, ten}
-use Rattle.air_cli.specs.Audit.{AuditCause, AuditGives, HasReport, audit_given, audit_meaning}
-use Rattle.air_cli.specs.Drill.{DrillCause, DrillGives, drill_given, drill_meaning}
-use Rattle.air_cli.specs.FileLimits.{deck_limit}
+use Rattle.live_replay.proofs.AuditExamples.{is_audit, its_bytes, one_finding, small, small_is_deck}
+use Rattle.air_cli.specs.Audit.{AuditCause, AuditGives, HasReport, audit_meaning}
+use Rattle.air_cli.specs.Drill.{DrillGives, drill_meaning}
 use Rattle.air_cli.specs.ReportsAndTapes.{ReportAndTape}
 use Rattle.air_cli.specs.NamedDecks.{DeckCause, HasDeck, IsFaulty, SpellsDeck}
 use Rattle.air_cli.specs.NamedFiles.{HasBytes, UnreadCause}
-use Rattle.air_cli.specs.Plan.{PlanCause, PlanGives, plan_given}
+use Rattle.air_cli.specs.Plan.{PlanGives}
 use Rattle.air_cli.specs.RunnableDecks.{HasShortProgram, UnrunnableCause}
-use Rattle.air_cli.specs.Script.{HasLongTape, ScriptCause, ScriptGives, script_given}
-use Rattle.air_cli.specs.Truths.{AreTrue, IsTrueScript, IsTrueTape, IsTrueTuning}
-use Rattle.air_cli.specs.Tune.{IsCutAt, IsTuned, TuneCause, TuneGives, tune_given}
+use Rattle.air_cli.specs.Script.{ScriptCause, ScriptGives}
+use Rattle.air_cli.specs.Truths.{AreTrue, IsTrueScript, IsTrueTape}
+use Rattle.air_cli.specs.Tune.{IsTuned, TuneCause, TuneGives, tune_given}
+use Rattle.air_cli.specs.Private.GivenTexts.{audit_given, drill_given, plan_given, script_given}
 use Rattle.air_cli.proofs.ToldExamples.{its_deck, script_bytes, shelf, short, spells, spells_deck}
 use Rattle.air_cli.proofs.TruthLemmas.{true_script, true_tape}
 
@@ -76,17 +76,12 @@ not_plan = (
   λ h. let differs : true ≡ false = h.0 in cc,
 )
 
--- Its program isn't too long, whatever number is told.
-not_plan_too_long : (slots : ℕ) → PlanCause (codes "d") shelf shelf (status.PlanTooLong slots) → ⊥
-unfolding PlanCause
-not_plan_too_long slots (d, is, made, long) = let few : IsTooLong (disks_in small) slots = subst (λ d. IsTooLong (disks_in d) slots) (the_deck d is) long in omega (arith, few.counted, few.above, short)
-
 -- Where nothing is told there is a deck all the same whose program has the slots that are told.
-plan_too_long : (d : Deck) (slots : ℕ) (untold : ShelfState) → untold.told.file (codes "d") ≡ None → IsDeck d → IsTooLong (disks_in d) slots
-    → PlanCause (codes "d") untold untold (status.PlanTooLong slots)
-unfolding PlanCause
-plan_too_long d slots untold none made long =
-    (d, subst (λ (file : Option (List ℕ)). WhereTold file (λ bytes. (length bytes ≤ deck_limit) × Spells bytes d)) (sym none) tt, made, long)
+program_too_long : (d : Deck) (slots : ℕ) (untold : ShelfState) → untold.told.file (codes "d") ≡ None → IsDeck d → IsTooLong (disks_in d) slots
+    → UnrunnableCause (codes "d") untold untold (status.PlanTooLong slots)
+unfolding UnrunnableCause
+program_too_long d slots untold none made long =
+    (d, subst (λ (file : Option (List ℕ)). WhereTold file (λ bytes. (length bytes ≤ MOST_DECK_BYTES) × Spells bytes d)) (sym none) tt, made, long)
 
 -- ---- a deck that can't be had
 
@@ -115,14 +110,15 @@ not_too_large = (λ h. let limit : 9 ≡ 10 = h.0 in omega (arith, limit), λ h.
     not_failed (inl rose) = omega arith
     not_failed (inr last) = omega (arith, last.0)
 
+-- Its program isn't too long, whatever number is told.
 not_unrunnable : (slots : ℕ) → UnrunnableCause (codes "d") shelf shelf (status.PlanTooLong slots) → ⊥
 unfolding UnrunnableCause
 not_unrunnable slots (d, is, made, long) = let few : IsTooLong (disks_in small) slots = subst (λ d. IsTooLong (disks_in d) slots) (the_deck d is) long in omega (arith, few.counted, few.above, short)
 
 -- Out of memory has no cause to show.
-wanting : UnrunnableCause (codes "d") shelf shelf status.NoMemory × PlanCause (codes "d") shelf shelf status.NoMemory
-unfolding UnrunnableCause PlanCause DeckCause UnreadCause
-wanting = (tt, tt)
+wanting : UnrunnableCause (codes "d") shelf shelf status.NoMemory
+unfolding UnrunnableCause DeckCause UnreadCause
+wanting = tt
 
 -- ---- `script`
 
@@ -173,22 +169,23 @@ not_script = (
 -- Its tape isn't too long; one is from one byte above the most on, whose number is told.
 not_script_too_long : (bytes : ℕ) → ScriptCause (codes "d") shelf shelf (status.TooLong bytes) → ⊥
 unfolding ScriptCause
-not_script_too_long bytes (d, is, made, long) = let few : HasLongTape small bytes = subst (λ d. HasLongTape d bytes) (the_deck d is) long in omega (arith, few.counted, few.above, script_bytes)
+not_script_too_long bytes (d, is, made, long) =
+    let few = subst (λ d. HasShortProgram d × (bytes ≡ length (script_tape d)) × (1073741824 < bytes)) (the_deck d is) long in omega (arith, few.1, few.2, script_bytes)
 
-long_tape : (d : Deck) → HasShortProgram d → length (script_tape d) ≡ 1073741825 → HasLongTape d 1073741825
-long_tape d can counted = record { runnable = can; counted = sym counted; above = omega arith }
+script_too_long : (d : Deck) (untold : ShelfState) → untold.told.file (codes "d") ≡ None → IsDeck d → HasShortProgram d → length (script_tape d) ≡ 1073741825
+    → ScriptCause (codes "d") untold untold (status.TooLong 1073741825)
+unfolding ScriptCause
+script_too_long d untold none made can counted =
+    (d, subst (λ (file : Option (List ℕ)). WhereTold file (λ bytes. (length bytes ≤ MOST_DECK_BYTES) × Spells bytes d)) (sym none) tt, made, (can, sym counted, omega arith))
 
-at_the_most : (d : Deck) → HasLongTape d 1073741824 → ⊥
-at_the_most d h = let above : 1073741824 < 1073741824 = h.above in omega arith
+not_at_the_most : (before : ShelfState) → ScriptCause (codes "d") before before (status.TooLong 1073741824) → ⊥
+unfolding ScriptCause
+not_at_the_most before (d, is, made, long) = let above : 1073741824 < 1073741824 = long.2 in omega arith
 
 -- ---- `tune`
 
 pub is_true_tape : (records : List (List ℕ)) → IsTrueTape small records
 is_true_tape records = true_tape small small_is_deck receiver records
-
--- Over nothing that was heard what is printed is what any history decides.
-is_true_tuning : IsTrueTuning small ten []
-is_true_tuning = is_true_tape [] ten (λ k d below. absurd (omega arith))
 
 is_tuned : IsTuned small (tune_given small (tape_read (script_tape small)).records) (script_tape small)
 is_tuned = record {
@@ -208,9 +205,9 @@ unfolding TuneGives
 not_tuned h = let tape : ◌≡◌ {A = List ℕ} (1 ∷ []) [] = ap (λ (g : ReportAndTape). g.tape) h.1.3.1.2.given_is in cc
 
 -- Three bytes are cut at byte 0, and at no other; nothing isn't cut.
-cut_at_0 : IsCutAt 0 (0 ∷ 0 ∷ 0 ∷ [])
+cut_at_0 : (tape_read (0 ∷ 0 ∷ 0 ∷ [])).cut ≡ Some 0
 unfolding ends_inside read_from
-cut_at_0 = (omega arith, refl)
+cut_at_0 = refl
 
 -- The whole tape isn't cut.
 not_cut : (at : ℕ) → TuneCause (codes "d") (codes "t") shelf shelf (status.TapeCut at) → ⊥
@@ -219,14 +216,12 @@ not_cut at (has, (bytes, known, cut)) = let whole : (tape_read bytes).cut ≡ No
 
 -- ---- `drill`
 
-wanting_drill : DrillCause status.NoMemory
-unfolding DrillCause
-wanting_drill = tt
+wanting_drill : (drill_meaning 1 1).Refuses shelf shelf status.NoMemory
+wanting_drill = refl
 
 -- No deck is refused.
-not_refused : (row kind : ℕ) → DrillCause (status.Deck row kind) → ⊥
-unfolding DrillCause
-not_refused row kind h = h
+not_refused : (row kind : ℕ) → (drill_meaning 1 1).Refuses shelf shelf (status.Deck row kind) → ⊥
+not_refused row kind h = let is : status.Deck row kind ≡ status.NoMemory = h in cc
 
 -- A drill gives its line and no tape.
 drill_gives : IsTrueScript (drill_deck 1 1) → DrillGives 1 1 (drill_given 1 1)

@@ -1,5 +1,5 @@
 -- Which statuses end words that begin with `drill`.
-use Rattle.std.proofs.Common.{◌≡◌, ap, ◌∙◌, ℕ, Bool, true, false, List, [], ◌∷◌, codes, length, Option, Some, None, refl, arith}
+use Rattle.std.proofs.Common.{◌≡◌, ap, subst, sym, ◌∙◌, ℕ, Bool, true, false, List, [], ◌∷◌, codes, length, Option, Some, None, refl, arith}
 use Rattle.std.specs.Prelude.{◌==◌, ◌||◌, ◌&&◌, nat_le, if◌then◌else◌, Contains}
 use Rattle.air_base.specs.Numbers.{number_of}
 use Rattle.air_devices.specs.Ears.{EarState}
@@ -11,8 +11,8 @@ use Rattle.air_report.specs.declared.status.Status.TheVariants as status
 use Rattle.item_catalog.specs.declared.deck.drill.TheConstants.{MOST_DRILL_SIZE}
 use Rattle.air_cli.specs.Answers.{QuietAnswers}
 use Rattle.air_cli.specs.ReportsAndTapes.{ReportAndTape, given_status}
-use Rattle.air_cli.specs.Drill.{DrillCause, DrillGives}
-use Rattle.air_cli.specs.Meanings.{Meaning, WordsCause, no_command}
+use Rattle.air_cli.specs.Drill.{DrillGives}
+use Rattle.air_cli.specs.Meanings.{Meaning, no_command}
 use Rattle.air_cli.specs.OnAir.{words_meaning}
 use Rattle.air_cli.specs.Words.{AsksDrill, asked_drill, asked_of, asked_of_one}
 
@@ -34,15 +34,11 @@ ends_among command few before now status.NoMemory h = (3, omega arith, refl)
 ends_among command few before now status.ReadFault h = few.refuses before now status.ReadFault h.0
 ends_among command few before now s h = few.refuses before now s h.0
 
-words_among : (s : Status) → WordsCause s → IsAmong s
-unfolding WordsCause
-words_among status.Words h = (1, omega arith, refl)
-words_among s h = absurd h
+words_among : (s : Status) → s ≡ status.Words → IsAmong s
+words_among s is = subst IsAmong (sym is) (1, omega arith, refl)
 
-drill_among : (s : Status) → DrillCause s → IsAmong s
-unfolding DrillCause
-drill_among status.NoMemory h = (3, omega arith, refl)
-drill_among s h = absurd h
+drill_among : (s : Status) → s ≡ status.NoMemory → IsAmong s
+drill_among s is = subst IsAmong (sym is) (3, omega arith, refl)
 
 drill_same : (seed size : ℕ) (given : ReportAndTape) → DrillGives seed size given → given.differs ≡ false
 unfolding DrillGives

@@ -39,13 +39,10 @@ use Rattle.live_replay.specs.FindingTexts.{findings_text}
 use Rattle.live_replay.proofs.AuditExamples.{is_report, its_bytes, one_finding, read_in, small, ten}
 use Rattle.live_replay.proofs.AuditLemmas.{one_report}
 use Rattle.air_cli.specs.Headline.{AuditStands, CastStands, Headline, IsHeardReport, IsJudgedReport, IsRightVerdict, ListenStands, NowHolds, NowPrints, QuietHeadline, RunStands, ScriptStands, TuneStands, asked_query, judged_on}
-use Rattle.air_cli.specs.Audit.{audit_given}
-use Rattle.air_cli.specs.Cast.{cast_given}
 use Rattle.air_cli.specs.NamedDecks.{SpellsDeck}
-use Rattle.air_cli.specs.GivenRuns.{run_given}
-use Rattle.air_cli.specs.Script.{script_given}
 use Rattle.air_cli.specs.Tune.{tune_given}
 use Rattle.air_cli.specs.Words.{AsksCast, AsksListen, AsksPlan, AsksRun, AsksTune}
+use Rattle.air_cli.specs.Private.GivenTexts.{audit_given, cast_given, run_given, script_given}
 use Rattle.air_cli.proofs.CommandExamples.{audit_gives, is_true_tape, script_gives, the_deck, tune_gives}
 use Rattle.air_cli.proofs.HeadlineLemmas.{audit_stands, cast_stands, listen_stands, run_stands, script_stands, tune_stands}
 use Rattle.air_cli.proofs.ListenExamples.{a, b, fresh_ear, listen_gives, tuned}

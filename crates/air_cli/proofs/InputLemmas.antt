@@ -1,6 +1,7 @@
 -- What told inputs decide: where they suit a command nothing refuses it, and what it gives is a function of them.
-use Rattle.std.proofs.Common.{◌≡◌, ℕ, ◌+◌, ◌≤◌, true, List, length, drop, Option, Some, refl, subst, arith}
+use Rattle.std.proofs.Common.{◌≡◌, ℕ, ◌+◌, ◌≤◌, List, length, drop, Option, Some, refl, subst, arith}
 use Rattle.std.specs.Prelude.{◌<◌}
+use Rattle.air_base.specs.declared.limits.TheConstants.{MOST_DECK_BYTES}
 use Rattle.air_devices.specs.Shelves.{ShelfState}
 use Rattle.air_devices.specs.Told.{WhereTold}
 use Rattle.item_catalog.specs.Grammar.{HasFault, Spells}
@@ -9,25 +10,26 @@ use Rattle.air_model.specs.Decks.{Deck, disks_in}
 use Rattle.chunk_program.specs.Plans.{IsTooLong}
 use Rattle.air_report.specs.declared.status.Status.{Status}
 use Rattle.air_report.specs.declared.status.Status.TheVariants as status
-use Rattle.air_cli.specs.FileLimits.{deck_limit}
 use Rattle.air_cli.specs.NamedFiles.{UnreadCause}
-use Rattle.air_cli.specs.NamedDecks.{DeckCause, OfDeck}
+use Rattle.air_cli.specs.NamedDecks.{DeckCause}
 use Rattle.air_cli.specs.RunnableDecks.{HasShortProgram, UnrunnableCause}
 use Rattle.air_cli.specs.ReportsAndTapes.{ReportAndTape}
 use Rattle.air_cli.specs.Meanings.{Meaning}
 use Rattle.air_cli.specs.ToldInputs.{TellSameInputs, TellsInputs}
 use Rattle.air_cli.specs.Answers.{NoCountRose}
-use Rattle.air_cli.proofs.CauseLemmas.{of_had}
+use Rattle.air_cli.proofs.CauseLemmas.{OfDeck, of_had}
 use Rattle.air_cli.proofs.RefusalLemmas.{IsSound}
 
--- What suits a command is not refused but for memory, and where its inputs decide what it gives, the same inputs give the same.
+-- What suits a command is not refused but for memory.
 pub record GoesByInputs (command : Meaning) : Type 0 where
   pub fits : (before now : ShelfState) (s : Status) → TellsInputs command before → command.Suits before → NoCountRose before.faults now.faults
       → command.Refuses before now s → s ≡ status.NoMemory
-  pub one : command.decided ≡ true → (before other : ShelfState) (a b : ReportAndTape) → TellSameInputs command before other
-      → command.Gives before a → command.Gives other b → a ≡ b
 
--- What the proofs of the top call need of a command: its refusals are sound, and what its inputs decide.
+-- The same inputs of a command give the same.
+pub record GivesOne (command : Meaning) : Type 0 where
+  pub one : (before other : ShelfState) (a b : ReportAndTape) → TellSameInputs command before other → command.Gives before a → command.Gives other b → a ≡ b
+
+-- What the proofs of the top call need of every command: its refusals are sound, and what suits it isn't refused.
 pub record CommandFacts (command : Meaning) : Type 0 where
   pub sound : IsSound command
   pub inputs : GoesByInputs command
@@ -40,8 +42,8 @@ of_told file bytes P told h = subst (λ f. WhereTold f P) told h
 
 -- What is so of the named deck is so of the deck that the told bytes spell.
 pub deck_told : (name : List ℕ) (before : ShelfState) (bytes : List ℕ) (P : Deck → Type 0) → before.told.file name ≡ Some bytes → OfDeck name before P
-    → (length bytes ≤ deck_limit) × ((d : Deck) × Spells bytes d × P d)
-deck_told name before bytes P told h = of_told (before.told.file name) bytes (λ bytes. (length bytes ≤ deck_limit) × ((d : Deck) × Spells bytes d × P d)) told h
+    → (length bytes ≤ MOST_DECK_BYTES) × ((d : Deck) × Spells bytes d × P d)
+deck_told name before bytes P told h = of_told (before.told.file name) bytes (λ bytes. (length bytes ≤ MOST_DECK_BYTES) × ((d : Deck) × Spells bytes d × P d)) told h
 
 -- What is so of the named deck twice is so of one deck.
 pub both : (name : List ℕ) (before : ShelfState) (bytes : List ℕ) (P Q : Deck → Type 0) → before.told.file name ≡ Some bytes → OfDeck name before P → OfDeck name before Q
@@ -73,9 +75,9 @@ pub deck_fits : (name : List ℕ) (before now : ShelfState) (s : Status) (bytes 
 unfolding DeckCause
 deck_fits name before now (status.Deck row kind) bytes P told suits calm h =
     let good = deck_told name before bytes P told suits in
-    let bad = of_told (before.told.file name) bytes (λ bytes. (length bytes ≤ deck_limit) × HasFault bytes row kind) told h.fault in
+    let bad = of_told (before.told.file name) bytes (λ bytes. (length bytes ≤ MOST_DECK_BYTES) × HasFault bytes row kind) told h.fault in
     absurd (no_fault bytes good.1.0 row kind good.1.1 bad.1)
-deck_fits name before now s bytes P told suits calm h = unread_fits name deck_limit before now s bytes told (deck_told name before bytes P told suits).0 calm h
+deck_fits name before now s bytes P told suits calm h = unread_fits name MOST_DECK_BYTES before now s bytes told (deck_told name before bytes P told suits).0 calm h
 
 pub runs_fits : (name : List ℕ) (before now : ShelfState) (s : Status) (bytes : List ℕ) → before.told.file name ≡ Some bytes → OfDeck name before HasShortProgram
     → NoCountRose before.faults now.faults → UnrunnableCause name before now s → s ≡ status.NoMemory

@@ -14,7 +14,8 @@ use Rattle.air_model.specs.declared.reports.CountsLine.{CountsLine}
 use Rattle.air_model.specs.declared.reports.VerdictLine.{VerdictLine}
 use Rattle.air_report.specs.declared.status.Status.{Status}
 use Rattle.air_report.specs.declared.status.Status.TheVariants as status
-use Rattle.air_cli.specs.NamedDecks.{DeckCause, OfDeck, SpellsDeck}
+use Rattle.air_cli.specs.NamedDecks.{DeckCause, HasDeck, SpellsDeck}
+use Rattle.air_cli.proofs.CauseLemmas.{of_had}
 use Rattle.air_cli.specs.NamedFiles.{UnreadCause}
 use Rattle.air_cli.specs.RunnableDecks.{HasShortProgram, UnrunnableCause}
 use Rattle.air_cli.specs.Answers.{NoCountRose}
@@ -64,16 +65,16 @@ listen_sound deck on old new = record {
 }
 
 listen_fits : (deck : List ℕ) (on : ℕ) (old new : EarState) (before now : ShelfState) (s : Status) → TellsInputs (listen_meaning deck on old new) before
-    → OfDeck deck before HasShortProgram × (Rose old.faults new.faults → ⊥) → NoCountRose before.faults now.faults → ListenCause deck on old new before now s → s ≡ status.NoMemory
+    → HasDeck deck before HasShortProgram × (Rose old.faults new.faults → ⊥) → NoCountRose before.faults now.faults → ListenCause deck on old new before now s → s ≡ status.NoMemory
 unfolding ListenCause
 listen_fits deck on old new before now (status.AirFault at) told suits calm h = let broken = h.4 in absurd (suits.1 broken.rose)
 listen_fits deck on old new before now status.NoMemory told suits calm h = refl
-listen_fits deck on old new before now s told suits calm h = let known = told deck refl in runs_fits deck before now s known.0 known.1 suits.0 calm h.0
+listen_fits deck on old new before now s told suits calm h = let known = told deck refl in runs_fits deck before now s known.0 known.1 (of_had deck before HasShortProgram suits.0) calm h.0
 
 pub listen_facts : (deck : List ℕ) (on : ℕ) (old new : EarState) → CommandFacts (listen_meaning deck on old new)
 listen_facts deck on old new = record {
   sound = listen_sound deck on old new;
-  inputs = record { fits = listen_fits deck on old new; one = λ decided before other a b same first second. cc };
+  inputs = record { fits = listen_fits deck on old new };
 }
 
 -- ---- what was heard

@@ -3,6 +3,7 @@ use Rattle.std.proofs.Common.{◌≡◌, ◌≢◌, ℕ, ◌≤◌, ◌+◌, Lis
 use Rattle.std.specs.Prelude.{◌<◌, ◌⊎◌}
 use Rattle.std.specs.Io.KnownBytes.{Appends, IsAtEnd}
 use Rattle.std.proofs.lemmas.Bool.{cases_lt}
+use Rattle.air_base.specs.declared.limits.TheConstants.{MOST_DECK_BYTES}
 use Rattle.air_devices.specs.Counts.{KeepsCounts, NoCountFalls, Rose}
 use Rattle.air_devices.specs.Unchanged.{KeepsButPrinted}
 use Rattle.air_devices.specs.Told.{AppendsPart, WhereTold}
@@ -14,8 +15,7 @@ use Rattle.air_cli.specs.Untouched.{IsRefusal}
 use Rattle.air_cli.specs.NamedDecks.{DeckCause, IsFaulty}
 use Rattle.air_cli.specs.RunnableDecks.{UnrunnableCause}
 use Rattle.air_cli.specs.NamedFiles.{UnreadCause}
-use Rattle.air_cli.specs.FileLimits.{deck_limit}
-use Rattle.air_cli.specs.Meanings.{Meaning, WordsCause, no_command}
+use Rattle.air_cli.specs.Meanings.{Meaning, no_command}
 use Rattle.air_cli.specs.Private.BeforeDelivery.{ReadsInputs}
 use Rattle.air_cli.specs.Answers.{InputFailed, Leaves, QuietAnswers}
 use Rattle.air_cli.proofs.ReadLemmas.{falls_twice}
@@ -47,7 +47,7 @@ faulty_still name row kind before mid now rest h = record { read = subst IsAtEnd
 pub deck_still : (name : List ℕ) (before mid now : ShelfState) (s : Status) → KeepsButPrinted mid.told now.told → NoCountFalls mid.faults now.faults → DeckCause name before mid s → DeckCause name before now s
 unfolding DeckCause
 deck_still name before mid now (status.Deck row kind) rest counts h = faulty_still name row kind before mid now rest h
-deck_still name before mid now s rest counts h = unread_still name deck_limit before mid now s rest counts h
+deck_still name before mid now s rest counts h = unread_still name MOST_DECK_BYTES before mid now s rest counts h
 
 pub unrunnable_still : (name : List ℕ) (before mid now : ShelfState) (s : Status) → KeepsButPrinted mid.told now.told → NoCountFalls mid.faults now.faults → UnrunnableCause name before mid s → UnrunnableCause name before now s
 unfolding UnrunnableCause
@@ -67,13 +67,12 @@ pub record IsSound (command : Meaning) : Type 0 where
   pub input : (before now : ShelfState) → command.Refuses before now status.ReadFault → InputFailed command before now
 
 pub no_command_sound : IsSound no_command
-unfolding WordsCause
 no_command_sound = record {
   still = λ before mid now s rest counts h. h;
-  not_done = λ before now h. h;
-  not_different = λ before now h. h;
-  not_failed = λ before now h. h;
-  input = λ before now h. absurd h;
+  not_done = λ before now h. let is : status.Ok ≡ status.Words = h in cc;
+  not_different = λ before now h. let is : status.Differs ≡ status.Words = h in cc;
+  not_failed = λ before now h. let is : status.WriteFault ≡ status.Words = h in cc;
+  input = λ before now h. let is : status.ReadFault ≡ status.Words = h in absurd (cc is);
 }
 
 -- ---- what a refusal says
@@ -141,10 +140,6 @@ reads_nothing command before = record {
 
 pub keeps_all : (before : ShelfState) → KeepsCounts before.faults before.faults
 keeps_all before = record { reading = λ n. refl; writing = λ n. refl; printing = refl }
-
-pub words_refused : WordsCause status.Words
-unfolding WordsCause
-words_refused = tt
 
 -- What a refusal leaves.
 pub leaves_refused : (command : Meaning) (before mid now : ShelfState) → ReadsInputs command before mid → KeepsButPrinted mid.told now.told → NoCountFalls mid.faults now.faults → Leaves command before now

@@ -74,5 +74,5 @@ module _ (d : Deck) (H : List Event) where
 pub tuned_report : (d : Deck) (records : List (List ℕ)) → IsTrueTape d records → IsHeardReport d records (session_report [] (sessions_over (by_entries (scheme_in d)) d (λ r. records)))
 tuned_report d records is = record {
   decided = refl;
-  judged = λ H aired. heard_report d H (λ r. records) (session_report [] (sessions_over (by_entries (scheme_in d)) d (λ r. records))) refl refl (is H aired).sessions;
+  judged = λ H aired. heard_report d H (λ r. records) (session_report [] (sessions_over (by_entries (scheme_in d)) d (λ r. records))) refl refl (is H aired);
 }

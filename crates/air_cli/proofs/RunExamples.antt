@@ -1,6 +1,6 @@
 -- A run of the told deck, its report and its tape, and a cast of it: where each relation holds, and where it doesn't.
 use Rattle.std.proofs.Common.{◌≡◌, ℕ, zero, suc, true, false, List, [], ◌∷◌, Option, Some, None, All, length, refl, ap, subst, inl, inr, arith}
-use Rattle.std.specs.Prelude.{codes, slice_get}
+use Rattle.std.specs.Prelude.{◌<◌, codes, slice_get}
 use Rattle.std.proofs.lemmas.List.Elements.{All-from_recursion, All-nil}
 use Rattle.csv.specs.Writing.{escaped, fields_text, is_blank}
 use Rattle.air_base.specs.Numbers.{number_text}
@@ -38,14 +38,16 @@ use Rattle.air_model.proofs.BatchLemmas.{airs_by_batches}
 use Rattle.air_report.specs.declared.status.Status.TheVariants as status
 use Rattle.deck_runs.specs.Casts.{IsCastPart, all_sent}
 use Rattle.deck_runs.specs.DeckBytes.{deck_bytes}
-use Rattle.deck_runs.specs.RunTapes.{IsLongRun}
+use Rattle.deck_runs.specs.RunTapes.{run_tape_len}
 use Rattle.deck_runs.specs.RunTruths.{IsTrueRun}
 use Rattle.deck_runs.proofs.HeardRunLemmas.{OneHistoryLaw, true_run}
 use Rattle.live_replay.proofs.AuditExamples.{its_bytes, small, small_is_deck, ten}
-use Rattle.air_cli.specs.Cast.{CastCause, CastGives, HasSent, IsBrokenCast, IsCast, cast_given, cast_meaning}
+use Rattle.air_cli.specs.Cast.{CastCause, CastGives, HasSent, IsBrokenCast, IsCast, cast_meaning}
 use Rattle.air_cli.specs.ReportsAndTapes.{ReportAndTape}
-use Rattle.air_cli.specs.GivenRuns.{IsGivenRun, run_given}
+use Rattle.air_cli.specs.GivenRuns.{IsGivenRun}
+use Rattle.air_cli.specs.RunnableDecks.{HasShortProgram}
 use Rattle.air_cli.specs.Run.{RunCause, RunGives, run_meaning}
+use Rattle.air_cli.specs.Private.GivenTexts.{cast_given, run_given}
 use Rattle.air_cli.proofs.CommandExamples.{the_deck, within}
 use Rattle.air_cli.proofs.ToldExamples.{can_run, run_bytes, shelf, short, spells_deck}
 
@@ -125,7 +127,8 @@ not_run h = let differs : true ≡ false = h.0 in cc
 -- Its tape isn't too long, whatever number is told.
 not_too_long : (bytes : ℕ) → RunCause (codes "d") shelf shelf (status.TooLong bytes) → ⊥
 unfolding RunCause
-not_too_long bytes (d, is, made, (few, long)) = let long_small : IsLongRun small bytes = subst (λ d. IsLongRun d bytes) (the_deck d is) long in omega (arith, long_small.counted, long_small.above, run_bytes)
+not_too_long bytes (d, is, made, long) =
+    let here = subst (λ d. HasShortProgram d × (bytes ≡ run_tape_len d) × (1073741824 < bytes)) (the_deck d is) long in omega (arith, here.1, here.2, run_bytes)
 
 -- It writes the named tape.
 run_output_named : (run_meaning (codes "d") (codes "o")).output ≡ Some (codes "o")

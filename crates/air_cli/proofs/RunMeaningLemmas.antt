@@ -1,20 +1,21 @@
 -- What the proofs of `run` need of its definitions.
+use Rattle.std.specs.Prelude.{◌<◌}
 use Rattle.std.proofs.Common.{◌≡◌, ℕ, ◌≤◌, List, false, refl, arith}
+use Rattle.air_base.specs.declared.limits.TheConstants.{MOST_TAPE_BYTES}
 use Rattle.air_devices.specs.Counts.{NoCountFalls}
 use Rattle.air_devices.specs.Unchanged.{KeepsButPrinted}
 use Rattle.air_devices.specs.Shelves.{ShelfState}
 use Rattle.air_report.specs.declared.status.Status.{Status}
 use Rattle.air_report.specs.declared.status.Status.TheVariants as status
 use Rattle.air_model.specs.Decks.{Deck, IsDeck}
-use Rattle.air_cli.specs.FileLimits.{tape_limit}
-use Rattle.air_cli.specs.NamedDecks.{DeckCause, OfDeck, SpellsDeck}
+use Rattle.air_cli.specs.NamedDecks.{DeckCause, SpellsDeck}
 use Rattle.air_cli.specs.NamedFiles.{UnreadCause}
 use Rattle.air_cli.specs.RunnableDecks.{HasShortProgram, UnrunnableCause}
-use Rattle.air_cli.proofs.CauseLemmas.{of_deck, of_had, where_so}
+use Rattle.air_cli.proofs.CauseLemmas.{OfDeck, of_deck, of_had, where_so}
 use Rattle.air_cli.specs.ReportsAndTapes.{ReportAndTape}
 use Rattle.air_model.specs.Runs.{Run}
 use Rattle.air_cli.specs.GivenRuns.{IsGivenRun, IsRunRefusal}
-use Rattle.deck_runs.specs.RunTapes.{IsLongRun, run_tape_len}
+use Rattle.deck_runs.specs.RunTapes.{run_tape_len}
 use Rattle.air_cli.specs.Answers.{NoCountRose}
 use Rattle.air_cli.specs.Run.{CanRun, RunCause, RunGives, run_meaning}
 use Rattle.air_cli.specs.ToldInputs.{TellsInputs}
@@ -30,7 +31,7 @@ unrunnable_run name before now s h = h
 -- Nor has a deck whose tape would be too long.
 pub long_run_cause : (name : List ℕ) (before now : ShelfState) (d : Deck) (s : Status) → SpellsDeck name before d → IsDeck d → HasShortProgram d → IsRunRefusal d s → RunCause name before now s
 unfolding RunCause UnrunnableCause DeckCause UnreadCause IsRunRefusal
-long_run_cause name before now d (status.TooLong bytes) spells made short h = (d, spells, made, (short, h))
+long_run_cause name before now d (status.TooLong bytes) spells made short h = (d, spells, made, (short, h.counted, h.above))
 long_run_cause name before now d status.NoMemory spells made short h = tt
 long_run_cause name before now d s spells made short h = absurd h
 
@@ -52,8 +53,11 @@ run_sound deck tape = record {
 -- ---- what its input decides
 
 -- A run's tape isn't both short enough and too long.
-not_both : (d : Deck) (bytes : ℕ) → run_tape_len d ≤ tape_limit → IsLongRun d bytes → ⊥
-not_both d bytes few long = let same = long.counted in let above = long.above in omega arith
+abbrev LongRun : ℕ → Deck → Type 0
+LongRun bytes d = HasShortProgram d × (bytes ≡ run_tape_len d) × (MOST_TAPE_BYTES < bytes)
+
+not_both : (d : Deck) (bytes : ℕ) → run_tape_len d ≤ MOST_TAPE_BYTES → LongRun bytes d → ⊥
+not_both d bytes few long = let same = long.1 in let above = long.2 in omega arith
 
 can_run : (deck : List ℕ) (before : ShelfState) → OfDeck deck before CanRun → OfDeck deck before HasShortProgram
 can_run deck before suits = where_so (before.told.file deck) _ _ (λ bytes h. (h.0, (h.1.0, h.1.1, h.1.2.0))) suits
@@ -63,19 +67,18 @@ pub run_fits : (deck tape : List ℕ) (before now : ShelfState) (s : Status) →
 unfolding RunCause
 run_fits deck tape before now (status.TooLong bytes) told suits calm h =
     let known = told deck refl in
-    let two = both deck before known.0 CanRun (λ d. HasShortProgram d × IsLongRun d bytes) known.1 suits (of_had deck before (λ d. HasShortProgram d × IsLongRun d bytes) h) in
-    absurd (not_both two.0 bytes two.1.1 two.2.1)
+    let two = both deck before known.0 CanRun (LongRun bytes) known.1 suits (of_had deck before (LongRun bytes) h) in
+    absurd (not_both two.0 bytes two.1.1 two.2)
 run_fits deck tape before now s told suits calm h =
     let known = told deck refl in
     runs_fits deck before now s known.0 known.1 (can_run deck before suits) calm h
 
 -- Where the deck's file is told, all of it is so of the deck that the file spells.
 pub told_run : (deck : List ℕ) (before : ShelfState) (given : ReportAndTape) → RunGives deck before given
-    → (given.differs ≡ false) × OfDeck deck before (λ d. HasShortProgram d × (run_tape_len d ≤ tape_limit) × ((run : Run) × IsGivenRun d given run))
+    → (given.differs ≡ false) × OfDeck deck before (λ d. HasShortProgram d × (run_tape_len d ≤ MOST_TAPE_BYTES) × ((run : Run) × IsGivenRun d given run))
 unfolding RunGives
 told_run deck before given (same, (d, spells, made, can, is)) =
-    (same, of_deck deck before d (λ d. HasShortProgram d × (run_tape_len d ≤ tape_limit) × ((run : Run) × IsGivenRun d given run)) spells (can.0, can.1, is))
+    (same, of_deck deck before d (λ d. HasShortProgram d × (run_tape_len d ≤ MOST_TAPE_BYTES) × ((run : Run) × IsGivenRun d given run)) spells (can.0, can.1, is))
 
--- Its inputs don't decide what it gives.
 pub run_facts : (deck tape : List ℕ) → CommandFacts (run_meaning deck tape)
-run_facts deck tape = record { sound = run_sound deck tape; inputs = record { fits = run_fits deck tape; one = λ decided before other a b same first second. cc } }
+run_facts deck tape = record { sound = run_sound deck tape; inputs = record { fits = λ before now s told suits. run_fits deck tape before now s told (of_had deck before CanRun suits) } }

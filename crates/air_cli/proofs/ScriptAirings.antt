@@ -19,10 +19,11 @@ use Rattle.air_cli.proofs.DeliveryLemmas.{delivers_all, delivers_none, delivers_
 use Rattle.air_cli.proofs.OutputLemmas.{no_fall}
 use Rattle.scripts.specs.Sinks.{HasBeginning}
 use Rattle.air_cli.specs.Answers.{HasBegun, IsWanting, Leaves, QuietAnswers}
-use Rattle.air_cli.specs.Script.{script_given, script_meaning}
+use Rattle.air_cli.specs.Script.{script_meaning}
 use Rattle.air_cli.specs.Private.BeforeDelivery.{IsMade, ReadsInputs}
 use Rattle.air_cli.specs.Private.Scripting.{AirsScript, IsStopped}
 use Rattle.air_cli.specs.Untouched.{IsUntouched}
+use Rattle.air_cli.specs.Private.GivenTexts.{script_given}
 use Rattle.air_cli.proofs.AnswerLemmas.{answers_made}
 use Rattle.air_cli.proofs.ReadLemmas.{falls_twice}
 use Rattle.air_cli.proofs.ScriptLemmas.{made_for, reads_for}

@@ -10,9 +10,10 @@ use Rattle.disk_split.specs.Splits.{IsBest, IsShortSplit, IsSplit, cost, is_befo
 use Rattle.disk_split.proofs.CostLemmas.{own_split}
 use Rattle.live_replay.proofs.AuditExamples.{small, small_is_deck}
 use Rattle.air_cli.specs.ReportsAndTapes.{ReportAndTape}
-use Rattle.air_cli.specs.Split.{CanBeSplit, SplitCause, SplitGives, UnsplitCause, split_given, split_meaning}
+use Rattle.air_cli.specs.Split.{CanBeSplit, SplitCause, SplitGives, UnsplitCause, split_meaning}
+use Rattle.air_cli.specs.Private.GivenTexts.{split_given}
 use Rattle.air_cli.proofs.CommandExamples.{the_deck}
-use Rattle.air_cli.proofs.ToldExamples.{shelf, spells, spells_deck}
+use Rattle.air_cli.proofs.ToldExamples.{shelf, spells_deck}
 
 -- ---- the one split of the deck
 
@@ -44,7 +45,7 @@ pub can_be_split : CanBeSplit small
 can_be_split = record { few = omega arith; short = (2 ∷ [], short) }
 
 split_suits : (split_meaning (codes "d")).Suits shelf
-split_suits = (omega arith, (small, spells, can_be_split))
+split_suits = (small, spells_deck, small_is_deck, can_be_split)
 
 split_gives : SplitGives (codes "d") shelf (split_given small (2 ∷ []))
 unfolding SplitGives

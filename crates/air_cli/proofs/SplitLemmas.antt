@@ -14,13 +14,14 @@ use Rattle.air_report.specs.declared.status.Status.TheVariants as status
 use Rattle.disk_split.specs.Splits.{IsBest, cost, sizes_in, split_row, split_text}
 use Rattle.disk_split.proofs.BestLemmas.{one_best}
 use Rattle.item_catalog.proofs.GrammarLemmas.{one_deck}
-use Rattle.air_cli.specs.NamedDecks.{DeckCause, OfDeck, SpellsDeck}
+use Rattle.air_cli.specs.NamedDecks.{DeckCause, SpellsDeck}
 use Rattle.air_cli.specs.NamedFiles.{UnreadCause}
 use Rattle.air_cli.specs.ReportsAndTapes.{ReportAndTape}
-use Rattle.air_cli.specs.Split.{CanBeSplit, SplitCause, SplitGives, UnsplitCause, split_given, split_meaning}
+use Rattle.air_cli.specs.Split.{CanBeSplit, SplitCause, SplitGives, UnsplitCause, split_meaning}
 use Rattle.air_cli.specs.ToldInputs.{TellSameInputs, TellsInputs}
 use Rattle.air_cli.specs.Answers.{NoCountRose}
-use Rattle.air_cli.proofs.CauseLemmas.{of_deck, of_had}
+use Rattle.air_cli.specs.Private.GivenTexts.{split_given}
+use Rattle.air_cli.proofs.CauseLemmas.{OfDeck, of_deck, of_had}
 use Rattle.air_cli.proofs.InputLemmas.{CommandFacts, both, deck_fits, deck_told}
 use Rattle.air_cli.proofs.RefusalLemmas.{IsSound, deck_still}
 
@@ -99,7 +100,7 @@ can_or_long d slots can (few, all) = let s = can.short in let fits = s.1.short i
 
 split_fits : (deck : List ℕ) (before now : ShelfState) (s : Status) → TellsInputs (split_meaning deck) before → OfDeck deck before CanBeSplit
     → NoCountRose before.faults now.faults → SplitCause deck before now s → s ≡ status.NoMemory
-unfolding SplitCause
+unfolding SplitCause UnsplitCause
 split_fits deck before now (status.TooMuch product) told suits calm h =
     let known = told deck refl in
     let cause : Deck → Type 0 = λ d. UnsplitCause d (status.TooMuch product) in
@@ -124,7 +125,7 @@ split_told deck before given (same, (d, spells, made, few, gave)) = of_deck deck
 gave_one : (d : Deck) (a b : ReportAndTape) → Gave a d → Gave b d → a ≡ b
 gave_one d a b (sizes, best, is) (others, first, so) = is ∙ ap (split_given d) (one_best d sizes others best first) ∙ sym so
 
-split_one : (deck : List ℕ) (before other : ShelfState) (a b : ReportAndTape) → TellSameInputs (split_meaning deck) before other → SplitGives deck before a → SplitGives deck other b → a ≡ b
+pub split_one : (deck : List ℕ) (before other : ShelfState) (a b : ReportAndTape) → TellSameInputs (split_meaning deck) before other → SplitGives deck before a → SplitGives deck other b → a ≡ b
 split_one deck before other a b same first second =
     let told = same deck refl in
     let x = deck_told deck before told.0 (Gave a) told.1 (split_told deck before a first) in
@@ -132,4 +133,4 @@ split_one deck before other a b same first second =
     gave_one x.1.0 a b x.1.2 (subst (Gave b) (one_deck told.0 y.1.0 x.1.0 y.1.1 x.1.1) y.1.2)
 
 pub split_facts : (deck : List ℕ) → CommandFacts (split_meaning deck)
-split_facts deck = record { sound = split_sound deck; inputs = record { fits = split_fits deck; one = λ decided. split_one deck } }
+split_facts deck = record { sound = split_sound deck; inputs = record { fits = λ before now s told suits. split_fits deck before now s told (of_had deck before CanBeSplit suits) } }

@@ -4,6 +4,8 @@ use Rattle.std.proofs.Common.{◌≡◌, ◌<◌, ℕ, zero, suc, List, [], ◌�
 use Rattle.std.specs.Prelude.{codes, if◌then◌else◌, nat_eq}
 use Rattle.std.specs.Cmp.Lexicographic.{pointwise}
 use Rattle.csv.proofs.OnLiterals.{csv_on_literals}
+use Rattle.air_report.specs.declared.reading.limits.TheConstants.{MOST_REPORT_BYTES}
+use Rattle.air_base.specs.declared.limits.TheConstants.{MOST_DECK_BYTES, MOST_TAPE_BYTES}
 use Rattle.air_base.specs.Numbers.{number_of}
 use Rattle.air_base.specs.NumberLists.{all_some}
 use Rattle.air_devices.specs.Counts.{one_count}
@@ -24,16 +26,15 @@ use Rattle.item_catalog.specs.Faults.{kinds_at, some_below}
 use Rattle.item_catalog.specs.Grammar.{RowsSpell, Spells}
 use Rattle.item_catalog.proofs.GrammarLemmas.{one_deck}
 use Rattle.live_replay.specs.AuditAnswers.{CanBeAudited}
-use Rattle.live_replay.proofs.AuditExamples.{can_be_audited, its_bytes, small}
-use Rattle.air_cli.specs.Audit.{OfReport, audit_meaning, report_limit}
-use Rattle.air_cli.specs.FileLimits.{deck_limit, tape_limit}
-use Rattle.air_cli.specs.NamedDecks.{OfDeck, SpellsDeck}
+use Rattle.live_replay.proofs.AuditExamples.{can_be_audited, its_bytes, small, small_is_deck}
+use Rattle.air_cli.specs.Audit.{HasReport, audit_meaning}
+use Rattle.air_cli.specs.NamedDecks.{HasDeck, SpellsDeck}
 use Rattle.air_cli.specs.Plan.{plan_meaning}
 use Rattle.air_cli.specs.Run.{CanRun, run_meaning}
 use Rattle.air_cli.specs.RunnableDecks.{HasShortProgram}
 use Rattle.air_cli.specs.Script.{script_meaning}
 use Rattle.air_cli.specs.ToldInputs.{TellsInputs}
-use Rattle.air_cli.specs.Tune.{OfTape, tune_meaning}
+use Rattle.air_cli.specs.Tune.{tune_meaning}
 
 -- ---- the deck
 
@@ -105,12 +106,12 @@ spells_deck = (omega arith, spells)
 no_other_deck : SpellsDeck (codes "d") shelf (record small { items = [] }) → ⊥
 no_other_deck h = let items : 0 ≡ 2 = ap (λ (d : Deck). length d.items) (one_deck its_deck (record small { items = [] }) small h.1 spells) in omega (arith, items)
 
-of_deck : OfDeck (codes "d") shelf HasShortProgram
-of_deck = (omega arith, (small, spells, short))
+has_deck : HasDeck (codes "d") shelf HasShortProgram
+has_deck = (small, spells_deck, small_is_deck, short)
 
--- No program is longer than 16,384 slots, and a named file that isn't there suits nothing that is told.
-not_of_deck : OfDeck (codes "d") shelf (λ d. ⊥) → ⊥
-not_of_deck h = h.1.2
+-- None of which nothing is so.
+not_has_deck : HasDeck (codes "d") shelf (λ d. ⊥) → ⊥
+not_has_deck h = h.3
 
 -- ---- what is told, and suits
 
@@ -136,33 +137,30 @@ tells_audit name (inl is) = (its_deck, ap files is)
 tells_audit name (inr is) = (its_bytes, ap files is)
 
 pub plan_suits : (plan_meaning (codes "d")).Suits shelf
-plan_suits = of_deck
+plan_suits = has_deck
 
 run_suits : (run_meaning (codes "d") (codes "o")).Suits shelf
-run_suits = (omega arith, (small, spells, can_run))
+run_suits = (small, spells_deck, small_is_deck, can_run)
 
 script_suits : (script_meaning (codes "d") None).Suits shelf
-script_suits = (omega arith, (small, spells, (short, omega (arith, script_bytes))))
+script_suits = (small, spells_deck, small_is_deck, (short, omega (arith, script_bytes)))
 
 whole_tape : (tape_read (script_tape small)).cut ≡ None
 whole_tape = ap (λ read. read.cut) (tape_back small (script_history small) (script_tape small) refl (omega (arith, script_bytes)))
 
-of_tape : OfTape (codes "t") shelf (λ records. Unit {0})
-of_tape = (omega (arith, script_bytes), whole_tape, tt)
-
 tune_suits : (tune_meaning (codes "d") (codes "t")).Suits shelf
-tune_suits = (of_deck, of_tape)
+tune_suits = (has_deck, (script_tape small, refl, (omega (arith, script_bytes), whole_tape)))
 
-of_report : OfReport (codes "d") (codes "r") shelf CanBeAudited
-of_report = (omega arith, (small, spells, (omega arith, can_be_audited)))
+has_report : HasReport (codes "d") (codes "r") shelf CanBeAudited
+has_report = (small, spells_deck, small_is_deck, (its_bytes, refl, (omega arith, can_be_audited)))
 
-not_of_report : OfReport (codes "d") (codes "r") shelf (λ d bytes. ⊥) → ⊥
-not_of_report h = h.1.2.1
+not_has_report : HasReport (codes "d") (codes "r") shelf (λ d bytes. ⊥) → ⊥
+not_has_report h = h.3.2.1
 
 audit_suits : (audit_meaning (codes "d") (codes "r")).Suits shelf
-audit_suits = of_report
+audit_suits = has_report
 
 -- ---- limits
 
-limits : (deck_limit ≡ 67108864) × (tape_limit ≡ 1073741824) × (report_limit ≡ 134217728)
+limits : (MOST_DECK_BYTES ≡ 67108864) × (MOST_TAPE_BYTES ≡ 1073741824) × (MOST_REPORT_BYTES ≡ 134217728)
 limits = (refl, refl, refl)

@@ -1,5 +1,5 @@
 -- What the top calls answer, by the facts of the command that the words ask for.
-use Rattle.std.proofs.Common.{◌≡◌, ℕ, true, List, Option, Some, refl, ap, sym, ◌∙◌, subst, inl, inr}
+use Rattle.std.proofs.Common.{◌≡◌, ℕ, List, Option, Some, refl, ap, sym, ◌∙◌, subst, inl, inr}
 use Rattle.air_devices.specs.Ears.{EarState}
 use Rattle.air_devices.specs.Masts.{MastState}
 use Rattle.air_devices.specs.Shelves.{ShelfState}
@@ -7,14 +7,14 @@ use Rattle.air_report.specs.declared.status.Status.{Status}
 use Rattle.air_report.specs.declared.status.Status.TheVariants as status
 use Rattle.air_cli.specs.ReportsAndTapes.{ReportAndTape, given_status}
 use Rattle.air_cli.specs.Deliveries.{IsGiven}
-use Rattle.air_cli.specs.Words.{Request, AsksCast, AsksListen, asked_of}
+use Rattle.air_cli.specs.Words.{Request, AsksCast, AsksListen, AsksRun, asked_of}
 use Rattle.air_cli.specs.OnAir.{words_meaning}
 use Rattle.air_cli.specs.Meanings.{Meaning}
 use Rattle.air_cli.specs.Commands.{quiet_meaning}
-use Rattle.air_cli.specs.ToldInputs.{TellSameInputs}
+use Rattle.air_cli.specs.ToldInputs.{IsDecided, TellSameInputs}
 use Rattle.air_cli.specs.Answers.{Completes, IsDone, IsSuccess, QuietAnswers}
-use Rattle.air_cli.proofs.InputLemmas.{GoesByInputs}
-use Rattle.air_cli.proofs.CommandLemmas.{quiet_facts, words_facts}
+use Rattle.air_cli.proofs.InputLemmas.{GivesOne, GoesByInputs}
+use Rattle.air_cli.proofs.CommandLemmas.{quiet_facts, quiet_one, words_facts}
 
 -- An answer that is no refusal, or one that can't be given.
 completes : (command : Meaning) → GoesByInputs command → (before now : ShelfState) (s : Status) → QuietAnswers command before now s → Completes command before now s
@@ -44,34 +44,37 @@ done command before now s (inr good) h = subst (λ s. QuietAnswers command befor
 abbrev GaveOne : Meaning → ShelfState → ShelfState → ShelfState → ShelfState → Status → Status → Type 0
 GaveOne command before now before2 now2 s s2 = (s ≡ s2) × ((given : ReportAndTape) × IsGiven command.output given before now × IsGiven command.output given before2 now2)
 
-one_given : (command : Meaning) → GoesByInputs command → (before now before2 now2 : ShelfState) (s s2 : Status) → command.decided ≡ true → TellSameInputs command before before2
+one_given : (command : Meaning) → GivesOne command → (before now before2 now2 : ShelfState) (s s2 : Status) → TellSameInputs command before before2
     → IsSuccess s → IsSuccess s2 → QuietAnswers command before now s → QuietAnswers command before2 now2 s2 → GaveOne command before now before2 now2 s s2
-one_given command by before now before2 now2 s s2 decided same good good2 first second =
+one_given command by before now before2 now2 s s2 same good good2 first second =
     let a = (done command before now s good first).gives in
     let b = (done command before2 now2 s2 good2 second).gives in
-    let e : a.0 ≡ b.0 = by.one decided before before2 a.0 b.0 same a.1 b.1 in (
+    let e : a.0 ≡ b.0 = by.one before before2 a.0 b.0 same a.1 b.1 in (
       a.2 ∙ ap (λ given. given_status given.differs) e ∙ sym b.2,
       (a.0, a.3, subst (λ given. IsGiven command.output given before2 now2) (sym e) b.3),
     )
 
-pub quiet_given : (words : List (List ℕ)) (before now before2 now2 : ShelfState) (s s2 : Status) → (quiet_meaning (asked_of words)).decided ≡ true → TellSameInputs (quiet_meaning (asked_of words)) before before2
+pub quiet_given : (words : List (List ℕ)) (before now before2 now2 : ShelfState) (s s2 : Status) → TellSameInputs (quiet_meaning (asked_of words)) before before2
     → IsSuccess s → IsSuccess s2 → QuietAnswers (quiet_meaning (asked_of words)) before now s → QuietAnswers (quiet_meaning (asked_of words)) before2 now2 s2
     → GaveOne (quiet_meaning (asked_of words)) before now before2 now2 s s2
-quiet_given words = one_given (quiet_meaning (asked_of words)) (quiet_facts (asked_of words)).inputs
+quiet_given words = one_given (quiet_meaning (asked_of words)) (quiet_one (asked_of words))
 
--- Where its inputs decide what a command gives, it means the same over every mast and ear.
-same_meaning : (asked : Option Request) (mast mast_now mast2 mast_now2 : MastState) (ear ear_now ear2 ear_now2 : EarState) → (words_meaning asked mast mast_now ear ear_now).decided ≡ true
-    → words_meaning asked mast2 mast_now2 ear2 ear_now2 ≡ words_meaning asked mast mast_now ear ear_now
-same_meaning (Some (AsksCast deck port)) mast mast_now mast2 mast_now2 ear ear_now ear2 ear_now2 decided = absurd (cc decided)
-same_meaning (Some (AsksListen deck port)) mast mast_now mast2 mast_now2 ear ear_now ear2 ear_now2 decided = absurd (cc decided)
-same_meaning other mast mast_now mast2 mast_now2 ear ear_now ear2 ear_now2 decided = refl
+-- What its inputs decide means the same over every mast and ear: what it means without them.
+means_quietly : (asked : Option Request) (mast mast_now : MastState) (ear ear_now : EarState) → IsDecided asked → words_meaning asked mast mast_now ear ear_now ≡ quiet_meaning asked
+means_quietly (Some (AsksRun deck tape)) mast mast_now ear ear_now decided = absurd decided
+means_quietly (Some (AsksCast deck port)) mast mast_now ear ear_now decided = absurd decided
+means_quietly (Some (AsksListen deck port)) mast mast_now ear ear_now decided = absurd decided
+means_quietly other mast mast_now ear ear_now decided = refl
 
 pub words_given : (words : List (List ℕ)) (mast mast_now mast2 mast_now2 : MastState) (ear ear_now ear2 ear_now2 : EarState) (before now before2 now2 : ShelfState) (s s2 : Status)
-    → (words_meaning (asked_of words) mast mast_now ear ear_now).decided ≡ true → TellSameInputs (words_meaning (asked_of words) mast mast_now ear ear_now) before before2 → IsSuccess s → IsSuccess s2
+    → IsDecided (asked_of words) → TellSameInputs (words_meaning (asked_of words) mast mast_now ear ear_now) before before2 → IsSuccess s → IsSuccess s2
     → QuietAnswers (words_meaning (asked_of words) mast mast_now ear ear_now) before now s → QuietAnswers (words_meaning (asked_of words) mast2 mast_now2 ear2 ear_now2) before2 now2 s2
     → GaveOne (words_meaning (asked_of words) mast mast_now ear ear_now) before now before2 now2 s s2
 words_given words mast mast_now mast2 mast_now2 ear ear_now ear2 ear_now2 before now before2 now2 s s2 decided same good good2 first second =
     let asked = asked_of words in
-    let command = words_meaning asked mast mast_now ear ear_now in
-    let one = subst (λ meaning. QuietAnswers meaning before2 now2 s2) (same_meaning asked mast mast_now mast2 mast_now2 ear ear_now ear2 ear_now2 decided) second in
-    one_given command (words_facts asked mast mast_now ear ear_now).inputs before now before2 now2 s s2 decided same good good2 first one
+    let a = means_quietly asked mast mast_now ear ear_now decided in
+    let b = means_quietly asked mast2 mast_now2 ear2 ear_now2 decided in
+    let one = subst (λ meaning. QuietAnswers meaning before now s) a first in
+    let two = subst (λ meaning. QuietAnswers meaning before2 now2 s2) b second in
+    subst (λ meaning. GaveOne meaning before now before2 now2 s s2) (sym a)
+    (one_given (quiet_meaning asked) (quiet_one asked) before now before2 now2 s s2 (subst (λ meaning. TellSameInputs meaning before before2) a same) good good2 one two)

@@ -6,11 +6,8 @@ use Rattle.air_model.specs.Buckets.{bucket_in, spelling}
 use Rattle.air_model.specs.Decks.{Deck, IsDeck, script_history, values_in}
 use Rattle.air_model.specs.Draws.{words_of}
 use Rattle.air_model.specs.Ethers.{heard_by}
-use Rattle.air_model.specs.Aired.{scheme_in, air_of, buckets_of}
+use Rattle.air_model.specs.Aired.{air_of, buckets_of}
 use Rattle.air_model.specs.AiredLaws.{CanAir}
-use Rattle.air_model.specs.Judges.{by_entries, by_history}
-use Rattle.air_model.specs.ReceiverLaws.{session_of}
-use Rattle.air_model.specs.Reports.{tune_text}
 use Rattle.air_model.specs.Outputs.{ether_of, odds_in}
 use Rattle.air_cli.proofs.ModelLaws.{BytesLaw, EventsLaw, HeardWasPushedLaw, ReceiverLaw, ScriptLaw}
 use Rattle.air_cli.specs.RunnableDecks.{HasShortProgram}
@@ -50,10 +47,4 @@ map_numbers f g a (suc n) h =
     ∙ ap (λ l. g a ∷ l) (map_numbers f g (a + 1) n (λ k low high. h k (omega arith) (omega arith)))
 
 pub true_tape : (d : Deck) → IsDeck d → ReceiverLaw → (records : List (List ℕ)) → IsTrueTape d records
-true_tape d made receiver records H aired =
-    let heard = map bucket_in records in
-    record {
-      text = ap tune_text (map_numbers (λ r. session_of (by_entries (scheme_in d)) d r heard) (λ r. session_of (by_history (scheme_in d) (values_in d) H) d r heard)
-          0 (length d.readers) (λ r low below. (receiver d H r heard made (omega arith) aired).same));
-      sessions = λ r below. receiver d H r heard made below aired;
-    }
+true_tape d made receiver records H aired = λ r below. receiver d H r (map bucket_in records) made below aired

@@ -1,11 +1,12 @@
 -- What the proofs of `tune` need of its definitions.
-use Rattle.std.proofs.Common.{◌≡◌, ℕ, ◌≤◌, List, [], length, None, refl, sym, ap, ◌∙◌, subst, inl, inr}
+use Rattle.std.proofs.Common.{◌≡◌, ℕ, ◌≤◌, List, [], length, None, Some, refl, sym, ap, ◌∙◌, subst, inl, inr}
+use Rattle.air_base.specs.declared.limits.TheConstants.{MOST_TAPE_BYTES}
 use Rattle.air_devices.specs.Counts.{KeepsCounts, NoCountFalls}
 use Rattle.air_devices.specs.Unchanged.{KeepsButPrinted}
 use Rattle.air_devices.specs.Shelves.{ShelfState}
 use Rattle.air_report.specs.declared.status.Status.{Status}
 use Rattle.air_report.specs.declared.status.Status.TheVariants as status
-use Rattle.air_devices.specs.Told.{ToldIs}
+use Rattle.air_devices.specs.Told.{ToldIs, WhereTold}
 use Rattle.air_model.specs.declared.reports.CountsLine.{CountsLine}
 use Rattle.air_model.specs.declared.reports.VerdictLine.{VerdictLine}
 use Rattle.air_model.specs.Aired.{scheme_in}
@@ -14,19 +15,17 @@ use Rattle.air_model.specs.Judges.{by_entries}
 use Rattle.air_model.specs.Outputs.{sessions_over, tune_output}
 use Rattle.air_model.specs.Reports.{Report, report_text, verdict_lines}
 use Rattle.air_model.specs.Tapes.{tape_read}
-use Rattle.air_cli.specs.NamedDecks.{DeckCause, HasDeck, OfDeck}
+use Rattle.air_cli.specs.NamedDecks.{DeckCause, HasDeck}
 use Rattle.air_cli.specs.RunnableDecks.{HasShortProgram, UnrunnableCause}
 use Rattle.air_cli.specs.NamedFiles.{HasBytes, UnreadCause}
-use Rattle.air_cli.specs.FileLimits.{tape_limit}
 use Rattle.item_catalog.proofs.GrammarLemmas.{one_deck}
-use Rattle.air_cli.specs.Tune.{IsCutAt, OfTape, TuneCause, tune_meaning}
+use Rattle.air_cli.specs.Tune.{TuneCause, tune_meaning}
 use Rattle.air_cli.specs.Answers.{InputFailed}
-use Rattle.air_cli.proofs.CauseLemmas.{of_bytes, of_had}
+use Rattle.air_cli.proofs.CauseLemmas.{OfDeck, of_bytes, of_had}
 use Rattle.air_cli.proofs.ReadLemmas.{unread_since}
 use Rattle.air_cli.proofs.RefusalLemmas.{IsSound, unrunnable_still, unread_still}
 use Rattle.listeners.specs.declared.readers.Sessions.{Sessions}
 use Rattle.air_cli.specs.HeardTapes.{AreFileSessions, UnheardCause}
-use Rattle.std.specs.Prelude.{⊤}
 use Rattle.air_cli.specs.ReportsAndTapes.{ReportAndTape}
 use Rattle.air_cli.specs.Tune.{IsTuned, TuneGives, tune_given}
 use Rattle.air_cli.specs.Truths.{IsTrueTape}
@@ -41,7 +40,7 @@ unrunnable_tune deck tape before now (status.TapeCut at) h = absurd h
 unrunnable_tune deck tape before now s h = inl h
 
 -- A tape that can't be heard gives no report.
-pub unheard_tune : (deck tape : List ℕ) (before now : ShelfState) (s : Status) → HasDeck deck before HasShortProgram → UnheardCause tape tape_limit before now s → TuneCause deck tape before now s
+pub unheard_tune : (deck tape : List ℕ) (before now : ShelfState) (s : Status) → HasDeck deck before HasShortProgram → UnheardCause tape MOST_TAPE_BYTES before now s → TuneCause deck tape before now s
 unfolding TuneCause UnheardCause
 unheard_tune deck tape before now (status.TapeCut at) can h = (can, h)
 unheard_tune deck tape before now s can h = inr (can, h)
@@ -58,7 +57,7 @@ unfolding TuneCause UnrunnableCause DeckCause UnreadCause
 wanting_tune deck tape before now = inl tt
 
 -- The report over the whole tape that was heard is the one over the named tape.
-pub of_heard : (tape : List ℕ) (before mid : ShelfState) (d : Deck) (sessions : Sessions) (given : ReportAndTape) → (heard : AreFileSessions tape tape_limit mid d sessions)
+pub of_heard : (tape : List ℕ) (before mid : ShelfState) (d : Deck) (sessions : Sessions) (given : ReportAndTape) → (heard : AreFileSessions tape MOST_TAPE_BYTES mid d sessions)
     → mid.told.file tape ≡ before.told.file tape → IsTrueTape d (tape_read heard.bytes).records → given ≡ tune_given d (tape_read heard.bytes).records
     → HasBytes tape before (IsTuned d given)
 of_heard tape before mid d sessions given heard same true_is given_is = (
@@ -68,7 +67,7 @@ of_heard tape before mid d sessions given heard same true_is given_is = (
 )
 
 -- The report of the sessions over its records.
-pub heard_text : (tape : List ℕ) (shelf : ShelfState) (d : Deck) (sessions : Sessions) (text : List ℕ) → (heard : AreFileSessions tape tape_limit shelf d sessions)
+pub heard_text : (tape : List ℕ) (shelf : ShelfState) (d : Deck) (sessions : Sessions) (text : List ℕ) → (heard : AreFileSessions tape MOST_TAPE_BYTES shelf d sessions)
     → text ≡ report_text (record { history = []; verdicts = sessions.verdicts.items; counts = sessions.counts.items; glances = []; looks = [] })
     → text ≡ tune_output d (tape_read heard.bytes).records
 heard_text tape shelf d sessions text heard is =
@@ -79,7 +78,7 @@ tune_still : (deck tape : List ℕ) (before mid now : ShelfState) (s : Status) �
 unfolding TuneCause
 tune_still deck tape before mid now (status.TapeCut at) rest counts h = h
 tune_still deck tape before mid now s rest counts (inl h) = inl (unrunnable_still deck before mid now s rest counts h)
-tune_still deck tape before mid now s rest counts (inr h) = inr (h.0, unread_still tape tape_limit before mid now s rest counts h.1)
+tune_still deck tape before mid now s rest counts (inr h) = inr (h.0, unread_still tape MOST_TAPE_BYTES before mid now s rest counts h.1)
 
 tune_input : (deck tape : List ℕ) (before now : ShelfState) → TuneCause deck tape before now status.ReadFault → InputFailed (tune_meaning deck tape) before now
 unfolding TuneCause UnrunnableCause DeckCause UnreadCause
@@ -112,22 +111,25 @@ tune_sound deck tape = record {
 
 -- ---- what its inputs decide
 
+abbrev IsCutAt : ℕ → List ℕ → Type 0
+IsCutAt at bytes = (length bytes ≤ MOST_TAPE_BYTES) × ((tape_read bytes).cut ≡ Some at)
+
 -- A tape that is whole isn't cut.
 tape_fits : (deck tape : List ℕ) (before now : ShelfState) (s : Status) → TellsInputs (tune_meaning deck tape) before → OfDeck deck before HasShortProgram
-    → OfTape tape before (λ records. ⊤) → NoCountRose before.faults now.faults → TuneCause deck tape before now s → s ≡ status.NoMemory
+    → WhereTold (before.told.file tape) (λ bytes. (length bytes ≤ MOST_TAPE_BYTES) × ((tape_read bytes).cut ≡ None)) → NoCountRose before.faults now.faults → TuneCause deck tape before now s → s ≡ status.NoMemory
 unfolding TuneCause
 tape_fits deck tape before now (status.TapeCut at) told runs whole calm h =
     let known = told tape (inr refl) in
-    let good = of_told (before.told.file tape) known.0 (λ bytes. (length bytes ≤ tape_limit) × ((tape_read bytes).cut ≡ None) × ⊤) known.1 whole in
+    let good = of_told (before.told.file tape) known.0 (λ bytes. (length bytes ≤ MOST_TAPE_BYTES) × ((tape_read bytes).cut ≡ None)) known.1 whole in
     let bad = of_told (before.told.file tape) known.0 (IsCutAt at) known.1 (of_bytes tape before (IsCutAt at) h.1) in
     absurd (cc (good.1, bad.1))
 tape_fits deck tape before now s told runs whole calm (inl h) = let known = told deck (inl refl) in runs_fits deck before now s known.0 known.1 runs calm h
 tape_fits deck tape before now s told runs whole calm (inr h) =
     let known = told tape (inr refl) in
-    let good = of_told (before.told.file tape) known.0 (λ bytes. (length bytes ≤ tape_limit) × ((tape_read bytes).cut ≡ None) × ⊤) known.1 whole in
-    unread_fits tape tape_limit before now s known.0 known.1 good.0 calm h.1
+    let good = of_told (before.told.file tape) known.0 (λ bytes. (length bytes ≤ MOST_TAPE_BYTES) × ((tape_read bytes).cut ≡ None)) known.1 whole in
+    unread_fits tape MOST_TAPE_BYTES before now s known.0 known.1 good.0 calm h.1
 
-tune_one : (deck tape : List ℕ) (before other : ShelfState) (a b : ReportAndTape) → TellSameInputs (tune_meaning deck tape) before other
+pub tune_one : (deck tape : List ℕ) (before other : ShelfState) (a b : ReportAndTape) → TellSameInputs (tune_meaning deck tape) before other
     → TuneGives deck tape before a → TuneGives deck tape other b → a ≡ b
 unfolding TuneGives
 tune_one deck tape before other a b same first second =
@@ -142,5 +144,5 @@ tune_one deck tape before other a b same first second =
 pub tune_facts : (deck tape : List ℕ) → CommandFacts (tune_meaning deck tape)
 tune_facts deck tape = record {
   sound = tune_sound deck tape;
-  inputs = record { fits = λ before now s told suits. tape_fits deck tape before now s told suits.0 suits.1; one = λ decided. tune_one deck tape };
+  inputs = record { fits = λ before now s told suits. tape_fits deck tape before now s told (of_had deck before HasShortProgram suits.0) (of_bytes tape before (λ bytes. (length bytes ≤ MOST_TAPE_BYTES) × ((tape_read bytes).cut ≡ None)) suits.1) };
 }

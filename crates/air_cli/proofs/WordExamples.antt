@@ -7,7 +7,7 @@ use Rattle.air_devices.specs.Shelves.{ShelfState}
 use Rattle.air_report.specs.declared.status.Status.TheVariants as status
 use Rattle.air_cli.specs.Commands.{quiet_meaning}
 use Rattle.air_cli.specs.ReportsAndTapes.{ReportAndTape, given_status}
-use Rattle.air_cli.specs.Meanings.{WordsCause, no_command}
+use Rattle.air_cli.specs.Meanings.{no_command}
 use Rattle.air_cli.specs.Run.{run_meaning}
 use Rattle.air_cli.specs.Words.{AsksAudit, AsksCast, AsksDrill, AsksListen, AsksPlan, AsksRun, AsksScript, AsksSplit, AsksTune, asked_drill, asked_of, asked_of_numbers, asked_of_one, asked_of_two, port_of}
 
@@ -50,8 +50,7 @@ pub record Words : Type 0 where
   run : asked_of_two (codes "run") (codes "d") (codes "t") ≡ Some (AsksRun (codes "d") (codes "t"))
   empty_deck : asked_of (codes "cast" ∷ [] ∷ codes "7" ∷ []) ≡ None
   -- Words that are no command have their status and no other, name no output, and give nothing.
-  of_no_command : WordsCause status.Words
-  of_a_form : WordsCause status.Ok → ⊥
+  not_done : no_command.Refuses nothing nothing status.Ok → ⊥
   refused : (quiet_meaning None).Refuses nothing nothing status.Words
   no_waiting : (quiet_meaning (Some (AsksRun (codes "d") (codes "t")))).Refuses nothing nothing status.Words
   gives_none : no_command.Gives nothing empty → ⊥
@@ -62,7 +61,7 @@ pub record Words : Type 0 where
   differs : given_status true ≡ status.Differs
 
 words : Words
-unfolding number_of WordsCause
+unfolding number_of
 words = record {
   plan = refl;
   script = refl;
@@ -93,10 +92,9 @@ words = record {
   cast_of_no_port = refl;
   run = refl;
   empty_deck = refl;
-  of_no_command = tt;
-  of_a_form = λ h. h;
-  refused = tt;
-  no_waiting = tt;
+  not_done = λ h. let is : status.Ok ≡ status.Words = h in cc;
+  refused = refl;
+  no_waiting = refl;
   gives_none = λ h. h;
   no_output = refl;
   run_output = refl;

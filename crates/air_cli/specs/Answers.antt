@@ -81,14 +81,12 @@ pub record NoCountRose (before now : Faults) : Type 0 where
   pub writing : (name : List ℕ) → Rose (before.writing name) (now.writing name) → ⊥
   pub printing : Rose before.printing now.printing → ⊥
 
--- The command ends with the status of what it gives.
-abbrev pub Succeeds : Meaning → ShelfState → Status → Type 0
-Succeeds command before s = (given : ReportAndTape) × command.Gives before given × (s ≡ given_status given.differs)
-
--- Where each named input is told, they suit the command, and no count of faults rose, it succeeded or memory ran out.
+-- Where each named input is told, they suit the command, and no count of faults rose, it ended with the status of what it gives, or
+-- memory ran out.
 abbrev pub Completes : Meaning → ShelfState → ShelfState → Status → Type 0
 Completes command before now s =
-    TellsInputs command before → command.Suits before → NoCountRose before.faults now.faults → Succeeds command before s ⊎ (s ≡ status.NoMemory)
+    TellsInputs command before → command.Suits before → NoCountRose before.faults now.faults
+    → ((given : ReportAndTape) × command.Gives before given × (s ≡ given_status given.differs)) ⊎ (s ≡ status.NoMemory)
 
 -- Whatever the status: all files are as they were, all that is left of those that are no named input, and all outputs but
 -- the named one; no count of faults falls.

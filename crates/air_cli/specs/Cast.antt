@@ -1,5 +1,5 @@
 -- The command `cast DECK PORT`. What it means is told of the mast, too, as the call found it and as it left it.
-use Rattle.std.specs.Prelude.{◌≡◌, ◌⊎◌, ◌≤◌, ℕ, false, List, [], Some, None, ⊤}
+use Rattle.std.specs.Prelude.{◌≡◌, ◌⊎◌, ◌≤◌, ℕ, false, List, [], Some, ⊤}
 use Rattle.deck_runs.specs.Casts.{IsCastPart, all_sent}
 use Rattle.air_devices.specs.Counts.{Rose}
 use Rattle.air_devices.specs.Masts.{Changes, MastState}
@@ -11,22 +11,18 @@ use Rattle.deck_runs.specs.DeckBytes.{deck_bytes}
 use Rattle.air_report.specs.declared.status.Status.{Status}
 use Rattle.air_report.specs.declared.status.Status.TheVariants as status
 use Rattle.deck_runs.specs.RunTruths.{IsTrueRun, TellsHistory}
-use Rattle.air_cli.specs.NamedDecks.{OfDeck, SpellsDeck}
+use Rattle.air_cli.specs.NamedDecks.{HasDeck, SpellsDeck}
 use Rattle.air_cli.specs.ReportsAndTapes.{ReportAndTape}
 use Rattle.air_model.specs.Runs.{IsRun, Run}
-use Rattle.air_cli.specs.Meanings.{Meaning}
+use Rattle.air_cli.specs.Meanings.{Meaning, no_command}
 use Rattle.air_cli.specs.Run.{CanRun, RunCause}
 
--- The report of a run without sessions, and no tape. Nothing in it differs.
-abbrev pub cast_given : Run → ReportAndTape
-cast_given run = record { text = cast_output run.history run.glances run.looks; tape = []; differs = false }
-
--- This is the report of a run of the deck, it tells the run's history, and all that is true of a run is true of it. Exactly the
+-- This is the report of a run of the deck, and no tape; it tells the run's history, and all that is true of a run is true of it. Exactly the
 -- buckets of that history were sent to the port, and then the end; no call of the mast failed.
 pub record IsCast (d : Deck) (to : ℕ) (before now : MastState) (given : ReportAndTape) (run : Run) : Type 0 where
   pub run_is : IsRun d run
   pub true_is : IsTrueRun d run
-  pub given_is : given ≡ cast_given run
+  pub given_is : given ≡ record { text = cast_output run.history run.glances run.looks; tape = []; differs = false }
   pub told : TellsHistory d run.history given.text
   pub sent : Changes (λ _. all_sent (deck_bytes d run.history)) before.told now.told
   pub calm : now.faults ≡ before.faults
@@ -59,15 +55,11 @@ unfoldable pub CastGives : List ℕ → ℕ → MastState → MastState → Shel
 CastGives deck to old new before given =
     (given.differs ≡ false) × ((d : Deck) × SpellsDeck deck before d × IsDeck d × CanRun d × ((run : Run) × IsCast d to old new given run))
 
--- It reads its deck, which must be one that can be run, and writes no output; it succeeds where no call of the mast failed. The
--- deck alone doesn't decide what it gives.
+-- It reads its deck, which must be one that can be run, and writes no output; it succeeds where no call of the mast failed.
 abbrev pub cast_meaning : List ℕ → ℕ → MastState → MastState → Meaning
-cast_meaning deck to old new = record {
+cast_meaning deck to old new = record no_command {
   IsInput = λ name. name ≡ deck;
-  output = None;
-  Suits = λ before. OfDeck deck before CanRun × (Rose old.faults new.faults → ⊥);
+  Suits = λ before. HasDeck deck before CanRun × (Rose old.faults new.faults → ⊥);
   Refuses = CastCause deck to old new;
   Gives = CastGives deck to old new;
-  decided = false;
-  by_pieces = false;
 }

@@ -9,15 +9,11 @@ use Rattle.air_model.specs.Runs.{IsRun, Run}
 use Rattle.deck_runs.specs.RunTapes.{IsLongRun}
 use Rattle.deck_runs.specs.RunTruths.{IsTrueRun}
 
--- The report of a run, and its tape. Nothing in it differs.
-abbrev pub run_given : Deck → Run → ReportAndTape
-run_given deck run = record { text = run_output deck run.history run.glances run.looks; tape = run_tape deck run.history; differs = false }
-
 -- This is report and tape of a run of the deck, and all that is true of one is true of it.
 pub record IsGivenRun (deck : Deck) (given : ReportAndTape) (run : Run) : Type 0 where
   pub run_is : IsRun deck run
   pub true_is : IsTrueRun deck run
-  pub given_is : given ≡ run_given deck run
+  pub given_is : given ≡ record { text = run_output deck run.history run.glances run.looks; tape = run_tape deck run.history; differs = false }
 
 -- Why a deck that has a program isn't run: its tape would be too long. Out of memory has no cause.
 unfoldable pub IsRunRefusal : Deck → Status → Type 0

@@ -1,5 +1,5 @@
 -- What a deck's readers hear of an ear, and what they leave where it fails.
-use Rattle.std.specs.Prelude.{◌≡◌, ◌≤◌, ◌<◌, ℕ, List, length, take, drop, map, All, Option, Some, None, ⊤}
+use Rattle.std.specs.Prelude.{◌≡◌, ◌≤◌, ◌<◌, ℕ, List, length, take, drop, map, All, Option, Some}
 use Rattle.air_model.specs.Aired.{scheme_in}
 use Rattle.air_model.specs.Decks.{Deck}
 use Rattle.air_model.specs.Judges.{by_entries}
@@ -9,6 +9,7 @@ use Rattle.air_model.specs.declared.reports.CountsLine.{CountsLine}
 use Rattle.air_model.specs.declared.reports.VerdictLine.{VerdictLine}
 use Rattle.air_devices.specs.Counts.{Rose}
 use Rattle.air_devices.specs.Ears.{EarState}
+use Rattle.air_devices.specs.Told.{WhereTold}
 use Rattle.air_cli.specs.declared.commands.hearings.HearFault.{HearFault}
 use Rattle.air_cli.specs.declared.commands.hearings.HearFault.TheVariants as fault
 use Rattle.air_cli.specs.declared.commands.hearings.TheConstants.{MOST_HEARD_BYTES}
@@ -19,18 +20,15 @@ heard_bytes bytes = take MOST_HEARD_BYTES bytes
 
 -- The list is what is heard of the first so many datagrams, or of all where there are fewer.
 abbrev pub AreFirstHeard : ℕ → Option (List (List ℕ)) → List (List ℕ) → Type 0
-AreFirstHeard most None heard = ⊤
-AreFirstHeard most (Some waiting) heard = heard ≡ map heard_bytes (take most waiting)
+AreFirstHeard most told heard = WhereTold told (λ waiting. heard ≡ map heard_bytes (take most waiting))
 
 -- So many datagrams were taken from the front, or all where there are fewer; the rest is still to be heard.
 abbrev pub TakesUpTo : ℕ → Option (List (List ℕ)) → Option (List (List ℕ)) → Type 0
-TakesUpTo most None now = ⊤
-TakesUpTo most (Some waiting) now = now ≡ Some (drop most waiting)
+TakesUpTo most before now = WhereTold before (λ waiting. now ≡ Some (drop most waiting))
 
 -- Just so many datagrams were taken from the front; the rest is still to be heard.
 abbrev pub TakesJust : ℕ → Option (List (List ℕ)) → Option (List (List ℕ)) → Type 0
-TakesJust count None now = ⊤
-TakesJust count (Some waiting) now = (count ≤ length waiting) × (now ≡ Some (drop count waiting))
+TakesJust count before now = WhereTold before (λ waiting. (count ≤ length waiting) × (now ≡ Some (drop count waiting)))
 
 -- Where it is told, this was heard until the end, or until so many datagrams were heard: each has a byte at least, and no more than are heard.
 pub record IsHeardOnEar (most : ℕ) (before now : Option (List (List ℕ))) (heard : List (List ℕ)) : Type 0 where

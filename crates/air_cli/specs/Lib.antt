@@ -17,7 +17,6 @@ pub mod OnAir
 pub mod Untouched
 pub mod Truths
 pub mod Private
-pub mod FileLimits
 pub mod NamedFiles
 pub mod NamedDecks
 pub mod RunnableDecks

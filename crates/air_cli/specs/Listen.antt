@@ -1,5 +1,5 @@
 -- The command `listen DECK PORT`. What it means is told of the ear, too, as the call found it and as it left it.
-use Rattle.std.specs.Prelude.{◌≡◌, ◌<◌, ◌≤◌, ℕ, false, List, Some, None, ⊤}
+use Rattle.std.specs.Prelude.{◌≡◌, ◌<◌, ◌≤◌, ℕ, false, List, Some, ⊤}
 use Rattle.air_cli.specs.Hearings.{IsHeardOnEar, TakesJust, TakesUpTo}
 use Rattle.air_devices.specs.Counts.{Rose}
 use Rattle.air_devices.specs.Ears.{EarState}
@@ -7,10 +7,10 @@ use Rattle.air_devices.specs.Shelves.{ShelfState}
 use Rattle.air_model.specs.Decks.{Deck, IsDeck}
 use Rattle.air_report.specs.declared.status.Status.{Status}
 use Rattle.air_report.specs.declared.status.Status.TheVariants as status
-use Rattle.air_cli.specs.NamedDecks.{OfDeck, SpellsDeck}
+use Rattle.air_cli.specs.NamedDecks.{HasDeck, SpellsDeck}
 use Rattle.air_cli.specs.RunnableDecks.{HasShortProgram, UnrunnableCause}
 use Rattle.air_cli.specs.ReportsAndTapes.{ReportAndTape}
-use Rattle.air_cli.specs.Meanings.{Meaning}
+use Rattle.air_cli.specs.Meanings.{Meaning, no_command}
 use Rattle.air_cli.specs.Truths.{IsTrueTape}
 use Rattle.air_cli.specs.Tune.{tune_given}
 
@@ -50,15 +50,11 @@ unfoldable pub ListenGives : List ℕ → ℕ → EarState → EarState → Shel
 ListenGives deck on old new before given =
     (given.differs ≡ false) × ((d : Deck) × SpellsDeck deck before d × IsDeck d × HasShortProgram d × ((heard : List (List ℕ)) × IsListening d on old new given heard))
 
--- It reads its deck, which must be one that can be run, and writes no output; it succeeds where no call of the ear failed. What
--- is heard decides what it gives, and not the deck alone.
+-- It reads its deck, which must be one that can be run, and writes no output; it succeeds where no call of the ear failed.
 abbrev pub listen_meaning : List ℕ → ℕ → EarState → EarState → Meaning
-listen_meaning deck on old new = record {
+listen_meaning deck on old new = record no_command {
   IsInput = λ name. name ≡ deck;
-  output = None;
-  Suits = λ before. OfDeck deck before HasShortProgram × (Rose old.faults new.faults → ⊥);
+  Suits = λ before. HasDeck deck before HasShortProgram × (Rose old.faults new.faults → ⊥);
   Refuses = ListenCause deck on old new;
   Gives = ListenGives deck on old new;
-  decided = false;
-  by_pieces = false;
 }

@@ -1,22 +1,18 @@
 -- The deck that a named file spells, and why there is none.
 use Rattle.std.specs.Prelude.{ℕ, ◌≤◌, List, length}
 use Rattle.std.specs.Io.KnownBytes.{IsAtEnd}
+use Rattle.air_base.specs.declared.limits.TheConstants.{MOST_DECK_BYTES}
 use Rattle.air_devices.specs.Told.{WhereTold}
 use Rattle.air_devices.specs.Shelves.{ShelfState}
 use Rattle.air_model.specs.Decks.{Deck, IsDeck}
 use Rattle.item_catalog.specs.Grammar.{HasFault, Spells}
 use Rattle.air_report.specs.declared.status.Status.{Status}
 use Rattle.air_report.specs.declared.status.Status.TheVariants as status
-use Rattle.air_cli.specs.FileLimits.{deck_limit}
 use Rattle.air_cli.specs.NamedFiles.{UnreadCause}
 
 -- The named file's bytes, where they are told, spell this deck.
 abbrev pub SpellsDeck : List ℕ → ShelfState → Deck → Type 0
-SpellsDeck name before d = WhereTold (before.told.file name) (λ bytes. (length bytes ≤ deck_limit) × Spells bytes d)
-
--- The named file's bytes, where they are told, spell a deck, and this is so of the deck.
-abbrev pub OfDeck : List ℕ → ShelfState → (Deck → Type 0) → Type 0
-OfDeck name before P = WhereTold (before.told.file name) (λ bytes. (length bytes ≤ deck_limit) × ((d : Deck) × Spells bytes d × P d))
+SpellsDeck name before d = WhereTold (before.told.file name) (λ bytes. (length bytes ≤ MOST_DECK_BYTES) × Spells bytes d)
 
 -- There is a well-made deck, the one that the named file spells where it is told, and this is so of it.
 abbrev pub HasDeck : List ℕ → ShelfState → (Deck → Type 0) → Type 0
@@ -25,9 +21,9 @@ HasDeck name before P = (d : Deck) × SpellsDeck name before d × IsDeck d × P 
 -- The named file was read to its end, and its bytes have this fault in place of a deck.
 pub record IsFaulty (name : List ℕ) (row kind : ℕ) (before now : ShelfState) : Type 0 where
   pub read : IsAtEnd (now.told.left name)
-  pub fault : WhereTold (before.told.file name) (λ bytes. (length bytes ≤ deck_limit) × HasFault bytes row kind)
+  pub fault : WhereTold (before.told.file name) (λ bytes. (length bytes ≤ MOST_DECK_BYTES) × HasFault bytes row kind)
 
 -- Why there is no deck: its file, or its fault.
 unfoldable pub DeckCause : List ℕ → ShelfState → ShelfState → Status → Type 0
 DeckCause deck before now (status.Deck row kind) = IsFaulty deck row kind before now
-DeckCause deck before now s = UnreadCause deck deck_limit before now s
+DeckCause deck before now s = UnreadCause deck MOST_DECK_BYTES before now s

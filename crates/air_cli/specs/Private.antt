@@ -5,3 +5,4 @@ pub mod Airing
 pub mod Scripting
 pub mod Pieces
 pub mod EarSteps
+pub mod GivenTexts

@@ -1,25 +1,25 @@
 -- The command `run DECK TAPE`.
-use Rattle.std.specs.Prelude.{◌≡◌, ◌≤◌, ℕ, false, List, Some}
+use Rattle.std.specs.Prelude.{◌≡◌, ◌≤◌, ◌<◌, ℕ, false, List, Some}
+use Rattle.air_base.specs.declared.limits.TheConstants.{MOST_TAPE_BYTES}
 use Rattle.air_devices.specs.Shelves.{ShelfState}
 use Rattle.air_model.specs.Decks.{Deck, IsDeck}
 use Rattle.air_report.specs.declared.status.Status.{Status}
 use Rattle.air_report.specs.declared.status.Status.TheVariants as status
 use Rattle.air_cli.specs.RunnableDecks.{HasShortProgram, UnrunnableCause}
-use Rattle.air_cli.specs.NamedDecks.{HasDeck, OfDeck, SpellsDeck}
-use Rattle.air_cli.specs.FileLimits.{tape_limit}
+use Rattle.air_cli.specs.NamedDecks.{HasDeck, SpellsDeck}
 use Rattle.air_cli.specs.ReportsAndTapes.{ReportAndTape}
 use Rattle.air_model.specs.Runs.{Run}
 use Rattle.air_cli.specs.GivenRuns.{IsGivenRun}
-use Rattle.deck_runs.specs.RunTapes.{IsLongRun, run_tape_len}
-use Rattle.air_cli.specs.Meanings.{Meaning}
+use Rattle.deck_runs.specs.RunTapes.{run_tape_len}
+use Rattle.air_cli.specs.Meanings.{Meaning, no_command}
 
 -- A deck can be run: its program is short enough, and so is the tape of each of its runs.
 abbrev pub CanRun : Deck → Type 0
-CanRun d = HasShortProgram d × (run_tape_len d ≤ tape_limit)
+CanRun d = HasShortProgram d × (run_tape_len d ≤ MOST_TAPE_BYTES)
 
--- Why it is refused: its deck can't be run; or there is one that can, and the tape would be too long.
+-- Why it is refused: its deck can't be run; or there is one that can, and the tape would have so many bytes, more than a tape may have.
 unfoldable pub RunCause : List ℕ → ShelfState → ShelfState → Status → Type 0
-RunCause deck before now (status.TooLong bytes) = HasDeck deck before (λ d. HasShortProgram d × IsLongRun d bytes)
+RunCause deck before now (status.TooLong bytes) = HasDeck deck before (λ d. HasShortProgram d × (bytes ≡ run_tape_len d) × (MOST_TAPE_BYTES < bytes))
 RunCause deck before now s = UnrunnableCause deck before now s
 
 -- What it gives: there is a well-made deck that can be run, the one that the named file spells where it is told; and this is report
@@ -28,15 +28,12 @@ unfoldable pub RunGives : List ℕ → ShelfState → ReportAndTape → Type 0
 RunGives deck before given =
     (given.differs ≡ false) × ((d : Deck) × SpellsDeck deck before d × IsDeck d × CanRun d × ((run : Run) × IsGivenRun d given run))
 
--- It reads its deck, which must be one that can be run, and writes the tape. The deck alone
--- doesn't decide what it gives: the threads make one of many histories.
+-- It reads its deck, which must be one that can be run, and writes the tape.
 abbrev pub run_meaning : List ℕ → List ℕ → Meaning
-run_meaning deck tape = record {
+run_meaning deck tape = record no_command {
   IsInput = λ name. name ≡ deck;
   output = Some tape;
-  Suits = λ before. OfDeck deck before CanRun;
+  Suits = λ before. HasDeck deck before CanRun;
   Refuses = RunCause deck;
   Gives = RunGives deck;
-  decided = false;
-  by_pieces = false;
 }

@@ -1,47 +1,36 @@
 -- The commands `script DECK` and `script DECK TAPE`.
 use Rattle.std.specs.Prelude.{◌≡◌, ◌≤◌, ◌<◌, ℕ, true, false, List, length, Option}
+use Rattle.air_base.specs.declared.limits.TheConstants.{MOST_TAPE_BYTES}
 use Rattle.air_devices.specs.Shelves.{ShelfState}
-use Rattle.air_model.specs.Decks.{Deck}
 use Rattle.air_model.specs.Outputs.{script_output, script_tape}
 use Rattle.air_report.specs.declared.status.Status.{Status}
 use Rattle.air_report.specs.declared.status.Status.TheVariants as status
 use Rattle.air_cli.specs.RunnableDecks.{HasShortProgram, UnrunnableCause}
-use Rattle.air_cli.specs.NamedDecks.{HasDeck, OfDeck}
-use Rattle.air_cli.specs.FileLimits.{tape_limit}
-use Rattle.air_cli.specs.Meanings.{Meaning}
+use Rattle.air_cli.specs.NamedDecks.{HasDeck}
+use Rattle.air_cli.specs.Meanings.{Meaning, no_command}
 use Rattle.air_cli.specs.ReportsAndTapes.{ReportAndTape}
 use Rattle.air_cli.specs.Truths.{IsTrueScript}
 
--- The deck can be run, but its tape would have so many bytes, more than a tape may have.
-pub record HasLongTape (d : Deck) (bytes : ℕ) : Type 0 where
-  pub runnable : HasShortProgram d
-  pub counted : bytes ≡ length (script_tape d)
-  pub above : tape_limit < bytes
-
--- Why it is refused: its deck can't be run; or there is one that can, and the tape would be too long.
+-- Why it is refused: its deck can't be run; or there is one that can, and the tape would have so many bytes, more than a tape may have.
 unfoldable pub ScriptCause : List ℕ → ShelfState → ShelfState → Status → Type 0
-ScriptCause deck before now (status.TooLong bytes) = HasDeck deck before (λ d. HasLongTape d bytes)
+ScriptCause deck before now (status.TooLong bytes) = HasDeck deck before (λ d. HasShortProgram d × (bytes ≡ length (script_tape d)) × (MOST_TAPE_BYTES < bytes))
 ScriptCause deck before now s = UnrunnableCause deck before now s
-
--- The report of the deck's script, and its tape.
-abbrev pub script_given : Deck → ReportAndTape
-script_given d = record { text = script_output d; tape = script_tape d; differs = false }
 
 -- What it gives: there is a well-made deck that can be run and whose tape is short enough, the one that the named file spells where it
 -- is told; the sessions of its script are true, and this is its report and its tape. Nothing in it differs.
 unfoldable pub ScriptGives : List ℕ → ShelfState → ReportAndTape → Type 0
 ScriptGives deck before given =
-    (given.differs ≡ false) × HasDeck deck before (λ d. HasShortProgram d × (length (script_tape d) ≤ tape_limit) × IsTrueScript d × (given ≡ script_given d))
+    (given.differs ≡ false) × HasDeck deck before (λ d. HasShortProgram d × (length (script_tape d) ≤ MOST_TAPE_BYTES) × IsTrueScript d
+        × (given ≡ record { text = script_output d; tape = script_tape d; differs = false }))
 
 -- It reads its deck, which must be one that can be run and have a tape that is short enough, and writes the tape piece by piece
--- where one is named; the deck decides report and tape.
+-- where one is named.
 abbrev pub script_meaning : List ℕ → Option (List ℕ) → Meaning
-script_meaning deck tape = record {
+script_meaning deck tape = record no_command {
   IsInput = λ name. name ≡ deck;
   output = tape;
-  Suits = λ before. OfDeck deck before (λ d. HasShortProgram d × (length (script_tape d) ≤ tape_limit));
+  Suits = λ before. HasDeck deck before (λ d. HasShortProgram d × (length (script_tape d) ≤ MOST_TAPE_BYTES));
   Refuses = ScriptCause deck;
   Gives = ScriptGives deck;
-  decided = true;
   by_pieces = true;
 }

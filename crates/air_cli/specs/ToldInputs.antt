@@ -1,7 +1,8 @@
--- What shelves tell of the files that a command reads.
-use Rattle.std.specs.Prelude.{◌≡◌, ℕ, List, Some}
+-- What shelves tell of the files that a command reads, and which commands these decide.
+use Rattle.std.specs.Prelude.{◌≡◌, ℕ, List, Option, Some, ⊤}
 use Rattle.air_devices.specs.Shelves.{ShelfState}
 use Rattle.air_cli.specs.Meanings.{Meaning}
+use Rattle.air_cli.specs.Words.{Request, AsksCast, AsksListen, AsksRun}
 
 -- Each named input is told.
 abbrev pub TellsInputs : Meaning → ShelfState → Type 0
@@ -11,3 +12,10 @@ TellsInputs command shelf = (name : List ℕ) → command.IsInput name → (byte
 abbrev pub TellSameInputs : Meaning → ShelfState → ShelfState → Type 0
 TellSameInputs command one other =
     (name : List ℕ) → command.IsInput name → (bytes : List ℕ) × (one.told.file name ≡ Some bytes) × (other.told.file name ≡ Some bytes)
+
+-- The inputs alone decide what is given. They don't where threads make one of many histories, or an ear is heard.
+abbrev pub IsDecided : Option Request → Type 0
+IsDecided (Some (AsksRun deck tape)) = ⊥
+IsDecided (Some (AsksCast deck port)) = ⊥
+IsDecided (Some (AsksListen deck port)) = ⊥
+IsDecided other = ⊤

@@ -1,14 +1,12 @@
 -- What is true of the sessions that `script` and `tune` print: every line is sound, and is what the history decides.
-use Rattle.std.specs.Prelude.{◌≡◌, ℕ, ◌<◌, List, All, length, map}
+use Rattle.std.specs.Prelude.{ℕ, ◌<◌, List, All, length, map}
 use Rattle.air_history.specs.declared.histories.Event.{Event}
 use Rattle.air_history.specs.Tables.{BasesRead}
 use Rattle.air_model.specs.Buckets.{bucket_in}
 use Rattle.air_model.specs.Decks.{Deck, IsLegal, script_history, values_in}
-use Rattle.air_model.specs.Aired.{scheme_in, IsAired, air_of}
-use Rattle.air_model.specs.Judges.{by_history}
+use Rattle.air_model.specs.Aired.{IsAired, air_of}
 use Rattle.air_model.specs.ReceiverLaws.{IsTrueSession}
-use Rattle.air_model.specs.Reports.{tune_text}
-use Rattle.air_model.specs.Outputs.{ether_of, sessions_over, tune_output}
+use Rattle.air_model.specs.Outputs.{ether_of}
 
 -- The sessions of all readers of the deck, over what each hears, are true of the history: by the entries they are what the
 -- history decides. In each line, under every policy, the reads are consistent and have the values that their ancestors alone
@@ -23,11 +21,7 @@ pub record IsTrueScript (d : Deck) : Type 0 where
   pub bases : All BasesRead (script_history d)
   pub sessions : AreTrue d (script_history d) (ether_of d (script_history d))
 
--- Over the records of a tape what `tune` prints is what the history decides, and the sessions are true of it.
-pub record IsTrueTuning (d : Deck) (H : List Event) (records : List (List ℕ)) : Type 0 where
-  pub text : tune_output d records ≡ tune_text (sessions_over (by_history (scheme_in d) (values_in d) H) d (λ r. records))
-  pub sessions : AreTrue d H (λ r. records)
-
--- So it is of every history that aired those of the records that fit the deck; it needn't be the deck's.
+-- Over the records of a tape the sessions are true of every history that aired those of the records that fit the deck; it needn't be the
+-- deck's. So what `tune` prints is what that history decides.
 abbrev pub IsTrueTape : Deck → List (List ℕ) → Type 0
-IsTrueTape d records = (H : List Event) → IsAired (values_in d) (air_of d) H (map bucket_in records) → IsTrueTuning d H records
+IsTrueTape d records = (H : List Event) → IsAired (values_in d) (air_of d) H (map bucket_in records) → AreTrue d H (λ r. records)

@@ -1,6 +1,6 @@
 //! The laws of the top calls: of two calls, and of drills. The bodies are empty.
 
-ghost use Rattle.std.specs.Prelude.{◌≡◌, ℕ, true, List, [], ◌∷◌, codes, Contains};
+ghost use Rattle.std.specs.Prelude.{◌≡◌, ℕ, List, [], ◌∷◌, codes, Contains};
 ghost use Rattle.air_devices.specs.Ears.{EarState};
 ghost use Rattle.air_devices.specs.Masts.{MastState};
 ghost use Rattle.air_devices.specs.Shelves.{ShelfState};
@@ -11,15 +11,15 @@ ghost use Rattle.air_cli.specs.ReportsAndTapes.{ReportAndTape};
 ghost use Rattle.air_cli.specs.Commands.{quiet_meaning};
 ghost use Rattle.air_cli.specs.OnAir.{words_meaning};
 ghost use Rattle.air_cli.specs.Words.{asked_of};
-ghost use Rattle.air_cli.specs.ToldInputs.{TellSameInputs};
+ghost use Rattle.air_cli.specs.ToldInputs.{IsDecided, TellSameInputs};
 ghost use Rattle.air_cli.specs.Answers.{IsSuccess, QuietAnswers};
 
 /// Two calls of a command that its inputs decide, on the same words and over shelves that tell the same inputs, print one
 /// text and write one tape where both succeed, and end with one status: calls of `air_main`, over any masts and ears, and calls of
-/// `air_quiet`.
+/// `air_quiet`, of whose commands each is such a one.
 pub fn one_output_law()
     ensures words { (words : List (List ℕ)) (mast mast_now other_mast other_mast_now : MastState) (ear ear_now other_ear other_ear_now : EarState) (before now other_before other_now : ShelfState) (s other : Status) →
-        (words_meaning (asked_of words) mast mast_now ear ear_now).decided ≡ true →
+        IsDecided (asked_of words) →
         TellSameInputs (words_meaning (asked_of words) mast mast_now ear ear_now) before other_before →
         IsSuccess s → IsSuccess other →
         QuietAnswers (words_meaning (asked_of words) mast mast_now ear ear_now) before now s →
@@ -27,7 +27,6 @@ pub fn one_output_law()
         (s ≡ other) × ((given : ReportAndTape) × IsGiven (words_meaning (asked_of words) mast mast_now ear ear_now).output given before now
         × IsGiven (words_meaning (asked_of words) mast mast_now ear ear_now).output given other_before other_now) }
     ensures quiet { (words : List (List ℕ)) (before now other_before other_now : ShelfState) (s other : Status) →
-        (quiet_meaning (asked_of words)).decided ≡ true →
         TellSameInputs (quiet_meaning (asked_of words)) before other_before →
         IsSuccess s → IsSuccess other →
         QuietAnswers (quiet_meaning (asked_of words)) before now s →

@@ -1,7 +1,7 @@
 //! A named tape that is read by pieces to its end, and the sessions of a deck's readers over it.
 
 ghost use Rattle.std.specs.Prelude.{◌≡◌, ◌≤◌, [], All, IfErr, IfOk, MatchResult, OnOk, length};
-ghost use Rattle.air_cli.specs.FileLimits.{tape_limit};
+ghost use Rattle.air_base.specs.declared.limits.TheConstants.{MOST_TAPE_BYTES};
 ghost use Rattle.air_cli.specs.NamedFiles.{ReadsInput};
 ghost use Rattle.receiver_core.specs.Receivers.{heard_count};
 ghost use Rattle.air_cli.specs.HeardTapes.{AreFileSessions, UnheardCause};
@@ -38,8 +38,8 @@ pub fn file_sessions<T: Threads + Sync, S: Shelf>(
     name: &str,
     planned: &Planned,
 ) -> Result<Sessions, Status>
-    ensures heard { IfOk result (AreFileSessions name.now tape_limit (S.state shelf.old) planned.now) }
-    ensures refused { IfErr result (UnheardCause name.now tape_limit (S.state shelf.old) (S.state shelf.new)) }
+    ensures heard { IfOk result (AreFileSessions name.now MOST_TAPE_BYTES (S.state shelf.old) planned.now) }
+    ensures refused { IfErr result (UnheardCause name.now MOST_TAPE_BYTES (S.state shelf.old) (S.state shelf.new)) }
     ensures reads { ReadsInput name.now result (S.state shelf.old) (S.state shelf.new) }
 {
     let sizes = PieceSizes {

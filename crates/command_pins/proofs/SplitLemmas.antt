@@ -25,7 +25,7 @@ use Rattle.disk_split.specs.Private.Rests.{minor_from}
 use Rattle.disk_split.proofs.DeckLemmas.{deck_sums, slots_walk, split_rest}
 use Rattle.disk_split.proofs.RestLemmas.{slots_many}
 use Rattle.air_cli.specs.Answers.{QuietAnswers}
-use Rattle.air_cli.specs.FileLimits.{deck_limit}
+use Rattle.air_base.specs.declared.limits.TheConstants.{MOST_DECK_BYTES}
 use Rattle.air_cli.specs.NamedDecks.{SpellsDeck}
 use Rattle.air_cli.specs.ReportsAndTapes.{ReportAndTape}
 use Rattle.air_cli.specs.Split.{SplitCause, SplitGives, UnsplitCause, split_meaning}
@@ -70,7 +70,7 @@ least_is slots all =
 -- The deck that the file spells is this one.
 is_long : (bytes : List ℕ) (before : ShelfState) (d : Deck) → before.told.file (codes "d") ≡ Some bytes → Spells bytes long_deck → SpellsDeck (codes "d") before d → d ≡ long_deck
 is_long bytes before d told spells is =
-    let known = subst (λ f. WhereTold f (λ bytes. (length bytes ≤ deck_limit) × Spells bytes d)) told is in one_deck bytes d long_deck known.1 spells
+    let known = subst (λ f. WhereTold f (λ bytes. (length bytes ≤ MOST_DECK_BYTES) × Spells bytes d)) told is in one_deck bytes d long_deck known.1 spells
 
 none_given : (bytes : List ℕ) (before : ShelfState) (given : ReportAndTape) → before.told.file (codes "d") ≡ Some bytes → Spells bytes long_deck → SplitGives (codes "d") before given → ⊥
 unfolding SplitGives

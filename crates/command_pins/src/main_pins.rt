@@ -1,7 +1,7 @@
 //! These pins say what `air_main` of `air_cli` does for a command's words, over devices in memory: what it prints, writes and reads, and
 //! that `air_quiet` does no command that waits.
 //! Where a command is done, the answer is the definition of its output; the other clauses say what each status leaves as it was.
-#![tactic(auto, unfolding(air_base::specs::Numbers::number_of, air_cli::specs::NamedDecks::DeckCause, air_cli::specs::Answers::QuietAnswers, air_cli::specs::Plan::PlanCause, air_cli::specs::Plan::PlanGives, air_cli::specs::Split::SplitGives, air_cli::specs::Drill::DrillGives, air_cli::specs::Script::ScriptCause, air_cli::specs::Script::ScriptGives, air_cli::specs::Audit::AuditGives, air_cli::specs::Cast::CastCause))]
+#![tactic(auto, unfolding(air_base::specs::Numbers::number_of, air_cli::specs::NamedDecks::DeckCause, air_cli::specs::Answers::QuietAnswers, air_cli::specs::RunnableDecks::UnrunnableCause, air_cli::specs::Plan::PlanGives, air_cli::specs::Split::SplitGives, air_cli::specs::Drill::DrillGives, air_cli::specs::Script::ScriptCause, air_cli::specs::Script::ScriptGives, air_cli::specs::Audit::AuditGives, air_cli::specs::Cast::CastCause))]
 
 ghost use Rattle.std.specs.Prelude.{◌≡◌, ◌≢◌, ◌⊎◌, ◌≤◌, ◌<◌, ℕ, List, false, [], ◌∷◌, None, Some, codes, map, string_bytes};
 ghost use Rattle.air_model.specs.Decks.{Deck};

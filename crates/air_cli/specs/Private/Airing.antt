@@ -1,5 +1,6 @@
 -- For private steps alone. Why a deck that has a program isn't cast, and why its readers don't report of what they hear.
 use Rattle.std.specs.Prelude.{◌≡◌, ◌≤◌, ℕ, ⊤}
+use Rattle.air_base.specs.declared.limits.TheConstants.{MOST_TAPE_BYTES}
 use Rattle.air_cli.specs.declared.commands.hearings.HearFault.{HearFault}
 use Rattle.air_cli.specs.declared.commands.hearings.HearFault.TheVariants as hear
 use Rattle.air_devices.specs.Ears.{EarState}
@@ -10,7 +11,6 @@ use Rattle.deck_runs.specs.declared.threads.RunFault.TheVariants as run
 use Rattle.air_report.specs.declared.status.Status.{Status}
 use Rattle.air_report.specs.declared.status.Status.TheVariants as status
 use Rattle.deck_runs.specs.RunTapes.{IsLongRun, run_tape_len}
-use Rattle.air_cli.specs.FileLimits.{tape_limit}
 use Rattle.air_cli.specs.Cast.{IsBrokenCast}
 use Rattle.air_cli.specs.Listen.{IsBrokenListening}
 
@@ -25,7 +25,7 @@ cast_status run.NoMemory = status.NoMemory
 -- the mast failed.
 unfoldable pub IsCastRefusal : Deck → ℕ → MastState → MastState → Status → Type 0
 IsCastRefusal d to before now (status.TooLong bytes) = IsLongRun d bytes × (now ≡ before)
-IsCastRefusal d to before now (status.AirFault at) = (run_tape_len d ≤ tape_limit) × IsBrokenCast d to at before now
+IsCastRefusal d to before now (status.AirFault at) = (run_tape_len d ≤ MOST_TAPE_BYTES) × IsBrokenCast d to at before now
 IsCastRefusal d to before now status.NoMemory = ⊤
 IsCastRefusal d to before now other = ⊥
 

@@ -8,7 +8,7 @@ use Rattle.air_report.specs.declared.status.Status.TheVariants as status
 use Rattle.air_cli.specs.Deliveries.{Delivers}
 use Rattle.scripts.specs.Sinks.{HasBeginning}
 use Rattle.air_cli.specs.OutputPieces.{IsCutOff, IsWritten}
-use Rattle.air_cli.specs.Script.{script_given}
+use Rattle.air_cli.specs.Private.GivenTexts.{script_given}
 
 -- Why the airing stopped: memory ran out, and a beginning of the tape was written; or a write failed.
 abbrev pub IsStopped : Option (List ℕ) → Deck → ShelfState → ShelfState → Status → Type 0

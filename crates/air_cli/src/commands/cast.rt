@@ -1,10 +1,10 @@
 //! The command `cast`: a run of a named deck on threads, sent to a port.
 
 ghost use Rattle.std.specs.Prelude.{◌≡◌, ◌≤◌, ◌⊎◌, None, Some, IfErr, IfOk};
+ghost use Rattle.air_base.specs.declared.limits.TheConstants.{MOST_TAPE_BYTES};
 ghost use Rattle.air_devices.specs.Masts.{nothing_sent};
 ghost use Rattle.air_devices.specs.Told.{WhereTold};
 ghost use Rattle.deck_runs.specs.RunTapes.{run_tape_len};
-ghost use Rattle.air_cli.specs.FileLimits.{tape_limit};
 ghost use Rattle.air_model.specs.Runs.{Run};
 ghost use Rattle.air_cli.specs.Cast.{HasSent, IsCast, cast_meaning};
 ghost use Rattle.air_cli.specs.Words.{AsksCast};
@@ -59,7 +59,7 @@ fn cast_on_air<R: Threads + Wait + Sync, M: Mast + Send, G: Gate + Sync>(
 ) -> Result<ReportAndTape, Status>
     requires unaimed { (M.state mast.old).port ≡ None }
     requires unsent { WhereTold (M.state mast.old).told (λ s. s ≡ nothing_sent) }
-    ensures few { IfOk result (λ given. run_tape_len planned.now ≤ tape_limit) }
+    ensures few { IfOk result (λ given. run_tape_len planned.now ≤ MOST_TAPE_BYTES) }
     ensures gives { IfOk result (λ given. (run : Run) × IsCast planned.now port (M.state mast.old) (M.state mast.new) given run) }
     ensures refused { IfErr result (IsCastRefusal planned.now port (M.state mast.old) (M.state mast.new)) }
     ensures mast { (M.state mast.new ≡ M.state mast.old) ⊎ HasSent planned.now port (M.state mast.old) (M.state mast.new) }

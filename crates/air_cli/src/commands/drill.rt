@@ -1,7 +1,7 @@
 //! The command `drill`: the line of the drill of a seed and a size. Nothing is read for it.
 
-ghost use Rattle.std.specs.Prelude.{◌≤◌, IfErr, IfOk};
-ghost use Rattle.air_cli.specs.Drill.{DrillCause, DrillGives};
+ghost use Rattle.std.specs.Prelude.{◌≡◌, ◌≤◌, IfErr, IfOk};
+ghost use Rattle.air_cli.specs.Drill.{DrillGives};
 ghost use Rattle.item_catalog.specs.declared.deck.drill.TheConstants.{MOST_DRILL_SIZE};
 
 use crate::outputs::report_and_tape::ReportAndTape;
@@ -12,7 +12,7 @@ use std::alloc::Global;
 use std::thread::Threads;
 
 /// The line of the drill of a seed and a size.
-#[tactic(auto, unfolding(crate::specs::Drill::DrillCause, crate::specs::Drill::DrillGives))]
+#[tactic(auto, unfolding(crate::specs::Drill::DrillGives))]
 pub(crate) fn drill<T: Threads + Sync>(
     threads: &T,
     alloc: Global,
@@ -22,7 +22,7 @@ pub(crate) fn drill<T: Threads + Sync>(
     requires some { 1 ≤ size }
     requires few { size ≤ MOST_DRILL_SIZE }
     ensures gives { IfOk result (DrillGives seed size) }
-    ensures refused { IfErr result DrillCause }
+    ensures refused { IfErr result (λ status. status ≡ Status.NoMemory) }
 {
     shows_drill_truth(seed, size);
     let text = run_drill(threads, alloc, seed, size)?;

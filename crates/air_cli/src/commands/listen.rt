@@ -38,7 +38,7 @@ pub(crate) fn listen<S: Shelf, E: Ear>(
 }
 
 /// The report of a deck's readers over what they hear on a port.
-#[tactic(auto, unfolding(crate::specs::Private::Airing::IsListenRefusal), using(crate::proofs::ListenLemmas::all_heard, crate::proofs::ListenLemmas::part_heard, crate::proofs::ListenLemmas::is_listening, crate::proofs::ListenLemmas::fault_refused))]
+#[tactic(auto, unfolding(crate::specs::Private::Airing::IsListenRefusal), using(crate::proofs::ListenLemmas::all_heard, crate::proofs::ListenLemmas::part_heard, crate::proofs::ListenLemmas::fault_refused))]
 fn hear_on_air<E: Ear>(
     alloc: Global,
     planned: &Planned,

@@ -15,7 +15,7 @@ use air_report::Status;
 use std::alloc::Global;
 
 /// The text of the named deck's plan.
-#[tactic(auto, using(crate::proofs::MakeLemmas::is_unmade, crate::proofs::MakeLemmas::is_unmade_calm, crate::proofs::PlanMeaningLemmas::deck_plan, crate::proofs::PlanMeaningLemmas::length_plan, crate::proofs::PlanMeaningLemmas::wanting_plan))]
+#[tactic(auto, using(crate::proofs::MakeLemmas::is_unmade, crate::proofs::MakeLemmas::is_unmade_calm, crate::proofs::CauseLemmas::deck_runs, crate::proofs::CauseLemmas::length_runs, crate::proofs::PlanMeaningLemmas::wanting_plan))]
 pub(crate) fn plan<S: Shelf>(
     alloc: Global,
     shelf: &mut S,

@@ -10,9 +10,10 @@ ghost use Rattle.air_model.specs.Outputs.{script_output, script_tape};
 ghost use Rattle.air_cli.specs.Deliveries.{KeepsButDelivered};
 ghost use Rattle.air_cli.specs.OutputPieces.{IsWritten};
 ghost use Rattle.air_cli.specs.Answers.{Leaves, QuietAnswers};
-ghost use Rattle.air_cli.specs.Script.{script_given, script_meaning};
+ghost use Rattle.air_cli.specs.Script.{script_meaning};
 ghost use Rattle.air_cli.specs.Private.BeforeDelivery.{IsMade, IsUnmade, ReadsInputs};
 ghost use Rattle.air_cli.specs.Private.Scripting.{AirsScript, IsStopped};
+ghost use Rattle.air_cli.specs.Private.GivenTexts.{script_given};
 
 use crate::commands::reports::script_report;
 use crate::files::runnable::read_runnable_deck;

@@ -26,7 +26,7 @@ returns-then-bytes-clause-unmade g c =
         c.in_ok-planned.planned,
         c.in_ok-planned.ensures.deck,
         c.in_ok-planned.ensures.made,
-        record { runnable = c.in_ok-planned.ensures.runnable; counted = c.tape_len-bytes.ensures; above = omega (arith, c.if-bytes.true) },
+        (c.in_ok-planned.ensures.runnable, c.tape_len-bytes.ensures, omega (arith, c.if-bytes.true)),
       );
       kept = λ read. c.in_ok-planned.ensures.reads.calm;
     }

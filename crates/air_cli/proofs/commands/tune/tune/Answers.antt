@@ -1,7 +1,7 @@
 use Rattle.std.proofs.Common.{refl, ap, inl, inr, subst, sym, rules}
 use Rattle.std.specs.Io.KnownBytes.{IsAtEnd}
+use Rattle.air_base.specs.declared.limits.TheConstants.{MOST_TAPE_BYTES}
 use Rattle.air_report.specs.declared.status.Status.TheVariants as status
-use Rattle.air_cli.specs.FileLimits.{tape_limit}
 use Rattle.air_cli.specs.NamedDecks.{HasDeck}
 use Rattle.air_cli.specs.RunnableDecks.{HasShortProgram}
 use Rattle.air_cli.specs.Private.BeforeDelivery.{IsUnmade}
@@ -32,7 +32,7 @@ returns-in_err-sessions-clause-unmade g c =
     let mid = S.state c.read_runnable_deck.new.shelf in
     let now = S.state c.file_sessions.new.shelf in
     let can : HasDeck c.args.name.now before HasShortProgram = (c.in_ok-planned.planned, c.in_ok-planned.ensures.deck, c.in_ok-planned.ensures.made, c.in_ok-planned.ensures.runnable) in
-    let unheard = unheard_since tape tape_limit before mid now c.in_err-sessions.field-0.0 (c.read_runnable_deck.ensures.reads.rest.files tape) c.in_ok-planned.ensures.reads.calm c.in_err-sessions.ensures.refused in
+    let unheard = unheard_since tape MOST_TAPE_BYTES before mid now c.in_err-sessions.field-0.0 (c.read_runnable_deck.ensures.reads.rest.files tape) c.in_ok-planned.ensures.reads.calm c.in_err-sessions.ensures.refused in
     let h : IsUnmade (tune_meaning c.args.name.now tape) before now c.in_err-sessions.field-0.0 = record {
       cause = unheard_tune c.args.name.now tape before now c.in_err-sessions.field-0.0 can unheard;
       kept = λ read. kept_twice before.faults mid.faults now.faults c.in_ok-planned.ensures.reads.calm (c.in_err-sessions.ensures.reads.kept read);
