@@ -8,9 +8,10 @@ ghost use Rattle.air_model.specs.Buckets.{IsInRange};
 ghost use Rattle.air_model.specs.Reports.{line_by};
 ghost use Rattle.receiver_core.specs.Receivers.{heard_count};
 ghost use Rattle.listeners.specs.Listeners.{ChangesNoAttempt, end_state, hears, hears_one, listener_of};
+ghost use Rattle.listeners.specs.Private.Endings.{lines_and_counts};
 
 use crate::verdicts::{Line, end_queries, take_verdicts};
-use air_base::NoMemory;
+use air_base::{Counts, NoMemory};
 use air_model::bucket::BucketFault;
 use air_model::reports::{CountsLine, VerdictLine};
 use bucket_codec::BucketView;
@@ -67,6 +68,17 @@ impl Listener {
         Ok(())
     }
 
+    /// The lines of the session that is ended, and its counts.
+    fn ended(self, alloc: Global) -> Result<(Vec<Line>, Counts), NoMemory>
+        ensures { IfOk result (λ told. (told.0.items, told.1) ≡ lines_and_counts (end_state self)) }
+    {
+        let mut receiver = self.receiver;
+        let mut lines = self.lines;
+        take_verdicts(alloc, &mut receiver, &mut lines)?;
+        end_queries(alloc, &mut receiver, &mut lines)?;
+        Ok((lines, receiver.counts()))
+    }
+
     /// Ends the session: adds its verdict lines to those of the readers before it, and its counts to theirs.
     pub fn end(
         self,
@@ -78,14 +90,11 @@ impl Listener {
         ensures counts { OnOk result (counts.new.items ≡ counts.old.items ++ record { reader = self.number; counts = (end_state self).counts } ∷ []) }
     {
         let reader = self.number;
-        let mut receiver = self.receiver;
-        let mut lines = self.lines;
-        take_verdicts(alloc, &mut receiver, &mut lines)?;
-        end_queries(alloc, &mut receiver, &mut lines)?;
+        let (lines, told) = self.ended(alloc)?;
         add_lines(reader, lines, verdicts)?;
         counts.push(CountsLine {
             reader,
-            counts: receiver.counts(),
+            counts: told,
         })?;
         Ok(())
     }
