@@ -132,14 +132,16 @@ def try_rate(say, deck):
 
 
 def try_silence(say, deck):
-    """A listener that has heard something ends by the silence that is set."""
+    """A listener waits for the first datagram without a limit; once it has heard something it ends by the silence that is set."""
     port = free_port()
     ear = listener(deck, port, AIRDISK_SILENCE="1")
+    time.sleep(2)
+    waits = ear.poll() is None
     send(port, [BUCKET])
     began = time.monotonic()
     printed, status = ended(ear, 20)
     took = time.monotonic() - began
-    say(status == 0 and heard(printed) == 1 and took > 0.9, f"a silence of a second: status {status} after {took:.2f} seconds, printed {printed}")
+    say(waits and status == 0 and heard(printed) == 1 and took > 0.9, f"a silence of a second: {'it waited' if waits else 'it had ended'} before, status {status} after {took:.2f} seconds, printed {printed}")
 
 
 def try_no_silence(say, deck, is_long):

@@ -126,7 +126,7 @@ def read_disks(wishes, items):
     disks = [[word.strip() for word in wish[5:].split(",")] for wish in wishes if wish.startswith("disk=")]
     for disk in disks:
         if len(disk) != 2:
-            stop(f"disk={','.join(disk)} has {len(disk)} parts: a size and a frequency are wanted, as in disk=2,1")
+            stop(f"disk={','.join(disk)} has {len(disk)} part{'' if len(disk) == 1 else 's'}: a size and a frequency are wanted, as in disk=2,1")
         if not is_number(disk[0], 1, ITEMS):
             stop(f"disk={','.join(disk)} has the size {disk[0] or '(empty)'}: 1 to {ITEMS}")
         if not (disk[1] == "-" or is_number(disk[1], 1, FREQUENCY)):

@@ -21,7 +21,7 @@ ScriptCause deck before now s = UnrunnableCause deck before now s
 unfoldable pub ScriptGives : List ℕ → ShelfState → ReportAndTape → Type 0
 ScriptGives deck before given =
     (given.differs ≡ false) × HasDeck deck before (λ d. HasShortProgram d × (length (script_tape d) ≤ MOST_TAPE_BYTES) × IsTrueScript d
-        × (given ≡ record { text = script_output d; tape = script_tape d; differs = false }))
+    × (given ≡ record { text = script_output d; tape = script_tape d; differs = false }))
 
 -- It reads its deck, which must be one that can be run and have a tape that is short enough, and writes the tape piece by piece
 -- where one is named.

@@ -36,7 +36,7 @@ UnsplitCause d other = ⊥
 unfoldable pub SplitGives : List ℕ → ShelfState → ReportAndTape → Type 0
 SplitGives deck before given =
     (given.differs ≡ false) × ((d : Deck) × SpellsDeck deck before d × IsDeck d × (search_size d ≤ MOST_SPLIT)
-        × ((sizes : List ℕ) × IsBest d sizes × (given ≡ record { text = split_text d sizes; tape = []; differs = false })))
+    × ((sizes : List ℕ) × IsBest d sizes × (given ≡ record { text = split_text d sizes; tape = []; differs = false })))
 
 -- It reads its deck, which must be one that can be split, and writes no output.
 abbrev pub split_meaning : List ℕ → Meaning

@@ -78,7 +78,12 @@ impl<E: Ear + Drop, R: Clock + Eprint + Drop> ToldEar<E, R> {
         }
         let rt = &self.rt;
         let (datagrams, bytes) = (self.datagrams, self.bytes);
-        let _ = eprintln!(rt; "airdisk: {datagrams} datagrams came, {bytes} bytes");
+        let noun = if datagrams == 1 {
+            "datagram"
+        } else {
+            "datagrams"
+        };
+        let _ = eprintln!(rt; "airdisk: {datagrams} {noun} came, {bytes} bytes");
         self.said = Instant::now(rt).ok();
     }
 }

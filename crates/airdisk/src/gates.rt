@@ -48,9 +48,10 @@ pub fn gate_of<R: Files + Print + Clock + Clone + Drop>(
         return Ok(PacedGate::open(clock));
     };
     let files = rt.clone()?;
-    let Some((deck, slots)) = runnable_again(rt, alloc, files, name) else {
+    let Some(planned) = runnable_again(rt, alloc, files, name) else {
         return Ok(PacedGate::open(clock));
     };
-    let time = time_on_air(&deck, slots, rate);
-    Ok(PacedGate::from_now(clock, waits_of(&deck, time), turn(time, u64::from(LOOKS))))
+    let deck = planned.deck();
+    let time = time_on_air(deck, planned.program().slots(), rate);
+    Ok(PacedGate::from_now(clock, waits_of(deck, time), turn(time, u64::from(LOOKS))))
 }

@@ -33,7 +33,7 @@ const VERSION: &str = "airdisk 0.1.0\n";
 
 /// What is left to do after the words and the settings were read.
 #[derive(Drop)]
-enum Asked {
+enum FirstStep {
     /// Nothing: this is the status.
     Done(Status),
     /// The command of these words, with what is set for it.
@@ -43,8 +43,8 @@ enum Asked {
 fn main(rt: HostRuntime) -> ExitCode {
     let alloc = rt.alloc();
     let (words, settings) = match read_words(&rt, alloc) {
-        Ok(Asked::Command(words, settings)) => (words, settings),
-        Ok(Asked::Done(status)) => return ExitCode::from(status.code()),
+        Ok(FirstStep::Command(words, settings)) => (words, settings),
+        Ok(FirstStep::Done(status)) => return ExitCode::from(status.code()),
         Err(NoMemory) => return end_without_memory(&rt),
     };
     let Ok(gate) = gate_of(&rt, alloc, word(&words, 1), cast_rate(&words, settings)) else {
@@ -87,24 +87,24 @@ fn end_without_memory<R: Eprint>(rt: &R) -> ExitCode {
 }
 
 /// Answers what can be answered at once: help, version, and what is no text or no setting. Else reads the settings of the command.
-fn read_words<R>(rt: &R, alloc: Global) -> Result<Asked, NoMemory>
+fn read_words<R>(rt: &R, alloc: Global) -> Result<FirstStep, NoMemory>
 where
     R: Files + Env + Print + Eprint + Alloc<A = Global> + Clone + Drop,
 {
     let Some(words) = words_of(rt, alloc)? else {
         let note = no_text_note(alloc, HELP)?;
         let status = refuse_words(rt, alloc, note.as_str())?;
-        return Ok(Asked::Done(status));
+        return Ok(FirstStep::Done(status));
     };
     if let Some(status) = answer(rt, alloc, &words)? {
-        return Ok(Asked::Done(status));
+        return Ok(FirstStep::Done(status));
     }
     match air_settings(rt, alloc, word(&words, 0)) {
-        Ok(settings) => Ok(Asked::Command(words, settings)),
+        Ok(settings) => Ok(FirstStep::Command(words, settings)),
         Err(SettingError::NoMemory) => Err(NoMemory),
         Err(SettingError::Wrong(note)) => {
             let status = refuse_words(rt, alloc, note.as_str())?;
-            Ok(Asked::Done(status))
+            Ok(FirstStep::Done(status))
         }
     }
 }

@@ -3,6 +3,7 @@
 use air_base::limits::MOST_TAPE_BYTES;
 use air_cli::{read_deck_file, read_runnable_deck};
 use air_devices::{FileShelf, Shelf, read_file};
+use chunk_program::Planned;
 use fault_notes::CutTape;
 use item_catalog::Deck;
 use std::alloc::Global;
@@ -68,15 +69,14 @@ pub fn deck_again<R: Files + Print + Drop>(
     read_deck_file(alloc, shelf, name).ok()
 }
 
-/// A deck that is read from a plain file, and the number of slots of its program, or `None` if the deck can't be read or run.
+/// A deck that is read from a plain file, with its program, or `None` if the deck can't be read or run.
 pub fn runnable_again<R: Files + Print + Drop>(
     rt: &R,
     alloc: Global,
     files: R,
     name: &str,
-) -> Option<(Deck, u32)> {
+) -> Option<Planned> {
     let _size = plain_size(rt, name)?;
     let mut shelf = FileShelf::new(files);
-    let (deck, program) = read_runnable_deck(alloc, &mut shelf, name).ok()?;
-    Some((deck, program.slots()))
+    read_runnable_deck(alloc, &mut shelf, name).ok()
 }

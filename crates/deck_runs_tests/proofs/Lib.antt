@@ -1,1 +1,2 @@
+pub mod AiredItems
 pub mod NewPasses

@@ -5,7 +5,7 @@
 ghost use Rattle.std.specs.Prelude.{◌≡◌, ◌<◌, ◌≤◌, ◌+◌, ◌*◌, [], length, IfOk};
 ghost use Rattle.air_base.specs.declared.limits.TheConstants.{MOST_DECK_BYTES};
 ghost use Rattle.air_history.specs.Boards.{board_of};
-ghost use Rattle.air_model.specs.Decks.{values_in};
+ghost use Rattle.air_model.specs.Decks.{disks_in, values_in};
 ghost use Rattle.bucket_codec.specs.declared.offsets.TheConstants.{ENTRY_BYTES, HEAD_BYTES};
 ghost use Rattle.cycle_snapshot.specs.SnapshotStates.{new_publisher};
 ghost use Rattle.station.specs.PassStates.{new_pass};
@@ -15,7 +15,7 @@ use air_base::NoMemory;
 use air_devices::{MemMast, OpenGate};
 use air_model::reports::LookLine;
 use bucket_codec::offsets::{ENTRY_BYTES, HEAD_BYTES};
-use chunk_program::{Planned, cut};
+use chunk_program::{Program, cut};
 use control_matrix::Board;
 use cycle_snapshot::{Monitor, Publisher, publisher};
 use deck_runs::{ConductFault, conductor_job, monitor_job, updater_job};
@@ -60,13 +60,13 @@ fn update<R: Wait>(
     wait: &R,
     alloc: Global,
     station: &Station,
-    planned: &Planned,
+    deck: &Deck,
     pass: &mut UpdaterPass,
 ) -> Result<u32, NoMemory>
-    requires new { pass.old ≡ new_pass station.now planned.now pass.old.number }
-    requires number { pass.old.number < length planned.now.updates }
+    requires new { pass.old ≡ new_pass station.now deck.now pass.old.number }
+    requires number { pass.old.number < length deck.now.updates }
 {
-    let deck = planned.deck();
+    deck.shows_well_made();
     let number = pass.by();
     let mine = deck.updates(number);
     updater_job(wait, alloc, station, pass, mine, &OpenGate)?;
@@ -78,16 +78,19 @@ fn conduct<R: Wait>(
     wait: &R,
     alloc: Global,
     station: &Station,
-    planned: &Planned,
+    deck: &Deck,
+    program: &Program,
     source: &mut Publisher,
     conductor: &mut Conductor,
 ) -> Result<u32, ConductFault>
-    requires pass { conductor.old.pass ≡ new_pass station.now planned.now (length planned.now.updates) }
-    requires board { conductor.old.board ≡ board_of (values_in planned.now) [] }
-    requires buffer { HEAD_BYTES + ENTRY_BYTES * length planned.now.items ≤ length conductor.old.buf.items }
-    requires publisher { source.old ≡ new_publisher source.old.id (values_in planned.now) planned.now.settings.cycles }
+    requires pass { conductor.old.pass ≡ new_pass station.now deck.now (length deck.now.updates) }
+    requires board { conductor.old.board ≡ board_of (values_in deck.now) [] }
+    requires buffer { HEAD_BYTES + ENTRY_BYTES * length deck.now.items ≤ length conductor.old.buf.items }
+    requires publisher { source.old ≡ new_publisher source.old.id (values_in deck.now) deck.now.settings.cycles }
+    requires program { program.now ≡ disks_in deck.now }
 {
-    let settings = planned.deck().settings();
+    deck.shows_well_made();
+    let settings = deck.settings();
     conductor_job(
         wait,
         alloc,
@@ -95,7 +98,7 @@ fn conduct<R: Wait>(
         &mut conductor.pass,
         source,
         &mut conductor.board,
-        planned.program(),
+        program,
         settings.policy,
         settings.cycles,
         &mut conductor.mast,
@@ -110,22 +113,24 @@ fn work<R: Wait>(
     wait: &R,
     alloc: Global,
     station: &Station,
-    planned: &Planned,
+    deck: &Deck,
+    program: &Program,
     source: &mut Publisher,
     monitor: &mut Monitor,
     updater: &mut UpdaterPass,
     conductor: &mut Conductor,
 ) -> Result<Left, ConductFault>
-    requires new { updater.old ≡ new_pass station.now planned.now updater.old.number }
-    requires number { updater.old.number < length planned.now.updates }
-    requires pass { conductor.old.pass ≡ new_pass station.now planned.now (length planned.now.updates) }
-    requires board { conductor.old.board ≡ board_of (values_in planned.now) [] }
-    requires buffer { HEAD_BYTES + ENTRY_BYTES * length planned.now.items ≤ length conductor.old.buf.items }
-    requires publisher { source.old ≡ new_publisher source.old.id (values_in planned.now) planned.now.settings.cycles }
+    requires new { updater.old ≡ new_pass station.now deck.now updater.old.number }
+    requires number { updater.old.number < length deck.now.updates }
+    requires pass { conductor.old.pass ≡ new_pass station.now deck.now (length deck.now.updates) }
+    requires board { conductor.old.board ≡ board_of (values_in deck.now) [] }
+    requires buffer { HEAD_BYTES + ENTRY_BYTES * length deck.now.items ≤ length conductor.old.buf.items }
+    requires publisher { source.old ≡ new_publisher source.old.id (values_in deck.now) deck.now.settings.cycles }
+    requires program { program.now ≡ disks_in deck.now }
 {
     let first = monitor_job(monitor, 2, &OpenGate)?;
-    let made = update(wait, alloc, station, planned, updater)?;
-    let started = conduct(wait, alloc, station, planned, source, conductor)?;
+    let made = update(wait, alloc, station, deck, updater)?;
+    let started = conduct(wait, alloc, station, deck, program, source, conductor)?;
     let last = monitor_job(monitor, 100, &OpenGate)?;
     let Ok(tape) = Vec::from_slice(alloc, conductor.mast.sent()) else {
         return Err(ConductFault::NoMemory);
@@ -172,14 +177,14 @@ fn left_by_jobs<R: Wait>(
 {
     let deck = read_deck(alloc, text)?;
     let order = cut(alloc, &deck)?;
-    let planned = Planned::new(alloc, deck, &order)?;
-    let deck = planned.deck();
-    let values = first_values(alloc, deck)?;
-    let (station, mut passes, pass) = Station::new(alloc, deck)?;
+    let program = Program::plan(alloc, &deck, &order)?;
+    let values = first_values(alloc, &deck)?;
+    let (station, mut passes, pass) = Station::new(alloc, &deck)?;
     let Some(mut updater) = passes.pop() else {
         return Ok(None);
     };
-    let mut conductor = new_conductor(alloc, deck, &values, pass, room)?;
+    let mut conductor = new_conductor(alloc, &deck, &values, pass, room)?;
+    deck.shows_well_made();
     let settings = deck.settings();
     let (mut source, mut monitors) = publisher(wait, alloc, &values, 1, settings.cycles)?;
     let left = match monitors.pop() {
@@ -187,7 +192,8 @@ fn left_by_jobs<R: Wait>(
             wait,
             alloc,
             &station,
-            &planned,
+            &deck,
+            &program,
             &mut source,
             &mut monitor,
             &mut updater,

@@ -115,6 +115,11 @@ pub fn tell_cut(cut: &Cut, came: &mut Vec<u8>) -> Result<(), NoMemory> {
     for item in cut.order() {
         add_line(b"next", &[u64::from(*item)], came)?;
     }
+    add_homes(cut, came)
+}
+
+/// Of each item its disk and its place there.
+fn add_homes(cut: &Cut, came: &mut Vec<u8>) -> Result<(), NoMemory> {
     for item in 0..cut.order().len().min(256) as u16 {
         let numbers = [
             u64::from(item),

@@ -10,7 +10,7 @@ use Rattle.air_report.specs.declared.status.Status.TheVariants as status
 use Rattle.listeners.specs.Listeners.{Listener, hears}
 
 -- The bytes that were read and not let go, and how many there is room for in all.
-pub record Held : Type 0 where
+pub record PieceBytes : Type 0 where
   pub bytes : List ℕ
   pub room : ℕ
 

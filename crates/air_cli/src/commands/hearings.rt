@@ -89,12 +89,12 @@ pub fn ear_sessions<E: Ear>(
     ensures fault { IfErr result (IsHearAnswer planned.now.settings.hears (E.state ear.old) (E.state ear.new)) }
     ensures port { (E.state ear.new).port ≡ Some port }
 {
+    let hears = planned.deck().settings().hears;
     if ear.tune_in(port).is_err() {
         return Err(HearFault::Ear { heard: 0 });
     }
     let mut listeners = listeners_of(alloc, planned)?;
     let mut buf = [0; MOST_HEARD_BYTES];
-    let hears = planned.deck().settings().hears;
     all_hear_ear(alloc, &mut listeners, ear, &mut buf, hears)?;
     let sessions = end_all(alloc, listeners)?;
     Ok(sessions)

@@ -22,9 +22,9 @@ pub(crate) struct Piece {
 
 impl Model for Piece {
     ghost use Rattle.std.specs.Prelude.{◌≤◌, length, take};
-    ghost use Rattle.air_cli.specs.Private.Pieces.{Held};
+    ghost use Rattle.air_cli.specs.Private.Pieces.{PieceBytes};
 
-    ghost Value = { Held };
+    ghost Value = { PieceBytes };
 
     ghost view = { λ p. record { bytes = take p.len p.buffer.items; room = length p.buffer.items } };
 

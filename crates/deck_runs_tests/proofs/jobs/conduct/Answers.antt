@@ -1,12 +1,12 @@
 use Rattle.std.proofs.Common.{◌≡◌, ◌∙◌, length, sym, ap, arith}
 use Rattle.air_history.specs.Histories.{starts}
 use Rattle.air_model.specs.declared.deck.Settings.{Settings}
-use Rattle.air_model.specs.Decks.{Deck, values_in}
-use Rattle.air_model.specs.Disks.{all_items}
+use Rattle.air_model.specs.Decks.{values_in}
 use Rattle.station.specs.PassStates.{PassState}
 use Rattle.cycle_snapshot.specs.SnapshotStates.{PublisherState}
 use Rattle.update_commit.proofs.EventLemmas.{starts_none}
 use Rattle.deck_runs.proofs.RunLemmas.{new_in_step, values_sized}
+use Rattle.deck_runs_tests.proofs.AiredItems.{items_aired}
 use Rattle.deck_runs_tests.proofs.jobs.conduct.Goals as goal
 
 pub conductor_job-requires-clause-own : goal.conductor_job-requires-clause-own
@@ -16,25 +16,24 @@ pub conductor_job-requires-clause-step : goal.conductor_job-requires-clause-step
 conductor_job-requires-clause-step g c =
     let p = c.requires.pass in
     let f = c.requires.publisher in
-    new_in_step c.args.conductor.now.pass c.args.source.now c.args.conductor.now.board (values_in c.args.planned.now) (ap (λ (p : PassState). p.values) p) (ap (λ (p : PassState). p.seen) p)
+    new_in_step c.args.conductor.now.pass c.args.source.now c.args.conductor.now.board (values_in c.args.deck.now) (ap (λ (p : PassState). p.values) p) (ap (λ (p : PassState). p.seen) p)
     (ap (λ (f : PublisherState). f.values) f) (ap (λ (f : PublisherState). f.batches) f) c.requires.board
 
 pub conductor_job-requires-clause-room : goal.conductor_job-requires-clause-room
 conductor_job-requires-clause-room g c =
     let none : starts c.args.conductor.now.pass.seen ≡ 0 = ap (λ (p : PassState). starts p.seen) c.requires.pass ∙ starts_none in
     let most = ap (λ (f : PublisherState). f.most) c.requires.publisher in
-    let settings_are : c.settings-settings.result ≡ c.args.planned.now.settings = c.settings-settings.ensures ∙ ap (λ (d : Deck). d.settings) c.deck.ensures.told in
-    let cycles = ap (λ (s : Settings). s.cycles) settings_are in
-    let few = c.deck.ensures.limits.settings.cycles in
+    let cycles = ap (λ (s : Settings). s.cycles) c.settings-settings.ensures in
+    let few = c.shows_well_made.ensures.limits.settings.cycles in
     (omega arith, omega arith)
 
 pub conductor_job-requires-clause-items : goal.conductor_job-requires-clause-items
 conductor_job-requires-clause-items g c =
-    ap (λ disks. length (all_items disks)) c.program.ensures.told ∙ c.program.ensures.items ∙ sym (values_sized c.args.planned.now) ∙ ap (λ (p : PassState). length p.values) (sym c.requires.pass)
+    items_aired c.args.deck.now c.args.program.now c.shows_well_made.ensures.made c.requires.program ∙ ap (λ (p : PassState). length p.values) (sym c.requires.pass)
 
 pub conductor_job-requires-clause-buffer : goal.conductor_job-requires-clause-buffer
 conductor_job-requires-clause-buffer g c =
-    let values = ap (λ (p : PassState). length p.values) c.requires.pass ∙ values_sized c.args.planned.now in
+    let values = ap (λ (p : PassState). length p.values) c.requires.pass ∙ values_sized c.args.deck.now in
     let size = ap length c.deref_mut.ensures.value in
     let room = c.requires.buffer in
     omega arith

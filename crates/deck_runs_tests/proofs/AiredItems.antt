@@ -1,0 +1,13 @@
+-- A deck's program has all items of the deck.
+use Rattle.std.proofs.Common.{◌≡◌, List, length, sym, ◌∙◌, ap}
+use Rattle.std.proofs.lemmas.List.{length-map}
+use Rattle.air_model.specs.Disks.{Disk, all_items, order}
+use Rattle.air_model.specs.Decks.{Deck, IsDeck, disks_in, rates_in, values_in}
+use Rattle.air_model.proofs.ItemOrder.{cut_items, length-order}
+use Rattle.deck_runs.proofs.RunLemmas.{values_sized}
+
+pub items_aired : (deck : Deck) (disks : List Disk) → IsDeck deck → disks ≡ disks_in deck → length (all_items disks) ≡ length (values_in deck)
+items_aired deck disks is same =
+    let rates = rates_in deck in
+    let all : length (order rates) ≡ length deck.items = length-order rates ∙ length-map deck.items (λ i. i.rate) in
+    ap (λ d. length (all_items d)) same ∙ ap length (cut_items (order rates) deck.disks (is.sizes ∙ sym all)) ∙ all ∙ sym (values_sized deck)
