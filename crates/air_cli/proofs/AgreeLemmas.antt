@@ -4,11 +4,9 @@ use Rattle.std.proofs.lemmas.List.Elements.{All-cons, All-head, All-nil, All-tai
 use Rattle.std.proofs.lemmas.List.FromFn.{length-range_with_len}
 use Rattle.air_model.specs.Decks.{Deck}
 use Rattle.air_report.specs.ReadReports.{IsReportOf}
-use Rattle.air_report.specs.ReportLines.{lines_in}
 use Rattle.air_report.specs.declared.reading.ReadReport.{ReadReport}
 use Rattle.air_report.specs.declared.status.Status.{Status}
 use Rattle.air_report.specs.declared.status.Status.TheVariants as status
-use Rattle.air_report.proofs.LineRows.{glance_rows, look_rows, verdict_rows}
 use Rattle.live_replay.specs.Audits.{findings, found_in}
 use Rattle.live_replay.specs.FindingLaws.{GivesLook, GivesVerdict}
 use Rattle.live_replay.specs.FindingTexts.{some_differ}
@@ -49,7 +47,7 @@ ends_well true = (λ ends. cc, λ same. cc)
 
 -- ---- audits
 
-module _ (d : Deck) (bytes : List ℕ) (read : ReadReport) (is : IsReportOf d bytes read) (audit : IsTrueAudit d bytes read) where
+module _ (d : Deck) (bytes : List ℕ) (read : ReadReport) (is : IsReportOf d bytes read) (audit : IsTrueAudit d read) where
   -- The replay gives every line.
   abbrev pub AllGiven : Type 0
   AllGiven = All (GivesVerdict d read.report.history) read.report.verdicts × All (GivesLook d read.report.history) read.report.glances
@@ -64,9 +62,9 @@ module _ (d : Deck) (bytes : List ℕ) (read : ReadReport) (is : IsReportOf d by
       let G = found_in (look_cause d H) read.glance_rows r.glances in
       let K = found_in (look_cause d H) read.look_rows r.looks in
       let front = all_left Agrees (V ++ G) K h in
-      let verdicts = no_cause (verdict_cause d H) read.verdict_rows r.verdicts (ap length (is.verdict_rows ∙ verdict_rows d bytes (lines_in r) is.spelled) ∙ length-range_with_len _ (length r.verdicts)) (all_left Agrees V G front) in
-      let glances = no_cause (look_cause d H) read.glance_rows r.glances (ap length (is.glance_rows ∙ glance_rows d bytes (lines_in r) is.spelled) ∙ length-range_with_len _ (length r.glances)) (all_right Agrees V G front) in
-      let looks = no_cause (look_cause d H) read.look_rows r.looks (ap length (is.look_rows ∙ look_rows d bytes (lines_in r) is.spelled) ∙ length-range_with_len _ (length r.looks)) (all_right Agrees (V ++ G) K h) in (
+      let verdicts = no_cause (verdict_cause d H) read.verdict_rows r.verdicts (ap length is.verdict_rows ∙ length-range_with_len _ (length r.verdicts)) (all_left Agrees V G front) in
+      let glances = no_cause (look_cause d H) read.glance_rows r.glances (ap length is.glance_rows ∙ length-range_with_len _ (length r.glances)) (all_right Agrees V G front) in
+      let looks = no_cause (look_cause d H) read.look_rows r.looks (ap length is.look_rows ∙ length-range_with_len _ (length r.looks)) (all_right Agrees (V ++ G) K h) in (
         λ k e below. (audit.verdicts (get_or r.verdicts k e)).0 (verdicts k e below),
         λ k e below. (audit.looks (get_or r.glances k e)).0 (glances k e below),
         λ k e below. (audit.looks (get_or r.looks k e)).0 (looks k e below),

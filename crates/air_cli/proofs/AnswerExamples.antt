@@ -11,7 +11,6 @@ use Rattle.air_devices.specs.Ears.{EarState}
 use Rattle.air_devices.specs.Masts.{MastState, fresh_mast}
 use Rattle.air_devices.specs.Shelves.{ShelfState}
 use Rattle.air_model.specs.Outputs.{plan_output}
-use Rattle.air_model.specs.Reports.{fault_line}
 use Rattle.air_model.specs.Rows.{rows_text}
 use Rattle.air_report.specs.declared.status.Status.TheVariants as status
 use Rattle.live_replay.proofs.AuditExamples.{small}
@@ -118,12 +117,12 @@ not_untouched : (IsUntouched shelf (with_printed (codes "a")) → ⊥) × (IsUnt
 not_untouched = (λ h. let printed : Some (codes "a") ≡ Some [] = h.printed in cc, λ h. not_keeps_outputs h.outputs)
 
 refusal : IsRefusal status.ReadFault shelf (with_printed (codes "fault,3\n"))
-unfolding fault_line rows_text number_text escaped fields_text is_blank
+unfolding rows_text number_text escaped fields_text is_blank
 refusal = record { line = record { part = (8, refl); whole = λ calm. refl }; outputs = λ name. refl }
 
 -- A refusal prints its own line, and writes no output.
 not_refusal : (IsRefusal status.ReadFault shelf shelf → ⊥) × (IsRefusal status.ReadFault shelf (holding (codes "a") shelf) → ⊥)
-unfolding fault_line rows_text number_text escaped fields_text is_blank
+unfolding rows_text number_text escaped fields_text is_blank
 not_refusal = (λ h. let whole : [] ≡ codes "fault,3\n" = h.line.whole no_rise in cc, λ h. not_keeps_outputs h.outputs)
 
 -- ---- what each status says

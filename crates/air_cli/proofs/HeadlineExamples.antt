@@ -33,7 +33,7 @@ use Rattle.air_sender.specs.TapeSizes.{cycle_size}
 use Rattle.air_sender.proofs.TapeLengths.{tape_size}
 use Rattle.deck_runs.specs.DeckBytes.{deck_bytes}
 use Rattle.deck_runs.specs.RunTapes.{run_tape_len}
-use Rattle.deck_runs.proofs.HeardRunLemmas.{OneHistoryLaw}
+use Rattle.deck_runs.proofs.HeardRunLemmas.{OneHistoryLaw, run_size}
 use Rattle.live_replay.specs.FindingLaws.{GivesLook, GivesVerdict}
 use Rattle.live_replay.specs.FindingTexts.{findings_text}
 use Rattle.live_replay.proofs.AuditExamples.{is_report, its_bytes, one_finding, read_in, small, ten}
@@ -141,7 +141,7 @@ no_tape text h =
     let written : Some [] ≡ Some (run_tape h.d H) = h.written in
     let here : [] ≡ run_tape h.d H = cc in
     let none : [] ≡ run_tape small H = subst (λ d. [] ≡ run_tape d H) same here in
-    let long : length (run_tape small H) ≡ run_tape_len small = tape_size (values_in small) (air_of small) H ∙ ap (λ n. n * cycle_size (length small.items) (program (disks_in small))) cycles in
+    let long : length (run_tape small H) ≡ run_tape_len small = tape_size (values_in small) (air_of small) H ∙ ap (λ n. n * cycle_size (length small.items) (program (disks_in small))) cycles ∙ sym (run_size small) in
     omega (arith, ap length none, long, run_bytes)
 
 -- None printed nothing: what it prints tells one history, and that has ten starts.

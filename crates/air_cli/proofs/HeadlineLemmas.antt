@@ -177,7 +177,7 @@ audit_stands deck report before now s given (found, given_is, (d, spells, made, 
       spelled = spells;
       made = made;
       is = where_read (before.told.file report) bytes (λ b. IsReportOf d b read) known is.is;
-      legal = is.is.legal;
+      legal = is.is.spelled.report.legal;
       printed = subst (λ found. NowPrints (findings_text found) before now) is.are (prints (findings_text found) before now went.printed);
       agrees = ends_given d bytes read is.is is.true_of s (ends ∙ ap (λ (g : ReportAndTape). given_status g.differs) given_is ∙ ap (λ found. given_status (some_differ found)) is.are);
     }

@@ -20,14 +20,6 @@ use Rattle.air_report.proofs.RowLemmas.{rows_more}
 
 -- ---- disks
 
-length-cut : (items : List ℕ) (specs : List DiskSpec) → length (cut items specs) ≡ length specs
-unfolding cut
-length-cut items [] = refl
-length-cut items (spec ∷ specs) = ap suc (length-cut (drop spec.size items) specs)
-
-pub length-disks_in : (d : Deck) → length (disks_in d) ≡ length d.disks
-length-disks_in d = length-cut (order (rates_in d)) d.disks
-
 -- A disk of the program has the frequency of the deck's.
 cut_freq : (items : List ℕ) (specs : List DiskSpec) (n f : ℕ) → IfSome (slice_get specs n) (λ spec. f ≡ spec.freq) → IfSome (slice_get (cut items specs) n) (λ disk. f ≡ disk.freq)
 unfolding cut

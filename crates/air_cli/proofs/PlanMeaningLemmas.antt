@@ -17,10 +17,6 @@ use Rattle.air_cli.specs.Answers.{NoCountRose}
 use Rattle.air_cli.specs.Private.GivenTexts.{plan_given}
 use Rattle.air_cli.proofs.InputLemmas.{CommandFacts, deck_told, runs_fits}
 
-pub wanting_plan : (name : List ℕ) (before now : ShelfState) → UnrunnableCause name before now status.NoMemory
-unfolding UnrunnableCause DeckCause UnreadCause
-wanting_plan name before now = tt
-
 plan_sound : (deck : List ℕ) → IsSound (plan_meaning deck)
 unfolding UnrunnableCause DeckCause UnreadCause
 plan_sound deck = record {

@@ -1,7 +1,7 @@
 -- A run of the told deck, its report and its tape, and a cast of it: where each relation holds, and where it doesn't.
-use Rattle.std.proofs.Common.{◌≡◌, ℕ, zero, suc, true, false, List, [], ◌∷◌, Option, Some, None, All, length, refl, ap, subst, inl, inr, arith}
+use Rattle.std.proofs.Common.{◌≡◌, ℕ, zero, suc, true, false, List, [], ◌∷◌, Option, Some, None, length, map, refl, ap, subst, inl, inr, arith}
 use Rattle.std.specs.Prelude.{◌<◌, codes, slice_get}
-use Rattle.std.proofs.lemmas.List.Elements.{All-from_recursion, All-nil}
+use Rattle.std.proofs.lemmas.List.Elements.{All-nil}
 use Rattle.csv.specs.Writing.{escaped, fields_text, is_blank}
 use Rattle.air_base.specs.Numbers.{number_text}
 use Rattle.air_devices.specs.Counts.{Rose}
@@ -15,11 +15,9 @@ use Rattle.air_history.specs.Places.{greatest, last_place}
 use Rattle.air_history.specs.Reads.{origin, stale}
 use Rattle.air_history.specs.Tables.{table, value_after, value_on_base, write_of}
 use Rattle.air_history.specs.UpdateLists.{UpdateLists}
-use Rattle.air_history.specs.declared.histories.Event.{Event}
-use Rattle.air_history.specs.declared.histories.Event.TheVariants.{Commit, Start}
+use Rattle.air_history.specs.declared.histories.Event.TheVariants.{Commit}
 use Rattle.air_model.specs.Aired.{body_fits, body_of, bucket_of, buckets_of, fits}
 use Rattle.air_model.specs.Airings.{chunks_of, disk_number, pix_number}
-use Rattle.air_model.specs.Batches.{EndsWithStart}
 use Rattle.air_model.specs.Buckets.{body_at, bucket_at, count_of, entries_at, entries_of, entry_count, is_placed, is_shaped, item_of, kind_of, reading, spelling, value_of}
 use Rattle.air_model.specs.Copies.{keep, with_copy, without_item}
 use Rattle.air_model.specs.Decks.{IsWhole, is_by, updates_by, values_in}
@@ -34,7 +32,6 @@ use Rattle.air_model.specs.Reports.{report_text}
 use Rattle.air_model.specs.Rows.{rows_text}
 use Rattle.air_model.specs.Runs.{IsRun, Run}
 use Rattle.air_model.specs.Sessions.{abort, accept_if_whole, copy_of, count_copied, count_dozed, count_foreign, count_late, count_opened, count_refused, decide, drop_copy, end, end_query, hear, hear_all, hear_read, hold, is_unusable, line_of, next_attempt, next_query, offer, open_bucket, query_of, session, settle, turn, turn_with, wanted, with_line}
-use Rattle.air_model.proofs.BatchLemmas.{airs_by_batches}
 use Rattle.air_report.specs.declared.status.Status.TheVariants as status
 use Rattle.deck_runs.specs.Casts.{IsCastPart, all_sent}
 use Rattle.deck_runs.specs.DeckBytes.{deck_bytes}
@@ -73,29 +70,14 @@ is_whole : IsWhole small ten
 unfolding is_by is_start starts
 is_whole = record { legal = λ p by seq update e. absurd (no_commit p by seq update e); all = none_made; cycles = refl }
 
--- A batch of one cycle, ten times.
-abbrev cycle : List Event
-cycle = Start ∷ []
-
-abbrev batches : List (List Event)
-batches = cycle ∷ cycle ∷ cycle ∷ cycle ∷ cycle ∷ cycle ∷ cycle ∷ cycle ∷ cycle ∷ cycle ∷ []
-
-one_start : EndsWithStart cycle
-unfolding is_start starts
-one_start = record { commits = []; ends = refl; one = refl }
-
-all_start : All EndsWithStart batches
-all_start = All-from_recursion EndsWithStart batches
-    (one_start, (one_start, (one_start, (one_start, (one_start, (one_start, (one_start, (one_start, (one_start, (one_start, tt))))))))))
-
+-- Each cycle was published as a batch of its own.
 abbrev pub ten_run : Run
-ten_run = record { history = ten; batches = batches; glances = []; looks = [] }
+ten_run = record { history = ten; batches = map (λ event. event ∷ []) ten; glances = []; looks = [] }
 
 is_run : IsRun small ten_run
 unfolding is_start starts
 is_run = record {
   whole = is_whole;
-  batches = airs_by_batches small batches [] all_start refl;
   glances = record { numbers = refl; each = All-nil (IsSeen (values_in small) ten) };
   looks = record { numbers = refl; each = All-nil (IsSeen (values_in small) ten); last = All-nil (λ line. line.cycle ≡ 10) };
 }

@@ -4,7 +4,7 @@ use Rattle.air_history.specs.declared.histories.Event.{Event}
 use Rattle.air_history.specs.Histories.{starts}
 use Rattle.air_history.proofs.ScanLemmas.{starts_within}
 use Rattle.air_model.specs.Decks.{Deck, script_history}
-use Rattle.air_model.specs.Reports.{counts_lines, report_text, script_text, verdict_lines}
+use Rattle.air_model.specs.Reports.{counts_lines, report_text, session_report, verdict_lines}
 use Rattle.air_model.specs.Sessions.{State}
 use Rattle.air_model.specs.declared.reports.CountsLine.{CountsLine}
 use Rattle.air_model.specs.declared.reports.VerdictLine.{VerdictLine}
@@ -17,7 +17,7 @@ script_starts_few deck few = let most = starts_within (script_history deck) in l
 -- The report of lines that sessions tell is that of the sessions.
 pub report_same : (events H : List Event) (verdicts : List VerdictLine) (counts : List CountsLine) (told : List State) → events ≡ H
     → verdicts ≡ verdict_lines told → counts ≡ counts_lines told
-    → report_text (record { history = events; verdicts = verdicts; counts = counts; glances = []; looks = [] }) ≡ script_text H told
+    → report_text (record { history = events; verdicts = verdicts; counts = counts; glances = []; looks = [] }) ≡ report_text (session_report H told)
 report_same events H verdicts counts told same lines counted =
     ap (λ h. report_text (record { history = h; verdicts = verdicts; counts = counts; glances = []; looks = [] })) same
     ∙ ap (λ v. report_text (record { history = H; verdicts = v; counts = counts; glances = []; looks = [] })) lines

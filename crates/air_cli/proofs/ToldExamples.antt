@@ -21,6 +21,7 @@ use Rattle.air_model.specs.Programs.{chunk, chunk_len, least_common_multiple, mi
 use Rattle.air_model.specs.Tapes.{record_bytes, tape_of, tape_read}
 use Rattle.air_sender.proofs.TapeLemmas.{tape_back}
 use Rattle.deck_runs.specs.RunTapes.{run_tape_len}
+use Rattle.deck_runs.proofs.HeardRunLemmas.{run_size}
 use Rattle.item_catalog.specs.Fields.{freq_of, spelled_event as part_of}
 use Rattle.item_catalog.specs.Faults.{kinds_at, some_below}
 use Rattle.item_catalog.specs.Grammar.{RowsSpell, Spells}
@@ -79,7 +80,7 @@ script_bytes = refl
 
 pub run_bytes : run_tape_len small ≡ 720
 unfolding order order_with cut program least_common_multiple num_minors num_chunks chunk_len chunk minor_cycle
-run_bytes = refl
+run_bytes = run_size small
 
 pub short : HasShortProgram small
 short = omega (arith, two_slots)

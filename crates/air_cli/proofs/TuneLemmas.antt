@@ -22,6 +22,7 @@ use Rattle.item_catalog.proofs.GrammarLemmas.{one_deck}
 use Rattle.air_cli.specs.Tune.{TuneCause, tune_meaning}
 use Rattle.air_cli.specs.Answers.{InputFailed}
 use Rattle.air_cli.proofs.CauseLemmas.{OfDeck, of_bytes, of_had}
+use Rattle.air_cli.proofs.AnswerLemmas.{only_text}
 use Rattle.air_cli.proofs.ReadLemmas.{unread_since}
 use Rattle.air_cli.proofs.RefusalLemmas.{IsSound, unrunnable_still, unread_still}
 use Rattle.listeners.specs.declared.readers.Sessions.{Sessions}
@@ -52,18 +53,14 @@ unfolding UnheardCause
 unheard_since tape most before mid now (status.TapeCut at) same calm (bytes, known, cut) = (bytes, subst (λ file. ToldIs file bytes) same known, cut)
 unheard_since tape most before mid now s same calm h = unread_since tape most before mid now s same calm h
 
-pub wanting_tune : (deck tape : List ℕ) (before now : ShelfState) → TuneCause deck tape before now status.NoMemory
-unfolding TuneCause UnrunnableCause DeckCause UnreadCause
-wanting_tune deck tape before now = inl tt
-
 -- The report over the whole tape that was heard is the one over the named tape.
-pub of_heard : (tape : List ℕ) (before mid : ShelfState) (d : Deck) (sessions : Sessions) (given : ReportAndTape) → (heard : AreFileSessions tape MOST_TAPE_BYTES mid d sessions)
-    → mid.told.file tape ≡ before.told.file tape → IsTrueTape d (tape_read heard.bytes).records → given ≡ tune_given d (tape_read heard.bytes).records
-    → HasBytes tape before (IsTuned d given)
-of_heard tape before mid d sessions given heard same true_is given_is = (
-  heard.bytes,
-  subst (λ file. ToldIs file heard.bytes) same heard.told,
-  record { fits = heard.fits; whole = heard.whole; true_is = true_is; given_is = given_is },
+pub of_heard : (tape : List ℕ) (before mid : ShelfState) (d : Deck) (text : List ℕ)
+    → HasBytes tape mid (λ bytes. (length bytes ≤ MOST_TAPE_BYTES) × ((tape_read bytes).cut ≡ None) × (text ≡ tune_output d (tape_read bytes).records))
+    → mid.told.file tape ≡ before.told.file tape → ((records : List (List ℕ)) → IsTrueTape d records) → HasBytes tape before (IsTuned d (only_text text))
+of_heard tape before mid d text (bytes, told, (fits, whole, is)) same true_is = (
+  bytes,
+  subst (λ file. ToldIs file bytes) same told,
+  record { fits = fits; whole = whole; true_is = true_is (tape_read bytes).records; given_is = ap only_text is },
 )
 
 -- The report of the sessions over its records.

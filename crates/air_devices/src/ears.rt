@@ -1,6 +1,6 @@
 //! The trait of a device that hears buckets on a port, up to an end mark.
 //!
-//! A form tells what is still to be heard, or nothing. Each call changes one thing, and leaves all else. A call answers
+//! A device form tells what is still to be heard, or nothing. Each call changes one thing, and leaves all else. A call answers
 //! `Failed` only where its count rose, and else leaves the count.
 
 ghost use Rattle.std.specs.Prelude.{◌≡◌, ◌<◌, length, Some, None, IfOk, IsSome, OnErr};

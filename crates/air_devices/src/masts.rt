@@ -1,6 +1,6 @@
 //! The trait of a device that sends buckets to whoever listens, and an end mark.
 //!
-//! A form tells what it sent, or nothing. Each call changes one thing, and leaves all else. A call answers `Failed`
+//! A device form tells what it sent, or nothing. Each call changes one thing, and leaves all else. A call answers `Failed`
 //! only where its count rose, and else leaves the count.
 
 ghost use Rattle.std.specs.Prelude.{◌≡◌, ◌≤◌, [], ◌∷◌, length, Some, None, OnErr, OnOk};

@@ -1,4 +1,4 @@
-//! A gate at which commits and looks wait for their turns, so that they spread over the time of a run.
+//! A gate at which commits and looks wait, so that they spread over the time of a run.
 //!
 //! No clause speaks of time. Where the clock fails nothing waits.
 
@@ -42,13 +42,13 @@ impl<R: Clock + Drop> PacedGate<R> {
         }
     }
 
-    /// Waits until the turn of this number has come, counted from 0, where each takes so long.
-    fn wait_for_turn(&self, turn: u32, wait: Duration) {
+    /// Waits before the commit or look of this number, counted from 0, where each takes so long.
+    fn wait_before(&self, number: u32, wait: Duration) {
         if let Some(since) = self.since {
             wait_until(
                 &self.clock,
                 since,
-                wait.saturating_mul(turn.saturating_add(1)),
+                wait.saturating_mul(number.saturating_add(1)),
             );
         }
     }
@@ -57,7 +57,7 @@ impl<R: Clock + Drop> PacedGate<R> {
 impl<R: Clock + Drop> Gate for PacedGate<R> {
     fn before_commit(&self, by: u32, seq: u32) {
         if let Some(wait) = self.before_commits.get(by as usize) {
-            self.wait_for_turn(seq, *wait);
+            self.wait_before(seq, *wait);
         }
     }
 
@@ -68,7 +68,7 @@ impl<R: Clock + Drop> Gate for PacedGate<R> {
     fn after_cycle(&self, _cycle: u32) {}
 
     fn before_look(&self, look: u32) {
-        self.wait_for_turn(look, self.before_looks);
+        self.wait_before(look, self.before_looks);
     }
 
     fn after_look(&self, _look: u32) {}

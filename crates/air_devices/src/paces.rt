@@ -56,7 +56,7 @@ impl Pace {
         let sent = self.sent;
         self.sent = sent.saturating_add(1);
         match self.step {
-            Some(step) => self.wait_for_turn(
+            Some(step) => self.wait_since_first(
                 clock,
                 Duration::from_nanos(sent.saturating_mul(step)),
             ),
@@ -66,7 +66,7 @@ impl Pace {
     }
 
     /// Waits until so much time has gone since the first datagram.
-    fn wait_for_turn<R: Clock>(&mut self, clock: &R, due: Duration) {
+    fn wait_since_first<R: Clock>(&mut self, clock: &R, due: Duration) {
         match self.since {
             Some(since) => wait_until(clock, since, due),
             None => self.since = Instant::now(clock).ok(),

@@ -1,10 +1,10 @@
 //! Whole files, read through any shelf up to a stated limit.
 //!
-//! The loop ends by itself: each turn takes at least one byte or returns, and none goes past the limit by more
+//! The loop ends by itself: each round takes at least one byte or returns, and none goes past the limit by more
 //! than one byte. The answer for a file that can't be read says which count of faults rose.
 
-ghost use Rattle.std.specs.Prelude.{◌≡◌, ◌≢◌, ◌≤◌, Err, length, IfOk, OnOk};
-ghost use Rattle.std.specs.Io.KnownBytes.{IsAtEnd};
+ghost use Rattle.std.specs.Prelude.{◌≡◌, ◌≢◌, ◌<◌, ◌≤◌, ◌+◌, ℕ, List, Option, Err, length, IfOk, OnOk};
+ghost use Rattle.std.specs.Io.KnownBytes.{IsAtEnd, Keeps, prepend_known};
 ghost use Rattle.air_devices.specs.Counts.{KeepsCounts, NoCountFalls, Rose};
 ghost use Rattle.air_devices.specs.Unchanged.{KeepsButLeft};
 ghost use Rattle.air_devices.specs.Told.{ToldIs};
@@ -54,6 +54,32 @@ impl From<AllocError> for ReadFileError {
 /// How many bytes one read asks for at most.
 const BLOCK: usize = 16_384;
 
+/// Adds the next bytes of a file that was picked, as many as one read gives, and tells how many they are: none only at its end.
+#[tactic(auto, using(crate::proofs::ReadOnLemmas::reads_on))]
+fn read_on<S: Shelf>(
+    shelf: &mut S,
+    name: &str,
+    part: &mut [u8],
+    bytes: &mut Vec<u8>,
+) -> Result<usize, ReadFileError>
+    requires { 0 < length part.old }
+    ensures grown { IfOk result (λ count. length bytes.new.items ≡ length bytes.old.items + count) }
+    ensures bound { IfOk result (λ count. count ≤ length part.old) }
+    ensures read { OnOk result ((file : Option (List ℕ)) → Keeps file (prepend_known bytes.old.items ((S.state shelf.old).told.left name.now)) → Keeps file (prepend_known bytes.new.items ((S.state shelf.new).told.left name.now))) }
+    ensures end { IfOk result (λ count. count ≡ 0 → IsAtEnd ((S.state shelf.new).told.left name.now)) }
+    ensures small { result ≢ Err ReadFileError.TooLarge }
+    ensures cause { result ≡ Err ReadFileError.Failed → Rose ((S.state shelf.old).faults.reading name.now) ((S.state shelf.new).faults.reading name.now) }
+    ensures rest { KeepsButLeft name.now (S.state shelf.old).told (S.state shelf.new).told }
+    ensures later { NoCountFalls (S.state shelf.old).faults (S.state shelf.new).faults }
+    ensures calm { result ≢ Err ReadFileError.Failed → KeepsCounts (S.state shelf.old).faults (S.state shelf.new).faults }
+{
+    let Ok(count) = shelf.read(name, part) else {
+        return Err(ReadFileError::Failed);
+    };
+    bytes.extend_from_slice(&part[..count])?;
+    Ok(count)
+}
+
 /// The whole of a file that has at most `limit` bytes.
 pub fn read_file<S: Shelf>(
     alloc: Global,
@@ -78,13 +104,10 @@ pub fn read_file<S: Shelf>(
     while bytes.len() <= limit {
         let want = (limit - bytes.len()).min(BLOCK - 1) + 1;
         let part = &mut buf[..want];
-        let Ok(count) = shelf.read(name, part) else {
-            return Err(ReadFileError::Failed);
-        };
+        let count = read_on(shelf, name, part, &mut bytes)?;
         if count == 0 {
             return Ok(bytes);
         }
-        bytes.extend_from_slice(&part[..count])?;
     }
     Err(ReadFileError::TooLarge)
 }

@@ -1,6 +1,6 @@
 //! The trait of a device that holds files and outputs by name, and takes printed text.
 //!
-//! A form tells what it holds, or nothing. Each call changes one thing, and leaves all else. A call answers `Failed`
+//! A device form tells what it holds, or nothing. Each call changes one thing, and leaves all else. A call answers `Failed`
 //! only where its own count rose, and else leaves every count.
 
 ghost use Rattle.std.specs.Prelude.{◌≡◌, ◌<◌, [], length, OnErr, OnOk};

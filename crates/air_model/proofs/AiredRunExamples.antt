@@ -61,7 +61,7 @@ abbrev run_with : LookLine → Run
 run_with seen_last = record { history = history; batches = both_batches; glances = line 1 31 ∷ []; looks = seen_last ∷ [] }
 
 is_run : IsRun two (run_with (line 2 32))
-is_run = record { whole = is_whole; batches = by_batches; glances = glances; looks = looks }
+is_run = record { whole = is_whole; glances = glances; looks = looks }
 
 -- Not where the last look is of an earlier cycle, nor where an updater made nothing, nor where a cycle is missing.
 not_run : (IsRun two (run_with (line 1 31)) → ⊥) × (IsRun two (record (run_with (line 2 32)) { history = first ∷ Start ∷ Start ∷ [] }) → ⊥)

@@ -26,7 +26,8 @@ use Rattle.air_model.specs.Sessions.{Line, abort, accept_if_whole, copy_of, coun
 use Rattle.air_model.proofs.AiredLemmas.{aired}
 use Rattle.air_model.proofs.NameLemmas.{names}
 use Rattle.air_model.proofs.ReceiverLemmas.{receiver}
-use Rattle.air_model.proofs.RelationExamples.{pair_is_deck}
+use Rattle.air_model.proofs.RelationExamples.{pair_filled, pair_is_deck}
+use Rattle.air_model.proofs.SoundLemmas.{of_reader}
 use Rattle.air_model.proofs.SessionExamples.{all_of, chained_deck, line, pair, read, s, swapped_deck, u}
 
 -- The script's history aired all of its own buckets.
@@ -47,7 +48,7 @@ one_line : (session_of (by_entries (scheme_of FMatrix)) pair 0 (all_of pair)).li
 unfolding column_entry front greatest starts is_start table event_of script_history cut order order_with chunk chunk_len least_common_multiple minor_cycle num_chunks num_minors program chunks_of disk_number pix_number body_fits body_of bucket_of buckets_of fits by_entries clash_by_entries is_late least keep with_copy without_item abort accept_if_whole copy_of count_copied count_dozed count_foreign count_late count_opened count_refused decide drop_copy end end_query hear hear_all hear_read hold is_unusable line_of next_attempt next_query offer open_bucket query_of session settle turn turn_with wanted with_line
 one_line = refl
 
--- What the session's lines keep, that line keeps: it is sound, the reader's own, and exact.
+-- What the session's lines keep, that line keeps: it is sound, exact, and the reader's own.
 kept : (P : Line → Type 0) → All P ((session_of (by_entries (scheme_of FMatrix)) pair 0 (all_of pair)).lines) → P accept_line
 kept P h = subst (All P) one_line h 0 accept_line (omega arith)
 
@@ -55,7 +56,8 @@ pub sound_line : IsSoundLine (values_in pair) FMatrix (script_history pair) acce
 sound_line = kept (IsSoundLine (values_in pair) FMatrix (script_history pair)) true_session.sound
 
 pub own_line : IsOfReader (reader_of pair 0) accept_line
-own_line = kept (IsOfReader (reader_of pair 0)) true_session.own
+own_line = kept (IsOfReader (reader_of pair 0))
+    (of_reader (by_entries (scheme_of FMatrix)) (air_of pair) (reader_of pair 0) (all_of pair) (names (scheme_of FMatrix) (values_in pair) (script_history pair)).1 pair_filled (omega arith))
 
 pub exact_line : IsExactLine (script_history pair) (reader_of pair 0) accept_line
 exact_line = kept (IsExactLine (script_history pair) (reader_of pair 0)) (true_session.exact refl)

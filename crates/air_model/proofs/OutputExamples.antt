@@ -1,5 +1,5 @@
 -- What commands print and write on small decks, byte by byte, through the spelling of buckets and the words of ethers.
-use Rattle.std.specs.Prelude.{◌≡◌, ℕ, List, [], ◌∷◌, ◌++◌, Some, codes, length, map, replicate, refl}
+use Rattle.std.specs.Prelude.{◌≡◌, ℕ, List, [], ◌∷◌, ◌++◌, Some, codes, length, replicate, refl}
 use Rattle.csv.specs.Writing.{escaped, fields_text, is_blank}
 use Rattle.air_base.specs.Numbers.{number_text}
 use Rattle.air_base.specs.declared.verdicts.Policy.TheVariants.{Datacycle}
@@ -27,7 +27,7 @@ use Rattle.air_model.specs.Aired.{body_of, bucket_of, buckets_of, body_fits, fit
 use Rattle.air_model.specs.Judges.{by_history, by_entries}
 use Rattle.air_model.specs.Sessions.{session, query_of, wanted, line_of, with_line, count_copied, count_opened, count_dozed, count_late, count_refused, count_foreign, next_query, next_attempt, accept_if_whole, hold, abort, is_unusable, drop_copy, copy_of, turn_with, turn, settle, decide, offer, open_bucket, hear_read, hear, hear_all, end_query, end}
 use Rattle.air_model.specs.Rows.{rows_text}
-use Rattle.air_model.specs.Reports.{AirFault, DeckFault, PlanTooLong, ReadFault, ReportFault, TapeCut, TooLarge, TooLong, TooMuch, Words, fault_line, report_text, total_at}
+use Rattle.air_model.specs.Reports.{report_text, total_at}
 use Rattle.air_model.specs.Outputs.{cast_output, plan_output, run_output, run_tape, script_output, script_tape, true_sessions, tune_output}
 use Rattle.air_model.proofs.SessionExamples.{chained_deck, judged_by, pair, s, set_to, swapped_deck, u, update}
 
@@ -149,10 +149,3 @@ printed = record {
   total_before_the_end = refl;
   total_wraps = refl;
 }
-
--- One line for each status that has one.
-pub fault_lines : map fault_line (Words ∷ DeckFault 7 8 ∷ ReadFault ∷ TapeCut 36 ∷ TooLarge 67108864 ∷ ReportFault 2 5 ∷ AirFault 1 ∷ TooMuch 50100000 ∷ TooLong 1085865984 ∷ PlanTooLong 737856 ∷ [])
-    ≡ codes "fault,1\n" ∷ codes "fault,2,7,8\n" ∷ codes "fault,3\n" ∷ codes "fault,6,36\n" ∷ codes "fault,7,67108864\n" ∷ codes "fault,8,2,5\n" ∷ codes "fault,10,1\n"
-    ∷ codes "fault,11,50100000\n" ∷ codes "fault,12,1085865984\n" ∷ codes "fault,13,737856\n" ∷ []
-unfolding number_text escaped fields_text is_blank rows_text fault_line
-fault_lines = refl

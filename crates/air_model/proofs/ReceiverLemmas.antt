@@ -17,9 +17,8 @@ use Rattle.air_model.specs.AiredLaws.{CanAir}
 use Rattle.air_model.proofs.DeckLemmas.{air}
 use Rattle.air_model.proofs.EtherLemmas.{heard_was_pushed}
 use Rattle.air_model.proofs.JudgeLemmas.{judges}
-use Rattle.air_model.proofs.NameLemmas.{names}
 use Rattle.air_model.proofs.RangeLemmas.{bytes_aired}
-use Rattle.air_model.proofs.SoundLemmas.{of_reader, sound}
+use Rattle.air_model.proofs.SoundLemmas.{sound}
 use Rattle.air_model.proofs.ExactLemmas.{exact}
 
 cycles_from : (values : List ℕ) (air : Air) (H : List Event) (heard : List (Option Bucket)) → IsAired values air H heard → CyclesFromOne air heard
@@ -42,7 +41,6 @@ receiver deck H r heard is l aired =
     record {
       same = same;
       sound = subst (λ (s : State). All (IsSoundLine (values_in deck) policy H) s.lines) (sym same) (sound (values_in deck) a H reader heard filled cycles);
-      own = of_reader (by_entries (scheme_in deck)) a reader heard ((names (scheme_in deck) (values_in deck) H).1) filled (is.tries r _ l);
       exact = λ f. subst (λ (s : State). All (IsExactLine H reader) s.lines) (sym same) (exact (values_in deck) a H reader heard f filled cycles);
     }
 

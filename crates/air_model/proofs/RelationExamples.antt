@@ -230,7 +230,7 @@ aired_list = All-from_recursion (λ o. IfSome o (λ b. IsTrue (fits (air_of pair
     (Some first ∷ None ∷ Some (record first { edition = 1; cycle = 9 }) ∷ [])
     (λ _. record { from_one = omega arith; started = omega arith; same = refl }, (tt, (λ f. absurd (false≢true f), tt)))
 
--- So its reader's session over that list is true: sound, its own, and exact.
+-- So its reader's session over that list is true: sound, and exact.
 pub true_session : IsTrueSession pair (script_history pair) 0 (Some first ∷ None ∷ Some (record first { edition = 1; cycle = 9 }) ∷ [])
 true_session = receiver pair (script_history pair) 0 (Some first ∷ None ∷ Some (record first { edition = 1; cycle = 9 }) ∷ []) pair_is_deck (omega arith) aired_list
 

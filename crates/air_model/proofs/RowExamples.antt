@@ -9,7 +9,7 @@ use Rattle.air_model.specs.Airings.{chunks_of, disk_number, gap_of, next_wake, p
 use Rattle.air_model.specs.Disks.{Disk}
 use Rattle.air_model.specs.PlanTexts.{disk_row, item_row, minor_row, program_row, slot_text}
 use Rattle.air_model.specs.Programs.{chunk, chunk_len, least_common_multiple, minor_cycle, minor_len, num_chunks, num_minors, program}
-use Rattle.air_model.specs.Reports.{DeckFault, PlanTooLong, ReadFault, Report, Words, attempt_row, counts_row, fault_numbers, kind_row, look_row, place_text, read_text, report_rows, report_text, script_text, session_report, tune_text, verdict_row}
+use Rattle.air_model.specs.Reports.{Report, attempt_row, counts_row, kind_row, look_row, place_text, read_text, report_rows, report_text, session_report, verdict_row}
 use Rattle.air_model.specs.Rows.{row_writer, rows_text}
 use Rattle.air_model.specs.declared.reports.CountsLine.{CountsLine}
 use Rattle.air_model.specs.declared.reports.LookLine.{LookLine}
@@ -53,14 +53,10 @@ pub record Rows : Type 0 where
   of_look : look_row (codes "glance") look_line ≡ codes "glance" ∷ codes "1" ∷ codes "2" ∷ codes "30" ∷ []
   all_sections : report_rows of_each ≡ (codes "start" ∷ []) ∷ verdict_row abort_line ∷ counts_row counts_line ∷ look_row (codes "glance") look_line ∷ look_row (codes "look") look_line ∷ []
   without_sessions : session_report one_start [] ≡ record { history = Start ∷ []; verdicts = []; counts = []; glances = []; looks = [] }
-  script_of_start : script_text one_start [] ≡ codes "start\n"
-  tune_of_nothing : tune_text [] ≡ []
+  script_of_start : report_text (session_report one_start []) ≡ codes "start\n"
+  tune_of_nothing : report_text (session_report [] []) ≡ []
   -- A row may be shorter or longer than the one before it.
   of_fields : row_text row_writer (codes "a" ∷ codes "b" ∷ []) ≡ codes "a,b\n"
-  words_fault : fault_numbers Words ≡ 1 ∷ []
-  deck_fault : fault_numbers (DeckFault 3 7) ≡ 2 ∷ 3 ∷ 7 ∷ []
-  read_fault : fault_numbers ReadFault ≡ 3 ∷ []
-  plan_fault : fault_numbers (PlanTooLong 70000) ≡ 13 ∷ 70000 ∷ []
 
 rows : Rows
 unfolding number_text escaped fields_text is_blank rows_text report_text program least_common_multiple num_minors num_chunks chunk_len chunk minor_cycle minor_len disk_number chunks_of gap_of next_wake pix_number
@@ -83,8 +79,4 @@ rows = record {
   script_of_start = refl;
   tune_of_nothing = refl;
   of_fields = refl;
-  words_fault = refl;
-  deck_fault = refl;
-  read_fault = refl;
-  plan_fault = refl;
 }

@@ -3,7 +3,7 @@
 use Rattle.std.specs.Prelude.{◌≡◌, ℕ, ◌<◌, ◌≤◌, Bool, true, false, not, ◌&&◌, ◌==◌, nat_lt, if◌then◌else◌, is_none, List, length, map, get_or, All, IfSome, IsTrue, Option, Some, None}
 use Rattle.std.specs.List.{range_with_len, flat_map, enumerate_from}
 use Rattle.air_base.specs.declared.verdicts.Policy.{Policy}
-use Rattle.air_base.specs.declared.verdicts.Policy.TheVariants.{FMatrix, Datacycle, RMatrix}
+use Rattle.air_base.specs.declared.verdicts.Policy.TheVariants.{FMatrix}
 use Rattle.air_history.specs.declared.histories.Event.{Event}
 use Rattle.air_history.specs.Histories.{starts}
 use Rattle.air_history.specs.Columns.{Scheme, aired_entries, scheme_of}
@@ -40,8 +40,7 @@ air_of deck = record {
 -- The policy airs control columns; the others air write vectors.
 abbrev pub airs_columns : Policy → Bool
 airs_columns FMatrix = true
-airs_columns Datacycle = false
-airs_columns RMatrix = false
+airs_columns other = false
 
 -- A policy airs each item with its control column, or with the write vector.
 abbrev pub aired_as : Policy → ℕ → ℕ → List ℕ → Body

@@ -12,7 +12,7 @@ use Rattle.air_model.specs.Judges.{Judge, by_entries, by_history}
 use Rattle.air_model.specs.Sessions.{State}
 use Rattle.air_model.specs.ReceiverLaws.{session_of}
 use Rattle.air_model.specs.declared.reports.LookLine.{LookLine}
-use Rattle.air_model.specs.Reports.{report_text, script_text, session_report, tune_text}
+use Rattle.air_model.specs.Reports.{report_text, session_report}
 
 -- ---- what readers hear
 
@@ -40,7 +40,7 @@ plan_output deck = plan_text (rates_in deck) deck.disks
 
 -- What `script` prints.
 abbrev pub script_output : Deck → List ℕ
-script_output deck = script_text (script_history deck) (true_sessions deck (script_history deck))
+script_output deck = report_text (session_report (script_history deck) (true_sessions deck (script_history deck)))
 
 -- The tape that `script` writes.
 abbrev pub script_tape : Deck → List ℕ
@@ -49,7 +49,7 @@ script_tape deck = history_tape (values_in deck) (air_of deck) (script_history d
 -- What `tune` prints over the records of a tape, and `listen` over what it heard: each reader hears all of it, and
 -- judges by the entries.
 abbrev pub tune_output : Deck → List (List ℕ) → List ℕ
-tune_output deck records = tune_text (sessions_over (by_entries (scheme_in deck)) deck (λ r. records))
+tune_output deck records = report_text (session_report [] (sessions_over (by_entries (scheme_in deck)) deck (λ r. records)))
 
 -- What `run` prints, where its threads made this history and its monitors saw these glances and looks.
 abbrev pub run_output : Deck → List Event → List LookLine → List LookLine → List ℕ

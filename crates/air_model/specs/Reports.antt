@@ -1,5 +1,5 @@
--- The text of a report: the rows of a history, of verdicts, of counts, and of what monitors saw; what the sessions of readers
--- tell, as lines; and fault lines. `script`, `tune`, `run`, `cast` and `listen` print reports, some with no row in a section.
+-- The text of a report: the rows of a history, of verdicts, of counts, and of what monitors saw; and what the sessions of readers
+-- tell, as lines. `script`, `tune`, `run`, `cast` and `listen` print reports, some with no row in a section.
 use Rattle.std.specs.Prelude.{ℕ, ◌%◌, ◌^◌, List, [], ◌∷◌, ◌++◌, codes, map, sum}
 use Rattle.std.specs.List.{enumerate_from, flat_map}
 use Rattle.air_base.specs.declared.verdicts.ReadOf.{ReadOf}
@@ -93,43 +93,3 @@ counts_lines sessions = map (λ p. record { reader = p.0; counts = p.1.counts })
 -- The report of a history and its readers' sessions: no monitor saw it.
 abbrev pub session_report : List Event → List State → Report
 session_report H sessions = record { history = H; verdicts = verdict_lines sessions; counts = counts_lines sessions; glances = []; looks = [] }
-
--- The text of `script`: a history and its readers' sessions.
-abbrev pub script_text : List Event → List State → List ℕ
-script_text H sessions = report_text (session_report H sessions)
-
--- The text of `tune` and `listen`: the readers' sessions alone.
-abbrev pub tune_text : List State → List ℕ
-tune_text sessions = report_text (session_report [] sessions)
-
--- ---- fault lines
-
--- What a command could not do, with the numbers that it tells.
-pub data Fault : Type 0 where
-  Words : Fault
-  DeckFault : ℕ → ℕ → Fault
-  ReadFault : Fault
-  TapeCut : ℕ → Fault
-  TooLarge : ℕ → Fault
-  ReportFault : ℕ → ℕ → Fault
-  AirFault : ℕ → Fault
-  TooMuch : ℕ → Fault
-  TooLong : ℕ → Fault
-  PlanTooLong : ℕ → Fault
-
--- The numbers of a fault's line: the status, then a row and a kind, a byte, a limit or a size.
-abbrev pub fault_numbers : Fault → List ℕ
-fault_numbers Words = 1 ∷ []
-fault_numbers (DeckFault row kind) = 2 ∷ row ∷ kind ∷ []
-fault_numbers ReadFault = 3 ∷ []
-fault_numbers (TapeCut at) = 6 ∷ at ∷ []
-fault_numbers (TooLarge limit) = 7 ∷ limit ∷ []
-fault_numbers (ReportFault row kind) = 8 ∷ row ∷ kind ∷ []
-fault_numbers (AirFault at) = 10 ∷ at ∷ []
-fault_numbers (TooMuch product) = 11 ∷ product ∷ []
-fault_numbers (TooLong bytes) = 12 ∷ bytes ∷ []
-fault_numbers (PlanTooLong slots) = 13 ∷ slots ∷ []
-
--- The line of a fault.
-unfoldable pub fault_line : Fault → List ℕ
-fault_line fault = rows_text ((codes "fault" ∷ map number_text (fault_numbers fault)) ∷ [])

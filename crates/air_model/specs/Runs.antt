@@ -3,21 +3,19 @@ use Rattle.std.specs.Prelude.{List}
 use Rattle.air_history.specs.declared.histories.Event.{Event}
 use Rattle.air_model.specs.Decks.{Deck, IsWhole}
 use Rattle.air_model.specs.declared.reports.LookLine.{LookLine}
-use Rattle.air_model.specs.Batches.{AirsByBatches}
 use Rattle.air_model.specs.MonitorSights.{AreGlances, AreLooks}
 
--- A run has a history; the batches that were published, as the publisher's note at the end tells them; and what monitors saw: glances
--- beside the run, and looks at its end.
+-- A run has a history; the batches that were published, as the publisher's note at the end tells them (`run_threads` says by
+-- `AirsByBatches` which these are); and what monitors saw: glances beside the run, and looks at its end.
 pub record Run : Type 0 where
   pub history : List Event
   pub batches : List (List Event)
   pub glances : List LookLine
   pub looks : List LookLine
 
--- A run is the deck's where its history commits all updates of the deck, each updater's in order, and starts the deck's cycles; the
--- history was aired by the batches, one a cycle; and the monitors saw that history.
+-- A run is the deck's where its history commits all updates of the deck, each updater's in order, and starts the deck's cycles; and
+-- the monitors saw that history.
 pub record IsRun (deck : Deck) (run : Run) : Type 0 where
   pub whole : IsWhole deck run.history
-  pub batches : AirsByBatches deck run.history run.batches
   pub glances : AreGlances deck run.history run.glances
   pub looks : AreLooks deck run.history run.looks

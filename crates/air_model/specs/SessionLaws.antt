@@ -52,15 +52,13 @@ CyclesFromOne air heard = All (λ o. IfSome o (λ b. IsTrue (fits air b) → 1 �
 
 -- The verdict is an abort.
 abbrev pub IsAbort : VerdictKind → Type 0
-IsAbort Accept = ⊥
 IsAbort (Abort item cycle clash) = Unit {0}
-IsAbort Unfinished = ⊥
+IsAbort other = ⊥
 
 -- An attempt was decided on the reads of its line, and on the refused one where it was aborted.
 abbrev pub decided_on : VerdictKind → List ReadAt → List ReadAt
-decided_on Accept R = R
 decided_on (Abort item cycle clash) R = R ++ record { item = item; cycle = cycle } ∷ []
-decided_on Unfinished R = R
+decided_on other R = R
 
 -- A verdict is exact where the query was accepted exactly if the reads are all of its items, and consistent; aborted exactly if
 -- they aren't consistent; and unfinished exactly if neither is so.

@@ -9,8 +9,8 @@ use Rattle.item_catalog.proofs.KindLemmas.{none_first}
 use Rattle.item_catalog.proofs.RecordPlaces.{along}
 use Rattle.air_report.specs.Kinds.{report_kind_number}
 use Rattle.air_report.specs.LineTexts.{spelled_line}
-use Rattle.air_report.specs.ReportFaults.{comes_after_later_section, comes_next, is_begun, is_filled, is_known, is_next, line_kinds_after, line_kinds_at, line_tests, spelled_lines}
-use Rattle.air_report.specs.ReportGrammar.{RowsSpellLines}
+use Rattle.air_report.specs.LineFaults.{comes_after_later_section, comes_next, is_begun, is_filled, is_known, is_next, line_kinds_after, line_kinds_at, line_tests, spelled_lines}
+use Rattle.air_report.specs.LineGrammar.{RowsSpellLines}
 use Rattle.air_report.specs.ReportLines.{ReportLines, sections_of, starts_in}
 use Rattle.air_report.specs.Private.RecordAnswers.{with_one_line}
 use Rattle.air_report.specs.declared.reading.kinds.FaultKind.{FaultKind}
@@ -19,7 +19,7 @@ use Rattle.air_report.specs.declared.reading.lines.EventLine.{EventLine}
 use Rattle.air_report.specs.declared.reading.lines.Line.{Line}
 use Rattle.air_report.specs.declared.reading.lines.Line.TheVariants as l
 use Rattle.air_report.proofs.PlaceLemmas.{judge, lines_more, sections_more}
-use Rattle.air_report.specs.ReportRules.{EachNext, InGrammar, IsRight}
+use Rattle.air_report.specs.LineRules.{EachNext, InGrammar, IsRight}
 
 all_more : {A : Type 0} (P : A → Type 0) (xs : List A) (x : A) → All P xs → P x → All P (xs ++ x ∷ [])
 all_more P [] x all here = All-cons P x [] here (All-nil P)
@@ -48,7 +48,7 @@ not_false true h = refl
 not_false false h = cc h
 
 module _ (deck : Deck) where
-  next_more : (before xs : List EventLine) (x : EventLine) → EachNext deck before xs → is_next deck (before ++ xs) x ≡ true → EachNext deck before (xs ++ x ∷ [])
+  pub next_more : (before xs : List EventLine) (x : EventLine) → EachNext deck before xs → is_next deck (before ++ xs) x ≡ true → EachNext deck before (xs ++ x ∷ [])
   next_more before [] x each next = (ap (λ es. is_next deck es x) (sym (append-nil before)) ∙ next, tt)
   next_more before (y ∷ xs) x each next = (each.0, next_more (before ++ y ∷ []) xs x each.1 (ap (λ es. is_next deck es x) (append_assoc before (y ∷ []) xs) ∙ next))
 

@@ -10,11 +10,11 @@ use Rattle.air_history.specs.UpdateLists.{UpdateLists}
 use Rattle.air_history.specs.declared.histories.Event.{Event}
 use Rattle.air_history.specs.declared.histories.Event.TheVariants as e
 use Rattle.air_model.specs.Decks.{Deck, IsLegal, IsNextCommit, count_made, is_by, updates_by}
-use Rattle.air_report.specs.ReportFaults.{is_next}
+use Rattle.air_report.specs.LineFaults.{is_next}
 use Rattle.air_report.specs.ReportLines.{commits_by, commits_of, event_in}
 use Rattle.air_report.specs.declared.reading.lines.EventLine.{EventLine}
 use Rattle.air_report.specs.declared.reading.lines.EventLine.TheVariants.{Commit, Start}
-use Rattle.air_report.specs.ReportRules.{EachNext}
+use Rattle.air_report.specs.LineRules.{EachNext}
 
 module _ (deck : Deck) where
   made_same : (by : ℕ) (lines : List EventLine) → count_made by (map (event_in deck) lines) ≡ commits_by by lines

@@ -12,6 +12,15 @@ pub mod LineRuleLemmas
 pub mod PlaceLemmas
 pub mod ReadingLemmas
 mod TextLemmas
+mod PrintedReads
+pub mod PrintedFields
+pub mod PrintedRows
+pub mod PrintedReports
+pub mod PrintedGrammar
+mod LineRanks
+mod OneLines
+mod RowKinds
+pub mod TiedReports
 pub mod StandingLines
 pub mod KeptLines
 pub mod LegalLines
@@ -19,4 +28,6 @@ pub mod SameHistories
 mod TextExamples
 mod HistoryRows
 mod LineExamples
-mod SpelledExamples
+mod StatusExamples
+pub mod SpelledExamples
+mod PrintedExamples

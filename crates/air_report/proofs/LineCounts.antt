@@ -5,9 +5,9 @@ use Rattle.std.specs.Result.{result_ok}
 use Rattle.item_catalog.specs.Records.{records_of}
 use Rattle.item_catalog.proofs.RowLemmas.{few_records}
 use Rattle.air_model.specs.Decks.{Deck}
-use Rattle.air_report.specs.ReportFaults.{spelled_lines}
+use Rattle.air_report.specs.LineFaults.{spelled_lines}
 use Rattle.air_report.specs.LineTexts.{spelled_line}
-use Rattle.air_report.specs.ReportGrammar.{SpellsReport}
+use Rattle.air_report.specs.LineGrammar.{SpellsLines}
 use Rattle.air_report.specs.ReportLines.{ReportLines, sections_of}
 use Rattle.air_report.specs.declared.reading.lines.Line.{Line}
 use Rattle.air_report.specs.declared.reading.lines.Line.TheVariants as l
@@ -34,8 +34,8 @@ counted (l.Glance line ∷ lines) = let rest = counted lines in omega arith
 counted (l.Look line ∷ lines) = let rest = counted lines in omega arith
 
 -- A text spells no more lines than it has bytes, and one more.
-pub few_lines : (deck : Deck) (text : List ℕ) (lines : ReportLines) → SpellsReport deck text lines → line_count lines ≤ length text + 1
-unfolding SpellsReport
+pub few_lines : (deck : Deck) (text : List ℕ) (lines : ReportLines) → SpellsLines deck text lines → line_count lines ≤ length text + 1
+unfolding SpellsLines
 few_lines deck text lines spelled =
     let rows = records_of text in
     let all : line_count lines ≡ length (spelled_lines rows) = ap line_count spelled.sections ∙ counted (spelled_lines rows) in

@@ -1,33 +1,25 @@
 -- What single records of a report spell, and which kinds apply to single lines, computed at the ends of the limits.
 use Rattle.std.proofs.Common.{◌≡◌, ℕ, List, [], ◌∷◌, Some, None, true, false, refl}
 use Rattle.std.specs.Prelude.{Ok, Err, codes}
-use Rattle.csv.specs.Writing.{escaped, fields_text, is_blank}
-use Rattle.air_base.specs.Numbers.{number_of, number_text}
+use Rattle.air_base.specs.Numbers.{number_of}
 use Rattle.air_base.specs.NumberLists.{all_some}
 use Rattle.air_base.specs.declared.verdicts.ReadOf.{ReadOf}
 use Rattle.air_base.specs.declared.verdicts.VerdictKind.{VerdictKind}
 use Rattle.air_base.specs.declared.verdicts.VerdictKind.TheVariants as kind
-use Rattle.air_model.specs.Decks.{Deck}
-use Rattle.air_model.specs.Reports as told
-use Rattle.air_model.specs.Reports.{fault_line}
-use Rattle.air_model.specs.Rows.{rows_text}
 use Rattle.air_model.specs.declared.reports.LookLine.{LookLine}
 use Rattle.air_model.specs.declared.reports.VerdictLine.{VerdictLine}
 use Rattle.item_catalog.specs.RecordKinds.{kinds_of}
 use Rattle.air_report.specs.Kinds.{report_kind_number}
 use Rattle.air_report.specs.LineTexts.{abort_by, abort_of, as_line, below, commit_by, counts_by, ended_by, line_tag, seen_by, short_of, spelled_item, spelled_line, spelled_line_by, spelled_place, spelled_read, start_by, verdict_by}
-use Rattle.air_report.specs.ReadReports.{row_in}
-use Rattle.air_report.specs.ReportFaults.{comes_after_later_section, comes_next, end_begun, follow, has_begun, is_begun, is_filled, is_known, is_next, is_tried, leads, line_kinds_after, line_place_kinds, line_tests, read_item}
+use Rattle.air_report.specs.RecordRows.{row_in}
+use Rattle.air_report.specs.LineFaults.{comes_after_later_section, comes_next, end_begun, follow, has_begun, is_begun, is_filled, is_known, is_next, is_tried, leads, line_kinds_after, line_place_kinds, line_tests, read_item}
 use Rattle.air_report.specs.ReportLines.{ReportLines, commits_by, commits_of, its_counts, its_event, its_look, sections_of, starts_cycle, starts_in}
-use Rattle.air_report.specs.Statuses as statuses
-use Rattle.air_report.specs.Statuses.{fault_told, line_or_none}
 use Rattle.air_report.specs.declared.reading.kinds.FaultKind.TheVariants as fault
 use Rattle.air_report.specs.declared.reading.lines.EventLine.{EventLine}
 use Rattle.air_report.specs.declared.reading.lines.EventLine.TheVariants.{Commit, Start}
 use Rattle.air_report.specs.declared.reading.lines.Line.{Line}
 use Rattle.air_report.specs.declared.reading.lines.Line.TheVariants as l
 use Rattle.air_report.specs.declared.reading.tags.Tag.TheVariants as t
-use Rattle.air_report.specs.declared.status.Status.TheVariants as status
 use Rattle.air_report.proofs.TextExamples.{deck}
 
 -- A read of an item in a cycle, with its value.
@@ -230,19 +222,3 @@ lines = record {
   in_place = refl;
   at_end = refl;
 }
-
--- ---- statuses
-
-pub record Statuses : Type 0 where
-  told_deck : fault_told (status.Deck 3 7) ≡ Some (told.DeckFault 3 7)
-  told_report : fault_told (status.Report 3 7) ≡ Some (told.ReportFault 3 7)
-  told_air : fault_told (status.AirFault 3) ≡ Some (told.AirFault 3)
-  told_nothing : fault_told status.WriteFault ≡ None
-  no_line : line_or_none None ≡ []
-  a_line : line_or_none (Some told.ReadFault) ≡ codes "fault,3\n"
-  line_of_deck : statuses.status_line (status.Deck 3 7) ≡ codes "fault,2,3,7\n"
-  line_of_memory : statuses.status_line status.NoMemory ≡ []
-
-its_statuses : Statuses
-unfolding fault_line rows_text number_text escaped fields_text is_blank
-its_statuses = record { told_deck = refl; told_report = refl; told_air = refl; told_nothing = refl; no_line = refl; a_line = refl; line_of_deck = refl; line_of_memory = refl }

@@ -8,8 +8,8 @@ use Rattle.item_catalog.proofs.RecordPlaces.{along}
 use Rattle.air_model.specs.Decks.{Deck}
 use Rattle.air_report.specs.Kinds.{report_kind_number}
 use Rattle.air_report.specs.LineTexts.{spelled_line}
-use Rattle.air_report.specs.ReportFaults.{comes_after_later_section, comes_next, is_begun, is_filled, is_known, line_kinds_after, line_kinds_at, line_tests, spelled_lines}
-use Rattle.air_report.specs.ReportGrammar.{RowsSpellLines}
+use Rattle.air_report.specs.LineFaults.{comes_after_later_section, comes_next, is_begun, is_filled, is_known, line_kinds_after, line_kinds_at, line_tests, spelled_lines}
+use Rattle.air_report.specs.LineGrammar.{RowsSpellLines}
 use Rattle.air_report.specs.ReportLines.{ReportLines, sections_of, starts_in}
 use Rattle.air_report.specs.Private.RecordAnswers.{with_one_line}
 use Rattle.air_report.specs.declared.reading.kinds.FaultKind.{FaultKind}
@@ -51,7 +51,7 @@ module _ (C G K : List Line) (c : C ≡ []) (g : G ≡ []) (k : K ≡ []) where
   three_behind : (front : List Line) → front ++ C ++ G ++ K ≡ front
   three_behind front = two_behind (front ++ C) ∙ nothing_behind front C c
 
-one_more : (r : ReportLines) (x : Line) → comes_after_later_section r x ≡ false → together (with_one_line r x) ≡ together r ++ x ∷ []
+pub one_more : (r : ReportLines) (x : Line) → comes_after_later_section r x ≡ false → together (with_one_line r x) ≡ together r ++ x ∷ []
 one_more r (l.Event line) late =
     let a = either (is_filled r.verdicts || is_filled r.counts || is_filled r.glances) (is_filled r.looks) late in
     let b = either (is_filled r.verdicts || is_filled r.counts) (is_filled r.glances) a.0 in

@@ -5,12 +5,12 @@ use Rattle.std.proofs.lemmas.List.{append-nil, length-map}
 use Rattle.item_catalog.specs.Records.{records_of}
 use Rattle.air_model.specs.Decks.{Deck}
 use Rattle.air_report.specs.LineTexts.{spelled_line}
-use Rattle.air_report.specs.ReportGrammar.{SpellsReport}
+use Rattle.air_report.specs.LineGrammar.{SpellsLines}
 use Rattle.air_report.specs.ReportLines.{ReportLines, its_glance, its_look, its_verdict}
 use Rattle.air_report.specs.declared.reading.kinds.FaultKind.{FaultKind}
 use Rattle.air_report.specs.declared.reading.lines.Line.{Line}
 use Rattle.air_report.specs.declared.reading.lines.Line.TheVariants as l
-use Rattle.air_report.specs.ReadReports.{row_in, rows_of}
+use Rattle.air_report.specs.RecordRows.{row_in, rows_of}
 use Rattle.air_report.proofs.LineOrder.{in_order, together}
 
 -- What is told of records hangs on what they spell.
@@ -71,9 +71,9 @@ module _ {X : Type 0} (f : ℕ → Line → Option X) where
       joined 1 (E ++ V ++ C ++ G) K ∙ ap (λ x. all_of 1 (E ++ V ++ C ++ G) ++ all_of x K) ek ∙ ap (λ xs. xs ++ all_of k K) e4
 
 -- What is told of the records of a text that spells lines is told of these lines, in their order.
-pub by_records : {X : Type 0} (f : ℕ → Result Line FaultKind → Option X) (deck : Deck) (text : List ℕ) (lines : ReportLines) → SpellsReport deck text lines →
+pub by_records : {X : Type 0} (f : ℕ → Result Line FaultKind → Option X) (deck : Deck) (text : List ℕ) (lines : ReportLines) → SpellsLines deck text lines →
     filter_map (λ p. f p.0 (spelled_line p.1)) (enumerate_from 1 (records_of text)) ≡ all_of (λ row line. f row (Ok line)) 1 (together lines)
-unfolding SpellsReport
+unfolding SpellsLines
 by_records f deck text lines spelled = by_lines f 1 (records_of text) (together lines) (in_order deck (records_of text) lines spelled)
 
 -- ---- rows
@@ -88,7 +88,7 @@ front_none xs ys none = ap (λ zs. zs ++ ys) none
 back_none : {X : Type 0} (xs ys : List X) → ys ≡ [] → xs ++ ys ≡ xs
 back_none xs ys none = ap (λ zs. xs ++ zs) none ∙ append-nil xs
 
-module _ (deck : Deck) (text : List ℕ) (lines : ReportLines) (spelled : SpellsReport deck text lines) where
+module _ (deck : Deck) (text : List ℕ) (lines : ReportLines) (spelled : SpellsLines deck text lines) where
   abbrev told : {L : Type 0} → (Line → Option L) → ℕ → Line → Option ℕ
   told its row line = row_in its row (Ok line)
 

@@ -9,7 +9,7 @@ use Rattle.air_base.specs.declared.limits.TheConstants.{MOST_UPDATERS}
 use Rattle.air_base.specs.declared.verdicts.ReadOf.{ReadOf}
 use Rattle.air_model.specs.Decks.{Deck, updates_by}
 use Rattle.item_catalog.specs.RecordKinds.{first_of}
-use Rattle.air_report.specs.ReportFaults.{comes_after_later_section, is_begun, is_known, is_next, leads, read_item}
+use Rattle.air_report.specs.LineFaults.{comes_after_later_section, is_begun, is_known, is_next, leads, read_item}
 use Rattle.air_report.specs.ReportLines.{ReportLines, commits_by, commits_of, starts_in, starts_cycle}
 use Rattle.air_report.specs.Private.RecordAnswers.{CanPush, line_record_kind}
 use Rattle.air_report.specs.declared.reading.kinds.FaultKind.{FaultKind}

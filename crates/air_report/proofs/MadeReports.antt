@@ -1,27 +1,27 @@
 -- What is made of the lines of a text is its report, and keeps to the grammar.
-use Rattle.std.proofs.Common.{◌≡◌, ◌<◌, ◌≤◌, ◌+◌, ◌++◌, ◌∷◌, [], ℕ, zero, suc, List, All, refl, sym, ap, ◌∙◌, subst, inl, inr, length, map, arith, add-one}
+use Rattle.std.proofs.Common.{◌≡◌, ◌<◌, ◌≤◌, ◌+◌, ◌++◌, ◌∷◌, [], ℕ, zero, suc, List, All, refl, sym, ap, ap₂, ◌∙◌, subst, inl, inr, length, map, arith, add-one}
 use Rattle.std.specs.List.{range_with_len}
 use Rattle.std.proofs.lemmas.Bool.{and_parts, cases_lt, ltb-true}
 use Rattle.std.proofs.lemmas.List.{get_or_past, length-map}
 use Rattle.std.proofs.lemmas.List.Elements.{All-cons, All-nil}
 use Rattle.std.proofs.lemmas.List.FromFn.{length-range_with_len}
 use Rattle.item_catalog.specs.Records.{records_of}
-use Rattle.air_model.specs.Decks.{Deck, IsLegal, updates_by}
+use Rattle.air_model.specs.Decks.{Deck, updates_by}
 use Rattle.air_model.specs.Reports.{Report}
+use Rattle.air_report.specs.LineGrammar.{SpellsLines}
 use Rattle.air_report.specs.ReportGrammar.{SpellsReport}
-use Rattle.air_report.specs.ReportLines.{ReportLines, event_in, its_line, lines_in, report_in}
+use Rattle.air_report.specs.ReportLines.{ReportLines, event_in}
 use Rattle.air_report.specs.declared.reading.limits.TheConstants.{MOST_REPORT_BYTES}
 use Rattle.air_report.specs.declared.reading.lines.EventLine.{EventLine}
 use Rattle.air_report.specs.declared.reading.lines.EventLine.TheVariants.{Commit, Start}
-use Rattle.air_report.specs.ReportRules.{EachNext, InGrammar}
+use Rattle.air_report.specs.LineRules.{EachNext, InGrammar}
 use Rattle.air_report.proofs.KeptLines.{spelled_kept}
-use Rattle.air_report.proofs.LegalLines.{legal}
 use Rattle.air_report.specs.declared.reading.ReadReport.{ReadReport}
 use Rattle.air_report.specs.ReadReports.{IsReportOf}
 use Rattle.air_report.specs.KeptReports.{KeepsGrammar}
 use Rattle.air_report.specs.Private.ReportsOfLines.{IsMadeOf, NamesUpdate}
 use Rattle.air_report.proofs.LineCounts.{few_lines, line_count}
-use Rattle.air_report.proofs.LineRows as rows
+use Rattle.air_report.proofs.TiedReports.{spelled_report}
 
 -- ---- updates
 
@@ -39,50 +39,55 @@ next_named deck before (Commit by seq ∷ lines) each =
 next_named deck before (Start ∷ lines) each = All-cons (NamesUpdate deck) Start lines tt (next_named deck (before ++ Start ∷ []) lines each.1)
 
 -- The lines that a text spells are in the grammar, and their commits name updates of the deck.
-pub spelled_right : (deck : Deck) (text : List ℕ) (lines : ReportLines) → SpellsReport deck text lines → InGrammar deck lines
-unfolding SpellsReport
+pub spelled_right : (deck : Deck) (text : List ℕ) (lines : ReportLines) → SpellsLines deck text lines → InGrammar deck lines
+unfolding SpellsLines
 spelled_right deck text lines spelled = spelled_kept deck (records_of text) lines spelled
 
-pub spelled_named : (deck : Deck) (text : List ℕ) (lines : ReportLines) → SpellsReport deck text lines → All (NamesUpdate deck) lines.events
+pub spelled_named : (deck : Deck) (text : List ℕ) (lines : ReportLines) → SpellsLines deck text lines → All (NamesUpdate deck) lines.events
 spelled_named deck text lines spelled = next_named deck [] lines.events (spelled_right deck text lines spelled).events
 
 -- ---- the report
 
--- Each event of a line is named by the line.
-named_back : (deck : Deck) (lines : List EventLine) → map its_line (map (event_in deck) lines) ≡ lines
-named_back deck [] = refl
-named_back deck (Commit by seq ∷ lines) = ap (λ es. Commit by seq ∷ es) (named_back deck lines)
-named_back deck (Start ∷ lines) = ap (λ es. Start ∷ es) (named_back deck lines)
+module _ (deck : Deck) (text : List ℕ) (lines : ReportLines) (read : ReadReport) (spelled : SpellsLines deck text lines) (made : IsMadeOf deck lines read) where
+  same_history : length read.report.history ≡ length lines.events
+  same_history = ap (λ (r : Report). length r.history) made.report ∙ length-map lines.events (event_in deck)
 
-lines_back : (deck : Deck) (lines : ReportLines) → lines_in (report_in deck lines) ≡ lines
-lines_back deck lines = ap (λ es. record lines { events = es }) (named_back deck lines.events)
+  same_verdicts : length lines.verdicts ≡ length read.report.verdicts
+  same_verdicts = ap (λ (r : Report). length r.verdicts) (sym made.report)
 
-module _ (deck : Deck) (text : List ℕ) (lines : ReportLines) (read : ReadReport) (spelled : SpellsReport deck text lines) (made : IsMadeOf deck lines read) where
-  its_lines : lines_in read.report ≡ lines
-  its_lines = ap lines_in made.report ∙ lines_back deck lines
+  same_counts : length lines.counts ≡ length read.report.counts
+  same_counts = ap (λ (r : Report). length r.counts) (sym made.report)
 
-  its_legal : IsLegal deck read.report.history
-  its_legal = subst (λ (r : Report). IsLegal deck r.history) (sym made.report) (legal deck lines.events (spelled_right deck text lines spelled).events)
+  same_glances : length lines.glances ≡ length read.report.glances
+  same_glances = ap (λ (r : Report). length r.glances) (sym made.report)
+
+  same_looks : length lines.looks ≡ length read.report.looks
+  same_looks = ap (λ (r : Report). length r.looks) (sym made.report)
 
   pub is_report : IsReportOf deck text read
-  is_report = record {
-    spelled = subst (SpellsReport deck text) (sym its_lines) spelled;
-    legal = its_legal;
-    verdict_rows = made.verdict_rows ∙ sym (rows.verdict_rows deck text lines spelled);
-    glance_rows = made.glance_rows ∙ sym (rows.glance_rows deck text lines spelled);
-    look_rows = made.look_rows ∙ sym (rows.look_rows deck text lines spelled);
-  }
+  is_report =
+      let H = length read.report.history in let V = length read.report.verdicts in let C = length read.report.counts in let G = length read.report.glances in
+      let verdict_row : 1 + length lines.events ≡ 1 + H = omega (arith, same_history) in
+      let glance_row : 1 + length lines.events + length lines.verdicts + length lines.counts ≡ 1 + H + V + C = omega (arith, same_history, same_verdicts, same_counts) in
+      let look_row : 1 + length lines.events + length lines.verdicts + length lines.counts + length lines.glances ≡ 1 + H + V + C + G = omega (arith, same_history, same_verdicts, same_counts, same_glances) in
+      record {
+        spelled = subst (SpellsReport deck text) (sym made.report) (spelled_report deck text lines spelled);
+        verdict_rows = made.verdict_rows ∙ ap₂ range_with_len verdict_row same_verdicts;
+        glance_rows = made.glance_rows ∙ ap₂ range_with_len glance_row same_glances;
+        look_rows = made.look_rows ∙ ap₂ range_with_len look_row same_looks;
+      }
 
   pub keeps : length text ≤ MOST_REPORT_BYTES → KeepsGrammar deck read
   keeps limit =
       let few : line_count lines ≤ MOST_REPORT_BYTES + 1 = omega (arith, few_lines deck text lines spelled, limit) in
-      let history : length read.report.history ≡ length lines.events = ap (λ (r : Report). length r.history) made.report ∙ length-map lines.events (event_in deck) in
+      let history = same_history in
       let verdicts : length read.report.verdicts ≡ length lines.verdicts = ap (λ (r : Report). length r.verdicts) made.report in
       let glances : length read.report.glances ≡ length lines.glances = ap (λ (r : Report). length r.glances) made.report in
       let looks : length read.report.looks ≡ length lines.looks = ap (λ (r : Report). length r.looks) made.report in
       record {
-        legal = its_legal;
-        lines = subst (InGrammar deck) (sym its_lines) (spelled_right deck text lines spelled);
+        legal = is_report.spelled.report.legal;
+        known = is_report.spelled.report.known;
+        begun = is_report.spelled.report.begun;
         verdict_rows = ap length made.verdict_rows ∙ length-range_with_len _ (length lines.verdicts) ∙ sym verdicts;
         glance_rows = ap length made.glance_rows ∙ length-range_with_len _ (length lines.glances) ∙ sym glances;
         look_rows = ap length made.look_rows ∙ length-range_with_len _ (length lines.looks) ∙ sym looks;
@@ -95,7 +100,7 @@ module _ (deck : Deck) (text : List ℕ) (lines : ReportLines) (read : ReadRepor
 -- ---- sizes and rows
 
 -- A text spells few lines in all.
-pub sizes : (deck : Deck) (text : List ℕ) (lines same : ReportLines) → SpellsReport deck text lines → length text ≤ MOST_REPORT_BYTES → same ≡ lines
+pub sizes : (deck : Deck) (text : List ℕ) (lines same : ReportLines) → SpellsLines deck text lines → length text ≤ MOST_REPORT_BYTES → same ≡ lines
     → length same.events + length same.verdicts + length same.counts + length same.glances + length same.looks ≤ MOST_REPORT_BYTES + 1
 sizes deck text lines same spelled limit is = omega (arith, few_lines deck text lines spelled, limit, ap line_count is)
 

@@ -15,7 +15,7 @@ use Rattle.item_catalog.proofs.KindLemmas.{least_spelled, none_spelled, rising}
 use Rattle.item_catalog.proofs.RecordPlaces as places
 use Rattle.air_report.specs.Kinds.{report_kind_number}
 use Rattle.air_report.specs.LineTexts.{spelled_line}
-use Rattle.air_report.specs.ReportFaults.{line_kinds_after, line_kinds_at, line_place_kinds, line_tests, spelled_lines}
+use Rattle.air_report.specs.LineFaults.{line_kinds_after, line_kinds_at, line_place_kinds, line_tests, spelled_lines}
 use Rattle.air_report.specs.ReportLines.{ReportLines, its_counts, its_event, its_glance, its_look, its_verdict, sections_of}
 use Rattle.air_report.specs.Private.RecordAnswers.{line_record_kind, with_one_line}
 use Rattle.air_report.specs.declared.reading.kinds.FaultKind.{FaultKind}

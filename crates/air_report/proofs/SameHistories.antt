@@ -9,13 +9,11 @@ use Rattle.air_history.specs.UpdateLists.{UpdateLists}
 use Rattle.air_history.specs.declared.histories.Event.{Event}
 use Rattle.air_history.specs.declared.histories.Event.TheVariants as e
 use Rattle.air_model.specs.Decks.{Deck, IsLegal, IsNextCommit, count_made, is_by, updates_by}
-use Rattle.air_model.specs.Reports.{Report, report_text}
-use Rattle.air_report.specs.ReportFaults.{is_next}
-use Rattle.air_report.specs.ReportGrammar.{SpellsReport}
-use Rattle.air_report.specs.ReportLines.{ReportLines, commits_by, commits_of, event_in, its_line, lines_in, report_in}
-use Rattle.air_report.specs.ReportRules.{EachNext, HasWidths, InGrammar}
+use Rattle.air_model.specs.Reports.{Report}
+use Rattle.air_report.specs.LineFaults.{is_next}
+use Rattle.air_report.specs.ReportLines.{commits_by, commits_of, event_in, its_line, lines_in, report_in}
+use Rattle.air_report.specs.LineRules.{EachNext}
 use Rattle.air_report.proofs.LegalLines.{legal}
-use Rattle.air_report.proofs.StandingLines.{read_back}
 
 -- An updater's commits are as many as their lines.
 its_line_same : (by : ℕ) (H : List Event) → commits_by by (map its_line H) ≡ count_made by H
@@ -82,11 +80,3 @@ module _ (deck : Deck) where
 
   pub report_same : (report : Report) → IsLegal deck report.history → report_in deck (lines_in report) ≡ report
   report_same report legal = ap (λ H. record report { history = H }) (legal_same report.history legal)
-
-  -- What is read of a report's text stands for the report.
-  pub read_same : (report : Report) → HasWidths (lines_in report) → InGrammar deck (lines_in report) → IsLegal deck report.history
-      → (lines : ReportLines) → SpellsReport deck (report_text report) lines → report_in deck lines ≡ report
-  unfolding SpellsReport
-  read_same report wide right legal lines spelled =
-      let own = read_back deck report wide right in
-      ap (report_in deck) (spelled.sections ∙ sym own.sections) ∙ report_same report legal

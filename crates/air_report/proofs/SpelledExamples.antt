@@ -1,4 +1,5 @@
--- What small texts spell as reports of a small deck, by the relations themselves: where each holds, and where it doesn't.
+-- What small texts spell as reports of a small deck, record by record, and then as what is printed of reports: where it holds, and where it
+-- doesn't.
 use Rattle.std.proofs.Common.{◌≡◌, ◌<◌, ◌≤◌, ◌^◌, get_or, ℕ, zero, suc, List, [], ◌∷◌, None, false, All, refl, ap, arith}
 use Rattle.std.specs.Prelude.{codes, length}
 use Rattle.std.proofs.lemmas.List.Elements.{All-from_recursion, All-nil}
@@ -15,15 +16,15 @@ use Rattle.air_base.specs.declared.limits.TheConstants.{MOST_ASKED, MOST_RATE}
 use Rattle.item_catalog.specs.DeckLimits.{DiskWithin, ReaderWithin, WithinLimits}
 use Rattle.air_report.specs.LineTexts.{short_of, spelled_item, spelled_place, spelled_read}
 use Rattle.air_report.specs.ReadReports.{IsReportOf}
-use Rattle.air_report.specs.ReportFaults.{line_kinds_at}
-use Rattle.air_report.specs.ReportGrammar.{HasReportFault, RowsSpellLines, SpellsReport}
-use Rattle.air_report.specs.ReportLines.{ReportLines, lines_in}
+use Rattle.air_report.specs.ReportGrammar.{HasReportFault, SpellsReport}
 use Rattle.air_report.specs.ReportRules.{CountsWide, EventWide, HasWidths, LookWide, ReadWide, VerdictWide}
+use Rattle.air_report.specs.LineFaults.{line_kinds_at}
+use Rattle.air_report.specs.LineGrammar.{HasLineFault, RowsSpellLines, SpellsLines}
+use Rattle.air_report.specs.ReportLines.{ReportLines, lines_in}
 use Rattle.air_report.specs.declared.reading.ReadReport.{ReadReport}
 use Rattle.air_report.proofs.HistoryRows.{one_history}
-use Rattle.air_report.proofs.KeptLines.{spelled_kept}
-use Rattle.air_report.proofs.LegalLines.{legal}
 use Rattle.air_report.proofs.TextExamples.{deck}
+use Rattle.air_report.proofs.TiedReports.{one_fault, spelled_report, told_fault}
 
 -- The fields of a record.
 abbrev Row : Type 0
@@ -38,7 +39,7 @@ abbrev its_bytes : List ℕ
 its_bytes = codes "start\ncommit,0,0\nunfinished,0,0,1,0@1=10\nlook,0,1,30\n"
 
 -- The report that they spell.
-abbrev report : Report
+abbrev pub report : Report
 report = record {
   history = e.Start ∷ e.Commit 0 0 (record { reads = []; writes = record { item = 0; base = None; minus = false; amount = 5 } ∷ [] }) ∷ [];
   verdicts = record { reader = 0; verdict = record { query = 0; attempt = 1; kind = Unfinished }; reads = record { item = 0; cycle = 1; value = 10 } ∷ [] } ∷ [];
@@ -69,29 +70,33 @@ not_rows_spell = (
 )
 
 -- By its bytes.
-spells : SpellsReport deck its_bytes (lines_in report)
-unfolding SpellsReport csv_on_literals
+spells : SpellsLines deck its_bytes (lines_in report)
+unfolding SpellsLines csv_on_literals
 spells = rows_spell
 
 -- What is read of the bytes: the report, and the rows of its verdict and of its look.
 abbrev read : ReadReport
 read = record { report = report; verdict_rows = 3 ∷ []; glance_rows = []; look_rows = 4 ∷ [] }
 
-is_legal : IsLegal deck report.history
-is_legal = let kept = spelled_kept deck rows (lines_in report) rows_spell in legal deck (lines_in report).events kept.events
+-- The report, whose rows they are.
+pub spells_report : SpellsReport deck its_bytes report
+spells_report = spelled_report deck its_bytes (lines_in report) spells
+
+-- Not without one of its lines.
+not_spelled : SpellsReport deck its_bytes (record report { looks = [] }) → ⊥
+unfolding csv_on_literals
+not_spelled h = let n : 4 ≡ 3 = ap length h.rows in omega (arith, n)
 
 is_report : IsReportOf deck its_bytes read
-unfolding csv_on_literals spelled_read spelled_place spelled_item short_of number_of all_some
-is_report = record { spelled = spells; legal = is_legal; verdict_rows = refl; glance_rows = refl; look_rows = refl }
+is_report = record { spelled = spells_report; verdict_rows = refl; glance_rows = refl; look_rows = refl }
 
 -- Not where another row is told.
 not_report : IsReportOf deck its_bytes (record read { look_rows = 3 ∷ [] }) → ⊥
-unfolding csv_on_literals spelled_read spelled_place spelled_item short_of number_of all_some
-not_report h = let rows_are : 3 ∷ [] ≡ 4 ∷ [] = h.look_rows in let row : 3 ≡ 4 = ap (λ rs. get_or rs 0 0) rows_are in omega (arith, rows_are)
+not_report h = let rows_are : 3 ∷ [] ≡ 4 ∷ [] = h.look_rows in let row : 3 ≡ 4 = ap (λ rs. get_or rs 0 0) rows_are in omega (arith, row)
 
 -- A look at a cycle that has not begun, in the second record.
-by_bytes : HasReportFault deck (codes "start\nlook,0,2,30\n") 2 7
-unfolding HasReportFault line_kinds_at csv_on_literals spelled_read spelled_place spelled_item short_of number_of all_some
+by_bytes : HasLineFault deck (codes "start\nlook,0,2,30\n") 2 7
+unfolding HasLineFault line_kinds_at csv_on_literals spelled_read spelled_place spelled_item short_of number_of all_some
 by_bytes = (
   1,
   refl,
@@ -110,10 +115,16 @@ by_bytes = (
     least zero d below = omega arith
     least (suc k) d below = absurd (omega arith)
 
--- Rows count from 1, so no fault is in row 0.
+-- It is the fault of the text, behind the one row of a report.
+pub has_fault : HasReportFault deck (codes "start\nlook,0,2,30\n") 2 7
+has_fault = told_fault deck (codes "start\nlook,0,2,30\n") 2 7 by_bytes
+
+-- Rows count from 1, so no fault is in row 0; and there is no other kind.
 not_row_0 : HasReportFault deck (codes "start\nlook,0,2,30\n") 0 7 → ⊥
-unfolding HasReportFault
-not_row_0 (place, row, first) = omega (arith, row)
+not_row_0 h = omega (arith, h.place)
+
+not_kind_6 : HasReportFault deck (codes "start\nlook,0,2,30\n") 2 6 → ⊥
+not_kind_6 h = let same = one_fault deck (codes "start\nlook,0,2,30\n") 2 6 2 7 h has_fault in omega (arith, same.1)
 
 -- ---- widths
 
@@ -124,16 +135,16 @@ widest = record { item = omega arith; cycle = omega arith; value = omega arith }
 too_wide : ReadWide (record { item = 0; cycle = 4294967296; value = 0 }) → ⊥
 too_wide h = let low : 4294967296 < 2 ^ 32 = h.cycle in omega arith
 
--- A line with such a read.
-abbrev wide_lines : ReportLines
-wide_lines = record (lines_in report) {
+-- A report with such a read.
+abbrev wide_report : Report
+wide_report = record report {
   verdicts = record { reader = 0; verdict = record { query = 0; attempt = 1; kind = Accept }; reads = record { item = 0; cycle = 4294967295; value = 10 } ∷ [] } ∷ [];
 }
 
-wide : HasWidths wide_lines
+wide : HasWidths wide_report
 wide = record {
-  events = All-from_recursion EventWide wide_lines.events (tt, ((omega arith, omega arith), tt));
-  verdicts = All-from_recursion VerdictWide wide_lines.verdicts (
+  events = All-from_recursion EventWide wide_report.history (tt, ((omega arith, omega arith), tt));
+  verdicts = All-from_recursion VerdictWide wide_report.verdicts (
     record {
       reader = omega arith;
       query = omega arith;
@@ -145,7 +156,7 @@ wide = record {
   );
   counts = All-nil CountsWide;
   glances = All-nil LookWide;
-  looks = All-from_recursion LookWide wide_lines.looks (record { monitor = omega arith; cycle = omega arith; total = omega arith }, tt);
+  looks = All-from_recursion LookWide wide_report.looks (record { monitor = omega arith; cycle = omega arith; total = omega arith }, tt);
 }
 
 -- ---- the history that a text tells
@@ -178,4 +189,4 @@ within = record {
 -- Every report with a legal history that is this text has this one, and it needn't be whole.
 one_told : (other : Report) → IsLegal deck other.history → report_text other ≡ its_bytes → other.history ≡ report.history
 unfolding report_text rows_text number_text escaped fields_text is_blank
-one_told other legal_other text = one_history deck other report within legal_other is_legal text
+one_told other legal_other text = one_history deck other report within legal_other spells_report.report.legal text

@@ -8,23 +8,23 @@ use Rattle.air_history.specs.declared.histories.Event.TheVariants as e
 use Rattle.air_model.specs.Decks.{Deck}
 use Rattle.air_base.specs.declared.verdicts.VerdictKind.{VerdictKind}
 use Rattle.air_base.specs.declared.verdicts.VerdictKind.TheVariants as kind
-use Rattle.air_model.specs.Reports.{Report, counts_row, event_row, kind_row, look_row, report_rows, report_text, verdict_row}
+use Rattle.air_model.specs.Reports.{Report, counts_row, event_row, kind_row, look_row, report_rows, verdict_row}
 use Rattle.air_model.specs.declared.reports.CountsLine.{CountsLine}
 use Rattle.air_model.specs.declared.reports.LookLine.{LookLine}
 use Rattle.air_model.specs.declared.reports.VerdictLine.{VerdictLine}
 use Rattle.item_catalog.specs.FirstFaults.{NoneBefore}
 use Rattle.item_catalog.specs.RecordKinds.{first_of}
 use Rattle.air_report.specs.LineTexts.{spelled_line}
-use Rattle.air_report.specs.ReportFaults.{line_kinds_at, line_tests, spelled_lines}
-use Rattle.air_report.specs.ReportGrammar.{RowsSpellLines, SpellsReport}
+use Rattle.air_report.specs.LineFaults.{line_kinds_at, line_tests, spelled_lines}
 use Rattle.air_report.specs.ReportLines.{ReportLines, its_line, lines_in, sections_of, starts_in}
 use Rattle.air_report.specs.Private.RecordAnswers.{line_record_kind, with_one_line}
 use Rattle.air_report.specs.declared.reading.lines.EventLine.{EventLine}
 use Rattle.air_report.specs.declared.reading.lines.Line.{Line}
 use Rattle.air_report.specs.declared.reading.lines.Line.TheVariants as l
 use Rattle.air_report.proofs.PlaceLemmas.{lines_more, none_added, sections_more}
-use Rattle.air_report.specs.ReportRules.{CountsWide, EachNext, EventWide, HasWidths, InGrammar, IsRight, LookWide, VerdictWide}
-use Rattle.item_catalog.proofs.WrittenRows.{EachPlain, Plain, plain_map, plain_more, written_rows}
+use Rattle.air_report.specs.LineRules.{EachNext, LineWide, LinesWide, InGrammar, IsRight}
+use Rattle.air_report.specs.ReportRules.{CountsWide, LookWide, VerdictWide}
+use Rattle.item_catalog.proofs.WrittenRows.{EachPlain, Plain, plain_map, plain_more}
 use Rattle.air_report.proofs.TextLemmas.{counts_spelled, event_spelled, glance_spelled, look_spelled, verdict_spelled}
 
 abbrev by_parts : List EventLine → List VerdictLine → List CountsLine → List LookLine → List LookLine → ReportLines
@@ -74,12 +74,12 @@ module _ (deck : Deck) where
   abbrev FineEvents : List Event → List Event → Type 0
   FineEvents done xs = Fine at_events (λ x. l.Event (its_line x)) event_row put_event done xs
 
-  fine_events : (done xs : List Event) → EachNext deck (map its_line done) (map its_line xs) → All EventWide (map its_line xs) → FineEvents done xs
+  fine_events : (done xs : List Event) → EachNext deck (map its_line done) (map its_line xs) → All LineWide (map its_line xs) → FineEvents done xs
   fine_events done [] n w = tt
   fine_events done (x ∷ xs) n w = (
-    event_spelled x (All-head EventWide (its_line x) (map its_line xs) w),
+    event_spelled x (All-head LineWide (its_line x) (map its_line xs) w),
     rw n.0 refl,
-    fine_events (done ++ x ∷ []) xs (subst (λ es. EachNext deck es (map its_line xs)) (sym (map-append its_line done (x ∷ []))) n.1) (All-tail EventWide (its_line x) (map its_line xs) w),
+    fine_events (done ++ x ∷ []) xs (subst (λ es. EachNext deck es (map its_line xs)) (sym (map-append its_line done (x ∷ []))) n.1) (All-tail LineWide (its_line x) (map its_line xs) w),
   )
 
   -- ---- the other sections
@@ -102,7 +102,7 @@ module _ (deck : Deck) where
   none_stand : Stands [] (by_parts [] [] [] [] [])
   none_stand = record { faultless = λ place below. absurd (omega arith); sections = refl }
 
-  pub stand : (report : Report) → HasWidths (lines_in report) → InGrammar deck (lines_in report) → Stands (report_rows report) (lines_in report)
+  pub stand : (report : Report) → LinesWide (lines_in report) → InGrammar deck (lines_in report) → Stands (report_rows report) (lines_in report)
   stand report w g =
       let es = map its_line report.history in let vs = report.verdicts in let cs = report.counts in let gs = report.glances in
       let H = map event_row report.history in let V = H ++ map verdict_row vs in let C = V ++ map counts_row cs in let G = C ++ map (look_row (codes "glance")) gs in
@@ -136,10 +136,3 @@ plain_report report =
     let p3 = plain_more (H ++ V) C p2 (plain_map counts_row (λ x rest. refl) report.counts) in
     let p4 = plain_more (H ++ V ++ C) G p3 (plain_map (look_row (codes "glance")) (λ x rest. refl) report.glances) in
     plain_more (H ++ V ++ C ++ G) L p4 (plain_map (look_row (codes "look")) (λ x rest. refl) report.looks)
-
-pub read_back : (deck : Deck) (report : Report) → HasWidths (lines_in report) → InGrammar deck (lines_in report) → SpellsReport deck (report_text report) (lines_in report)
-unfolding SpellsReport report_text
-read_back deck report w g =
-    let s = stand deck report w g in
-    let P : List (List (List ℕ)) → Type 0 = λ rows. RowsSpellLines deck rows (lines_in report) in
-    subst P (sym (written_rows (report_rows report) (plain_report report))) (record { faultless = s.faultless; sections = sym s.sections })

@@ -7,7 +7,7 @@ use Rattle.air_base.specs.declared.verdicts.Policy.TheVariants.{FMatrix}
 use Rattle.air_base.specs.declared.verdicts.VerdictKind.TheVariants as kind
 use Rattle.air_model.specs.Decks.{Deck}
 use Rattle.air_report.specs.LineTexts.{short_of, spelled_item, spelled_place, spelled_read}
-use Rattle.air_report.specs.ReportFaults.{line_kinds_at, spelled_lines}
+use Rattle.air_report.specs.LineFaults.{line_kinds_at, spelled_lines}
 use Rattle.air_report.specs.ReportLines.{sections_of}
 use Rattle.air_report.specs.declared.reading.lines.EventLine.TheVariants.{Commit, Start}
 

@@ -26,7 +26,8 @@ use Rattle.air_report.specs.LineTexts.{short_of, spelled_item, spelled_line, spe
 use Rattle.air_report.specs.ReportLines.{its_line}
 use Rattle.air_report.specs.declared.reading.lines.Line.TheVariants as l
 use Rattle.air_report.proofs.ReadLemmas.{place_made, read_made}
-use Rattle.air_report.specs.ReportRules.{CountsWide, EndWide, EventWide, LookWide, ReadWide, VerdictWide}
+use Rattle.air_report.specs.LineRules.{LineWide}
+use Rattle.air_report.specs.ReportRules.{CountsWide, EndWide, LookWide, ReadWide, VerdictWide}
 
 -- ---- numbers
 
@@ -40,13 +41,13 @@ short_text n small = let test : nat_lt n (2 ^ 32) ≡ true = grind arith in rw (
 
 -- ---- places and reads
 
-place_is : (item cycle : ℕ) → place_text item cycle ≡ number_text item ++ 64 ∷ number_text cycle
+pub place_is : (item cycle : ℕ) → place_text item cycle ≡ number_text item ++ 64 ∷ number_text cycle
 place_is item cycle = append_assoc (number_text item) (64 ∷ []) (number_text cycle)
 
 pub place_spelled : (item cycle : ℕ) → item < 2 ^ 16 → cycle < 2 ^ 32 → ◌≡◌ {A = Option (ℕ × ℕ)} (spelled_place (place_text item cycle)) (Some (item, cycle))
 place_spelled item cycle hi hc = ap spelled_place (place_is item cycle) ∙ place_made (number_text item) (number_text cycle) item cycle (item_text item hi) (short_text cycle hc)
 
-read_is : (r : ReadOf) → read_text r ≡ number_text r.item ++ 64 ∷ (number_text r.cycle ++ 61 ∷ number_text r.value)
+pub read_is : (r : ReadOf) → read_text r ≡ number_text r.item ++ 64 ∷ (number_text r.cycle ++ 61 ∷ number_text r.value)
 read_is r =
     append_assoc (place_text r.item r.cycle) (61 ∷ []) (number_text r.value) ∙ ap (λ t. t ++ 61 ∷ number_text r.value) (place_is r.item r.cycle)
     ∙ append_assoc (number_text r.item) (64 ∷ number_text r.cycle) (61 ∷ number_text r.value)
@@ -98,7 +99,7 @@ reads_spelled rs w =
 
 -- ---- lines
 
-pub event_spelled : (event : Event) → EventWide (its_line event) → spelled_line (event_row event) ≡ Ok (l.Event (its_line event))
+pub event_spelled : (event : Event) → LineWide (its_line event) → spelled_line (event_row event) ≡ Ok (l.Event (its_line event))
 event_spelled (e.Commit by seq update) w = rw (short_text by w.0, short_text seq w.1) refl
 event_spelled e.Start w = refl
 

@@ -1,8 +1,8 @@
 -- What a report that was read keeps to: the condition of its audit.
 use Rattle.std.specs.Prelude.{◌≡◌, ◌≤◌, ◌+◌, List, length}
+use Rattle.air_history.specs.Histories.{starts}
 use Rattle.air_model.specs.Decks.{Deck, IsLegal}
-use Rattle.air_report.specs.ReportRules.{InGrammar}
-use Rattle.air_report.specs.ReportLines.{lines_in}
+use Rattle.air_report.specs.ReportRules.{CyclesBegun, IsKnown}
 use Rattle.air_report.specs.declared.reading.limits.TheConstants.{MOST_REPORT_BYTES}
 use Rattle.air_report.specs.declared.reading.ReadReport.{ReadReport}
 
@@ -10,10 +10,12 @@ use Rattle.air_report.specs.declared.reading.ReadReport.{ReadReport}
 abbrev pub IsFew : {L : Type 0} → List L → Type 0
 IsFew lines = length lines ≤ MOST_REPORT_BYTES + 1
 
--- A report's history is legal for the deck, its lines are in the grammar, and it has as many rows as lines, and few of each.
+-- A report's history is legal for the deck, its lines name what the deck has and cycles that began, and it has as many rows as lines, and few
+-- of each.
 pub record KeepsGrammar (deck : Deck) (read : ReadReport) : Type 0 where
   pub legal : IsLegal deck read.report.history
-  pub lines : InGrammar deck (lines_in read.report)
+  pub known : IsKnown deck read.report
+  pub begun : CyclesBegun (starts read.report.history) read.report
   pub verdict_rows : length read.verdict_rows ≡ length read.report.verdicts
   pub glance_rows : length read.glance_rows ≡ length read.report.glances
   pub look_rows : length read.look_rows ≡ length read.report.looks

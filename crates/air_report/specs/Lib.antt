@@ -7,6 +7,9 @@ pub mod Statuses
 pub mod Kinds
 pub mod LineTexts
 pub mod ReportLines
-pub mod ReportFaults
-pub mod ReportGrammar
 pub mod ReportRules
+pub mod ReportGrammar
+pub mod LineFaults
+pub mod LineGrammar
+pub mod LineRules
+pub mod RecordRows

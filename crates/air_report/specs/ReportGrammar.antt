@@ -1,28 +1,82 @@
--- Which lines a report's text spells, and which fault it has.
+-- Which report a text spells, and which fault it has: by the rows that are printed of reports.
 --
--- A text spells lines where no kind of fault applies to any of its records. Else its fault is that of the first record to which
--- some kind applies, with the least of them. The laws of `laws` say that every text has just one of both.
-use Rattle.std.specs.Prelude.{◌≡◌, ◌+◌, ℕ, List, length, ⊤}
-use Rattle.air_model.specs.Decks.{Deck}
-use Rattle.item_catalog.specs.FirstFaults.{IsFirstFault, NoneBefore}
+-- A text spells a report of a deck where its records are the rows of the report. Else its first rows are those of a report of the deck,
+-- and behind them stands a row to which some kind of fault applies. The least of these kinds is told. The laws of `laws` say that every
+-- text has just one of both.
+use Rattle.std.specs.Prelude.{◌≡◌, ◌≢◌, ◌+◌, ◌≤◌, ◌++◌, ℕ, List, [], ◌∷◌, Option, None, Some, codes, get_or, length, option_map, ⊤}
+use Rattle.std.specs.List.{find}
+use Rattle.air_history.specs.Histories.{starts}
+use Rattle.air_model.specs.Decks.{Deck, IsLegal}
+use Rattle.air_model.specs.Reports.{Report, report_rows}
+use Rattle.item_catalog.specs.RecordFields.{◌is◌}
 use Rattle.item_catalog.specs.Records.{records_of}
-use Rattle.air_report.specs.ReportFaults.{line_kinds_at, spelled_lines}
-use Rattle.air_report.specs.ReportLines.{ReportLines, sections_of}
+use Rattle.air_report.specs.Kinds.{report_kind_number}
+use Rattle.air_report.specs.ReportRules.{CyclesBegun, HasWidths, IsKnown, IsReport}
 use Rattle.air_report.specs.declared.reading.faults.ReportError.{ReportError}
 use Rattle.air_report.specs.declared.reading.faults.ReportError.TheVariants as error
+use Rattle.air_report.specs.declared.reading.kinds.FaultKind.{FaultKind}
+use Rattle.air_report.specs.declared.reading.kinds.FaultKind.TheVariants as fault
 
--- The records spell the lines: no kind applies to a record, and these are the lines that they spell, by their sections.
-pub record RowsSpellLines (deck : Deck) (rows : List (List (List ℕ))) (lines : ReportLines) : Type 0 where
-  pub faultless : NoneBefore (line_kinds_at deck rows) (length rows)
-  pub sections : lines ≡ sections_of (spelled_lines rows)
+-- The text spells the report, as one of the deck.
+pub record SpellsReport (deck : Deck) (text : List ℕ) (r : Report) : Type 0 where
+  pub rows : records_of text ≡ report_rows r
+  pub report : IsReport deck r
 
--- The text spells the lines, as a report of the deck.
-unfoldable pub SpellsReport : Deck → List ℕ → ReportLines → Type 0
-SpellsReport deck text lines = RowsSpellLines deck (records_of text) lines
+-- ---- rows
 
--- The first faulty record of the text, counted from 1, is this row, and this the least kind that applies there.
-unfoldable pub HasReportFault : Deck → List ℕ → ℕ → ℕ → Type 0
-HasReportFault deck text row kind = (place : ℕ) × (row ≡ place + 1) × IsFirstFault (length (records_of text)) (line_kinds_at deck (records_of text)) place kind
+-- How many fields the rows of each tag have.
+abbrev pub row_lengths : List (List ℕ × ℕ)
+row_lengths = (codes "commit", 3) ∷ (codes "start", 1) ∷ (codes "accept", 5) ∷ (codes "abort", 7) ∷ (codes "unfinished", 5)
+    ∷ (codes "counts", 8) ∷ (codes "glance", 4) ∷ (codes "look", 4) ∷ []
+
+-- How many fields a row is to have: its first field is its tag.
+abbrev pub due_length : List (List ℕ) → Option ℕ
+due_length row = option_map (λ (entry : List ℕ × ℕ). entry.1) (find (λ (entry : List ℕ × ℕ). get_or row 0 [] is entry.0) row_lengths)
+
+-- A line of a row is a report that has this row alone, and whose numbers fit their types.
+pub record IsLineOf (row : List (List ℕ)) (line : Report) : Type 0 where
+  pub rows : report_rows line ≡ row ∷ []
+  pub widths : HasWidths line
+
+-- No line of the row is so.
+abbrev pub NoLine : List (List ℕ) → (Report → Type 0) → Type 0
+NoLine row P = (line : Report) → IsLineOf row line → P line → ⊥
+
+-- ---- faults
+
+-- One report after another, section by section.
+abbrev pub joined : Report → Report → Report
+joined r s = record {
+  history = r.history ++ s.history;
+  verdicts = r.verdicts ++ s.verdicts;
+  counts = r.counts ++ s.counts;
+  glances = r.glances ++ s.glances;
+  looks = r.looks ++ s.looks;
+}
+
+-- The kinds of fault that apply to a row behind the rows of a report. Where no line has the row, those that ask for one apply too.
+abbrev pub Applies : Deck → Report → List (List ℕ) → FaultKind → Type 0
+Applies deck before row fault.Fields = (due_length row ≢ None) × (due_length row ≢ Some (length row))
+Applies deck before row fault.Form = (due_length row ≢ None) × NoLine row (λ line. ⊤)
+Applies deck before row fault.Tag = due_length row ≡ None
+Applies deck before row fault.Order = NoLine row (λ line. report_rows (joined before line) ≡ report_rows before ++ report_rows line)
+Applies deck before row fault.Update = NoLine row (λ line. IsLegal deck (before.history ++ line.history))
+Applies deck before row fault.Deck = NoLine row (IsKnown deck)
+Applies deck before row fault.Cycle = NoLine row (CyclesBegun (starts before.history))
+
+-- The records of the text before this row, counted from 1, are the rows of a report of the deck, and this is the least kind that applies to
+-- the record of this row.
+pub record HasReportFault (deck : Deck) (text : List ℕ) (row kind : ℕ) : Type 0 where
+  pub before : Report
+  pub faulty : List (List ℕ)
+  pub behind : List (List (List ℕ))
+  pub which : FaultKind
+  pub records : records_of text ≡ report_rows before ++ faulty ∷ behind
+  pub report : IsReport deck before
+  pub place : row ≡ length (report_rows before) + 1
+  pub number : kind ≡ report_kind_number which
+  pub applies : Applies deck before faulty which
+  pub least : (other : FaultKind) → Applies deck before faulty other → kind ≤ report_kind_number other
 
 -- A fault that is answered is the text's; no memory has no cause.
 abbrev pub IsReportAnswer : Deck → List ℕ → ReportError → Type 0

@@ -1,24 +1,25 @@
--- What the lines of a report keep to: the widths of their numbers, and the grammar against a deck.
-use Rattle.std.specs.Prelude.{◌≡◌, ◌<◌, ◌^◌, ◌++◌, ℕ, List, [], ◌∷◌, true, All, ⊤}
+-- What a report of a deck may say: numbers that fit their types, a legal history, and lines that name what the deck has and cycles
+-- that began.
+use Rattle.std.specs.Prelude.{◌<◌, ◌≤◌, ◌^◌, ℕ, List, All, length, ⊤}
 use Rattle.air_base.specs.declared.verdicts.ReadOf.{ReadOf}
 use Rattle.air_base.specs.declared.verdicts.VerdictKind.{VerdictKind}
 use Rattle.air_base.specs.declared.verdicts.VerdictKind.TheVariants.{Accept, Abort, Unfinished}
-use Rattle.air_model.specs.Decks.{Deck}
+use Rattle.air_history.specs.Histories.{starts}
+use Rattle.air_history.specs.declared.histories.Event.{Event}
+use Rattle.air_history.specs.declared.histories.Event.TheVariants.{Commit, Start}
+use Rattle.air_model.specs.Decks.{Deck, IsLegal}
+use Rattle.air_model.specs.Reports.{Report}
+use Rattle.air_model.specs.SessionLaws.{IsOfReader, decided_on, reads_at}
+use Rattle.air_model.specs.Sessions.{Line, reader_of}
 use Rattle.air_model.specs.declared.reports.CountsLine.{CountsLine}
 use Rattle.air_model.specs.declared.reports.LookLine.{LookLine}
 use Rattle.air_model.specs.declared.reports.VerdictLine.{VerdictLine}
-use Rattle.air_report.specs.ReportFaults.{is_begun, is_known, is_next}
-use Rattle.air_report.specs.ReportLines.{ReportLines, starts_in}
-use Rattle.air_report.specs.declared.reading.lines.EventLine.{EventLine}
-use Rattle.air_report.specs.declared.reading.lines.EventLine.TheVariants.{Commit, Start}
-use Rattle.air_report.specs.declared.reading.lines.Line.{Line}
-use Rattle.air_report.specs.declared.reading.lines.Line.TheVariants.{Verdict, Counts, Glance, Look}
 
 -- ---- widths
 
 -- The numbers of a commit have 32 bits.
-abbrev pub EventWide : EventLine → Type 0
-EventWide (Commit by seq) = (by < 2 ^ 32) × (seq < 2 ^ 32)
+abbrev pub EventWide : Event → Type 0
+EventWide (Commit by seq update) = (by < 2 ^ 32) × (seq < 2 ^ 32)
 EventWide Start = ⊤
 
 -- An item has 16 bits, a cycle 32 and a value 64.
@@ -57,30 +58,42 @@ pub record LookWide (l : LookLine) : Type 0 where
   pub cycle : l.cycle < 2 ^ 32
   pub total : l.total < 2 ^ 64
 
--- Each number fits its type.
-pub record HasWidths (r : ReportLines) : Type 0 where
-  pub events : All EventWide r.events
+-- Each number of a report fits its type.
+pub record HasWidths (r : Report) : Type 0 where
+  pub events : All EventWide r.history
   pub verdicts : All VerdictWide r.verdicts
   pub counts : All CountsWide r.counts
   pub glances : All LookWide r.glances
   pub looks : All LookWide r.looks
 
--- ---- the grammar
+-- ---- the deck
 
--- Each commit is its updater's next after these and those before it.
-abbrev pub EachNext : Deck → List EventLine → List EventLine → Type 0
-EachNext deck before [] = ⊤
-EachNext deck before (line ∷ lines) = (is_next deck before line ≡ true) × EachNext deck (before ++ line ∷ []) lines
+-- The line of a session that a verdict's line tells.
+abbrev pub its_attempt : VerdictLine → Line
+its_attempt l = record { verdict = l.verdict; reads = l.reads }
 
--- What a line names is the deck's, and its cycles are among so many.
-pub record IsRight (deck : Deck) (starts : ℕ) (line : Line) : Type 0 where
-  pub known : is_known deck line ≡ true
-  pub begun : is_begun starts line ≡ true
+-- The verdict is on an attempt of one of the deck's readers.
+abbrev pub IsTried : Deck → VerdictLine → Type 0
+IsTried deck l = (l.reader < length deck.readers) × IsOfReader (reader_of deck l.reader) (its_attempt l)
 
--- The lines of a report are in the grammar, where all starts stand before the lines of the other sections.
-pub record InGrammar (deck : Deck) (r : ReportLines) : Type 0 where
-  pub events : EachNext deck [] r.events
-  pub verdicts : All (λ line. IsRight deck (starts_in r.events) (Verdict line)) r.verdicts
-  pub counts : All (λ line. IsRight deck (starts_in r.events) (Counts line)) r.counts
-  pub glances : All (λ line. IsRight deck (starts_in r.events) (Glance line)) r.glances
-  pub looks : All (λ line. IsRight deck (starts_in r.events) (Look line)) r.looks
+-- What lines name, beside updates and cycles, is the deck's.
+pub record IsKnown (deck : Deck) (r : Report) : Type 0 where
+  pub verdicts : All (IsTried deck) r.verdicts
+  pub counts : All (λ l. l.reader < length deck.readers) r.counts
+  pub glances : All (λ l. l.monitor < deck.settings.monitors) r.glances
+  pub looks : All (λ l. l.monitor < deck.settings.monitors) r.looks
+
+-- Each cycle that lines name is one of the first so many; a monitor may also have seen the catalog, as cycle 0.
+pub record CyclesBegun (starts : ℕ) (r : Report) : Type 0 where
+  pub verdicts : All (λ l. All (λ read. (1 ≤ read.cycle) × (read.cycle ≤ starts)) (decided_on l.verdict.kind (reads_at (its_attempt l)))) r.verdicts
+  pub glances : All (λ l. l.cycle ≤ starts) r.glances
+  pub looks : All (λ l. l.cycle ≤ starts) r.looks
+
+-- ---- a report
+
+-- It may be a report of the deck.
+pub record IsReport (deck : Deck) (r : Report) : Type 0 where
+  pub widths : HasWidths r
+  pub legal : IsLegal deck r.history
+  pub known : IsKnown deck r
+  pub begun : CyclesBegun (starts r.history) r

@@ -1,7 +1,7 @@
 -- The number of each status, and the line that a refusal prints.
-use Rattle.std.specs.Prelude.{ℕ, List, [], Option, Some, None}
-use Rattle.air_model.specs.Reports as fault
-use Rattle.air_model.specs.Reports.{fault_line}
+use Rattle.std.specs.Prelude.{ℕ, List, [], ◌∷◌, codes, map}
+use Rattle.air_base.specs.Numbers.{number_text}
+use Rattle.air_model.specs.Rows.{rows_text}
 use Rattle.air_report.specs.declared.status.Status.{Status}
 use Rattle.air_report.specs.declared.status.Status.TheVariants as status
 
@@ -22,28 +22,26 @@ status_number (status.TooMuch product) = 11
 status_number (status.TooLong bytes) = 12
 status_number (status.PlanTooLong slots) = 13
 
--- The fault that a status tells; a command that ran to its end, was out of memory, or could not write tells none.
-abbrev pub fault_told : Status → Option fault.Fault
-fault_told status.Ok = None
-fault_told status.Words = Some fault.Words
-fault_told (status.Deck row kind) = Some (fault.DeckFault row kind)
-fault_told status.ReadFault = Some fault.ReadFault
-fault_told status.WriteFault = None
-fault_told status.NoMemory = None
-fault_told (status.TapeCut at) = Some (fault.TapeCut at)
-fault_told (status.TooLarge limit) = Some (fault.TooLarge limit)
-fault_told (status.Report row kind) = Some (fault.ReportFault row kind)
-fault_told status.Differs = None
-fault_told (status.AirFault at) = Some (fault.AirFault at)
-fault_told (status.TooMuch product) = Some (fault.TooMuch product)
-fault_told (status.TooLong bytes) = Some (fault.TooLong bytes)
-fault_told (status.PlanTooLong slots) = Some (fault.PlanTooLong slots)
+-- The numbers that a status tells: its own, and then a row and a kind, a byte, a limit or a size. A command that ran to its end, was
+-- out of memory, or could not write tells none.
+abbrev pub status_numbers : Status → List ℕ
+status_numbers status.Words = 1 ∷ []
+status_numbers (status.Deck row kind) = 2 ∷ row ∷ kind ∷ []
+status_numbers status.ReadFault = 3 ∷ []
+status_numbers (status.TapeCut at) = 6 ∷ at ∷ []
+status_numbers (status.TooLarge limit) = 7 ∷ limit ∷ []
+status_numbers (status.Report row kind) = 8 ∷ row ∷ kind ∷ []
+status_numbers (status.AirFault at) = 10 ∷ at ∷ []
+status_numbers (status.TooMuch product) = 11 ∷ product ∷ []
+status_numbers (status.TooLong bytes) = 12 ∷ bytes ∷ []
+status_numbers (status.PlanTooLong slots) = 13 ∷ slots ∷ []
+status_numbers other = []
 
--- The line of a fault, if there is one.
-abbrev pub line_or_none : Option fault.Fault → List ℕ
-line_or_none None = []
-line_or_none (Some told) = fault_line told
+-- The line of some numbers; none of no number.
+abbrev pub fault_line : List ℕ → List ℕ
+fault_line [] = []
+fault_line (number ∷ numbers) = rows_text ((codes "fault" ∷ map number_text (number ∷ numbers)) ∷ [])
 
--- The line that a status prints; empty where it tells no fault.
+-- The line that a status prints.
 abbrev pub status_line : Status → List ℕ
-status_line status = line_or_none (fault_told status)
+status_line status = fault_line (status_numbers status)

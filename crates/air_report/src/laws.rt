@@ -1,22 +1,22 @@
 //! The law of reports both ways: what is written is read back. It is carried by a function that does nothing.
 
 ghost use Rattle.std.specs.Prelude.{◌≡◌, ℕ};
-ghost use Rattle.air_model.specs.Decks.{Deck, IsLegal};
+ghost use Rattle.air_model.specs.Decks.{Deck};
 ghost use Rattle.air_model.specs.Reports.{Report, report_text};
-ghost use Rattle.air_report.specs.ReportRules.{HasWidths, InGrammar};
+ghost use Rattle.air_report.specs.LineRules.{InGrammar};
 ghost use Rattle.air_report.specs.ReportGrammar.{HasReportFault};
 ghost use Rattle.air_report.specs.ReportLines.{lines_in};
+ghost use Rattle.air_report.specs.ReportRules.{HasWidths, IsReport};
 ghost use Rattle.air_report.specs.declared.reading.ReadReport.{ReadReport};
 ghost use Rattle.air_report.specs.ReadReports.{IsReportOf};
 
 pub(crate) mod reading;
 pub mod texts;
 
-/// The text of a report whose numbers fit their types, whose lines are in the grammar and whose history is legal has no fault, and what
-/// is read of it is this very report, its updates too.
+/// The text of a report whose numbers fit their types and whose lines are in the grammar has no fault, whatever updates its commits have.
+/// What is read of the text of a report of a deck is this very report, its updates too.
 pub fn read_back_law()
-    ensures faultless { (deck : Deck) (report : Report) → HasWidths (lines_in report) → InGrammar deck (lines_in report) →
+    ensures faultless { (deck : Deck) (report : Report) → HasWidths report → InGrammar deck (lines_in report) →
         (row kind : ℕ) → HasReportFault deck (report_text report) row kind → ⊥ }
-    ensures same { (deck : Deck) (report : Report) → HasWidths (lines_in report) → InGrammar deck (lines_in report) → IsLegal deck report.history →
-        (read : ReadReport) → IsReportOf deck (report_text report) read → read.report ≡ report }
+    ensures same { (deck : Deck) (report : Report) → IsReport deck report → (read : ReadReport) → IsReportOf deck (report_text report) read → read.report ≡ report }
 {}

@@ -3,7 +3,8 @@
 ghost use Rattle.std.specs.Prelude.{◌≡◌, ◌+◌, ◌≤◌, ◌^◌, length, IfErr, IfOk};
 ghost use Rattle.std.specs.List.{range_with_len};
 ghost use Rattle.air_report.specs.declared.reading.limits.TheConstants.{MOST_REPORT_BYTES};
-ghost use Rattle.air_report.specs.ReportGrammar.{IsReportAnswer, SpellsReport};
+ghost use Rattle.air_report.specs.LineGrammar.{SpellsLines};
+ghost use Rattle.air_report.specs.ReportGrammar.{IsReportAnswer};
 ghost use Rattle.air_report.specs.ReadReports.{IsReportOf};
 ghost use Rattle.air_report.specs.KeptReports.{KeepsGrammar};
 ghost use Rattle.air_report.specs.Private.ReportsOfLines.{IsMadeOf};
@@ -60,7 +61,7 @@ fn report_of(
     lines: ReadLines,
 ) -> Result<ReadReport, NoMemory>
     requires limit { length bytes.now ≤ MOST_REPORT_BYTES }
-    requires spelled { SpellsReport deck.now bytes.now lines }
+    requires spelled { SpellsLines deck.now bytes.now lines }
     ensures { IfOk result (IsMadeOf deck.now lines) }
 {
     let ReadLines {

@@ -19,8 +19,8 @@ fn time_on_air(deck: &Deck, slots: u32, rate: u32) -> u64 {
     buckets.saturating_mul(SECOND / u64::from(rate.max(1)))
 }
 
-/// The wait before each of `count` turns, so that all are taken before the time is over.
-fn turn(time: u64, count: u64) -> Duration {
+/// The wait before each of `count` commits or looks, so that all are done before the time is over.
+fn wait_of_each(time: u64, count: u64) -> Duration {
     Duration::from_nanos(time / count.saturating_add(1).max(1))
 }
 
@@ -30,7 +30,7 @@ fn waits_of(deck: &Deck, time: u64) -> [Duration; MOST_UPDATERS] {
     for by in 0..deck.updaters() {
         let place = by as usize;
         if place < MOST_UPDATERS {
-            waits[place] = turn(time, deck.updates(by).len() as u64);
+            waits[place] = wait_of_each(time, deck.updates(by).len() as u64);
         }
     }
     waits
@@ -53,5 +53,9 @@ pub fn gate_of<R: Files + Print + Clock + Clone + Drop>(
     };
     let deck = planned.deck();
     let time = time_on_air(deck, planned.program().slots(), rate);
-    Ok(PacedGate::from_now(clock, waits_of(deck, time), turn(time, u64::from(LOOKS))))
+    Ok(PacedGate::from_now(
+        clock,
+        waits_of(deck, time),
+        wait_of_each(time, u64::from(LOOKS)),
+    ))
 }

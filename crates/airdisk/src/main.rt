@@ -50,16 +50,7 @@ fn main(rt: HostRuntime) -> ExitCode {
     let Ok(gate) = gate_of(&rt, alloc, word(&words, 1), cast_rate(&words, settings)) else {
         return end_without_memory(&rt);
     };
-    let Ok(files) = rt.clone() else {
-        return end_without_memory(&rt);
-    };
-    let Ok(sending) = rt.clone() else {
-        return end_without_memory(&rt);
-    };
-    let Ok(hearing) = rt.clone() else {
-        return end_without_memory(&rt);
-    };
-    let Ok(telling) = rt.clone() else {
+    let Ok((files, sending, hearing, telling)) = four_runtimes(&rt) else {
         return end_without_memory(&rt);
     };
     let mut shelf = FileShelf::new(files);
@@ -70,6 +61,11 @@ fn main(rt: HostRuntime) -> ExitCode {
     let on_air = mast.last_failure().or(ear.ear().last_failure());
     explain(&rt, alloc, &words, &mut shelf, on_air, status);
     ExitCode::from(status.code())
+}
+
+/// The runtime four times, for the files, the mast, the ear and its reports.
+fn four_runtimes<R: Clone + Drop>(rt: &R) -> Result<(R, R, R, R), NoMemory> {
+    Ok((rt.clone()?, rt.clone()?, rt.clone()?, rt.clone()?))
 }
 
 /// The rate of the mast, if one is set and the words are those of a cast.
@@ -116,15 +112,32 @@ fn answer<R: Print + Eprint>(
     words: &[String],
 ) -> Result<Option<Status>, NoMemory> {
     match words {
-        [only] if is_help(only) => Ok(Some(print_text(rt, HELP))),
-        [only] if only.as_str() == "--version" || only.as_str() == "-V" => {
-            Ok(Some(print_text(rt, VERSION)))
-        }
-        [first, name] if first.as_str() == "help" => match command_help(alloc, HELP, name)? {
-            Some(text) => Ok(Some(print_text(rt, text.as_str()))),
-            None => Ok(None),
-        },
+        [only] => Ok(answer_alone(rt, only)),
+        [first, name] if first.as_str() == "help" => answer_help(rt, alloc, name),
         _ => Ok(None),
+    }
+}
+
+/// Prints the help or the version, if a word that stands alone asks for it, and answers the status of that.
+fn answer_alone<R: Print + Eprint>(rt: &R, only: &str) -> Option<Status> {
+    if is_help(only) {
+        return Some(print_text(rt, HELP));
+    }
+    if only == "--version" || only == "-V" {
+        return Some(print_text(rt, VERSION));
+    }
+    None
+}
+
+/// Prints the lines of the help on a command, if there are some, and answers the status of that.
+fn answer_help<R: Print + Eprint>(
+    rt: &R,
+    alloc: Global,
+    name: &str,
+) -> Result<Option<Status>, NoMemory> {
+    match command_help(alloc, HELP, name)? {
+        Some(text) => Ok(Some(print_text(rt, text.as_str()))),
+        None => Ok(None),
     }
 }
 

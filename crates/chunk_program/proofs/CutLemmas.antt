@@ -14,6 +14,10 @@ unfolding cut
 length-cut items [] = refl
 length-cut items (s ∷ specs) = ap suc (length-cut (drop s.size items) specs)
 
+-- The cut of a deck has as many disks as the deck.
+pub length_disks_in : (deck : Deck) → length (disks_in deck) ≡ length deck.disks
+length_disks_in deck = length-cut (order (rates_in deck)) deck.disks
+
 cut_freqs : (items : List ℕ) (specs : List DiskSpec) → All (λ (s : DiskSpec). s.freq ≤ 64) specs → All (λ (d : Disk). d.freq ≤ 64) (cut items specs)
 unfolding cut
 cut_freqs items [] few = λ k d below. absurd (omega arith)

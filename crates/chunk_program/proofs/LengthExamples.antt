@@ -1,8 +1,9 @@
 -- When a program is too long: by its number of slots, which is told.
 use Rattle.std.proofs.Common.{◌≡◌, ◌<◌, ℕ, List, [], ◌∷◌, length, refl, sym, arith}
+use Rattle.air_base.specs.declared.limits.TheConstants.{MOST_SLOTS}
 use Rattle.air_model.specs.Disks.{Disk}
 use Rattle.air_model.specs.Programs.{chunk, chunk_len, least_common_multiple, minor_cycle, num_chunks, num_minors, program}
-use Rattle.chunk_program.specs.Plans.{IsTooLong, most_slots}
+use Rattle.chunk_program.specs.Plans.{IsTooLong}
 
 -- Item 0 twice a cycle and item 1 once: four slots, as disk 1 has two chunks.
 abbrev small : List Disk
@@ -12,7 +13,7 @@ few_slots : length (program small) ≡ 4
 unfolding program least_common_multiple num_minors num_chunks chunk_len chunk minor_cycle
 few_slots = refl
 
-most : most_slots ≡ 16384
+most : MOST_SLOTS ≡ 16384
 most = refl
 
 -- A program of four slots isn't too long, whatever number is told.

@@ -14,18 +14,18 @@ use Rattle.air_model.specs.ProgramLaws.{IsAirable}
 use Rattle.air_model.proofs.ProgramLemmas.{disk_is}
 use Rattle.air_model.proofs.Elements.{Distinct, all_at, at_all, Distinct-left, Distinct-right, has_contains, pairs_at}
 use Rattle.air_model.proofs.SlotPlaces.{item_of_disk}
-use Rattle.chunk_program.specs.declared.cuts.Place.{Place}
+use Rattle.chunk_program.specs.declared.cuts.DiskPlace.{DiskPlace}
 use Rattle.chunk_program.specs.CutConditions.{AreDeckDisks}
 use Rattle.chunk_program.specs.PlaceTables.{HasPlaces, IsPlace}
 use Rattle.chunk_program.specs.Places.{place_number}
 
 -- One more item is put at its number.
-pub put_step : (disks : List Disk) (done items : List ℕ) (k item disk : ℕ) (places : List Place) → k < length items → item ≡ get_or items k 0 → item < length places
+pub put_step : (disks : List Disk) (done items : List ℕ) (k item disk : ℕ) (places : List DiskPlace) → k < length items → item ≡ get_or items k 0 → item < length places
     → HasPlaces disks (done ++ take k items) places → IsPlace disks item (record { disk = disk; place = k })
     → HasPlaces disks (done ++ take (k + 1) items) (set places item (record { disk = disk; place = k }))
 put_step disks done items k item disk places below is within before own i p held at = by (eqb_tells i item)
   where
-    new : Place
+    new : DiskPlace
     new = record { disk = disk; place = k }
 
     read : (q : ℕ) → slice_get (set places item (record { disk = disk; place = k })) q ≡ Some p → get_or (set places item (record { disk = disk; place = k })) q p ≡ p
@@ -35,7 +35,7 @@ put_step disks done items k item disk places below is within before own i p held
     by (inl same) =
         let put = get_or-set_same places item (record { disk = disk; place = k }) p within in
         let e : p ≡ record { disk = disk; place = k } = sym (read i at) ∙ ap (λ n. get_or (set places item (record { disk = disk; place = k })) n p) same.1 ∙ put in
-        subst (λ (x : Place). IsPlace disks i x) (sym e) (subst (λ n. IsPlace disks n (record { disk = disk; place = k })) (sym same.1) own)
+        subst (λ (x : DiskPlace). IsPlace disks i x) (sym e) (subst (λ n. IsPlace disks n (record { disk = disk; place = k })) (sym same.1) own)
     by (inr other) =
         let unmoved = get_or-set_other places item i new p other.1 in
         let inside = slice_get_within _ i p at in
@@ -84,12 +84,12 @@ place_is disks n d q i airable at item =
     }
 
 -- What a table has at an item's number is its place.
-pub own_place : (disks : List Disk) (places : List Place) (i : ℕ) (p : Place) → AreDeckDisks disks → HasPlaces disks (all_items disks) places → length places ≡ length (all_items disks)
+pub own_place : (disks : List Disk) (places : List DiskPlace) (i : ℕ) (p : DiskPlace) → AreDeckDisks disks → HasPlaces disks (all_items disks) places → length places ≡ length (all_items disks)
     → i < length (all_items disks) → p ≡ get_or places i p → IsPlace disks i p
 own_place disks places i p limits has long below is = has i p ((limits.numbers i).1 below) (slice_get_read places (length places) i p refl (omega arith) is)
 
 -- ---- one more disk
-pub items_none : (disks : List Disk) (places : List Place) → HasPlaces disks (all_items []) places
+pub items_none : (disks : List Disk) (places : List DiskPlace) → HasPlaces disks (all_items []) places
 unfolding all_items
 items_none disks places i p held at = absurd (let within = held.1 in omega arith)
 

@@ -6,14 +6,10 @@ use Rattle.air_model.specs.Programs.{program}
 use Rattle.chunk_program.specs.declared.programs.PlanFault.{PlanFault}
 use Rattle.chunk_program.specs.declared.programs.PlanFault.TheVariants as fault
 
--- A program has at most so many slots.
-abbrev pub most_slots : ℕ
-most_slots = MOST_SLOTS
-
 -- The program of the disks has so many slots, more than it may.
 pub record IsTooLong (disks : List Disk) (slots : ℕ) : Type 0 where
   pub counted : slots ≡ length (program disks)
-  pub above : most_slots < slots
+  pub above : MOST_SLOTS < slots
 
 -- A program that is too long is refused with its number of slots; no memory has no cause.
 abbrev pub IsPlanAnswer : List Disk → PlanFault → Type 0

@@ -19,7 +19,7 @@ use std::marker::Model;
 
 /// The number of an item's disk, and the item's number within it.
 #[derive(Clone, Copy)]
-pub struct Place {
+pub struct DiskPlace {
     pub disk: u32,
     pub place: u32,
 }
@@ -29,7 +29,7 @@ pub struct Place {
 pub struct Cut {
     order: Vec<u16>,
     disks: Vec<Disk>,
-    places: Vec<Place>,
+    places: Vec<DiskPlace>,
 }
 
 impl Model for Cut {
@@ -71,8 +71,8 @@ fn order(alloc: Global, rates: &[u32]) -> Result<Vec<u16>, AllocError>
     Ok(items)
 }
 
-/// Puts the places of a disk's items into the table, whose other entries stay.
-fn put_places(places: &mut [Place], disk: u32, items: &[u16])
+/// Puts the places of a disk's items into the table, whose other cells stay.
+fn put_places(places: &mut [DiskPlace], disk: u32, items: &[u16])
     requires within { All (λ i. i < length places.old) items.now }
     requires few { length items.now ≤ ITEM_NUMBERS }
     ensures { (disks : List ModelDisk) (done : List ℕ) → HasPlaces disks done places.old →
@@ -80,7 +80,7 @@ fn put_places(places: &mut [Place], disk: u32, items: &[u16])
         HasPlaces disks (done ++ items.now) places.new }
 {
     for (place, item) in items.iter().enumerate() {
-        places[*item as usize] = Place {
+        places[*item as usize] = DiskPlace {
             disk,
             place: place as u32,
         };
@@ -88,13 +88,13 @@ fn put_places(places: &mut [Place], disk: u32, items: &[u16])
 }
 
 /// The places of the items that the disks hold, `n` in all.
-fn places(alloc: Global, disks: &[Disk], n: usize) -> Result<Vec<Place>, AllocError>
+fn places(alloc: Global, disks: &[Disk], n: usize) -> Result<Vec<DiskPlace>, AllocError>
     requires limits { AreDeckDisks disks.now }
     requires count { n ≡ length (all_items disks.now) }
     ensures len { IfOk result (λ v. length v.items ≡ n) }
     ensures places { IfOk result (λ v. HasPlaces disks.now (all_items disks.now) v.items) }
 {
-    let mut places = vec![in alloc; Place { disk: 0, place: 0 }; n]?;
+    let mut places = vec![in alloc; DiskPlace { disk: 0, place: 0 }; n]?;
     for (number, disk) in disks.iter().enumerate() {
         put_places(&mut places, number as u32, disk.items());
     }

@@ -9,10 +9,10 @@
 
 mod files;
 mod notes;
+mod number_ranges;
 mod player;
 mod settings;
 mod telling;
-mod turns;
 
 use crate::player::Commands;
 use case_lines::play_stdin;

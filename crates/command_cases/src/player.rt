@@ -7,9 +7,9 @@ ghost use Rattle.std.specs.Thread.{IsSync};
 
 use crate::files::Files;
 use crate::notes::add_note;
+use crate::number_ranges::NumberRange;
 use crate::settings::Settings;
 use crate::telling::{add_air, add_end, add_numbers, count_lines};
-use crate::turns::Turns;
 use air_base::NoMemory;
 use air_cli::{air_main, air_quiet};
 use air_devices::{Gate, MemEar, MemMast, OpenGate};
@@ -109,22 +109,22 @@ impl<'r, R: Threads + Wait + Sync> Commands<'r, R> {
         alloc: Global,
         waits: bool,
         words: &[String],
-        turns: Turns,
+        range: NumberRange,
         came: &mut Vec<u8>,
     ) -> Result<(), NoMemory> {
         let mut told = Vec::new(alloc);
-        let mut from = turns.first;
-        for number in turns.first..turns.end {
-            self.settings.turn(alloc, turns.what, number)?;
+        let mut from = range.first;
+        for number in range.first..range.end {
+            self.settings.set_to(alloc, range.what, number)?;
             let mut one = Vec::new(alloc);
             self.play_once(alloc, waits, words, &OpenGate, &mut one)?;
             if number > from && one.as_slice() != told.as_slice() {
-                turns.add(from, number, &told, came)?;
+                range.add(from, number, &told, came)?;
                 from = number;
             }
             told = one;
         }
-        turns.add(from, turns.end, &told, came)
+        range.add(from, range.end, &told, came)
     }
 
     /// Plays a command, once or for each number.
@@ -137,7 +137,7 @@ impl<'r, R: Threads + Wait + Sync> Commands<'r, R> {
     ) -> Result<(), NoMemory> {
         let words = words_of(alloc, parts)?;
         match self.settings.each {
-            Some(turns) => self.play_each(alloc, waits, &words, turns, came),
+            Some(range) => self.play_each(alloc, waits, &words, range, came),
             None => self.play_once(alloc, waits, &words, &OpenGate, came),
         }
     }

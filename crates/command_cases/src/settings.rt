@@ -1,11 +1,11 @@
 //! What is set for the next command alone.
 //!
 //! `room`, `cut` and `flip` have a number, `fail` and `air_fail` numbers of calls, and `hears` the bytes of a datagram in hexadecimal
-//! digits; `each` has what is set, and the first and the last number to which it is set in turn (`turns`); `brief` has nothing.
+//! digits; `each` has what is set, and the first and the last number to which it is set in turn (`number_ranges`); `brief` has nothing.
 
 ghost use Rattle.std.specs.Prelude.{◌≤◌, length, All, IfOk};
 
-use crate::turns::{Turned, Turns};
+use crate::number_ranges::{NumberRange, Target};
 use air_base::NoMemory;
 use case_lines::{BadCase, Parts};
 use std::alloc::Global;
@@ -24,7 +24,7 @@ pub struct Settings {
     pub flip: Option<usize>,
     pub line: Option<u64>,
     /// What is set in turn, once for each run of the command.
-    pub each: Option<Turns>,
+    pub each: Option<NumberRange>,
     heard: Vec<Vec<u8>>,
     /// Whether only what no schedule changes is told.
     pub brief: bool,
@@ -59,7 +59,7 @@ impl Settings {
             b"air_fail" => self.air_fail = parts.numbers(alloc)?,
             b"cut" => self.cut = Some(parts.number() as usize),
             b"flip" => self.flip = Some(parts.number() as usize),
-            b"each" => self.each = Some(Turns::of(parts)),
+            b"each" => self.each = Some(NumberRange::of(parts)),
             b"hears" => {
                 if parts.left() == 0 {
                     parts.refuse(BadCase::Missing);
@@ -73,16 +73,16 @@ impl Settings {
     }
 
     /// Sets what is set in turn to a number.
-    pub fn turn(&mut self, alloc: Global, what: Turned, number: u64) -> Result<(), NoMemory> {
+    pub fn set_to(&mut self, alloc: Global, what: Target, number: u64) -> Result<(), NoMemory> {
         let next = number.saturating_add(1);
         match what {
-            Turned::Fail => self.fail = Vec::from_slice(alloc, &[number])?,
-            Turned::Both => self.fail = Vec::from_slice(alloc, &[number, next])?,
-            Turned::AirFail => self.air_fail = Vec::from_slice(alloc, &[number])?,
-            Turned::Room => self.room = number as usize,
-            Turned::Cut => self.cut = Some(number as usize),
-            Turned::Flip => self.flip = Some(number as usize),
-            Turned::Line => self.line = Some(number),
+            Target::Fail => self.fail = Vec::from_slice(alloc, &[number])?,
+            Target::Both => self.fail = Vec::from_slice(alloc, &[number, next])?,
+            Target::AirFail => self.air_fail = Vec::from_slice(alloc, &[number])?,
+            Target::Room => self.room = number as usize,
+            Target::Cut => self.cut = Some(number as usize),
+            Target::Flip => self.flip = Some(number as usize),
+            Target::Line => self.line = Some(number),
         }
         Ok(())
     }

@@ -11,7 +11,6 @@ use Rattle.air_devices.specs.Shelves.{ShelfState}
 use Rattle.air_devices.specs.Told.{WhereTold}
 use Rattle.air_model.specs.Decks.{Deck}
 use Rattle.air_model.specs.Programs.{least_common_multiple}
-use Rattle.air_model.specs.Reports.{fault_line}
 use Rattle.air_model.specs.Rows.{rows_text}
 use Rattle.air_report.specs.Statuses.{status_line}
 use Rattle.air_report.specs.declared.status.Status.{Status}
@@ -99,7 +98,7 @@ slots_told bytes before now s slots told spells answers e =
 -- ---- the line that is printed
 
 line_is : status_line (status.PlanTooLong 16632) ≡ codes "fault,13,16632\n"
-unfolding fault_line rows_text number_text escaped fields_text is_blank
+unfolding rows_text number_text escaped fields_text is_blank
 line_is = refl
 
 grown : (now : Option (List ℕ)) (text : List ℕ) → Appends (Some []) now text → now ≡ Some text

@@ -27,15 +27,15 @@ impl Outcome<BoardSide, Option<BoardSide>> for Sight {
 }
 
 /// The step by which a new reader sees what the writer saw.
-pub struct Notes;
+pub struct TellRule;
 
-impl Split<Option<BoardSide>> for Notes {
+impl Split<Option<BoardSide>> for TellRule {
     ghost left = { λ v. v };
 
     ghost right = { λ v. v };
 }
 
-impl Join<Option<BoardSide>> for Notes {
+impl Join<Option<BoardSide>> for TellRule {
     ghost use Rattle.std.specs.Prelude.{None};
 
     ghost both = { λ v w. w };

@@ -4,7 +4,7 @@ ghost use Rattle.left_right.specs.Sides.{view};
 ghost use Rattle.cycle_snapshot.specs.SideRule.{IsPublished};
 
 use crate::board_sides::BoardSide;
-use crate::rule::{Notes, SideReader, SideWriter, Sight};
+use crate::rule::{SideReader, SideWriter, Sight, TellRule};
 use air_base::NoMemory;
 use std::alloc::Global;
 use std::sync::Wait;
@@ -36,7 +36,7 @@ pub fn open_reader(writer: &mut SideWriter) -> Result<SideReader, NoMemory>
     ensures reader { IfOk result (λ r. view r.place ≡ view writer.old.desk.place) }
 {
     let mut reader = writer.factory().reader()?;
-    let note = writer.tell::<Notes>();
-    reader.learn::<Notes>(note);
+    let note = writer.tell::<TellRule>();
+    reader.learn::<TellRule>(note);
     Ok(reader)
 }

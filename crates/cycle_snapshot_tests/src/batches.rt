@@ -1,4 +1,4 @@
-//! Batches as rows of a table, and a publisher that publishes a given number of one form.
+//! Batches as rows of a table, and a publisher that publishes a given number that are alike.
 ghost use Rattle.std.specs.Prelude.{◌≡◌, ◌+◌, ◌≤◌, length, IfOk};
 ghost use Rattle.cycle_snapshot.specs.Batches.{IsBatch};
 ghost use Rattle.cycle_snapshot_tests.specs.Workers.{StaysPublisher};
@@ -10,13 +10,13 @@ use std::alloc::Global;
 use std::sync::Wait;
 
 /// A write: the item, the read item whose value is taken, if any, and the amount that is put or added.
-pub type Put = (u16, Option<u16>, u64);
+pub type WriteRow = (u16, Option<u16>, u64);
 
 /// A commit: its updater, the updater's number for it, the items that it reads, and what it writes.
-pub type Row<'a> = (u32, u32, &'a [u16], &'a [Put]);
+pub type Row<'a> = (u32, u32, &'a [u16], &'a [WriteRow]);
 
 /// The update of a row. A fault of the row counts as out of memory.
-fn update_of(alloc: Global, reads: &[u16], puts: &[Put]) -> Result<Update, NoMemory> {
+fn update_of(alloc: Global, reads: &[u16], puts: &[WriteRow]) -> Result<Update, NoMemory> {
     let mut writes = Vec::new(alloc);
     for (item, base, amount) in puts {
         writes.push(Write {

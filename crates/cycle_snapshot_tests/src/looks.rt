@@ -10,7 +10,7 @@ use std::sync::Wait;
 use std::test::Fail;
 
 /// What a monitor of two items keeps: the cycle, the values, the column of each item, and the total.
-type Kept = (u32, [u64; 2], [[u32; 2]; 2], u64);
+type FrameRow = (u32, [u64; 2], [[u32; 2]; 2], u64);
 
 /// A call of a publisher or of its monitor, or what the monitor then keeps.
 #[derive(Clone, Copy)]
@@ -22,7 +22,7 @@ enum Step<'a> {
     /// The monitor looks.
     Looks,
     /// What the monitor keeps, and how often it looked.
-    Keeps(Kept, u64),
+    Keeps(FrameRow, u64),
 }
 
 /// The values from which each table starts: their sum is 19 modulo 2^64.
@@ -38,16 +38,16 @@ const TWO: &[Row<'static>] = &[
 ];
 
 /// The frame of no batch.
-const NONE_KEPT: Kept = (0, FIRST, [[0, 0], [0, 0]], 19);
+const NONE_KEPT: FrameRow = (0, FIRST, [[0, 0], [0, 0]], 19);
 
 /// The frame of the first batch: its commit is of cycle 0.
-const ONE_KEPT: Kept = (1, [u64::MAX, 25], [[0, 0], [0, 0]], 24);
+const ONE_KEPT: FrameRow = (1, [u64::MAX, 25], [[0, 0], [0, 0]], 24);
 
 /// The frame of both: item 1 was written in cycle 1, and item 0 after a read of it.
-const TWO_KEPT: Kept = (2, [3, 2], [[1, 1], [0, 1]], 5);
+const TWO_KEPT: FrameRow = (2, [3, 2], [[1, 1], [0, 1]], 5);
 
 /// Whether the monitor keeps this, and looked this number of times.
-fn keeps(monitor: &Monitor, told: &Kept, looks: u64) -> bool
+fn keeps(monitor: &Monitor, told: &FrameRow, looks: u64) -> bool
     requires { length monitor.now.values ≡ 2 }
 {
     let (cycle, values, columns, total) = *told;

@@ -1,5 +1,8 @@
 -- What is true of the runs of a deck, and of the tape of one. The laws and `air_run` cite these.
-use Rattle.std.proofs.Common.{◌≡◌, ℕ, ◌*◌, ◌≤◌, Some, List, ◌++◌, length, map, ◌∙◌, ap, arith}
+use Rattle.std.proofs.Common.{◌≡◌, ℕ, zero, suc, ◌*◌, ◌≤◌, Some, List, ◌++◌, length, map, replicate, sym, ◌∙◌, ap, arith}
+use Rattle.air_history.specs.Histories.{starts}
+use Rattle.air_history.specs.declared.histories.Event.TheVariants.{Start}
+use Rattle.air_model.proofs.StartLemmas.{starts_none, starts_start}
 use Rattle.air_model.specs.Aired.{air_of, buckets_of}
 use Rattle.air_model.specs.AiredLaws.{CanAir}
 use Rattle.air_model.specs.Buckets.{bucket_in, spelling}
@@ -56,8 +59,17 @@ true_run one_history deck run made within short is =
       told = λ report legal same. one_history deck report _ within legal is.whole.legal same;
     }
 
+all_started : (n : ℕ) → starts (replicate n Start) ≡ n
+all_started zero = starts_none
+all_started (suc n) = starts_start (replicate n Start) ∙ ap suc (all_started n)
+
+-- A run's tape has the bytes of a cycle for each of the deck's cycles.
+pub run_size : (deck : Deck) → run_tape_len deck ≡ deck.settings.cycles * cycle_size (length deck.items) (program (disks_in deck))
+unfolding run_tape_len
+run_size deck = tape_size (values_in deck) (air_of deck) (replicate deck.settings.cycles Start) ∙ ap (λ n. n * cycle_size (length deck.items) (program (disks_in deck))) (all_started deck.settings.cycles)
+
 pub run_length : (deck : Deck) (run : Run) → IsRun deck run → length (run_tape deck run.history) ≡ run_tape_len deck
-run_length deck run is = tape_size (values_in deck) (air_of deck) run.history ∙ ap (λ n. n * cycle_size (length deck.items) (program (disks_in deck))) is.whole.cycles
+run_length deck run is = tape_size (values_in deck) (air_of deck) run.history ∙ ap (λ n. n * cycle_size (length deck.items) (program (disks_in deck))) is.whole.cycles ∙ sym (run_size deck)
 
 -- ---- the tape
 

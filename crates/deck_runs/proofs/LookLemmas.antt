@@ -14,7 +14,7 @@ use Rattle.deck_runs.specs.PublishedBatches.{IsUpTo}
 use Rattle.air_history.specs.Boards.{frame_of}
 use Rattle.air_history.specs.declared.histories.Event.{Event}
 use Rattle.cycle_snapshot.specs.Batches.{IsBatch, batch_events}
-use Rattle.deck_runs.specs.Looks.{IsLineOf, LookedTimes, ShowsFront}
+use Rattle.deck_runs.specs.Looks.{IsLookLineOf, LookedTimes, ShowsFront}
 
 pub looked_none : (m : MonitorState) → m.looks < 18446744073709551616 → LookedTimes 0 m m
 looked_none m l = record {
@@ -60,7 +60,7 @@ batches_end n (b ∷ bs) all = step (batch_events bs) (batches_end n bs (All-tai
 
 -- A frame of the first of all batches.
 front_shown : (values : List ℕ) (conductor : List Event) (all seen : List (List Event)) (n : MonitorState) (line : LookLine) → IsUpTo 0 conductor all → IsPrefix seen all → All (IsBatch (length values)) seen
-    → n.kept ≡ frame_of values (batch_events seen) → IsLineOf n line → ShowsFront values conductor line
+    → n.kept ≡ frame_of values (batch_events seen) → IsLookLineOf n line → ShowsFront values conductor line
 front_shown values conductor all seen n line up pre batches kept is = record {
   front = batch_events seen;
   later = batch_events pre.0 ++ up.later;
@@ -70,8 +70,8 @@ front_shown values conductor all seen n line up pre batches kept is = record {
   total = is.total ∙ ap (λ f. f.total) kept;
 }
 
-pub shows : (conductor : List Event) (all told : List (List Event)) (times : ℕ) (m n o : MonitorState) (glance look : LookLine) → IsUpTo 0 conductor all → length all ≡ m.most → 1 ≤ times → LookedTimes times m n → IsLineOf n glance
-    → IsPrefix all told → HasLooked (record n { told = told }) o → IsLineOf o look → ShowsFront m.values conductor glance × ShowsFront m.values conductor look × (look.cycle ≡ starts conductor)
+pub shows : (conductor : List Event) (all told : List (List Event)) (times : ℕ) (m n o : MonitorState) (glance look : LookLine) → IsUpTo 0 conductor all → length all ≡ m.most → 1 ≤ times → LookedTimes times m n → IsLookLineOf n glance
+    → IsPrefix all told → HasLooked (record n { told = told }) o → IsLookLineOf o look → ShowsFront m.values conductor glance × ShowsFront m.values conductor look × (look.cycle ≡ starts conductor)
 shows conductor all told times m n o glance look up full some t g pre l s =
     let values : n.values ≡ m.values = ap (λ x. x.values) t.same in
     let most : n.most ≡ m.most = ap (λ x. x.most) t.same in

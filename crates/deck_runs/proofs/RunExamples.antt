@@ -1,32 +1,26 @@
 -- A run of a small deck, what is true of it, what is cast of one, and what jobs leave: where each relation holds, and where it doesn't.
-use Rattle.std.proofs.Common.{◌≡◌, ◌<◌, ◌≤◌, ℕ, zero, suc, Option, Some, None, List, [], ◌∷◌, ◌++◌, length, map, All, refl, sym, ap, ◌∙◌, arith}
+use Rattle.std.proofs.Common.{◌≡◌, ◌<◌, ◌≤◌, ℕ, zero, suc, false, Option, Some, None, List, [], ◌∷◌, ◌++◌, length, map, All, Contains, refl, sym, ap, ◌∙◌, arith}
 use Rattle.std.specs.Prelude.{slice_get}
 use Rattle.std.specs.List.{flat_map, range_with_len}
 use mathlib.Core.List.{IsPrefix}
 use Rattle.std.proofs.lemmas.List.Elements.{All-from_recursion, All-nil}
 use Rattle.air_base.specs.declared.limits.TheConstants.{MOST_ASKED, MOST_RATE}
-use Rattle.air_base.specs.declared.verdicts.VerdictKind.TheVariants.{Unfinished}
 use Rattle.air_history.specs.Histories.{is_start, starts}
+use Rattle.air_history.specs.Tables.{BasesRead}
 use Rattle.air_history.specs.UpdateLists.{UpdateLists}
 use Rattle.air_history.specs.declared.histories.Event.{Event}
 use Rattle.air_history.specs.declared.histories.Event.TheVariants.{Commit, Start}
+use Rattle.air_history.specs.declared.updates.Write.{Write}
 use Rattle.air_model.specs.Aired.{air_of, bucket_of, buckets_of}
-use Rattle.air_model.specs.Batches.{EndsWithStart}
 use Rattle.air_model.specs.Buckets.{spelling}
 use Rattle.air_model.specs.Decks.{Deck, IsDeck, IsWhole, disks_in, is_by, updates_by, values_in}
 use Rattle.air_model.specs.Disks.{cut, order, order_with}
-use Rattle.air_model.specs.Ethers.{due_at, due_number, heard_by, heard_list, heard_places, places_due, times_heard}
-use Rattle.air_model.specs.Draws.{words_by}
 use Rattle.air_model.specs.MonitorSights.{IsSeen}
-use Rattle.air_model.specs.Judges.{by_entries}
 use Rattle.air_model.specs.Programs.{chunk, chunk_len, least_common_multiple, minor_cycle, num_chunks, num_minors, program}
 use Rattle.air_model.specs.Reports.{Report, report_text}
 use Rattle.air_model.specs.Runs.{IsRun, Run}
-use Rattle.air_model.specs.SessionLaws.{IsOfReader}
-use Rattle.air_model.specs.Sessions.{abort, accept_if_whole, copy_of, count_copied, decide, drop_copy, end, end_query, hear, hear_all, hold, is_unusable, line_of, next_attempt, next_query, query_of, reader_of, session, settle, turn, turn_with, wanted, with_line}
-use Rattle.air_model.proofs.BatchLemmas.{airs_by_batches}
 use Rattle.air_model.proofs.RelationExamples.{pair_is_deck}
-use Rattle.air_model.proofs.SessionExamples.{line, pair}
+use Rattle.air_model.proofs.SessionExamples.{pair}
 use Rattle.air_devices.specs.Masts.{MastState, SentBuckets, nothing_sent}
 use Rattle.cycle_snapshot.specs.SnapshotStates.{MonitorState, PublisherState}
 use Rattle.item_catalog.specs.DeckLimits.{DiskWithin, ReaderWithin, WithinLimits}
@@ -38,7 +32,7 @@ use Rattle.deck_runs.specs.RunTapes.{IsLongRun, run_tape_len}
 use Rattle.deck_runs.specs.RunTruths.{IsTrueRun, TellsHistory}
 use Rattle.deck_runs.specs.Sendings.{SendsUpTo}
 use Rattle.deck_runs.specs.declared.jobs.conductors.ConductFault.TheVariants as fault
-use Rattle.deck_runs.proofs.HeardRunLemmas.{OneHistoryLaw, true_run}
+use Rattle.deck_runs.proofs.HeardRunLemmas.{OneHistoryLaw, run_size, true_run}
 
 -- Two items, a reader of one query, no updates; so many cycles.
 abbrev of_cycles : ℕ → Deck
@@ -116,7 +110,6 @@ one_run_is : IsRun (of_cycles 1) one_run
 unfolding is_start starts
 one_run_is = record {
   whole = one_whole;
-  batches = airs_by_batches (of_cycles 1) (one_start ∷ []) [] (All-from_recursion EndsWithStart (one_start ∷ []) (record { commits = []; ends = refl; one = refl }, tt)) refl;
   glances = record { numbers = refl; each = All-nil (IsSeen (values_in pair) one_start) };
   looks = record { numbers = refl; each = All-nil (IsSeen (values_in pair) one_start); last = All-nil (λ l. l.cycle ≡ 1) };
 }
@@ -129,20 +122,20 @@ slots = refl
 true_of_one : OneHistoryLaw → IsTrueRun (of_cycles 1) one_run
 true_of_one one_history = true_run one_history (of_cycles 1) one_run (is_deck 1) is_within (omega (arith, slots)) one_run_is
 
--- Two readers, of which the second has a query and no try.
-abbrev without_try : Deck
-without_try = record pair {
-  readers = record { room = 0; age = 0; tries = 1 } ∷ record { room = 0; age = 0; tries = 0 } ∷ [];
-  queries = ((0 ∷ []) ∷ []) ∷ ((1 ∷ []) ∷ []) ∷ [];
-}
+-- A commit whose base isn't read.
+abbrev on_unread : Write
+on_unread = record { item = 0; base = Some 1; minus = false; amount = 1 }
 
--- No run of it is true: the second reader's one line has attempt 1.
-not_true : IsTrueRun without_try (record { history = []; batches = []; glances = []; looks = [] }) → ⊥
-unfolding is_start starts buckets_of heard_by words_by heard_list heard_places places_due due_at due_number times_heard by_entries abort accept_if_whole copy_of count_copied decide drop_copy end end_query hear hear_all hold is_unusable line_of next_attempt next_query query_of session settle turn turn_with wanted with_line
-not_true h =
-    let own : IsOfReader (reader_of without_try 1) (line 0 1 Unfinished []) = (h.sessions 1 (omega arith)).own 0 (line 0 1 Unfinished []) (omega arith) in
-    let tried : 1 ≤ 0 = own.tried in
-    omega arith
+abbrev unread : Event
+unread = Commit 0 0 (record { reads = []; writes = on_unread ∷ [] })
+
+-- No run that made it is true.
+not_true : IsTrueRun pair (record { history = unread ∷ []; batches = []; glances = []; looks = [] }) → ⊥
+unfolding BasesRead
+not_true h = none (h.bases 0 unread (omega arith) 0 on_unread (omega arith))
+  where
+    none : Contains {X = ℕ} [] 1 → ⊥
+    none (k, within, is) = omega (arith, within)
 
 -- ---- what a text tells
 
@@ -170,7 +163,7 @@ aired_bytes = refl
 -- A run of one cycle has 72 bytes; a tape is too long from one byte above the most on.
 not_long : (bytes : ℕ) → IsLongRun (of_cycles 1) bytes → ⊥
 unfolding order order_with cut program least_common_multiple num_minors num_chunks chunk_len chunk minor_cycle
-not_long bytes h = let few : bytes ≡ 72 = h.counted in omega (arith, few, h.above)
+not_long bytes h = let few : bytes ≡ 72 = h.counted ∙ run_size (of_cycles 1) in omega (arith, few, h.above)
 
 long : (deck : Deck) → run_tape_len deck ≡ 1073741825 → IsLongRun deck 1073741825
 long deck counted = record { counted = sym counted; above = omega arith }

@@ -11,7 +11,7 @@ use Rattle.cycle_snapshot.specs.SnapshotStates.{MonitorState}
 use Rattle.deck_runs.specs.declared.jobs.crews.ConductorRun.{ConductorRun}
 use Rattle.deck_runs.specs.declared.jobs.crews.UpdaterRun.{UpdaterRun}
 use Rattle.deck_runs.specs.declared.jobs.crews.MonitorRun.{MonitorRun}
-use Rattle.deck_runs.specs.Looks.{IsLineOf, LookedTimes}
+use Rattle.deck_runs.specs.Looks.{IsLookLineOf, LookedTimes}
 
 -- The passes of updaters.
 abbrev pub passes_of : List UpdaterRun → List PassState
@@ -39,7 +39,7 @@ HasMadeUpdates deck run now = (now.pass ≡ with_seen run.pass now.pass.seen) ×
 
 -- What a monitor's job gave: a line, after all looks, or none, after fewer.
 abbrev pub GivesLine : ℕ → MonitorState → MonitorState → Option LookLine → Type 0
-GivesLine looks m n (Some line) = LookedTimes looks m n × IsLineOf n line
+GivesLine looks m n (Some line) = LookedTimes looks m n × IsLookLineOf n line
 GivesLine looks m n None = (k : ℕ) × (k < looks) × LookedTimes k m n
 
 -- The monitor looked so many times, and its last look is the glance.

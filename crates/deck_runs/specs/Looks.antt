@@ -20,7 +20,7 @@ pub record LookedTimes (times : ℕ) (m n : MonitorState) : Type 0 where
   pub same : n ≡ record m { seen = n.seen; kept = n.kept; looks = n.looks }
 
 -- The line has the cycle and the total of the frame that the monitor keeps.
-pub record IsLineOf (n : MonitorState) (line : LookLine) : Type 0 where
+pub record IsLookLineOf (n : MonitorState) (line : LookLine) : Type 0 where
   pub cycle : line.cycle ≡ n.kept.cycle
   pub total : line.total ≡ n.kept.total
 

@@ -1,13 +1,13 @@
 -- How long the tape of a run is, and when that is too long. The law is `run_length_law`.
-use Rattle.std.specs.Prelude.{◌≡◌, ◌<◌, ℕ, ◌*◌, length}
+use Rattle.std.specs.Prelude.{◌≡◌, ◌<◌, ℕ, length, replicate}
 use Rattle.air_base.specs.declared.limits.TheConstants.{MOST_TAPE_BYTES}
-use Rattle.air_model.specs.Decks.{Deck, disks_in}
-use Rattle.air_model.specs.Programs.{program}
-use Rattle.air_sender.specs.TapeSizes.{cycle_size}
+use Rattle.air_history.specs.declared.histories.Event.TheVariants.{Start}
+use Rattle.air_model.specs.Decks.{Deck}
+use Rattle.air_model.specs.Outputs.{run_tape}
 
--- The number of bytes of the tape of each run of a deck: that of each of its cycles.
-abbrev pub run_tape_len : Deck → ℕ
-run_tape_len deck = deck.settings.cycles * cycle_size (length deck.items) (program (disks_in deck))
+-- The number of bytes of the tape of each run of a deck: those of as many starts as it has cycles.
+unfoldable pub run_tape_len : Deck → ℕ
+run_tape_len deck = length (run_tape deck (replicate deck.settings.cycles Start))
 
 -- The tape of each run of the deck would have so many bytes, more than a tape may have.
 pub record IsLongRun (deck : Deck) (bytes : ℕ) : Type 0 where

@@ -2,6 +2,7 @@
 
 ghost use Rattle.std.specs.Prelude.{◌≡◌, ◌≤◌, IfOk};
 ghost use Rattle.air_base.specs.declared.limits.TheConstants.{MOST_TAPE_BYTES};
+ghost use Rattle.air_model.specs.Batches.{AirsByBatches};
 ghost use Rattle.air_model.specs.Outputs.{run_tape, true_sessions};
 ghost use Rattle.air_model.specs.Reports.{counts_lines, verdict_lines};
 ghost use Rattle.air_model.specs.Tapes.{tape_of};
@@ -37,6 +38,7 @@ pub fn air_run<R: Threads + Wait + Sync, G: Gate + Sync>(
 ) -> Result<HeardRun, NoMemory>
     requires { run_tape_len planned.now ≤ MOST_TAPE_BYTES }
     ensures run { IfOk result (λ a. IsRun planned.now a.run) }
+    ensures batches { IfOk result (λ a. AirsByBatches planned.now a.run.history a.run.batches) }
     ensures verdicts { IfOk result (λ a. a.sessions.verdicts.items ≡ verdict_lines (true_sessions planned.now a.run.history)) }
     ensures counts { IfOk result (λ a. a.sessions.counts.items ≡ counts_lines (true_sessions planned.now a.run.history)) }
     ensures tape { IfOk result (λ a. tape_of (told_by_tape a.tape).buckets ≡ run_tape planned.now a.run.history) }

@@ -1,6 +1,7 @@
 //! A run of a deck.
 
 ghost use Rattle.std.specs.Prelude.{◌≡◌, IfErr, IfOk, OnOk};
+ghost use Rattle.air_model.specs.Batches.{AirsByBatches};
 ghost use Rattle.air_devices.specs.Masts.{Changes, with_buckets};
 ghost use Rattle.air_model.specs.Runs.{IsRun};
 ghost use Rattle.deck_runs.specs.DeckBytes.{deck_bytes};
@@ -28,7 +29,7 @@ use std::thread::Threads;
 #[derive(Drop)]
 pub struct Run {
     pub history: History,
-    pub note: Told,
+    pub told: Told,
     pub glances: Vec<LookLine>,
     pub looks: Vec<LookLine>,
 }
@@ -38,18 +39,18 @@ impl Model for Run {
 
     ghost Value = { Run };
 
-    ghost view = { λ r. record { history = r.history; batches = r.note.batches; glances = r.glances.items; looks = r.looks.items } };
+    ghost view = { λ r. record { history = r.history; batches = r.told.batches; glances = r.glances.items; looks = r.looks.items } };
 }
 
 impl Run {
-    /// The run with this history, this note of its publisher, and what its monitors saw.
-    fn new(history: History, note: Told, sights: Sights) -> Run
-        ensures { result ≡ record { history = history; batches = note.batches; glances = sights.glances.items; looks = sights.looks.items } }
+    /// The run with this history, this note that its publisher told, and what its monitors saw.
+    fn new(history: History, told: Told, sights: Sights) -> Run
+        ensures { result ≡ record { history = history; batches = told.batches; glances = sights.glances.items; looks = sights.looks.items } }
     {
         let Sights { glances, looks } = sights;
         Run {
             history,
-            note,
+            told,
             glances,
             looks,
         }
@@ -101,6 +102,7 @@ pub fn run_threads<R: Threads + Wait + Sync, M: Mast + Send, G: Gate + Sync>(
     gate: &G,
 ) -> Result<Run, RunFault>
     ensures run { IfOk result (IsRun planned.now) }
+    ensures batches { IfOk result (λ run. AirsByBatches planned.now run.history run.batches) }
     ensures aired { IfOk result (λ run. Changes (with_buckets (deck_bytes planned.now run.history)) (M.state mast.old).told (M.state mast.new).told) }
     ensures calm { OnOk result ((M.state mast.new).faults ≡ (M.state mast.old).faults) }
     ensures fault { IfErr result (IsRunAnswer M.state planned.now mast.old mast.new) }
@@ -110,11 +112,11 @@ pub fn run_threads<R: Threads + Wait + Sync, M: Mast + Send, G: Gate + Sync>(
     let (mut source, mut watchers) = open_publisher(rt, alloc, stage.planned)?;
     let conducted = stage.play(rt, alloc, &mut source, &mut watchers, mast, gate);
     let sights = all_sights(alloc, &source, watchers);
-    let note = source.tell();
+    let told = source.tell();
     source.close(rt);
     let history = stage.end();
     conducted?;
     let history = history?;
     let sights = sights?;
-    Ok(Run::new(history, note, sights))
+    Ok(Run::new(history, told, sights))
 }

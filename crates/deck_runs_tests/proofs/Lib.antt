@@ -1,2 +1,1 @@
 pub mod AiredItems
-pub mod NewPasses

@@ -3,8 +3,8 @@
 ghost use Rattle.std.specs.Prelude.{◌≤◌, length};
 ghost use Rattle.air_base.specs.declared.limits.TheConstants.{MOST_DECK_BYTES};
 
-use crate::decks::{Aired, tape_of};
-use crate::plays::{Left, play};
+use crate::decks::{BucketRow, tape_of};
+use crate::plays::{RunAndMast, play};
 use air_devices::Gate;
 use air_history::{Event, History};
 use air_model::reports::LookLine;
@@ -15,33 +15,33 @@ use std::test::Fail;
 use std::thread::Threads;
 
 /// What a line may show: the first cycle and the last, and the total where there is just one.
-pub type Shown = (u32, u32, Option<u64>);
+pub type LineSpan = (u32, u32, Option<u64>);
 
 /// An event: the updater of a commit and its number for it, or none for a start.
-pub type Named = Option<(u32, u32)>;
+pub type EventName = Option<(u32, u32)>;
 
 /// What is told of a history.
 #[derive(Clone, Copy)]
 pub enum Events<'a> {
     /// Its events.
-    Listed(&'a [Named]),
+    Listed(&'a [EventName]),
     /// How many commits it has, and how many starts.
     Counted(usize, usize),
 }
 
 /// What is told of a run.
 #[derive(Clone, Copy)]
-pub struct Told<'a> {
+pub struct RunLines<'a> {
     pub events: Events<'a>,
-    pub glances: &'a [Shown],
-    pub looks: &'a [Shown],
+    pub glances: &'a [LineSpan],
+    pub looks: &'a [LineSpan],
 }
 
 /// What is told of a tape.
 #[derive(Clone, Copy)]
 pub enum Tape<'a> {
     /// Its buckets.
-    Buckets(&'a [Aired]),
+    Buckets(&'a [BucketRow]),
     /// How many bytes it has.
     Bytes(usize),
 }
@@ -51,7 +51,7 @@ pub enum Tape<'a> {
 pub struct Case<'a> {
     pub deck: &'a [u8],
     pub room: u64,
-    pub run: Result<Told<'a>, RunFault>,
+    pub run: Result<RunLines<'a>, RunFault>,
     pub tape: Tape<'a>,
 }
 
@@ -65,7 +65,7 @@ pub enum Other {
     /// How many commits and starts there are.
     Events(usize, usize),
     /// The event of this place.
-    Event(usize, Named),
+    Event(usize, EventName),
     /// How many lines there are.
     Lines(usize),
     /// The line of this place.
@@ -77,7 +77,7 @@ pub enum Other {
 }
 
 /// The event by its numbers.
-fn name_of(event: &Event) -> Named {
+fn name_of(event: &Event) -> EventName {
     match event {
         Event::Commit { by, seq, .. } => Some((*by, *seq)),
         Event::Start => None,
@@ -108,14 +108,14 @@ fn other_event(history: &History, told: Events<'_>) -> Option<Other> {
 }
 
 /// Whether a line shows what it may, and has the number of its place.
-fn shows(line: LookLine, place: usize, told: Shown) -> bool {
+fn shows(line: LookLine, place: usize, told: LineSpan) -> bool {
     let (first, last, total) = told;
     let in_time = first <= line.cycle && line.cycle <= last;
     line.monitor as usize == place && in_time && total.is_none_or(|total| line.total == total)
 }
 
 /// The first line that is other than told.
-fn other_line(lines: &[LookLine], told: &[Shown]) -> Option<Other> {
+fn other_line(lines: &[LookLine], told: &[LineSpan]) -> Option<Other> {
     if lines.len() != told.len() {
         return Some(Other::Lines(lines.len()));
     }
@@ -128,7 +128,7 @@ fn other_line(lines: &[LookLine], told: &[Shown]) -> Option<Other> {
 }
 
 /// In what a run is other than told.
-fn other_in(run: &Run, told: &Told<'_>) -> Option<Other> {
+fn other_in(run: &Run, told: &RunLines<'_>) -> Option<Other> {
     if let Some(other) = other_event(&run.history, told.events) {
         return Some(other);
     }
@@ -139,7 +139,7 @@ fn other_in(run: &Run, told: &Told<'_>) -> Option<Other> {
 }
 
 /// In what the end of a run is other than told.
-fn other_end(run: &Result<Run, RunFault>, told: &Result<Told<'_>, RunFault>) -> Option<Other> {
+fn other_end(run: &Result<Run, RunFault>, told: &Result<RunLines<'_>, RunFault>) -> Option<Other> {
     match (run, told) {
         (Ok(run), Ok(told)) => other_in(run, told),
         (Ok(_), Err(_)) => Some(Other::Done),
@@ -174,7 +174,11 @@ fn other_on(alloc: Global, tape: &[u8], told: Tape<'_>) -> Result<Option<Other>,
 }
 
 /// The first part of what was left that is other than told.
-fn other_left(alloc: Global, left: &Left, case: &Case<'_>) -> Result<Option<Other>, AllocError> {
+fn other_left(
+    alloc: Global,
+    left: &RunAndMast,
+    case: &Case<'_>,
+) -> Result<Option<Other>, AllocError> {
     if let Some(other) = other_end(&left.run, &case.run) {
         return Ok(Some(other));
     }

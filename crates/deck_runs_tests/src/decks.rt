@@ -16,10 +16,10 @@ pub const BUSY: &[u8] =
     b"item,0,10,2\nitem,1,20,1\nitem,2,30,1\ndisk,3,1\nreader,0,0,1\nquery,0,0 1\nupdate,0,0,0=0+1\nupdate,0,0,0=0+1\nupdate,1,1,1=1+1\nupdate,2,2,2=2-1\nset,cycles,4\nset,monitors,1\n";
 
 /// A bucket of two items under F-Matrix: its cycle, its slot, which is its item too, the item's value, and its column.
-pub type Aired = (u8, u8, u8, [u8; 2]);
+pub type BucketRow = (u8, u8, u8, [u8; 2]);
 
 /// The tape of such buckets.
-pub fn tape_of(alloc: Global, buckets: &[Aired]) -> Result<Vec<u8>, AllocError> {
+pub fn tape_of(alloc: Global, buckets: &[BucketRow]) -> Result<Vec<u8>, AllocError> {
     let mut tape = Vec::new(alloc);
     for (cycle, slot, value, [first, second]) in buckets {
         let (cycle, slot, value, first, second) = (*cycle, *slot, *value, *first, *second);

@@ -10,7 +10,7 @@ ghost use Rattle.bucket_codec.specs.declared.offsets.TheConstants.{ENTRY_BYTES, 
 ghost use Rattle.cycle_snapshot.specs.SnapshotStates.{new_publisher};
 ghost use Rattle.station.specs.PassStates.{new_pass};
 
-use crate::decks::{Aired, MEETING, tape_of};
+use crate::decks::{BucketRow, MEETING, tape_of};
 use air_base::NoMemory;
 use air_devices::{MemMast, OpenGate};
 use air_model::reports::LookLine;
@@ -27,7 +27,7 @@ use std::test::Fail;
 
 /// What the jobs left: how many commits and starts their passes made, the lines of the monitor, and the tape of what was sent.
 #[derive(Debug, Drop, PartialEq, Eq)]
-struct Left {
+struct JobsEnd {
     made: u32,
     started: u32,
     first: LookLine,
@@ -119,7 +119,7 @@ fn work<R: Wait>(
     monitor: &mut Monitor,
     updater: &mut UpdaterPass,
     conductor: &mut Conductor,
-) -> Result<Left, ConductFault>
+) -> Result<JobsEnd, ConductFault>
     requires new { updater.old ≡ new_pass station.now deck.now updater.old.number }
     requires number { updater.old.number < length deck.now.updates }
     requires pass { conductor.old.pass ≡ new_pass station.now deck.now (length deck.now.updates) }
@@ -135,7 +135,7 @@ fn work<R: Wait>(
     let Ok(tape) = Vec::from_slice(alloc, conductor.mast.sent()) else {
         return Err(ConductFault::NoMemory);
     };
-    Ok(Left {
+    Ok(JobsEnd {
         made,
         started,
         first,
@@ -172,7 +172,7 @@ fn left_by_jobs<R: Wait>(
     alloc: Global,
     text: &[u8],
     room: usize,
-) -> Result<Option<Result<Left, ConductFault>>, Fail>
+) -> Result<Option<Result<JobsEnd, ConductFault>>, Fail>
     requires { length text.now ≤ MOST_DECK_BYTES }
 {
     let deck = read_deck(alloc, text)?;
@@ -206,7 +206,7 @@ fn left_by_jobs<R: Wait>(
 }
 
 /// Both commits stand before all cycles: item 0 has 11, and item 1 has 16 by way of item 0.
-const JOBS_TAPE: [Aired; 6] = [
+const JOBS_TAPE: [BucketRow; 6] = [
     (1, 0, 11, [0, 0]),
     (1, 1, 16, [0, 0]),
     (2, 0, 11, [0, 0]),
@@ -227,7 +227,7 @@ fn line(cycle: u32, total: u64) -> LookLine {
 #[test]
 fn each_job_is_done_where_memory_is_ample(rt: HostRuntime) -> Result<(), Fail> {
     let left = left_by_jobs(&rt, rt.alloc(), MEETING, 216)?;
-    let wanted = Left {
+    let wanted = JobsEnd {
         made: 2,
         started: 3,
         first: line(0, 30),

@@ -15,7 +15,7 @@ use std::thread::Threads;
 
 /// The run, or why it wasn't done, and the mast.
 #[derive(Drop)]
-pub struct Left {
+pub struct RunAndMast {
     pub run: Result<Run, RunFault>,
     pub mast: TapeMast,
 }
@@ -27,7 +27,7 @@ pub fn play<R: Threads + Wait + Sync, G: Gate + Sync>(
     text: &[u8],
     room: u64,
     gate: &G,
-) -> Result<Left, Fail>
+) -> Result<RunAndMast, Fail>
     requires { length text.now ≤ MOST_DECK_BYTES }
 {
     let deck = read_deck(alloc, text)?;
@@ -35,5 +35,5 @@ pub fn play<R: Threads + Wait + Sync, G: Gate + Sync>(
     let planned = Planned::new(alloc, deck, &order)?;
     let mut mast = TapeMast::new(alloc, room)?;
     let run = run_threads(rt, alloc, &planned, &mut mast, gate);
-    Ok(Left { run, mast })
+    Ok(RunAndMast { run, mast })
 }

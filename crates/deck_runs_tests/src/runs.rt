@@ -1,13 +1,13 @@
 //! Runs whose outcome doesn't depend on the schedule.
 
-use crate::cases::{Case, Events, Tape, Told, first_other};
-use crate::decks::{Aired, BUSY, QUIET};
+use crate::cases::{Case, Events, RunLines, Tape, first_other};
+use crate::decks::{BUSY, BucketRow, QUIET};
 use air_devices::OpenGate;
 use deck_runs::RunFault;
 use std::test::Fail;
 
 /// What a run without updates airs.
-const QUIET_TAPE: [Aired; 4] = [
+const QUIET_TAPE: [BucketRow; 4] = [
     (1, 0, 10, [0, 0]),
     (1, 1, 20, [0, 0]),
     (2, 0, 10, [0, 0]),
@@ -19,7 +19,7 @@ fn without_updates_each_cycle_airs_the_first_values(rt: HostRuntime) -> Result<(
     let case = Case {
         deck: QUIET,
         room: 144,
-        run: Ok(Told {
+        run: Ok(RunLines {
             events: Events::Listed(&[None, None]),
             glances: &[(0, 2, Some(30)), (0, 2, Some(30))],
             looks: &[(2, 2, Some(30)), (2, 2, Some(30))],
@@ -35,7 +35,7 @@ fn all_updates_are_committed_and_all_cycles_aired(rt: HostRuntime) -> Result<(),
     let case = Case {
         deck: BUSY,
         room: 480,
-        run: Ok(Told {
+        run: Ok(RunLines {
             events: Events::Counted(4, 4),
             glances: &[(0, 4, None)],
             looks: &[(4, 4, None)],

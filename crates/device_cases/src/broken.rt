@@ -12,14 +12,14 @@ use std::time::{Clock, Duration};
 
 /// The runtime.
 #[derive(Drop)]
-pub struct Broken;
+pub struct BrokenSystem;
 
 /// The error of every call.
 fn failure() -> Error {
     Error::from(ErrorKind::BrokenPipe)
 }
 
-impl Files for Broken {
+impl Files for BrokenSystem {
     type File = File;
 
     type Dir = File;
@@ -65,7 +65,7 @@ impl Files for Broken {
     }
 }
 
-impl Print for Broken {
+impl Print for BrokenSystem {
     fn print<D: Display + Drop>(&self, _value: D) -> Result<()> {
         Err(failure())
     }
@@ -79,7 +79,7 @@ impl Print for Broken {
     }
 }
 
-impl Net for Broken {
+impl Net for BrokenSystem {
     type Stream = TcpStream;
 
     type Listener = TcpListener;
@@ -97,7 +97,7 @@ impl Net for Broken {
     }
 }
 
-impl Clock for Broken {
+impl Clock for BrokenSystem {
     fn monotonic(&self) -> Result<Duration> {
         Err(failure())
     }

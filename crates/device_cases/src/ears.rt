@@ -4,7 +4,7 @@
 
 ghost use Rattle.std.specs.Prelude.{◌≤◌, length, All, IfOk, IsSome};
 
-use crate::broken::Broken;
+use crate::broken::BrokenSystem;
 use crate::masts::add_said;
 use crate::shelves::{add_done, add_text};
 use air_base::NoMemory;
@@ -72,7 +72,7 @@ pub fn play_ear(alloc: Global, parts: &mut Parts<'_>, came: &mut Vec<u8>) -> Res
 
 /// Adds what an ear over a failing system says of each of its calls.
 pub fn hear_broken(alloc: Global, came: &mut Vec<u8>) -> Result<(), NoMemory> {
-    let mut ear = UdpEar::new(Broken);
+    let mut ear = UdpEar::new(BrokenSystem);
     let tuned = ear.tune_in(4000);
     add_said(alloc, tuned, ear.last_failure(), came)?;
     let heard = ear.hear(&mut [0; 3]).map(|_| ());

@@ -11,8 +11,8 @@ mod masts;
 mod player;
 mod shelves;
 
-use crate::broken::Broken;
-use crate::player::{Devices, Held};
+use crate::broken::BrokenSystem;
+use crate::player::{Devices, ShelfInUse};
 use air_devices::{FileShelf, MemMast, TapeRoom};
 use case_lines::play_stdin;
 use std::io;
@@ -26,9 +26,9 @@ fn main(rt: HostRuntime) -> io::Result<()> {
     };
     let mut devices = Devices {
         rt: rt.clone()?,
-        held: Held::Files,
+        held: ShelfInUse::Files,
         files: FileShelf::new(rt.clone()?),
-        broken: FileShelf::new(Broken),
+        broken: FileShelf::new(BrokenSystem),
         mast,
         tape,
     };

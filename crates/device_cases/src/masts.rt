@@ -2,7 +2,7 @@
 //!
 //! `mast` has a room and the calls that fail, `room` only a room; `send` and `add` have the text that is sent or added.
 
-use crate::broken::Broken;
+use crate::broken::BrokenSystem;
 use crate::shelves::{add_done, add_text};
 use air_base::NoMemory;
 use air_base::limits::MOST_DATAGRAM_BYTES;
@@ -84,7 +84,7 @@ pub fn add_said(
 
 /// Adds what a mast over a failing system says of each of its calls.
 pub fn send_broken(alloc: Global, came: &mut Vec<u8>) -> Result<(), NoMemory> {
-    let mut mast = UdpMast::new(Broken);
+    let mut mast = UdpMast::new(BrokenSystem);
     let ended = mast.finish();
     add_said(alloc, ended, mast.last_failure(), came)?;
     let aimed = mast.aim(4000);

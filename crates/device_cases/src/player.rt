@@ -12,7 +12,7 @@
 //! | `room`, `add` | a tape in a room of fixed size, and a record |
 //! | `system` | what a mast and an ear over a failing system say; what refusals print |
 
-use crate::broken::Broken;
+use crate::broken::BrokenSystem;
 use crate::ears::{hear_broken, play_ear};
 use crate::files::{add_kept, change_files, name_of};
 use crate::masts::{add_record, add_sent, new_mast, send, send_broken};
@@ -25,7 +25,7 @@ use std::rt::Files;
 
 /// The shelf whose calls are played.
 #[derive(Drop)]
-pub enum Held {
+pub enum ShelfInUse {
     /// One in memory.
     Memory(MemShelf),
     /// That over files.
@@ -38,9 +38,9 @@ pub enum Held {
 #[derive(Drop)]
 pub struct Devices<R: Files + Print + Clone + Drop> {
     pub rt: R,
-    pub held: Held,
+    pub held: ShelfInUse,
     pub files: FileShelf<R>,
-    pub broken: FileShelf<Broken>,
+    pub broken: FileShelf<BrokenSystem>,
     pub mast: MemMast,
     pub tape: TapeRoom,
 }
@@ -57,18 +57,18 @@ impl<R: Files + Print + Clone + Drop> Devices<R> {
         let name = name_of(alloc, parts)?;
         let name = name.as_str();
         match &mut self.held {
-            Held::Memory(shelf) => play_call(alloc, shelf, call, name, parts, came),
-            Held::Files => play_call(alloc, &mut self.files, call, name, parts, came),
-            Held::Broken => play_call(alloc, &mut self.broken, call, name, parts, came),
+            ShelfInUse::Memory(shelf) => play_call(alloc, shelf, call, name, parts, came),
+            ShelfInUse::Files => play_call(alloc, &mut self.files, call, name, parts, came),
+            ShelfInUse::Broken => play_call(alloc, &mut self.broken, call, name, parts, came),
         }
     }
 
     /// Tells what the shelf that is held holds, or keeps of its last failure.
     fn add_shelf(&self, alloc: Global, came: &mut Vec<u8>) -> Result<(), NoMemory> {
         match &self.held {
-            Held::Memory(shelf) => add_held(shelf, came),
-            Held::Files => add_kept(alloc, &self.files, came),
-            Held::Broken => add_kept(alloc, &self.broken, came),
+            ShelfInUse::Memory(shelf) => add_held(shelf, came),
+            ShelfInUse::Files => add_kept(alloc, &self.files, came),
+            ShelfInUse::Broken => add_kept(alloc, &self.broken, came),
         }
     }
 
@@ -76,7 +76,7 @@ impl<R: Files + Print + Clone + Drop> Devices<R> {
     fn make_files(&mut self) {
         if let Ok(rt) = self.rt.clone() {
             self.files = FileShelf::new(rt);
-            self.held = Held::Files;
+            self.held = ShelfInUse::Files;
         }
     }
 }
@@ -97,9 +97,9 @@ impl<R: Files + Print + Clone + Drop> Player for Devices<R> {
         came: &mut Vec<u8>,
     ) -> Result<(), NoMemory> {
         match word {
-            b"shelf" => self.held = Held::Memory(new_shelf(alloc, parts)?),
+            b"shelf" => self.held = ShelfInUse::Memory(new_shelf(alloc, parts)?),
             b"files" => self.make_files(),
-            b"broken" => self.held = Held::Broken,
+            b"broken" => self.held = ShelfInUse::Broken,
             b"pick" | b"read" | b"whole" | b"create" | b"append" | b"print" => {
                 self.play_shelf(alloc, word, parts, came)?;
             }

@@ -5,11 +5,11 @@ use Rattle.std.proofs.Math.Nat.{mul-le-mul_left}
 use Rattle.std.proofs.lemmas.Bool.{cases_lt}
 use Rattle.std.proofs.lemmas.Bool.Decides.{nat_tests}
 use Rattle.std.proofs.lemmas.Option.{none-some, same_Some}
-use Rattle.disk_split.specs.declared.search.Found.{Found}
+use Rattle.disk_split.specs.declared.search.BestSizes.{BestSizes}
 use Rattle.disk_split.specs.Splits.{is_before}
 use Rattle.disk_split.specs.Private.Bests.{IsBestBelow, IsFound, better, cost_from, is_better}
 use Rattle.disk_split.specs.Private.Rests.{IsFirst, IsSplitRest, minor_from, weight_from}
-use Rattle.disk_split.specs.Private.Tables.{IsEntry}
+use Rattle.disk_split.specs.Private.Tables.{IsCell}
 use Rattle.disk_split.proofs.Orders.{before_not, not_before}
 
 same_factor : (k a b : ℕ) → 0 < k → k * a ≡ k * b → a ≡ b
@@ -21,13 +21,13 @@ same_factor k a b some e = by (cases_lt a b) (cases_lt b a)
     by (inr p) (inr q) = omega arith
 
 -- ---- what the sizes of one number of slots are among all of those
-module _ (sums cs : List ℕ) (slots weight : ℕ) (sizes : List ℕ) (some : 0 < slots) (entry : IsEntry sums cs 0 slots (Some weight)) (first : IsFirst sums cs 0 slots weight sizes) where
+module _ (sums cs : List ℕ) (slots weight : ℕ) (sizes : List ℕ) (some : 0 < slots) (cell : IsCell sums cs 0 slots (Some weight)) (first : IsFirst sums cs 0 slots weight sizes) where
   pub own_cost : cost_from sums cs sizes ≡ slots * weight
   own_cost = ap (λ n. n * weight_from sums cs 0 sizes) first.is.slots ∙ ap (λ n. slots * n) first.is.weighs
 
   pub own_least : (other : List ℕ) → IsSplitRest sums cs 0 other → minor_from cs other ≡ slots → slots * weight ≤ cost_from sums cs other
   own_least other rest long =
-      let low = entry.least other rest long in let is = same_Some weight low.0 low.1 in let most = low.2 in
+      let low = cell.least other rest long in let is = same_Some weight low.0 low.1 in let most = low.2 in
       let up : weight ≤ weight_from sums cs 0 other = omega arith in
       let grows : slots * weight ≤ slots * weight_from sums cs 0 other = mul-le-mul_left slots up in
       rw long grows
@@ -99,7 +99,7 @@ module _ (sums cs : List ℕ) (slots weight : ℕ) (sizes : List ℕ) (some : 0 
         later other rest costs (inr same) (inr long) below = not_before kept sizes other same.1 (own_first other rest (omega arith) (costs ∙ sym same.0))
 
 -- Where they cost as much, their sizes decide.
-pub level_cost : (new old : Found) → old.cost ≤ new.cost → new.cost ≡ old.cost → is_before new.sizes old.sizes ≡ is_better new old
+pub level_cost : (new old : BestSizes) → old.cost ≤ new.cost → new.cost ≡ old.cost → is_before new.sizes old.sizes ≡ is_better new old
 level_cost new old more same = by (is_before new.sizes old.sizes)
   where
     by : (b : Bool) → b ≡ (nat_lt new.cost old.cost || ((new.cost == old.cost) && b))
@@ -107,7 +107,7 @@ level_cost new old more same = by (is_before new.sizes old.sizes)
     by false = grind (arith, nat_tests)
 
 -- Which of two is better.
-better_or_not : (new old : Found) → (b : Bool) → is_better new old ≡ b
+better_or_not : (new old : BestSizes) → (b : Bool) → is_better new old ≡ b
     → ((b ≡ true) × ((new.cost < old.cost) ⊎ ((new.cost ≡ old.cost) × (is_before new.sizes old.sizes ≡ true))))
     ⊎ ((b ≡ false) × ((old.cost < new.cost) ⊎ ((new.cost ≡ old.cost) × (is_before new.sizes old.sizes ≡ false))))
 better_or_not new old b e = by (cases_lt new.cost old.cost) (cases_lt old.cost new.cost) (is_before new.sizes old.sizes) refl b e
@@ -125,11 +125,11 @@ better_or_not new old b e = by (cases_lt new.cost old.cost) (cases_lt old.cost n
     by (inr o) (inr p) false f false e = inr (refl, inr (omega arith, f))
 
 -- One number of slots on, where some sizes have just that number.
-pub found_more : (sums cs : List ℕ) (slots weight : ℕ) (best : Option Found) (new : Found) → 0 < slots → new.cost ≡ slots * weight → IsEntry sums cs 0 slots (Some weight)
+pub found_more : (sums cs : List ℕ) (slots weight : ℕ) (best : Option BestSizes) (new : BestSizes) → 0 < slots → new.cost ≡ slots * weight → IsCell sums cs 0 slots (Some weight)
     → IsFirst sums cs 0 slots weight new.sizes → IsFound sums cs slots best → IsFound sums cs (slots + 1) (Some (better best new))
-found_more sums cs slots weight None new some costs entry first found =
-    subst (λ n. IsBestBelow sums cs (slots + 1) n new.sizes) (sym costs) (alone_best sums cs slots weight new.sizes some entry first found)
-found_more sums cs slots weight (Some old) new some costs entry first found = by (is_better new old) (better_or_not new old (is_better new old) refl)
+found_more sums cs slots weight None new some costs cell first found =
+    subst (λ n. IsBestBelow sums cs (slots + 1) n new.sizes) (sym costs) (alone_best sums cs slots weight new.sizes some cell first found)
+found_more sums cs slots weight (Some old) new some costs cell first found = by (is_better new old) (better_or_not new old (is_better new old) refl)
   where
     by : (b : Bool)
         → ((b ≡ true) × ((new.cost < old.cost) ⊎ ((new.cost ≡ old.cost) × (is_before new.sizes old.sizes ≡ true))))
@@ -137,24 +137,24 @@ found_more sums cs slots weight (Some old) new some costs entry first found = by
         → IsFound sums cs (slots + 1) (Some (if b then new else old))
     by true (inl up) =
         subst (λ n. IsBestBelow sums cs (slots + 1) n new.sizes) (sym costs)
-        (new_best sums cs slots weight new.sizes some entry first old.cost old.sizes found (subst (λ n. (n < old.cost) ⊎ ((n ≡ old.cost) × (is_before new.sizes old.sizes ≡ true))) costs up.1))
+        (new_best sums cs slots weight new.sizes some cell first old.cost old.sizes found (subst (λ n. (n < old.cost) ⊎ ((n ≡ old.cost) × (is_before new.sizes old.sizes ≡ true))) costs up.1))
     by true (inr up) = absurd (cc up.0)
     by false (inl up) = absurd (cc up.0)
     by false (inr up) =
-        old_best sums cs slots weight new.sizes some entry first old.cost old.sizes found (subst (λ n. (old.cost < n) ⊎ ((n ≡ old.cost) × (is_before new.sizes old.sizes ≡ false))) costs up.1)
+        old_best sums cs slots weight new.sizes some cell first old.cost old.sizes found (subst (λ n. (old.cost < n) ⊎ ((n ≡ old.cost) × (is_before new.sizes old.sizes ≡ false))) costs up.1)
 
 -- One number of slots on, where no sizes have just that number.
-pub found_none : (sums cs : List ℕ) (slots : ℕ) (best : Option Found) → IsEntry sums cs 0 slots None → IsFound sums cs slots best → IsFound sums cs (slots + 1) best
-found_none sums cs slots best entry found = by best found
+pub found_none : (sums cs : List ℕ) (slots : ℕ) (best : Option BestSizes) → IsCell sums cs 0 slots None → IsFound sums cs slots best → IsFound sums cs (slots + 1) best
+found_none sums cs slots best cell found = by best found
   where
     still : (other : List ℕ) → IsSplitRest sums cs 0 other → minor_from cs other < slots + 1 → minor_from cs other < slots
     still other rest below = cases (cases_lt (minor_from cs other) slots)
       where
         cases : ((minor_from cs other < slots) ⊎ (slots ≤ minor_from cs other)) → minor_from cs other < slots
         cases (inl less) = less
-        cases (inr more) = absurd (let low = entry.least other rest (omega arith) in none-some low.0 low.1)
+        cases (inr more) = absurd (let low = cell.least other rest (omega arith) in none-some low.0 low.1)
 
-    by : (best : Option Found) → IsFound sums cs slots best → IsFound sums cs (slots + 1) best
+    by : (best : Option BestSizes) → IsFound sums cs slots best → IsFound sums cs (slots + 1) best
     by None found = λ other rest below. found other rest (still other rest below)
     by (Some old) found = record {
       rest = found.rest;

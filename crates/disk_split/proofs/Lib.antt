@@ -3,7 +3,7 @@ pub mod RowSteps
 pub mod TableSteps
 pub mod Orders
 pub mod CostSteps
-pub mod LeftSteps
+pub mod RestSteps
 pub mod BestSteps
 pub mod LeastMinors
 pub mod MinorLemmas

@@ -3,11 +3,11 @@ use Rattle.std.proofs.Common.{◌≡◌, ◌≤◌, ◌<◌, ◌⊎◌, inl, inr
 use Rattle.std.proofs.lemmas.Bool.{cases_lt}
 use Rattle.std.proofs.lemmas.Option.{none-some, same_Some}
 use Rattle.disk_split.specs.Private.Rests.{IsSplitRest, IsRestOf, chunk_slots, minor_from, rates_from, weight_from}
-use Rattle.disk_split.specs.Private.Tables.{IsEntry, IsEntryBelow, lesser_weight_with}
+use Rattle.disk_split.specs.Private.Tables.{IsCell, IsCellBelow, lesser_weight_with}
 use Rattle.disk_split.proofs.RestLemmas.{rest_within}
 
 -- No size is below 1.
-pub below_one : (sums cs : List ℕ) (c from len : ℕ) → IsEntryBelow sums (c ∷ cs) from len 1 None
+pub below_one : (sums cs : List ℕ) (c from len : ℕ) → IsCellBelow sums (c ∷ cs) from len 1 None
 unfolding IsSplitRest
 below_one sums cs c from len = record {
   reached = λ w e. absurd (none-some w e);
@@ -48,13 +48,13 @@ put_before sums cs c from len top r sizes full room of = record {
   weighs = (let e = of.weighs in omega arith);
 }
 
-module _ (sums cs : List ℕ) (c from len top : ℕ) (old : Option ℕ) (before : IsEntryBelow sums (c ∷ cs) from len top old) where
+module _ (sums cs : List ℕ) (c from len top : ℕ) (old : Option ℕ) (before : IsCellBelow sums (c ∷ cs) from len top old) where
   -- what was reached below is reached
   stays : (w : ℕ) → old ≡ Some w → (sizes : List ℕ) × (slice_index sizes 0 < top + 1) × IsRestOf sums (c ∷ cs) from len w sizes
   stays w e = let r = before.reached w e in (r.0, (let low = r.1 in omega arith), r.2)
 
   -- a size whose chunk doesn't fit reaches nothing
-  pub skipped : len < chunk_slots c top → IsEntryBelow sums (c ∷ cs) from len (top + 1) old
+  pub skipped : len < chunk_slots c top → IsCellBelow sums (c ∷ cs) from len (top + 1) old
   skipped over = record {
     reached = stays;
     least = λ sizes below rest slots. by sizes rest slots (taken sums cs c from len top sizes below rest slots);
@@ -66,8 +66,8 @@ module _ (sums cs : List ℕ) (c from len top : ℕ) (old : Option ℕ) (before 
       by sizes rest slots (inr t) = absurd (let room = t.room in omega arith)
 
 -- A size whose chunk fits reaches what the disks after it reach in the slots that are left.
-pub stepped : (sums cs : List ℕ) (c from len top : ℕ) (old next : Option ℕ) → IsEntryBelow sums (c ∷ cs) from len top old → 1 ≤ top → chunk_slots c top ≤ len
-    → IsEntry sums cs (from + top) (len - chunk_slots c top) next → IsEntryBelow sums (c ∷ cs) from len (top + 1) (lesser_weight_with old next (c * rates_from sums from top))
+pub stepped : (sums cs : List ℕ) (c from len top : ℕ) (old next : Option ℕ) → IsCellBelow sums (c ∷ cs) from len top old → 1 ≤ top → chunk_slots c top ≤ len
+    → IsCell sums cs (from + top) (len - chunk_slots c top) next → IsCellBelow sums (c ∷ cs) from len (top + 1) (lesser_weight_with old next (c * rates_from sums from top))
 stepped sums cs c from len top old None before full room after = record {
   reached = stays sums cs c from len top old before;
   least = λ sizes below rest slots. by sizes rest slots (taken sums cs c from len top sizes below rest slots);
@@ -111,9 +111,9 @@ stepped sums cs c from len top (Some a) (Some r) before full room after = record
         (min a (r + c * rates_from sums from top), refl, omega arith)
 
 -- No size is greater than the number of items that are left.
-pub all_below : (sums cs : List ℕ) (c from len top : ℕ) (entry : Option ℕ) → length sums ≤ from + top → IsEntryBelow sums (c ∷ cs) from len top entry → IsEntry sums (c ∷ cs) from len entry
+pub all_below : (sums cs : List ℕ) (c from len top : ℕ) (cell : Option ℕ) → length sums ≤ from + top → IsCellBelow sums (c ∷ cs) from len top cell → IsCell sums (c ∷ cs) from len cell
 unfolding IsSplitRest
-all_below sums cs c from len top entry over below = record {
+all_below sums cs c from len top cell over below = record {
   reached = λ w e. let r = below.reached w e in (r.0, r.2);
   least = λ sizes rest slots. below.least sizes (low sizes rest) rest slots;
 }
@@ -123,7 +123,7 @@ all_below sums cs c from len top entry over below = record {
     low (s ∷ ss) rest = let within = rest_within sums cs (from + s) ss rest.1 in omega arith
 
 -- ---- no disk
-pub last_none : (sums : List ℕ) (from len : ℕ) → (from + 1 ≡ length sums → ⊥) → IsEntry sums [] from len None
+pub last_none : (sums : List ℕ) (from len : ℕ) → (from + 1 ≡ length sums → ⊥) → IsCell sums [] from len None
 unfolding IsSplitRest
 last_none sums from len other = record { reached = λ w e. absurd (none-some w e); least = λ sizes rest slots. absurd (none sizes rest) }
   where
@@ -131,11 +131,11 @@ last_none sums from len other = record { reached = λ w e. absurd (none-some w e
     none [] rest = other rest
     none (s ∷ ss) rest = rest
 
-pub last_later : (sums : List ℕ) (from len : ℕ) → 0 < len → IsEntry sums [] from len None
+pub last_later : (sums : List ℕ) (from len : ℕ) → 0 < len → IsCell sums [] from len None
 unfolding minor_from
 last_later sums from len more = record { reached = λ w e. absurd (none-some w e); least = λ sizes rest slots. absurd (let e : 0 ≡ len = slots in omega arith) }
 
-pub last_zero : (sums : List ℕ) (from : ℕ) → from + 1 ≡ length sums → IsEntry sums [] from 0 (Some 0)
+pub last_zero : (sums : List ℕ) (from : ℕ) → from + 1 ≡ length sums → IsCell sums [] from 0 (Some 0)
 unfolding IsSplitRest minor_from weight_from
 last_zero sums from last = record {
   reached = λ w e. ([], record { rest = last; slots = refl; weighs = same_Some 0 w e });

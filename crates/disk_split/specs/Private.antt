@@ -2,5 +2,5 @@
 pub mod Numbers
 pub mod Rests
 pub mod Tables
-pub mod Lefts
+pub mod RestsToPlace
 pub mod Bests

@@ -1,6 +1,6 @@
 //! What the deck's own sizes cost.
 
-ghost use Rattle.std.specs.Prelude.{◌≡◌, ◌<◌, ◌^◌};
+ghost use Rattle.std.specs.Prelude.{◌≡◌};
 ghost use Rattle.disk_split.specs.Splits.{sizes_in};
 ghost use Rattle.disk_split.specs.Private.Bests.{cost_from};
 ghost use Rattle.disk_split.specs.Private.Rests.{AreChunks, AreSums, IsSplitRest};

@@ -1,7 +1,6 @@
 //! The best split of a deck, and its cost beside that of the deck's own sizes.
 
 ghost use Rattle.std.specs.Prelude.{◌≡◌, ◌<◌, ◌≤◌, ◌^◌, IfErr, IfOk, OnOk};
-ghost use Rattle.air_model.specs.Decks.{Deck as ModelDeck};
 ghost use Rattle.disk_split.specs.Splits.{IsBest, cost, sizes_in};
 ghost use Rattle.disk_split.specs.SplitAnswers.{SaysTooLong, SaysTooMuch, search_size};
 ghost use Rattle.disk_split.specs.declared.splits.SplitFault.TheVariants as fault;

@@ -1,38 +1,37 @@
 //! The tables of least weights: one for the disks from each one on.
 //!
-//! A table has a row for each place from which these disks take the items, and in it an entry for each number of slots of a minor
+//! A table has a row for each place from which these disks take the items, and in it a cell for each number of slots of a minor
 //! cycle: the least weight of all sizes with that number, or none.
 
-ghost use Rattle.std.specs.Prelude.{◌≡◌, ◌<◌, ◌≤◌, ℕ, ◌+◌, ◌^◌, [], ◌∷◌, Some, None, IfOk, drop, if◌then◌else◌, length, slice_index_or};
-ghost use Rattle.air_base.specs.declared.limits.TheConstants.{MOST_SLOTS};
+ghost use Rattle.std.specs.Prelude.{◌≡◌, ◌<◌, ℕ, ◌+◌, ◌^◌, [], ◌∷◌, Some, None, IfOk, drop, if◌then◌else◌, length, slice_index_or};
 ghost use Rattle.disk_split.specs.Private.Rests.{AreChunks, AreSums};
-ghost use Rattle.disk_split.specs.Private.Tables.{AreTables, HasEntriesUpTo, IsRow, IsTable, improved, lesser_weight};
+ghost use Rattle.disk_split.specs.Private.Tables.{AreTables, HasCellsUpTo, IsTableRow, IsTable, improved, lesser_weight};
 
 use crate::lengths::chunk_slots;
 use std::alloc::{AllocError, Global};
 use std::marker::Model;
 
-/// The entries of a row.
+/// The cells of a row.
 #[derive(Drop)]
-pub struct Row {
-    pub entries: Vec<Option<u64>>,
+pub struct TableRow {
+    pub cells: Vec<Option<u64>>,
 }
 
-impl Model for Row {
+impl Model for TableRow {
     ghost use Rattle.std.specs.Prelude.{List, Option, ℕ};
 
     ghost Value = { List (Option ℕ) };
 
-    ghost view = { λ row. row.entries.items };
+    ghost view = { λ row. row.cells.items };
 }
 
-impl Row {
-    /// The entry of a number of slots.
-    pub fn entry(&self, slots: usize) -> Option<u64>
+impl TableRow {
+    /// The cell of a number of slots.
+    pub fn cell(&self, slots: usize) -> Option<u64>
         ensures { result ≡ slice_index_or self.now slots None }
     {
-        if slots < self.entries.len() {
-            self.entries[slots]
+        if slots < self.cells.len() {
+            self.cells[slots]
         } else {
             None
         }
@@ -42,7 +41,7 @@ impl Row {
 /// The rows of a table.
 #[derive(Drop)]
 pub struct Table {
-    pub rows: Vec<Row>,
+    pub rows: Vec<TableRow>,
 }
 
 impl Model for Table {
@@ -53,26 +52,26 @@ impl Model for Table {
     ghost view = { λ table. table.rows.items };
 }
 
-/// The less of an entry and a weight.
-fn lesser_weight(entry: Option<u64>, weight: u64) -> Option<u64>
-    ensures { result ≡ lesser_weight entry weight }
+/// The less of a cell and a weight.
+fn lesser_weight(cell: Option<u64>, weight: u64) -> Option<u64>
+    ensures { result ≡ lesser_weight cell weight }
 {
-    match entry {
+    match cell {
         Some(old) => Some(old.min(weight)),
         None => Some(weight),
     }
 }
 
 /// Lets a disk also take the next number of items: a chunk then has `chunk` slots, and the disk weighs `more`.
-fn improve(entries: &mut [Option<u64>], next: &[Option<u64>], chunk: usize, more: u64)
+fn improve(cells: &mut [Option<u64>], next: &[Option<u64>], chunk: usize, more: u64)
     requires short { chunk + length next.now < 2 ^ 64 }
-    requires room { HasEntriesUpTo more next.now }
-    ensures { (len : ℕ) → len < length entries.old →
-        slice_index_or entries.new len None ≡ improved next.now chunk more len (slice_index_or entries.old len None) }
+    requires room { HasCellsUpTo more next.now }
+    ensures { (len : ℕ) → len < length cells.old →
+        slice_index_or cells.new len None ≡ improved next.now chunk more len (slice_index_or cells.old len None) }
 {
-    for len in chunk..entries.len().min(chunk + next.len()) {
+    for len in chunk..cells.len().min(chunk + next.len()) {
         if let Some(rest) = next[len - chunk] {
-            entries[len] = lesser_weight(entries[len], rest + more);
+            cells[len] = lesser_weight(cells[len], rest + more);
         }
     }
 }
@@ -82,25 +81,25 @@ fn row_from(
     alloc: Global,
     chunks: &[u64],
     sums: &[u64],
-    next: &[Row],
+    next: &[TableRow],
     from: usize,
     width: usize,
-) -> Result<Row, AllocError>
+) -> Result<TableRow, AllocError>
     requires sums { AreSums sums.now }
     requires chunks { AreChunks chunks.now }
     requires some { 0 < length chunks.now }
     requires next { IsTable sums.now (drop 1 chunks.now) width next.now }
     requires within { from < length sums.now }
-    ensures { IfOk result (IsRow sums.now chunks.now from width) }
+    ensures { IfOk result (IsTableRow sums.now chunks.now from width) }
 {
-    let mut entries = vec![in alloc; None; width.min(sums.len() - from)]?;
+    let mut cells = vec![in alloc; None; width.min(sums.len() - from)]?;
     for size in 1..sums.len() - from {
         let chunk = chunk_slots(chunks[0], size as u64) as usize;
         let more = chunks[0] * (sums[from + size] - sums[from]);
         let row = &next[from + size];
-        improve(&mut entries, &row.entries, chunk, more);
+        improve(&mut cells, &row.cells, chunk, more);
     }
-    Ok(Row { entries })
+    Ok(TableRow { cells })
 }
 
 /// The table of the disks of these chunks, from that of the disks after the first.
@@ -108,7 +107,7 @@ fn table_from(
     alloc: Global,
     chunks: &[u64],
     sums: &[u64],
-    next: &[Row],
+    next: &[TableRow],
     width: usize,
 ) -> Result<Table, AllocError>
     requires sums { AreSums sums.now }
@@ -125,14 +124,14 @@ fn table_from(
 }
 
 /// The row of a place for no disk: only behind the last item nothing is left to take, in no slots and with no weight.
-fn last_row(alloc: Global, is_end: bool) -> Result<Row, AllocError>
+fn last_row(alloc: Global, is_end: bool) -> Result<TableRow, AllocError>
     ensures { IfOk result (λ row. row ≡ (if is_end then Some 0 ∷ [] else [])) }
 {
-    let mut entries = Vec::new(alloc);
+    let mut cells = Vec::new(alloc);
     if is_end {
-        entries.push(Some(0))?;
+        cells.push(Some(0))?;
     }
-    Ok(Row { entries })
+    Ok(TableRow { cells })
 }
 
 /// The table of no disk.

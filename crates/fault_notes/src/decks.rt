@@ -29,13 +29,13 @@ const TAGS: &str = "item, disk, update, reader, query, script and set";
 /// Of whom a note on a record tells.
 fn subject_of<'a>(before: &RecordsBefore, record: &'a Record, line: Line) -> Sentence<'a> {
     let text = record.field(1);
-    let (form, number) = match line.tag {
+    let (wording, number) = match line.tag {
         Tag::Item if read_u64(text.as_bytes()).is_some() => ("#name# #text# ", 0),
         Tag::Disk => ("#name# #first# ", before.disks),
         Tag::Reader => ("#name# #first# ", before.readers),
         _ => ("the #name# ", 0),
     };
-    Sentence::words(form, text, line.name, "").with(number, 0, "")
+    Sentence::words(wording, text, line.name, "").with(number, 0, "")
 }
 
 /// What is wrong with a record; none where that isn't found.

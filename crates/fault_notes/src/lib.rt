@@ -3,7 +3,7 @@
 //! The status of a refusal and its printed line come from the contracts of the commands; nothing here changes them. `records` finds
 //! the faulty record and its line, what the records before it say, and what its fields have to spell. `decks` tells what is wrong with a
 //! deck, by the kind of the fault, `reports` of a report; `tapes` finds where a tape is cut while its pieces go by. `prompts` tells what is
-//! wrong with the words of a command, `silences` that a deck gives no verdict. `words` has the form in which they say it. No clause
+//! wrong with the words of a command, `silences` that a deck gives no verdict. `words` has the sentences in which they say it. No clause
 //! says what a note has: they are tested.
 #![tactic(auto)]
 

@@ -74,14 +74,14 @@ fn command_note<'a>(
         }
         most = most.max(places);
     }
-    let form = if count < most {
+    let wording = if count < most {
         "too few words for #name#"
     } else if most < count {
         "too many words for #name#"
     } else {
         "the words of #name# are of no form"
     };
-    Sentence::words(form, "", command, "")
+    Sentence::words(wording, "", command, "")
 }
 
 /// What is wrong with a command's name and the words after it, and the command that was meant, if it is known.
@@ -95,8 +95,8 @@ fn named_note<'a>(
     let sentence = match command {
         Some(command) if command == name => command_note(help, command, words),
         Some(command) => {
-            let form = "there is no command #text#, and the nearest is #name#";
-            Sentence::words(form, name, command, "")
+            let wording = "there is no command #text#, and the nearest is #name#";
+            Sentence::words(wording, name, command, "")
         }
         None => Sentence::words("there is no command #text#", name, "", ""),
     };
@@ -125,6 +125,13 @@ fn front_of(is_first: bool) -> &'static str {
     }
 }
 
+/// Adds a form to the usage, as its first line or as another one.
+fn add_form(form: &str, is_first: bool, note: &mut String) -> Result<(), NoMemory> {
+    note.push_str(front_of(is_first))?;
+    note.push_str(form)?;
+    Ok(())
+}
+
 /// Adds the usage of a command, or of all commands if none is given.
 fn add_usages(
     help: &'static str,
@@ -134,8 +141,7 @@ fn add_usages(
     let mut is_first = true;
     for line in help.split('\n') {
         if let Some(usage) = Usage::of_command(line, command) {
-            note.push_str(front_of(is_first))?;
-            note.push_str(usage.form)?;
+            add_form(usage.form, is_first, note)?;
             is_first = false;
         }
     }
@@ -158,6 +164,29 @@ pub fn no_text_note(alloc: Global, help: &'static str) -> Result<String, NoMemor
     Ok(note)
 }
 
+/// Whether a line of the help shows a form of this command.
+fn is_of_command(line: &'static str, name: &str) -> bool {
+    match Usage::of_line(line) {
+        Some(usage) => usage.command() == name,
+        None => false,
+    }
+}
+
+/// Adds a line to a text.
+fn add_line(line: &str, text: &mut String) -> Result<(), NoMemory> {
+    text.push_str(line)?;
+    text.push('\n')?;
+    Ok(())
+}
+
+/// A text that isn't empty, or `None`.
+fn some_text(text: String) -> Option<String> {
+    if text.is_empty() {
+        return None;
+    }
+    Some(text)
+}
+
 /// The lines of the help on a command, or `None` if there are none.
 pub fn command_help(
     alloc: Global,
@@ -166,12 +195,9 @@ pub fn command_help(
 ) -> Result<Option<String>, NoMemory> {
     let mut text = String::new(alloc);
     for line in help.split('\n') {
-        if let Some(usage) = Usage::of_line(line)
-            && usage.command() == name
-        {
-            text.push_str(line.trim_start())?;
-            text.push('\n')?;
+        if is_of_command(line, name) {
+            add_line(line.trim_start(), &mut text)?;
         }
     }
-    Ok(if text.is_empty() { None } else { Some(text) })
+    Ok(some_text(text))
 }

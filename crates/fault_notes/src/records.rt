@@ -84,12 +84,12 @@ impl FoundRecord {
 
     /// Where it stands, behind the name of the file.
     pub fn place(&self) -> Sentence<'static> {
-        let form = match self.kind {
+        let wording = match self.kind {
             Kind::Record => ":#first#: ",
             Kind::End => ": the end, ",
             Kind::Nothing => ": ",
         };
-        Sentence::numbers(form, self.line, 0, 0)
+        Sentence::numbers(wording, self.line, 0, 0)
     }
 }
 

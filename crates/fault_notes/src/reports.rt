@@ -45,9 +45,9 @@ fn rule_of(kind: u8) -> Sentence<'static> {
 fn order_note(before: &RecordsBefore, tag: Tag) -> Option<Sentence<'static>> {
     for place in section(tag) + 1..5 {
         if let Some((row, name)) = before.begun[place] {
-            let form =
+            let wording =
                 "stands below the #name# line of record #first#: first come start and commit, then accept, abort and unfinished, then counts, then glance, then look";
-            return Some(Sentence::words(form, "", name, "").with(row as u64, 0, ""));
+            return Some(Sentence::words(wording, "", name, "").with(row as u64, 0, ""));
         }
     }
     None
@@ -55,7 +55,7 @@ fn order_note(before: &RecordsBefore, tag: Tag) -> Option<Sentence<'static>> {
 
 /// A cycle of a line hasn't been started above it.
 fn cycle_note<'a>(starts: u64, record: &'a Record, tag: Tag) -> Sentence<'a> {
-    let (form, text) = match tag {
+    let (wording, text) = match tag {
         Tag::Glance | Tag::Look => (
             "has the cycle #text#: it is at most the number of start lines above, which is #second#",
             record.field(2),
@@ -71,7 +71,7 @@ fn cycle_note<'a>(starts: u64, record: &'a Record, tag: Tag) -> Sentence<'a> {
             ),
         },
     };
-    Sentence::words(form, text, "", "").with(0, starts, "")
+    Sentence::words(wording, text, "", "").with(0, starts, "")
 }
 
 /// What is wrong with a line of a report; none where that isn't found.

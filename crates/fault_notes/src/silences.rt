@@ -18,7 +18,7 @@ fn has_query(deck: &Deck) -> bool {
 
 /// Why a deck gives no verdict, or `None` if it may give one. `by_script` tells whether its script decides which cycles start.
 fn why_silent(deck: &Deck, by_script: bool) -> Option<Sentence<'static>> {
-    let form = if deck.readers() == 0 {
+    let wording = if deck.readers() == 0 {
         "nobody listens: the deck has no reader"
     } else if !has_query(deck) {
         "nobody listens: no reader of the deck has a query"
@@ -27,7 +27,7 @@ fn why_silent(deck: &Deck, by_script: bool) -> Option<Sentence<'static>> {
     } else {
         return None;
     };
-    Some(Sentence::numbers(form, 0, 0, 0))
+    Some(Sentence::numbers(wording, 0, 0, 0))
 }
 
 /// A note that a deck gives no verdict, or `None` if it may give one. `by_script` tells whether its script decides which cycles start.

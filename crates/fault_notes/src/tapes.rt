@@ -66,12 +66,12 @@ impl CutTape {
             return Sentence::numbers("", 0, 0, 0);
         }
         let Some(there) = self.there.checked_sub(LENGTH_BYTES) else {
-            let form = "of the #second# bytes of its length #first# are there";
-            return Sentence::numbers(form, self.there as u64, LENGTH_BYTES as u64, 0);
+            let wording = "of the #second# bytes of its length #first# are there";
+            return Sentence::numbers(wording, self.there as u64, LENGTH_BYTES as u64, 0);
         };
         let size = u32::from_be_bytes(self.length_bytes);
-        let form = "of its #second# bytes #first# are there";
-        Sentence::numbers(form, there as u64, size as u64, 0)
+        let wording = "of its #second# bytes #first# are there";
+        Sentence::numbers(wording, there as u64, size as u64, 0)
     }
 
     /// Which record of the tape is cut, once all of it was fed: the one that begins at this byte.

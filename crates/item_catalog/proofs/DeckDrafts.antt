@@ -13,11 +13,11 @@ use Rattle.air_model.specs.Decks.{Deck, Item}
 use Rattle.item_catalog.specs.Declarations.{Declaration}
 use Rattle.item_catalog.specs.Declarations as e
 use Rattle.item_catalog.specs.Decks.{plain_item, with_freqs}
-use Rattle.item_catalog.specs.Private.Drafts.{DraftValue, deck_from, draft_of, push_at, with_entry}
+use Rattle.item_catalog.specs.Private.Drafts.{DraftValue, deck_from, draft_of, push_at, with_declaration}
 use Rattle.item_catalog.specs.declared.parts.ItemPart.{ItemPart}
 use Rattle.item_catalog.specs.declared.parts.DiskPart.{DiskPart}
 use Rattle.item_catalog.specs.declared.deck.draft.settings.Setting.{Setting}
-use Rattle.item_catalog.specs.DeckTexts.{all_set, deck_entries, disk_entry, item_entry, query_entries, reader_entry, update_entries, update_entry}
+use Rattle.item_catalog.specs.DeckTexts.{all_set, deck_declarations, disk_declaration, item_declaration, query_declarations, reader_declaration, update_declarations, update_declaration}
 use Rattle.item_catalog.proofs.DraftSteps.{drafted, with_all, with_both}
 
 abbrev pub draft_by : List ItemPart → List DiskPart → List (List UpdateLists) → ℕ → ℕ → List ReaderPlan → List (List (List ℕ)) → ℕ → List (Option ℕ) → List Setting → DraftValue
@@ -36,7 +36,7 @@ draft_by items disks updates updaters count readers queries asked script set = r
 
 -- ---- one section more
 
-module _ {L P : Type 0} (mk : L → Declaration) (part : L → P) (at : List P → DraftValue) (put : (done : List P) (x : L) → with_entry (at done) (mk x) ≡ at (done ++ part x ∷ [])) where
+module _ {L P : Type 0} (mk : L → Declaration) (part : L → P) (at : List P → DraftValue) (put : (done : List P) (x : L) → with_declaration (at done) (mk x) ≡ at (done ++ part x ∷ [])) where
   pub added : (xs : List L) (done : List P) → with_all (at done) (map mk xs) ≡ at (done ++ map part xs)
   added [] done = ap at (sym (append-nil done))
   added (x ∷ xs) done = ap (λ d. with_all d (map mk xs)) (put done x) ∙ added xs (done ++ part x ∷ []) ∙ ap at (append_assoc done (part x ∷ []) (map part xs))
@@ -74,26 +74,26 @@ module _ (items : List ItemPart) (disks : List DiskPart) where
   updates_same f g h = cc
 
   own_added : (front rest : List (List UpdateLists)) (old : List UpdateLists) (last count : ℕ) (own : List UpdateLists)
-      → with_all (at_updates (front ++ old ∷ rest) last count) (map (update_entry (length front)) own)
+      → with_all (at_updates (front ++ old ∷ rest) last count) (map (update_declaration (length front)) own)
       ≡ at_updates (front ++ (old ++ own) ∷ rest) (max last (updaters_named (length front) own)) (count + length own)
   own_added front rest old last count [] = updates_same (ap (λ l. front ++ l ∷ rest) (sym (append-nil old))) (omega arith) (omega arith)
   own_added front rest old last count (u ∷ own) =
-      ap (λ ls. with_all (at_updates ls (max last (length front + 1)) (count + 1)) (map (update_entry (length front)) own)) (push_here front old rest u)
+      ap (λ ls. with_all (at_updates ls (max last (length front + 1)) (count + 1)) (map (update_declaration (length front)) own)) (push_here front old rest u)
       ∙ own_added front rest (old ++ u ∷ []) (max last (length front + 1)) (count + 1) own
       ∙ updates_same (ap (λ l. front ++ l ∷ rest) (append_assoc old (u ∷ []) own)) (named_again last (length front) own) (omega arith)
 
   pub updates_added : (lists front pad : List (List UpdateLists)) (from last count : ℕ) → from ≡ length front
-      → with_all (at_updates (front ++ (replicate (length lists) [] ++ pad)) last count) (update_entries from lists)
+      → with_all (at_updates (front ++ (replicate (length lists) [] ++ pad)) last count) (update_declarations from lists)
       ≡ at_updates (front ++ (lists ++ pad)) (max last (all_named from lists)) (count + sum_by length lists)
   updates_added [] front pad from last count e = updates_same refl (omega arith) (omega arith)
   updates_added (own ∷ lists) front pad from last count e =
       let rest = replicate (length lists) [] ++ pad in
-      let more = update_entries (from + 1) lists in
+      let more = update_declarations (from + 1) lists in
       let next = front ++ own ∷ [] in
       let one = max last (updaters_named (length front) own) in
       let here : length front ≡ from = sym e in
-      with_both (at_updates (front ++ [] ∷ rest) last count) (map (update_entry from) own) more
-      ∙ ap (λ k. with_all (with_all (at_updates (front ++ [] ∷ rest) last count) (map (update_entry k) own)) more) e
+      with_both (at_updates (front ++ [] ∷ rest) last count) (map (update_declaration from) own) more
+      ∙ ap (λ k. with_all (with_all (at_updates (front ++ [] ∷ rest) last count) (map (update_declaration k) own)) more) e
       ∙ ap (λ d. with_all d more) (own_added front rest [] last count own ∙ updates_same (sym (append_assoc front (own ∷ []) rest)) refl refl)
       ∙ updates_added lists next pad (from + 1) one (count + length own) (omega (arith, length-append front (own ∷ [])))
       ∙ updates_same (append_assoc front (own ∷ []) (lists ++ pad)) (last_same (ap (λ k. updaters_named k own) here)) (omega (arith, sum_by-cons (λ (l : List UpdateLists). length l) own lists))
@@ -144,11 +144,11 @@ module _ (items : List ItemPart) (disks : List DiskPart) (updates : List (List U
       ∙ asked_added front rest (old ++ q ∷ []) (asked + 1) own ∙ queries_same (ap (λ l. front ++ l ∷ rest) (append_assoc old (q ∷ []) own)) (omega arith)
 
   pub queries_added : (lists front pad : List (List (List ℕ))) (from asked : ℕ) → from ≡ length front
-      → with_all (at_queries (front ++ (replicate (length lists) [] ++ pad)) asked) (query_entries from lists) ≡ at_queries (front ++ (lists ++ pad)) (asked + sum_by length lists)
+      → with_all (at_queries (front ++ (replicate (length lists) [] ++ pad)) asked) (query_declarations from lists) ≡ at_queries (front ++ (lists ++ pad)) (asked + sum_by length lists)
   queries_added [] front pad from asked at = queries_same refl (omega arith)
   queries_added (own ∷ lists) front pad from asked at =
       let rest = replicate (length lists) [] ++ pad in
-      let more = query_entries (from + 1) lists in
+      let more = query_declarations (from + 1) lists in
       with_both (at_queries (front ++ [] ∷ rest) asked) (map (e.Query from) own) more
       ∙ ap (λ k. with_all (with_all (at_queries (front ++ [] ∷ rest) asked) (map (e.Query k) own)) more) at
       ∙ ap (λ d. with_all d more) (asked_added front rest [] asked own ∙ queries_same (sym (append_assoc front (own ∷ []) rest)) refl)
@@ -206,35 +206,35 @@ whole_draft deck =
     draft_by (item_parts deck) (disk_parts deck) (deck.updates ++ more_updaters deck) (max 0 (all_named 0 deck.updates)) (0 + sum_by length deck.updates)
     deck.readers (deck.queries ++ more_readers deck) (0 + sum_by length deck.queries) deck.script (all_set deck.settings)
 
-pub items_added : (deck : Deck) → with_all (draft_of []) (map item_entry (enumerate_from 0 deck.items)) ≡ after_items deck
+pub items_added : (deck : Deck) → with_all (draft_of []) (map item_declaration (enumerate_from 0 deck.items)) ≡ after_items deck
 items_added deck =
-    added item_entry item_part (λ items. draft_by items [] (replicate MOST_UPDATERS []) 0 0 [] (replicate MOST_READERS []) 0 [] []) (λ done x. refl) (enumerate_from 0 deck.items) []
+    added item_declaration item_part (λ items. draft_by items [] (replicate MOST_UPDATERS []) 0 0 [] (replicate MOST_READERS []) 0 [] []) (λ done x. refl) (enumerate_from 0 deck.items) []
 
-pub disks_added : (deck : Deck) → with_all (after_items deck) (map disk_entry deck.disks) ≡ after_disks deck
+pub disks_added : (deck : Deck) → with_all (after_items deck) (map disk_declaration deck.disks) ≡ after_disks deck
 disks_added deck =
-    added disk_entry disk_part (λ disks. draft_by (item_parts deck) disks (replicate MOST_UPDATERS []) 0 0 [] (replicate MOST_READERS []) 0 [] []) (λ done x. refl) deck.disks []
+    added disk_declaration disk_part (λ disks. draft_by (item_parts deck) disks (replicate MOST_UPDATERS []) 0 0 [] (replicate MOST_READERS []) 0 [] []) (λ done x. refl) deck.disks []
 
-pub all_updates_added : (deck : Deck) → length deck.updates ≤ MOST_UPDATERS → with_all (after_disks deck) (update_entries 0 deck.updates) ≡ after_updates deck
+pub all_updates_added : (deck : Deck) → length deck.updates ≤ MOST_UPDATERS → with_all (after_disks deck) (update_declarations 0 deck.updates) ≡ after_updates deck
 all_updates_added deck few =
     let n = length deck.updates in
     let all : MOST_UPDATERS ≡ n + (MOST_UPDATERS - n) = omega arith in
     let lists = ap (λ k. replicate {A = List UpdateLists} k []) all ∙ no_lists {A = UpdateLists} n (MOST_UPDATERS - n) in
-    ap (λ ls. with_all (at_updates (item_parts deck) (disk_parts deck) ls 0 0) (update_entries 0 deck.updates)) lists
+    ap (λ ls. with_all (at_updates (item_parts deck) (disk_parts deck) ls 0 0) (update_declarations 0 deck.updates)) lists
     ∙ updates_added (item_parts deck) (disk_parts deck) deck.updates [] (more_updaters deck) 0 0 0 refl
 
-pub readers_added : (deck : Deck) → with_all (after_updates deck) (map reader_entry deck.readers) ≡ after_readers deck
+pub readers_added : (deck : Deck) → with_all (after_updates deck) (map reader_declaration deck.readers) ≡ after_readers deck
 readers_added deck =
     let at : List ReaderPlan → DraftValue = λ readers.
     draft_by (item_parts deck) (disk_parts deck) (deck.updates ++ more_updaters deck) (max 0 (all_named 0 deck.updates)) (0 + sum_by length deck.updates) readers (replicate MOST_READERS []) 0 [] [] in
-    added reader_entry (λ r. r) at (λ done x. refl) deck.readers [] ∙ ap at (same_readers deck.readers)
+    added reader_declaration (λ r. r) at (λ done x. refl) deck.readers [] ∙ ap at (same_readers deck.readers)
 
-pub all_queries_added : (deck : Deck) → length deck.queries ≤ MOST_READERS → with_all (after_readers deck) (query_entries 0 deck.queries) ≡ after_queries deck
+pub all_queries_added : (deck : Deck) → length deck.queries ≤ MOST_READERS → with_all (after_readers deck) (query_declarations 0 deck.queries) ≡ after_queries deck
 all_queries_added deck few =
     let n = length deck.queries in
     let us = deck.updates ++ more_updaters deck in let last = max 0 (all_named 0 deck.updates) in let count = 0 + sum_by length deck.updates in
     let all : MOST_READERS ≡ n + (MOST_READERS - n) = omega arith in
     let lists = ap (λ k. replicate {A = List (List ℕ)} k []) all ∙ no_lists {A = List ℕ} n (MOST_READERS - n) in
-    ap (λ ls. with_all (at_queries (item_parts deck) (disk_parts deck) us last count deck.readers ls 0) (query_entries 0 deck.queries)) lists
+    ap (λ ls. with_all (at_queries (item_parts deck) (disk_parts deck) us last count deck.readers ls 0) (query_declarations 0 deck.queries)) lists
     ∙ queries_added (item_parts deck) (disk_parts deck) us last count deck.readers deck.queries [] (more_readers deck) 0 0 refl
 
 pub rest_added : (deck : Deck) → with_all (after_queries deck) (e.Script deck.script ∷ map e.Set (all_set deck.settings)) ≡ whole_draft deck
@@ -242,20 +242,20 @@ rest_added deck = refl
 
 -- The sections behind each other.
 abbrev pub sections : Deck → List Declaration
-sections deck = map disk_entry deck.disks ++ (update_entries 0 deck.updates ++ (map reader_entry deck.readers ++ (query_entries 0 deck.queries ++ (e.Script deck.script ∷ map e.Set (all_set deck.settings)))))
+sections deck = map disk_declaration deck.disks ++ (update_declarations 0 deck.updates ++ (map reader_declaration deck.readers ++ (query_declarations 0 deck.queries ++ (e.Script deck.script ∷ map e.Set (all_set deck.settings)))))
 
-pub deck_drafted : (deck : Deck) → length deck.updates ≤ MOST_UPDATERS → length deck.queries ≤ MOST_READERS → draft_of (deck_entries deck) ≡ whole_draft deck
+pub deck_drafted : (deck : Deck) → length deck.updates ≤ MOST_UPDATERS → length deck.queries ≤ MOST_READERS → draft_of (deck_declarations deck) ≡ whole_draft deck
 deck_drafted deck few asked =
     let last = e.Script deck.script ∷ map e.Set (all_set deck.settings) in
-    let q = query_entries 0 deck.queries ++ last in
-    let r = map reader_entry deck.readers ++ q in
-    let u = update_entries 0 deck.updates ++ r in
-    drafted [] (deck_entries deck)
-    ∙ with_both (draft_of []) (map item_entry (enumerate_from 0 deck.items)) (map disk_entry deck.disks ++ u) ∙ ap (λ d. with_all d (map disk_entry deck.disks ++ u)) (items_added deck)
-    ∙ with_both (after_items deck) (map disk_entry deck.disks) u ∙ ap (λ d. with_all d u) (disks_added deck)
-    ∙ with_both (after_disks deck) (update_entries 0 deck.updates) r ∙ ap (λ d. with_all d r) (all_updates_added deck few)
-    ∙ with_both (after_updates deck) (map reader_entry deck.readers) q ∙ ap (λ d. with_all d q) (readers_added deck)
-    ∙ with_both (after_readers deck) (query_entries 0 deck.queries) last ∙ ap (λ d. with_all d last) (all_queries_added deck asked)
+    let q = query_declarations 0 deck.queries ++ last in
+    let r = map reader_declaration deck.readers ++ q in
+    let u = update_declarations 0 deck.updates ++ r in
+    drafted [] (deck_declarations deck)
+    ∙ with_both (draft_of []) (map item_declaration (enumerate_from 0 deck.items)) (map disk_declaration deck.disks ++ u) ∙ ap (λ d. with_all d (map disk_declaration deck.disks ++ u)) (items_added deck)
+    ∙ with_both (after_items deck) (map disk_declaration deck.disks) u ∙ ap (λ d. with_all d u) (disks_added deck)
+    ∙ with_both (after_disks deck) (update_declarations 0 deck.updates) r ∙ ap (λ d. with_all d r) (all_updates_added deck few)
+    ∙ with_both (after_updates deck) (map reader_declaration deck.readers) q ∙ ap (λ d. with_all d q) (readers_added deck)
+    ∙ with_both (after_readers deck) (query_declarations 0 deck.queries) last ∙ ap (λ d. with_all d last) (all_queries_added deck asked)
     ∙ rest_added deck
 
 -- ---- the deck of the draft

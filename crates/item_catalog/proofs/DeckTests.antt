@@ -15,12 +15,12 @@ use Rattle.item_catalog.specs.ListTests.{reaches}
 use Rattle.item_catalog.specs.RecordKinds.{first_of}
 use Rattle.item_catalog.specs.Declarations as e
 use Rattle.item_catalog.specs.DeckLimits.{DiskWithin, ReaderWithin, SettingsWithin, WithinLimits}
-use Rattle.item_catalog.specs.Private.Drafts.{DraftValue, draft_of, with_entry}
+use Rattle.item_catalog.specs.Private.Drafts.{DraftValue, draft_of, with_declaration}
 use Rattle.item_catalog.specs.Faults.{end_tests, query_tests}
 use Rattle.item_catalog.specs.Ranges.{outside}
 use Rattle.item_catalog.specs.declared.faults.FaultKind.TheVariants as fault
 use Rattle.item_catalog.specs.declared.parts.DiskPart.{DiskPart}
-use Rattle.item_catalog.specs.DeckTexts.{all_set, deck_entries, disk_entry, item_entry, query_entries, reader_entry, update_entries}
+use Rattle.item_catalog.specs.DeckTexts.{all_set, deck_declarations, disk_declaration, item_declaration, query_declarations, reader_declaration, update_declarations}
 use Rattle.item_catalog.proofs.DraftSteps.{Passes, passes_both, with_all}
 use Rattle.item_catalog.proofs.DeckDrafts.{after_disks, after_items, after_queries, after_readers, after_updates, all_queries_added, all_updates_added, disk_part, disk_parts, disks_added, item_part, item_parts, items_added, more_updaters, readers_added}
 use Rattle.item_catalog.proofs.TestLemmas.{all_reached, neither, none_one, none_three, none_two, not_less, not_outside, not_reached}
@@ -30,7 +30,7 @@ use Rattle.item_catalog.proofs.ScriptTests.{committed, script_none, small_events
 -- ---- items and disks
 
 items_pass : (items : List Item) (d : DraftValue) (k : ℕ) → length d.items ≡ k → k + length items ≤ MOST_ITEMS → All (λ i. i.value < 2 ^ 64) items → All (λ i. i.rate ≤ MOST_RATE) items
-    → Passes d (map item_entry (enumerate_from k items))
+    → Passes d (map item_declaration (enumerate_from k items))
 items_pass [] d k at few values rates = tt
 items_pass (i ∷ items) d k at few values rates =
     let rate = All-head (λ (i : Item). i.rate ≤ MOST_RATE) i items rates in
@@ -38,14 +38,14 @@ items_pass (i ∷ items) d k at few values rates =
       (omega arith, All-head (λ (i : Item). i.value < 2 ^ 64) i items values, omega arith),
       none_two fault.Id fault.Limit (not (k == length d.items)) (nat_lt MOST_RATE i.rate || nat_le MOST_ITEMS (length d.items)) (ap not id)
           (neither (nat_lt MOST_RATE i.rate) (nat_le MOST_ITEMS (length d.items)) (not_less MOST_RATE i.rate rate) (not_reached MOST_ITEMS (length d.items) (omega arith))),
-      items_pass items (with_entry d (item_entry (k, i))) (k + 1) (omega (arith, length-append d.items (record { value = i.value; rate = i.rate } ∷ []))) (omega arith)
+      items_pass items (with_declaration d (item_declaration (k, i))) (k + 1) (omega (arith, length-append d.items (record { value = i.value; rate = i.rate } ∷ []))) (omega arith)
           (All-tail (λ (i : Item). i.value < 2 ^ 64) i items values) (All-tail (λ (i : Item). i.rate ≤ MOST_RATE) i items rates),
     )
 
 abbrev Aired : DiskSpec → Type 0
 Aired disk = (0 < disk.size) × (0 < disk.freq)
 
-disks_pass : (disks : List DiskSpec) (d : DraftValue) → length d.disks + length disks ≤ MOST_DISKS → All Aired disks → All DiskWithin disks → Passes d (map disk_entry disks)
+disks_pass : (disks : List DiskSpec) (d : DraftValue) → length d.disks + length disks ≤ MOST_DISKS → All Aired disks → All DiskWithin disks → Passes d (map disk_declaration disks)
 disks_pass [] d few aired within = tt
 disks_pass (disk ∷ disks) d few aired within =
     let a = All-head Aired disk disks aired in let w = All-head DiskWithin disk disks within in
@@ -55,7 +55,7 @@ disks_pass (disk ∷ disks) d few aired within =
           (neither (outside 1 MOST_SIZE disk.size || outside 1 MOST_FREQ disk.freq) (nat_le MOST_DISKS (length d.disks))
           (neither (outside 1 MOST_SIZE disk.size) (outside 1 MOST_FREQ disk.freq) (not_outside 1 MOST_SIZE disk.size (omega arith) size) (not_outside 1 MOST_FREQ disk.freq (omega arith) freq))
           (not_reached MOST_DISKS (length d.disks) (omega arith))),
-      disks_pass disks (with_entry d (disk_entry disk)) (omega (arith, length-append d.disks (record { size = disk.size; freq = Some disk.freq } ∷ [])))
+      disks_pass disks (with_declaration d (disk_declaration disk)) (omega (arith, length-append d.disks (record { size = disk.size; freq = Some disk.freq } ∷ [])))
           (All-tail Aired disk disks aired) (All-tail DiskWithin disk disks within),
     )
 
@@ -64,7 +64,7 @@ disks_pass (disk ∷ disks) d few aired within =
 abbrev Tries : ReaderPlan → Type 0
 Tries r = 1 ≤ r.tries
 
-readers_pass : (readers : List ReaderPlan) (d : DraftValue) → length d.readers + length readers ≤ MOST_READERS → All Tries readers → All ReaderWithin readers → Passes d (map reader_entry readers)
+readers_pass : (readers : List ReaderPlan) (d : DraftValue) → length d.readers + length readers ≤ MOST_READERS → All Tries readers → All ReaderWithin readers → Passes d (map reader_declaration readers)
 readers_pass [] d few tries within = tt
 readers_pass (r ∷ readers) d few tries within =
     let t = All-head Tries r readers tries in let w = All-head ReaderWithin r readers within in
@@ -76,7 +76,7 @@ readers_pass (r ∷ readers) d few tries within =
           (neither (nat_lt MOST_ROOM r.room) (nat_lt MOST_AGE r.age) (not_less MOST_ROOM r.room room) (not_less MOST_AGE r.age age))
           (not_outside 1 MOST_TRIES r.tries t most))
           (not_reached MOST_READERS (length d.readers) (omega arith))),
-      readers_pass readers (with_entry d (reader_entry r)) (omega (arith, length-append d.readers (record { room = r.room; age = r.age; tries = r.tries } ∷ [])))
+      readers_pass readers (with_declaration d (reader_declaration r)) (omega (arith, length-append d.readers (record { room = r.room; age = r.age; tries = r.tries } ∷ [])))
           (All-tail Tries r readers tries) (All-tail ReaderWithin r readers within),
     )
 
@@ -95,29 +95,29 @@ asked_pass n m reader few most low (items ∷ own) d at by room all short =
           (neither (nat_le m reader) (reaches n items) (not_reached m reader low) (all_reached n items is.within))
           is.distinct
           (neither (outside 1 MOST_ASKED (length items)) (nat_le MOST_QUERIES d.query_count) (not_outside 1 MOST_ASKED (length items) (omega arith) s) (not_reached MOST_QUERIES d.query_count (omega arith))),
-      asked_pass n m reader few most low own (with_entry d (e.Query reader items)) at by (omega arith) (All-tail (IsQuery n) items own all) (All-tail Short items own short),
+      asked_pass n m reader few most low own (with_declaration d (e.Query reader items)) at by (omega arith) (All-tail (IsQuery n) items own all) (All-tail Short items own short),
     )
 
 asked_counts : (reader : ℕ) (own : List (List ℕ)) (d : DraftValue)
     → (length (with_all d (map (e.Query reader) own)).items ≡ length d.items) × (length (with_all d (map (e.Query reader) own)).readers ≡ length d.readers)
     × ((with_all d (map (e.Query reader) own)).query_count ≡ d.query_count + length own)
 asked_counts reader [] d = (refl, refl, omega arith)
-asked_counts reader (q ∷ own) d = let more = asked_counts reader own (with_entry d (e.Query reader q)) in (more.0, more.1, more.2 ∙ omega arith)
+asked_counts reader (q ∷ own) d = let more = asked_counts reader own (with_declaration d (e.Query reader q)) in (more.0, more.1, more.2 ∙ omega arith)
 
 queries_pass : (n m : ℕ) → n ≤ MOST_ITEMS → m ≤ MOST_READERS → (lists : List (List (List ℕ))) (d : DraftValue) (from : ℕ) → length d.items ≡ n → length d.readers ≡ m → from + length lists ≤ m
-    → d.query_count + sum_by length lists ≤ MOST_QUERIES → All (All (IsQuery n)) lists → All (All Short) lists → Passes d (query_entries from lists)
+    → d.query_count + sum_by length lists ≤ MOST_QUERIES → All (All (IsQuery n)) lists → All (All Short) lists → Passes d (query_declarations from lists)
 queries_pass n m few most [] d from at by low room all short = tt
 queries_pass n m few most (own ∷ lists) d from at by low room all short =
     let counts = asked_counts from own d in
     let sum = sum_by-cons (λ (l : List (List ℕ)). length l) own lists in
-    passes_both d (map (e.Query from) own) (query_entries (from + 1) lists)
+    passes_both d (map (e.Query from) own) (query_declarations (from + 1) lists)
     (asked_pass n m from few most (omega arith) own d at by (omega arith) (All-head (All (IsQuery n)) own lists all) (All-head (All Short) own lists short))
     (queries_pass n m few most lists (with_all d (map (e.Query from) own)) (from + 1) (counts.0 ∙ at) (counts.1 ∙ by) (omega arith) (omega (arith, counts.2))
     (All-tail (All (IsQuery n)) own lists all) (All-tail (All Short) own lists short))
 
 -- ---- the settings
 
-set_passes : (deck : Deck) → SettingsWithin deck.settings → Passes (with_entry (after_queries deck) (e.Script deck.script)) (map e.Set (all_set deck.settings))
+set_passes : (deck : Deck) → SettingsWithin deck.settings → Passes (with_declaration (after_queries deck) (e.Script deck.script)) (map e.Set (all_set deck.settings))
 set_passes deck w =
     let seed = w.seed in
     (tt, refl, ((omega arith, w.cycles), refl, ((omega arith, omega arith), refl, ((omega arith, w.loss), refl, ((omega arith, w.again), refl, ((omega arith, w.late), refl, ((omega arith, w.monitors), refl, ((w.some_hears, w.hears), refl, tt))))))))
@@ -155,26 +155,26 @@ module _ (deck : Deck) (made : IsDeck deck) (within : WithinLimits deck) where
       let more : 0 < length (disk_parts deck) = omega (arith, length-map deck.disks disk_part, some_disk deck.disks (omega arith)) in grind arith in
       none_two fault.Sizes fault.Limit (not (sum == n)) (n == 0 || length (disk_parts deck) == 0) (ap not sizes) (neither (n == 0) (length (disk_parts deck) == 0) items disks)
 
-  pub deck_passes : Passes (draft_of []) (deck_entries deck)
+  pub deck_passes : Passes (draft_of []) (deck_declarations deck)
   deck_passes =
       let n = length deck.items in let few = made.most in
       let disks = within.disks in let updaters = within.updaters in let updates = within.updates in let readers = within.readers in let queries = within.queries in let same = made.readers in
       let known = committed deck.updates deck.script updaters made.script in
       let last = e.Script deck.script ∷ map e.Set (all_set deck.settings) in
-      let q = query_entries 0 deck.queries ++ last in
-      let r = map reader_entry deck.readers ++ q in
-      let u = update_entries 0 deck.updates ++ r in
-      let s = map disk_entry deck.disks ++ u in
+      let q = query_declarations 0 deck.queries ++ last in
+      let r = map reader_declaration deck.readers ++ q in
+      let u = update_declarations 0 deck.updates ++ r in
+      let s = map disk_declaration deck.disks ++ u in
       let end : Passes (after_queries deck) last =
       (small_events deck.script known, script_none deck.updates (more_updaters deck) deck.script known made.script within.script within.starts, set_passes deck within.settings) in
-      let at_queries : Passes (after_readers deck) q = passes_both (after_readers deck) (query_entries 0 deck.queries) last
+      let at_queries : Passes (after_readers deck) q = passes_both (after_readers deck) (query_declarations 0 deck.queries) last
       (queries_pass n (length deck.readers) few readers deck.queries (after_readers deck) 0 items_long refl (omega arith) (omega arith) made.queries within.query)
       (subst (λ d. Passes d last) (sym (all_queries_added deck few_queries)) end) in
-      let at_readers : Passes (after_updates deck) r = passes_both (after_updates deck) (map reader_entry deck.readers) q
+      let at_readers : Passes (after_updates deck) r = passes_both (after_updates deck) (map reader_declaration deck.readers) q
       (readers_pass deck.readers (after_updates deck) (omega arith) made.tries within.reader) (subst (λ d. Passes d q) (sym (readers_added deck)) at_queries) in
-      let at_updates : Passes (after_disks deck) u = passes_both (after_disks deck) (update_entries 0 deck.updates) r
+      let at_updates : Passes (after_disks deck) u = passes_both (after_disks deck) (update_declarations 0 deck.updates) r
       (updates_pass n few deck.updates (after_disks deck) 0 items_long (omega arith) (omega arith) made.updates) (subst (λ d. Passes d r) (sym (all_updates_added deck updaters)) at_readers) in
-      let at_disks : Passes (after_items deck) s = passes_both (after_items deck) (map disk_entry deck.disks) u
+      let at_disks : Passes (after_items deck) s = passes_both (after_items deck) (map disk_declaration deck.disks) u
       (disks_pass deck.disks (after_items deck) (omega arith) made.aired within.disk) (subst (λ d. Passes d u) (sym (disks_added deck)) at_updates) in
-      passes_both (draft_of []) (map item_entry (enumerate_from 0 deck.items)) s
+      passes_both (draft_of []) (map item_declaration (enumerate_from 0 deck.items)) s
       (items_pass deck.items (draft_of []) 0 refl (omega arith) made.values within.rates) (subst (λ d. Passes d s) (sym (items_added deck)) at_disks)

@@ -32,7 +32,7 @@ use Rattle.item_catalog.specs.declared.deck.draft.settings.Name.TheVariants as n
 use Rattle.item_catalog.specs.declared.deck.draft.settings.Setting.{Setting}
 use Rattle.item_catalog.specs.declared.deck.draft.settings.Setting.TheVariants as setting
 use Rattle.item_catalog.proofs.KeptLemmas.{InRange}
-use Rattle.item_catalog.specs.DeckTexts.{entry_row, event_text, freq_text, set_row, value_text, write_text}
+use Rattle.item_catalog.specs.DeckTexts.{declaration_row, event_text, freq_text, set_row, value_text, write_text}
 
 -- ---- what fits
 
@@ -200,11 +200,11 @@ set_spelled (setting.Number name k) range = number_set name k range
 
 -- ---- declarations
 
-pub entry_spelled : (x : Declaration) → Fits x → spelled_declaration (entry_row x) ≡ Ok x
-entry_spelled (e.Item id value rate) fits = rw (text_spells id fits.0, text_spells value fits.1, text_spells rate fits.2) refl
-entry_spelled (e.Disk size freq) fits = rw (text_spells size fits.0, freq_spelled freq fits.1) refl
-entry_spelled (e.Update by reads writes) fits = rw (text_spells by fits.0, list_text_spells reads fits.1, writes_spelled writes fits.2) refl
-entry_spelled (e.Reader room age tries) fits = rw (text_spells room fits.0, text_spells age fits.1, text_spells tries fits.2) refl
-entry_spelled (e.Query reader items) fits = rw (text_spells reader fits.0, list_text_spells items fits.1) refl
-entry_spelled (e.Script events) fits = rw (events_spelled events fits) refl
-entry_spelled (e.Set s) fits = set_spelled s fits
+pub declaration_spelled : (x : Declaration) → Fits x → spelled_declaration (declaration_row x) ≡ Ok x
+declaration_spelled (e.Item id value rate) fits = rw (text_spells id fits.0, text_spells value fits.1, text_spells rate fits.2) refl
+declaration_spelled (e.Disk size freq) fits = rw (text_spells size fits.0, freq_spelled freq fits.1) refl
+declaration_spelled (e.Update by reads writes) fits = rw (text_spells by fits.0, list_text_spells reads fits.1, writes_spelled writes fits.2) refl
+declaration_spelled (e.Reader room age tries) fits = rw (text_spells room fits.0, text_spells age fits.1, text_spells tries fits.2) refl
+declaration_spelled (e.Query reader items) fits = rw (text_spells reader fits.0, list_text_spells items fits.1) refl
+declaration_spelled (e.Script events) fits = rw (events_spelled events fits) refl
+declaration_spelled (e.Set s) fits = set_spelled s fits

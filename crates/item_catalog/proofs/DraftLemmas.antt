@@ -13,7 +13,7 @@ use Rattle.air_history.specs.UpdateLists.{UpdateLists}
 use Rattle.air_model.specs.Decks.{count_parts}
 use Rattle.air_model.specs.declared.deck.ReaderPlan.{ReaderPlan}
 use Rattle.item_catalog.specs.Decks.{for_each}
-use Rattle.item_catalog.specs.Private.Drafts.{DraftValue, draft_of, draft_tests, push_at, with_entry}
+use Rattle.item_catalog.specs.Private.Drafts.{DraftValue, draft_of, draft_tests, push_at, with_declaration}
 use Rattle.item_catalog.specs.Declarations.{Declaration}
 use Rattle.item_catalog.specs.Declarations as e
 use Rattle.item_catalog.specs.declared.faults.FaultKind.TheVariants as fault
@@ -90,7 +90,7 @@ eq_self n = grind arith
 pub eq_other : (k n : ℕ) → k ≢ n → (n == k) ≡ false
 eq_other k n h = grind arith
 
-pub draft_more : (es : List Declaration) (x : Declaration) → draft_of (es ++ x ∷ []) ≡ with_entry (draft_of es) x
+pub draft_more : (es : List Declaration) (x : Declaration) → draft_of (es ++ x ∷ []) ≡ with_declaration (draft_of es) x
 draft_more es (e.Item id value rate) = let x : Declaration = e.Item id value rate in
     same_parts (one_more its_item es x _ refl) (none_more its_disk es x refl) (updates_kept es x (λ by. refl)) (updaters_kept es x refl) (count_kept is_update es x refl)
     (none_more its_reader es x refl) (queries_kept es x (λ r. refl)) (count_kept is_query es x refl) (script_kept es x refl) (none_more its_setting es x refl)

@@ -9,7 +9,7 @@ use Rattle.air_history.specs.UpdateRules.{has_repeat}
 use Rattle.item_catalog.specs.Fields.{freq_of, spelled_event}
 use Rattle.item_catalog.specs.Writes.{spelled_value_write, spelled_write}
 use Rattle.item_catalog.specs.Decks.{deck_of}
-use Rattle.item_catalog.specs.Faults.{entries_in, kinds_at, some_below}
+use Rattle.item_catalog.specs.Faults.{declarations_in, kinds_at, some_below}
 use Rattle.item_catalog.specs.Grammar.{HasFault}
 
 -- The fields of a record.
@@ -56,7 +56,7 @@ delta3 = codes "set" ∷ codes "delta" ∷ codes "3" ∷ []
 abbrev whole : List Row
 whole = item0 ∷ item1 ∷ disk2 ∷ update0 ∷ reader0 ∷ query0 ∷ script0 ∷ delta3 ∷ []
 
-whole_deck : deck_of (entries_in whole) ≡ record {
+whole_deck : deck_of (declarations_in whole) ≡ record {
   items = record { value = 10; rate = 1 } ∷ record { value = 20; rate = 1 } ∷ [];
   disks = record { size = 2; freq = 1 } ∷ [];
   updates = (record { reads = 0 ∷ []; writes = record { item = 1; base = Some 0; minus = false; amount = 5 } ∷ [] } ∷ []) ∷ [];
@@ -78,7 +78,7 @@ unfolding kinds_at number_of spelled_value_write spelled_write spelled_event fre
 whole_end = refl
 
 -- Two disks without a number have frequencies that differ by delta.
-graded : (deck_of (entries_in (disk2 ∷ disk2 ∷ delta3 ∷ []))).disks ≡ record { size = 2; freq = 4 } ∷ record { size = 2; freq = 1 } ∷ []
+graded : (deck_of (declarations_in (disk2 ∷ disk2 ∷ delta3 ∷ []))).disks ≡ record { size = 2; freq = 4 } ∷ record { size = 2; freq = 1 } ∷ []
 unfolding number_of freq_of
 graded = refl
 

@@ -14,7 +14,7 @@ use Rattle.item_catalog.specs.DeckLimits.{WithinLimits}
 use Rattle.item_catalog.specs.Decks.{for_each}
 use Rattle.item_catalog.specs.Private.Drafts.{draft_of, draft_tests}
 use Rattle.item_catalog.specs.Declarations.{Declaration, spelled_declaration}
-use Rattle.item_catalog.specs.Faults.{end_tests, entries_in, kinds_after, kinds_at, tests_of}
+use Rattle.item_catalog.specs.Faults.{end_tests, declarations_in, kinds_after, kinds_at, tests_of}
 use Rattle.item_catalog.specs.Grammar.{RowsSpell}
 use Rattle.item_catalog.specs.Kinds.{deck_kind_number}
 use Rattle.item_catalog.specs.Parts.{disk_parts_in, items_in}
@@ -22,8 +22,8 @@ use Rattle.item_catalog.specs.declared.faults.FaultKind.{FaultKind}
 use Rattle.item_catalog.proofs.DraftLemmas.{draft_more, tests_same}
 use Rattle.item_catalog.proofs.KeptLemmas.{Kept}
 use Rattle.item_catalog.proofs.KeptSteps.{kept_more}
-use Rattle.item_catalog.proofs.PlaceLemmas.{entries_more, judge}
-use Rattle.item_catalog.proofs.SpeltLemmas.{entry_spelt}
+use Rattle.item_catalog.proofs.PlaceLemmas.{declarations_more, judge}
+use Rattle.item_catalog.proofs.SpeltLemmas.{declaration_spelt}
 use Rattle.item_catalog.proofs.WellMadeLemmas.{deck_same, made, within}
 
 -- No declarations.
@@ -63,25 +63,25 @@ kept_none = record {
 }
 
 -- One more record at which no kind applies.
-kept_row : (rows : List (List (List ℕ))) (row : List (List ℕ)) → kinds_after (entries_in rows) (spelled_declaration row) ≡ [] → Kept (draft_of (entries_in rows)) → Kept (draft_of (entries_in (rows ++ row ∷ [])))
+kept_row : (rows : List (List (List ℕ))) (row : List (List ℕ)) → kinds_after (declarations_in rows) (spelled_declaration row) ≡ [] → Kept (draft_of (declarations_in rows)) → Kept (draft_of (declarations_in (rows ++ row ∷ [])))
 kept_row rows row none k = by (spelled_declaration row) refl none
   where
-    by : (r : Result Declaration FaultKind) → spelled_declaration row ≡ r → kinds_after (entries_in rows) r ≡ [] → Kept (draft_of (entries_in (rows ++ row ∷ [])))
+    by : (r : Result Declaration FaultKind) → spelled_declaration row ≡ r → kinds_after (declarations_in rows) r ≡ [] → Kept (draft_of (declarations_in (rows ++ row ∷ [])))
     by (Err kind) e h = cc h
     by (Ok x) e h =
-        let first : first_of (draft_tests (draft_of (entries_in rows)) x) ≡ None = ap first_of (tests_same (entries_in rows) x) ∙ none_first deck_kind_number (tests_of (entries_in rows) x) h in
-        rw (entries_more rows row x e, draft_more (entries_in rows) x) (kept_more (draft_of (entries_in rows)) x k (entry_spelt row x e) first)
+        let first : first_of (draft_tests (draft_of (declarations_in rows)) x) ≡ None = ap first_of (tests_same (declarations_in rows) x) ∙ none_first deck_kind_number (tests_of (declarations_in rows) x) h in
+        rw (declarations_more rows row x e, draft_more (declarations_in rows) x) (kept_more (draft_of (declarations_in rows)) x k (declaration_spelt row x e) first)
 
-pub kept_all : (rows : List (List (List ℕ))) → NoneBefore (kinds_at rows) (length rows) → Kept (draft_of (entries_in rows))
+pub kept_all : (rows : List (List (List ℕ))) → NoneBefore (kinds_at rows) (length rows) → Kept (draft_of (declarations_in rows))
 unfolding kinds_at
-kept_all rows before = along judge (λ rows. Kept (draft_of (entries_in rows))) kept_none (λ rows row none k. kept_row rows row none k) rows before
+kept_all rows before = along judge (λ rows. Kept (draft_of (declarations_in rows))) kept_none (λ rows row none k. kept_row rows row none k) rows before
 
 -- What records spell is well made, and within the limits.
 pub spelled_made : (rows : List (List (List ℕ))) (deck : Deck) → RowsSpell rows deck → IsDeck deck × WithinLimits deck
 unfolding kinds_at
 spelled_made rows deck spelled =
     let k = kept_all rows (λ place below. spelled.faultless place (omega arith)) in
-    let end : first_of (end_tests (length (items_in (entries_in rows))) (disk_parts_in (entries_in rows))) ≡ None
-    = none_first deck_kind_number (end_tests (length (items_in (entries_in rows))) (disk_parts_in (entries_in rows))) (sym (kinds_end judge rows) ∙ spelled.faultless (length rows) (omega arith)) in
-    let same = deck_same (entries_in rows) k ∙ sym spelled.parts in
-    (subst IsDeck same (made (draft_of (entries_in rows)) k end), subst WithinLimits same (within (draft_of (entries_in rows)) k end))
+    let end : first_of (end_tests (length (items_in (declarations_in rows))) (disk_parts_in (declarations_in rows))) ≡ None
+    = none_first deck_kind_number (end_tests (length (items_in (declarations_in rows))) (disk_parts_in (declarations_in rows))) (sym (kinds_end judge rows) ∙ spelled.faultless (length rows) (omega arith)) in
+    let same = deck_same (declarations_in rows) k ∙ sym spelled.parts in
+    (subst IsDeck same (made (draft_of (declarations_in rows)) k end), subst WithinLimits same (within (draft_of (declarations_in rows)) k end))

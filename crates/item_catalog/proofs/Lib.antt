@@ -43,6 +43,6 @@ mod DeckTests
 mod SpelledDecks
 mod DrillTexts
 mod TextExamples
-mod EntryExamples
+mod DeclarationExamples
 mod TestExamples
 mod FirstFaultExamples

@@ -10,7 +10,7 @@ use Rattle.item_catalog.proofs.RecordPlaces.{refused}
 use Rattle.item_catalog.specs.Private.Drafts.{DraftValue, deck_from, draft_of, record_kind}
 use Rattle.item_catalog.specs.Private.ReadEnds.{CanEnd, EndsBy}
 use Rattle.item_catalog.specs.Declarations.{spelled_declaration}
-use Rattle.item_catalog.specs.Faults.{end_tests, entries_in, kinds_at}
+use Rattle.item_catalog.specs.Faults.{end_tests, declarations_in, kinds_at}
 use Rattle.item_catalog.specs.Grammar.{HasFault, IsErrorOf, RowsFail, RowsSpell, Spells}
 use Rattle.item_catalog.specs.Kinds.{deck_kind_number}
 use Rattle.item_catalog.specs.declared.faults.FaultKind.{FaultKind}
@@ -20,14 +20,14 @@ use Rattle.item_catalog.proofs.KeptRows.{kept_all}
 use Rattle.item_catalog.proofs.PlaceLemmas.{end_of, ended_bad, ended_good, judge, least_after}
 use Rattle.item_catalog.proofs.WellMadeLemmas.{deck_same, delta_small, made, within}
 
-pub can_end : (rows : List (List (List ℕ))) → NoneBefore (kinds_at rows) (length rows) → CanEnd (draft_of (entries_in rows))
+pub can_end : (rows : List (List (List ℕ))) → NoneBefore (kinds_at rows) (length rows) → CanEnd (draft_of (declarations_in rows))
 can_end rows before none =
-    let k = kept_all rows before in let d = draft_of (entries_in rows) in
+    let k = kept_all rows before in let d = draft_of (declarations_in rows) in
     (made d k none, within d k none, delta_small d k none)
 
 module _ (text : List ℕ) (rows : List (List (List ℕ))) (before : NoneBefore (kinds_at rows) (length rows)) where
   pub read_fault : (row : List (List ℕ)) (left : List (List (List ℕ))) (kind : FaultKind) → records_of text ≡ rows ++ row ∷ left
-      → record_kind (draft_of (entries_in rows)) (spelled_declaration row) ≡ Some kind → HasFault text (length rows + 1) (deck_kind_number kind)
+      → record_kind (draft_of (declarations_in rows)) (spelled_declaration row) ≡ Some kind → HasFault text (length rows + 1) (deck_kind_number kind)
   unfolding HasFault kinds_at
   read_fault row left kind all h =
       let P : List (List (List ℕ)) → Type 0 = λ all. RowsFail all (length rows) (deck_kind_number kind) in
@@ -44,11 +44,11 @@ module _ (text : List ℕ) (rows : List (List (List ℕ))) (before : NoneBefore 
         let P : List (List (List ℕ)) → Type 0 = λ all. RowsFail all (length rows) (deck_kind_number kind) in
         (length rows, refl, subst P (sym every_row) (ended_bad rows kind before h))
 
-    pub read_deck_is : end_of rows ≡ None → Spells text (deck_from (draft_of (entries_in rows)))
+    pub read_deck_is : end_of rows ≡ None → Spells text (deck_from (draft_of (declarations_in rows)))
     unfolding Spells
     read_deck_is h =
-        let P : List (List (List ℕ)) → Type 0 = λ all. RowsSpell all (deck_from (draft_of (entries_in rows))) in
-        subst P (sym every_row) (record { faultless = ended_good rows before h; parts = deck_same (entries_in rows) (kept_all rows before) })
+        let P : List (List (List ℕ)) → Type 0 = λ all. RowsSpell all (deck_from (draft_of (declarations_in rows))) in
+        subst P (sym every_row) (record { faultless = ended_good rows before h; parts = deck_same (declarations_in rows) (kept_all rows before) })
 
 -- What the end answers, where the draft has what the records declare.
 pub ok_more : {A E : Type 0} (r : Result A E) (P Q : A → Type 0) → ((x : A) → P x → Q x) → IfOk r P → IfOk r Q
@@ -60,7 +60,7 @@ err_more (Ok x) P Q f h = tt
 err_more (Err e) P Q f h = f e h
 
 module _ (text : List ℕ) (rows : List (List (List ℕ))) (before : NoneBefore (kinds_at rows) (length rows)) (all : records_of text ≡ rows ++ [])
-    (draft : DraftValue) (same : draft ≡ draft_of (entries_in rows)) (row : ℕ) (number : row ≡ length rows + 1) where
+    (draft : DraftValue) (same : draft ≡ draft_of (declarations_in rows)) (row : ℕ) (number : row ≡ length rows + 1) where
   kind_same : first_of (end_tests (length draft.items) draft.disks) ≡ end_of rows
   kind_same = ap (λ (d : DraftValue). first_of (end_tests (length d.items) d.disks)) same
 

@@ -11,11 +11,11 @@ use Rattle.item_catalog.specs.Declarations.{Declaration}
 use Rattle.item_catalog.specs.Declarations as e
 use Rattle.item_catalog.specs.DeckLimits.{WithinLimits}
 use Rattle.item_catalog.specs.Decks.{deck_of}
-use Rattle.item_catalog.specs.Faults.{entries_in}
+use Rattle.item_catalog.specs.Faults.{declarations_in}
 use Rattle.item_catalog.specs.Grammar.{RowsSpell, Spells}
 use Rattle.item_catalog.specs.Parts.{greatest_number, its_update, its_updaters, updaters_in, updates_in}
-use Rattle.item_catalog.specs.DeckTexts.{LastUpdates, deck_entries, deck_text, entry_row}
-use Rattle.item_catalog.proofs.DraftSteps.{entries_spell}
+use Rattle.item_catalog.specs.DeckTexts.{LastUpdates, deck_declarations, deck_text, declaration_row}
+use Rattle.item_catalog.proofs.DraftSteps.{declarations_spell}
 use Rattle.item_catalog.proofs.DeckDrafts.{all_named, deck_back, deck_drafted, last_named, whole_draft}
 use Rattle.item_catalog.proofs.DeckTests.{deck_passes, end_none, few_queries}
 
@@ -30,10 +30,10 @@ every_named (own ∷ others) some =
 pub deck_spelled : (deck : Deck) → IsDeck deck → WithinLimits deck → LastUpdates deck → Spells (deck_text deck) deck
 unfolding deck_text
 deck_spelled deck made within last =
-    let text = rows_text (map entry_row (deck_entries deck)) in
+    let text = rows_text (map declaration_row (deck_declarations deck)) in
     let drafted = deck_drafted deck within.updaters (few_queries deck made within) in
     subst (λ d. Spells text d) (deck_back deck (every_named deck.updates last) made.readers)
-    (entries_spell (deck_entries deck) (whole_draft deck) drafted (deck_passes deck made within) (end_none deck made within))
+    (declarations_spell (deck_declarations deck) (whole_draft deck) drafted (deck_passes deck made within) (end_none deck made within))
 
 -- ---- what a text spells
 
@@ -56,12 +56,12 @@ module _ (last : ℕ) where
   last_updates (e.Script events ∷ declarations) same = last_updates declarations (omega arith)
   last_updates (e.Set s ∷ declarations) same = last_updates declarations (omega arith)
 
-entries_last : (declarations : List Declaration) → LastUpdates (deck_of declarations)
-entries_last declarations last same =
+declarations_last : (declarations : List Declaration) → LastUpdates (deck_of declarations)
+declarations_last declarations last same =
     let n = updaters_in declarations in
     let long : n ≡ last + 1 = sym (length-map-range_with_len (updates_in declarations) 0 n) ∙ same in
     let own = get_or-map-range_with_len (updates_in declarations) 0 n last last [] (omega arith) (omega arith) in
     omega (arith, ap length own, last_updates last declarations long)
 
 pub spelled_last : (rows : List (List (List ℕ))) (deck : Deck) → RowsSpell rows deck → LastUpdates deck
-spelled_last rows deck spelled = subst LastUpdates (sym spelled.parts) (entries_last (entries_in rows))
+spelled_last rows deck spelled = subst LastUpdates (sym spelled.parts) (declarations_last (declarations_in rows))

@@ -8,7 +8,7 @@ use Rattle.air_base.specs.declared.verdicts.Policy.{Policy}
 use Rattle.air_history.specs.declared.updates.Write.{Write}
 use Rattle.item_catalog.specs.declared.faults.FaultKind.TheVariants as fault
 use Rattle.item_catalog.specs.Spelled.{◌>>=◌, or_fault}
-use Rattle.item_catalog.specs.Declarations.{Declaration, disk_by, entry_by, item_by, query_by, reader_by, script_by, set_by, spelled_declaration, tag_of, update_by}
+use Rattle.item_catalog.specs.Declarations.{Declaration, disk_by, declaration_by, item_by, query_by, reader_by, script_by, set_by, spelled_declaration, tag_of, update_by}
 use Rattle.item_catalog.specs.Declarations as e
 use Rattle.item_catalog.specs.RecordFields.{◌is◌}
 use Rattle.item_catalog.specs.Fields.{freq_of, spelled_event}
@@ -119,11 +119,11 @@ set_spelt (Some f) x h = by (setting_of f.0 f.1) refl h
     by None e1 h = cc h
     by (Some s) e1 h = let same : e.Set s ≡ x = cc h in rw (← same) (setting_in_range f.0 f.1 s e1)
 
-pub entry_spelt : (row : List (List ℕ)) (x : Declaration) → spelled_declaration row ≡ Ok x → Spelt x
-entry_spelt [] x h = cc h
-entry_spelt (tag ∷ fields) x h = by (tag_of tag) h
+pub declaration_spelt : (row : List (List ℕ)) (x : Declaration) → spelled_declaration row ≡ Ok x → Spelt x
+declaration_spelt [] x h = cc h
+declaration_spelt (tag ∷ fields) x h = by (tag_of tag) h
   where
-    by : (t : Option Tag) → entry_by t fields ≡ Ok x → Spelt x
+    by : (t : Option Tag) → declaration_by t fields ≡ Ok x → Spelt x
     by (Some t.Item) h = item_spelt (three_of fields) x h
     by (Some t.Disk) h = disk_spelt (two_of fields) x h
     by (Some t.Update) h = update_spelt (three_of fields) x h

@@ -121,7 +121,7 @@ pub record Tests : Type 0 where
   first_code : deck_kind_number fault.Fields ≡ 1
   last_code : deck_kind_number fault.Overdrawn ≡ 11
   holding : kinds ((fault.Id, true) ∷ (fault.Twice, false) ∷ (fault.Limit, true) ∷ []) ≡ 3 ∷ 7 ∷ []
-  of_entry : spelled_kinds {X = ℕ} deck_kind_number (λ n. (fault.Limit, n == 3) ∷ []) (Ok 3) ≡ 7 ∷ []
+  of_declaration : spelled_kinds {X = ℕ} deck_kind_number (λ n. (fault.Limit, n == 3) ∷ []) (Ok 3) ≡ 7 ∷ []
   of_fault : spelled_kinds {X = ℕ} deck_kind_number (λ n. []) (Err fault.Tag) ≡ 9 ∷ []
   -- a million is the greatest rate, and 256 items are the most
   greatest_rate : kinds (item_tests 0 0 1000000) ≡ []
@@ -159,8 +159,8 @@ pub record Tests : Type 0 where
   sizes : kinds (end_tests 3 (record { size = 2; freq = None } ∷ [])) ≡ 6 ∷ []
   at_end : kinds (end_tests 2 (record { size = 2; freq = None } ∷ [])) ≡ []
   nothing_at_end : kinds (end_tests 0 []) ≡ 7 ∷ []
-  by_entries : kinds (tests_of all (e.Item 1 5 1)) ≡ 3 ∷ []
-  after_entries : kinds_after all (Ok (e.Item 2 5 1)) ≡ []
+  by_declarations : kinds (tests_of all (e.Item 1 5 1)) ≡ 3 ∷ []
+  after_declarations : kinds_after all (Ok (e.Item 2 5 1)) ≡ []
   in_place : place_kinds all (Some (codes "item" ∷ codes "3" ∷ codes "5" ∷ codes "1" ∷ [])) ≡ 3 ∷ []
   end_in_place : place_kinds all None ≡ 6 ∷ []
 
@@ -181,7 +181,7 @@ tests = record {
   first_code = refl;
   last_code = refl;
   holding = refl;
-  of_entry = refl;
+  of_declaration = refl;
   of_fault = refl;
   greatest_rate = refl;
   rate_above = refl;
@@ -217,8 +217,8 @@ tests = record {
   sizes = refl;
   at_end = refl;
   nothing_at_end = refl;
-  by_entries = refl;
-  after_entries = refl;
+  by_declarations = refl;
+  after_declarations = refl;
   in_place = refl;
   end_in_place = refl;
 }

@@ -15,12 +15,12 @@ use Rattle.air_history.specs.UpdateRules.{base_holds, base_is_read, has_repeat, 
 use Rattle.air_model.specs.Decks.{IsUpdate}
 use Rattle.item_catalog.specs.ListTests.{is_unread, option_any, reaches, write_reaches}
 use Rattle.item_catalog.specs.RecordKinds.{first_of}
-use Rattle.item_catalog.specs.Private.Drafts.{DraftValue, with_entry}
+use Rattle.item_catalog.specs.Private.Drafts.{DraftValue, with_declaration}
 use Rattle.item_catalog.specs.Faults.{update_tests}
 use Rattle.item_catalog.specs.Ranges.{outside}
 use Rattle.item_catalog.specs.declared.faults.FaultKind.TheVariants as fault
 use Rattle.item_catalog.proofs.KeptLemmas.{every}
-use Rattle.item_catalog.specs.DeckTexts.{update_entries, update_entry}
+use Rattle.item_catalog.specs.DeckTexts.{update_declarations, update_declaration}
 use Rattle.item_catalog.proofs.DeclarationTexts.{BaseFits, Fits, WriteFits}
 use Rattle.item_catalog.proofs.DraftSteps.{Passes, passes_both, with_all}
 use Rattle.item_catalog.proofs.TestLemmas.{all_reached, neither, none_four, not_less, not_outside, not_reached}
@@ -85,7 +85,7 @@ module _ (n : ℕ) (u : UpdateLists) (few : n ≤ MOST_ITEMS) (is : IsUpdate n u
       let w : Write = get_or u.writes k d in
       base_kept n u.reads w.minus w.base few is.fits.reads (every (base_is_read u.reads) u.writes kept.bases k d below)
 
-  update_fits : (by : ℕ) → by < MOST_UPDATERS → Fits (update_entry by u)
+  update_fits : (by : ℕ) → by < MOST_UPDATERS → Fits (update_declaration by u)
   update_fits by low = (omega arith, (λ k d below. let r = is.fits.reads k d below in omega arith), fit)
     where
       fit : All WriteFits u.writes
@@ -112,27 +112,27 @@ module _ (n : ℕ) (u : UpdateLists) (few : n ≤ MOST_ITEMS) (is : IsUpdate n u
           neither (nat_le n w.item) (option_any (nat_le n) w.base) (not_reached n w.item (is.fits.writes k d below)) (bases_kept k d below).within
 
 own_pass : (n by : ℕ) → n ≤ MOST_ITEMS → by < MOST_UPDATERS → (own : List UpdateLists) (d : DraftValue) → length d.items ≡ n → d.update_count + length own ≤ MOST_UPDATES → All (IsUpdate n) own
-    → Passes d (map (update_entry by) own)
+    → Passes d (map (update_declaration by) own)
 own_pass n by few low [] d at room all = tt
 own_pass n by few low (u ∷ own) d at room all =
     let is = All-head (IsUpdate n) u own all in (
       update_fits n u few is by low,
       ap (λ m. first_of (update_tests m d.update_count by u.reads u.writes)) at ∙ update_none n u few is by d.update_count low (omega arith),
-      own_pass n by few low own (with_entry d (update_entry by u)) at (omega arith) (All-tail (IsUpdate n) u own all),
+      own_pass n by few low own (with_declaration d (update_declaration by u)) at (omega arith) (All-tail (IsUpdate n) u own all),
     )
 
 -- Updates leave the items as they are, and are counted.
 own_counts : (by : ℕ) (own : List UpdateLists) (d : DraftValue)
-    → (length (with_all d (map (update_entry by) own)).items ≡ length d.items) × ((with_all d (map (update_entry by) own)).update_count ≡ d.update_count + length own)
+    → (length (with_all d (map (update_declaration by) own)).items ≡ length d.items) × ((with_all d (map (update_declaration by) own)).update_count ≡ d.update_count + length own)
 own_counts by [] d = (refl, omega arith)
-own_counts by (u ∷ own) d = let more = own_counts by own (with_entry d (update_entry by u)) in (more.0, more.1 ∙ omega arith)
+own_counts by (u ∷ own) d = let more = own_counts by own (with_declaration d (update_declaration by u)) in (more.0, more.1 ∙ omega arith)
 
 pub updates_pass : (n : ℕ) → n ≤ MOST_ITEMS → (lists : List (List UpdateLists)) (d : DraftValue) (from : ℕ) → length d.items ≡ n → from + length lists ≤ MOST_UPDATERS
-    → d.update_count + sum_by length lists ≤ MOST_UPDATES → All (All (IsUpdate n)) lists → Passes d (update_entries from lists)
+    → d.update_count + sum_by length lists ≤ MOST_UPDATES → All (All (IsUpdate n)) lists → Passes d (update_declarations from lists)
 updates_pass n few [] d from at low room all = tt
 updates_pass n few (own ∷ lists) d from at low room all =
     let counts = own_counts from own d in
     let sum = sum_by-cons (λ (l : List UpdateLists). length l) own lists in
-    passes_both d (map (update_entry from) own) (update_entries (from + 1) lists)
+    passes_both d (map (update_declaration from) own) (update_declarations (from + 1) lists)
     (own_pass n from few (omega arith) own d at (omega arith) (All-head (All (IsUpdate n)) own lists all))
-    (updates_pass n few lists (with_all d (map (update_entry from) own)) (from + 1) (counts.0 ∙ at) (omega arith) (omega (arith, counts.1)) (All-tail (All (IsUpdate n)) own lists all))
+    (updates_pass n few lists (with_all d (map (update_declaration from) own)) (from + 1) (counts.0 ∙ at) (omega arith) (omega (arith, counts.1)) (All-tail (All (IsUpdate n)) own lists all))

@@ -1,5 +1,5 @@
 -- The deck of parts to which no kind applies is well made, and within the limits.
-use Rattle.std.proofs.Common.{◌≡◌, ◌<◌, ◌≤◌, ◌+◌, ◌*◌, ◌^◌, ◌∷◌, [], ℕ, zero, suc, List, Option, Some, None, Bool, true, false, cond, not, ◌∙◌, sym, refl, ap, arith, map, get_or, length, take, nat_lt, inl, inr}
+use Rattle.std.proofs.Common.{◌≡◌, ◌<◌, ◌≤◌, ◌+◌, ◌*◌, ◌^◌, ◌∷◌, [], ℕ, zero, suc, List, Option, Some, None, Bool, true, false, cond, not, ◌∙◌, sym, subst, refl, ap, arith, map, get_or, length, take, nat_lt, inl, inr}
 use Rattle.std.specs.Prelude.{◌==◌, ◌||◌, All, sum_by, unwrap_or}
 use Rattle.std.specs.List.{range_with_len}
 use Rattle.std.proofs.lemmas.Bool.{cases_lt}
@@ -68,7 +68,7 @@ number_fits name (s ∷ set) all = by s (all 0 s (omega arith)) (number_fits nam
       where
         at : (b : Bool) → same_name name other ≡ b
             → ((range_of name).0 ≤ unwrap_or (cond b (Some v) None) (number_in name set)) × (unwrap_or (cond b (Some v) None) (number_in name set) ≤ (range_of name).1)
-        at true e = rw (same_named name other e) range
+        at true e = subst (λ (r : ℕ × ℕ). (r.0 ≤ v) × (v ≤ r.1)) (sym (same_named name other e)) range
         at false e = more
 
 settings_fit : (set : List Setting) → All InRange set → SettingsWithin (settings_in set)

@@ -70,40 +70,40 @@ set_row (setting.Policy policy) = codes "set" ∷ codes "policy" ∷ policy_text
 set_row (setting.Number name value) = codes "set" ∷ name_text name ∷ number_text value ∷ []
 
 -- The record of a declaration: its tag, and what it says.
-abbrev pub entry_row : Declaration → List (List ℕ)
-entry_row (e.Item id value rate) = codes "item" ∷ number_text id ∷ number_text value ∷ number_text rate ∷ []
-entry_row (e.Disk size freq) = codes "disk" ∷ number_text size ∷ freq_text freq ∷ []
-entry_row (e.Update by reads writes) = codes "update" ∷ number_text by ∷ list_text (map number_text reads) ∷ list_text (map write_text writes) ∷ []
-entry_row (e.Reader room age tries) = codes "reader" ∷ number_text room ∷ number_text age ∷ number_text tries ∷ []
-entry_row (e.Query reader items) = codes "query" ∷ number_text reader ∷ list_text (map number_text items) ∷ []
-entry_row (e.Script events) = codes "script" ∷ list_text (map event_text events) ∷ []
-entry_row (e.Set s) = set_row s
+abbrev pub declaration_row : Declaration → List (List ℕ)
+declaration_row (e.Item id value rate) = codes "item" ∷ number_text id ∷ number_text value ∷ number_text rate ∷ []
+declaration_row (e.Disk size freq) = codes "disk" ∷ number_text size ∷ freq_text freq ∷ []
+declaration_row (e.Update by reads writes) = codes "update" ∷ number_text by ∷ list_text (map number_text reads) ∷ list_text (map write_text writes) ∷ []
+declaration_row (e.Reader room age tries) = codes "reader" ∷ number_text room ∷ number_text age ∷ number_text tries ∷ []
+declaration_row (e.Query reader items) = codes "query" ∷ number_text reader ∷ list_text (map number_text items) ∷ []
+declaration_row (e.Script events) = codes "script" ∷ list_text (map event_text events) ∷ []
+declaration_row (e.Set s) = set_row s
 
 -- ---- the declarations of a deck
 
 -- An item with its place.
-abbrev pub item_entry : ℕ × Item → Declaration
-item_entry item = e.Item item.0 item.1.value item.1.rate
+abbrev pub item_declaration : ℕ × Item → Declaration
+item_declaration item = e.Item item.0 item.1.value item.1.rate
 
 -- A disk with its frequency.
-abbrev pub disk_entry : DiskSpec → Declaration
-disk_entry disk = e.Disk disk.size (Some disk.freq)
+abbrev pub disk_declaration : DiskSpec → Declaration
+disk_declaration disk = e.Disk disk.size (Some disk.freq)
 
 -- An update of an updater.
-abbrev pub update_entry : ℕ → UpdateLists → Declaration
-update_entry by update = e.Update by update.reads update.writes
+abbrev pub update_declaration : ℕ → UpdateLists → Declaration
+update_declaration by update = e.Update by update.reads update.writes
 
 -- The updates of updaters, the first of which has this number.
-abbrev pub update_entries : ℕ → List (List UpdateLists) → List Declaration
-update_entries from updates = flat_map (λ (own : ℕ × List UpdateLists). map (update_entry own.0) own.1) (enumerate_from from updates)
+abbrev pub update_declarations : ℕ → List (List UpdateLists) → List Declaration
+update_declarations from updates = flat_map (λ (own : ℕ × List UpdateLists). map (update_declaration own.0) own.1) (enumerate_from from updates)
 
 -- A reader.
-abbrev pub reader_entry : ReaderPlan → Declaration
-reader_entry reader = e.Reader reader.room reader.age reader.tries
+abbrev pub reader_declaration : ReaderPlan → Declaration
+reader_declaration reader = e.Reader reader.room reader.age reader.tries
 
 -- The queries of readers, the first of which has this number.
-abbrev pub query_entries : ℕ → List (List (List ℕ)) → List Declaration
-query_entries from queries = flat_map (λ (own : ℕ × List (List ℕ)). map (e.Query own.0) own.1) (enumerate_from from queries)
+abbrev pub query_declarations : ℕ → List (List (List ℕ)) → List Declaration
+query_declarations from queries = flat_map (λ (own : ℕ × List (List ℕ)). map (e.Query own.0) own.1) (enumerate_from from queries)
 
 -- All settings but delta.
 abbrev pub all_set : Settings → List Setting
@@ -112,14 +112,14 @@ all_set s =
     setting.Number n.Late s.late ∷ setting.Number n.Monitors s.monitors ∷ setting.Number n.Hears s.hears ∷ []
 
 -- What a deck declares.
-abbrev pub deck_entries : Deck → List Declaration
-deck_entries deck =
-    map item_entry (enumerate_from 0 deck.items)
-    ++ (map disk_entry deck.disks ++ (update_entries 0 deck.updates ++ (map reader_entry deck.readers ++ (query_entries 0 deck.queries ++ (e.Script deck.script ∷ map e.Set (all_set deck.settings))))))
+abbrev pub deck_declarations : Deck → List Declaration
+deck_declarations deck =
+    map item_declaration (enumerate_from 0 deck.items)
+    ++ (map disk_declaration deck.disks ++ (update_declarations 0 deck.updates ++ (map reader_declaration deck.readers ++ (query_declarations 0 deck.queries ++ (e.Script deck.script ∷ map e.Set (all_set deck.settings))))))
 
 -- The text of a deck.
 unfoldable pub deck_text : Deck → List ℕ
-deck_text deck = rows_text (map entry_row (deck_entries deck))
+deck_text deck = rows_text (map declaration_row (deck_declarations deck))
 
 -- ---- what has a text
 

@@ -99,16 +99,16 @@ tag_of text =
     else None
 
 -- What the fields after a tag spell.
-abbrev pub entry_by : Option Tag → List (List ℕ) → Result Declaration FaultKind
-entry_by (Some t.Item) fields = item_by (three_of fields)
-entry_by (Some t.Disk) fields = disk_by (two_of fields)
-entry_by (Some t.Update) fields = update_by (three_of fields)
-entry_by (Some t.Reader) fields = reader_by (three_of fields)
-entry_by (Some t.Query) fields = query_by (two_of fields)
-entry_by (Some t.Script) fields = script_by (one_of fields)
-entry_by (Some t.Set) fields = set_by (two_of fields)
-entry_by None fields = Err fault.Tag
+abbrev pub declaration_by : Option Tag → List (List ℕ) → Result Declaration FaultKind
+declaration_by (Some t.Item) fields = item_by (three_of fields)
+declaration_by (Some t.Disk) fields = disk_by (two_of fields)
+declaration_by (Some t.Update) fields = update_by (three_of fields)
+declaration_by (Some t.Reader) fields = reader_by (three_of fields)
+declaration_by (Some t.Query) fields = query_by (two_of fields)
+declaration_by (Some t.Script) fields = script_by (one_of fields)
+declaration_by (Some t.Set) fields = set_by (two_of fields)
+declaration_by None fields = Err fault.Tag
 
 -- What a record spells, by its tag.
 abbrev pub spelled_declaration : List (List ℕ) → Result Declaration FaultKind
-spelled_declaration row = by_tag tag_of entry_by row
+spelled_declaration row = by_tag tag_of declaration_by row

@@ -103,8 +103,8 @@ abbrev pub kinds_after : List Declaration → Result Declaration FaultKind → L
 kinds_after before spelled = spelled_kinds deck_kind_number (tests_of before) spelled
 
 -- The declarations that the records spell, without those that spell none.
-abbrev pub entries_in : List (List (List ℕ)) → List Declaration
-entries_in rows = filter_map (λ row. result_ok (spelled_declaration row)) rows
+abbrev pub declarations_in : List (List (List ℕ)) → List Declaration
+declarations_in rows = filter_map (λ row. result_ok (spelled_declaration row)) rows
 
 -- The numbers of the kinds that apply to a record after declarations, and at the end, where there is no record.
 abbrev pub place_kinds : List Declaration → Option (List (List ℕ)) → List ℕ
@@ -113,4 +113,4 @@ place_kinds before None = kinds_of deck_kind_number (end_tests (length (items_in
 
 -- The numbers of the kinds that apply at a place, counted from 0: to the record there, after all records before it, or at the end.
 unfoldable pub kinds_at : List (List (List ℕ)) → ℕ → List ℕ
-kinds_at rows place = place_kinds (entries_in (take place rows)) (slice_get rows place)
+kinds_at rows place = place_kinds (declarations_in (take place rows)) (slice_get rows place)

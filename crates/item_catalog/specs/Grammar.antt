@@ -6,7 +6,7 @@ use Rattle.std.specs.Prelude.{◌≡◌, ◌+◌, ℕ, List, length, ⊤}
 use Rattle.air_model.specs.Decks.{Deck}
 use Rattle.item_catalog.specs.FirstFaults.{IsFirstFault, NoneBefore}
 use Rattle.item_catalog.specs.Records.{records_of}
-use Rattle.item_catalog.specs.Faults.{entries_in, kinds_at}
+use Rattle.item_catalog.specs.Faults.{declarations_in, kinds_at}
 use Rattle.item_catalog.specs.Decks.{deck_of}
 use Rattle.item_catalog.specs.declared.faults.DeckError.{DeckError}
 use Rattle.item_catalog.specs.declared.faults.DeckError.TheVariants as error
@@ -14,7 +14,7 @@ use Rattle.item_catalog.specs.declared.faults.DeckError.TheVariants as error
 -- The records spell the deck: no kind applies to a record, nor at the end, and these are the parts that they declare.
 pub record RowsSpell (rows : List (List (List ℕ))) (deck : Deck) : Type 0 where
   pub faultless : NoneBefore (kinds_at rows) (length rows + 1)
-  pub parts : deck ≡ deck_of (entries_in rows)
+  pub parts : deck ≡ deck_of (declarations_in rows)
 
 -- The place is the first at which a kind applies to the records, or at the end, and this the least kind there.
 abbrev pub RowsFail : List (List (List ℕ)) → ℕ → ℕ → Type 0

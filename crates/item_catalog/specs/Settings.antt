@@ -1,5 +1,5 @@
 -- Settings: which name and value a record may give one, and what all settings are where some were set.
-use Rattle.std.specs.Prelude.{◌-◌, ◌^◌, ℕ, Bool, true, false, List, [], ◌∷◌, Option, Some, None, option_map, unwrap_or, codes, if◌then◌else◌}
+use Rattle.std.specs.Prelude.{◌-◌, ◌^◌, ℕ, Bool, true, false, List, [], ◌∷◌, Option, Some, None, find, option_map, unwrap_or, codes, if◌then◌else◌}
 use Rattle.air_base.specs.declared.limits.TheConstants.{DEFAULT_CYCLES, DEFAULT_HEARS, MOST_CYCLES, MOST_DELTA, MOST_HEARS, MOST_MONITORS, MOST_SHARE}
 use Rattle.air_base.specs.Numbers.{number_of}
 use Rattle.air_base.specs.declared.verdicts.Policy.{Policy}
@@ -12,40 +12,34 @@ use Rattle.item_catalog.specs.declared.deck.draft.settings.Name.TheVariants.{Del
 use Rattle.item_catalog.specs.declared.deck.draft.settings.Setting.{Setting}
 use Rattle.item_catalog.specs.declared.deck.draft.settings.Setting.TheVariants as setting
 
--- The least and the greatest value of a setting that is a number.
+-- A setting that is a number: its word in a record, its least and its greatest value, and its value where it isn't set.
+pub record NumberSetting : Type 0 where
+  pub word : List ℕ
+  pub least : ℕ
+  pub most : ℕ
+  pub unset : ℕ
+
+-- The settings that are numbers.
+abbrev pub number_setting : Name → NumberSetting
+number_setting Delta = record { word = codes "delta"; least = 0; most = MOST_DELTA; unset = 0 }
+number_setting Cycles = record { word = codes "cycles"; least = 0; most = MOST_CYCLES; unset = DEFAULT_CYCLES }
+number_setting Seed = record { word = codes "seed"; least = 0; most = 2 ^ 64 - 1; unset = 0 }
+number_setting Loss = record { word = codes "loss"; least = 0; most = MOST_SHARE; unset = 0 }
+number_setting Again = record { word = codes "again"; least = 0; most = MOST_SHARE; unset = 0 }
+number_setting Late = record { word = codes "late"; least = 0; most = MOST_SHARE; unset = 0 }
+number_setting Monitors = record { word = codes "monitors"; least = 0; most = MOST_MONITORS; unset = 0 }
+number_setting Hears = record { word = codes "hears"; least = 1; most = MOST_HEARS; unset = DEFAULT_HEARS }
+
+-- The least and the greatest value of one, and its value where it isn't set, by names of their own.
 abbrev pub range_of : Name → ℕ × ℕ
-range_of Delta = (0, MOST_DELTA)
-range_of Cycles = (0, MOST_CYCLES)
-range_of Seed = (0, 2 ^ 64 - 1)
-range_of Loss = (0, MOST_SHARE)
-range_of Again = (0, MOST_SHARE)
-range_of Late = (0, MOST_SHARE)
-range_of Monitors = (0, MOST_MONITORS)
-range_of Hears = (1, MOST_HEARS)
+range_of name = ((number_setting name).least, (number_setting name).most)
 
--- Its value where it isn't set.
 abbrev pub default_of : Name → ℕ
-default_of Delta = 0
-default_of Cycles = DEFAULT_CYCLES
-default_of Seed = 0
-default_of Loss = 0
-default_of Again = 0
-default_of Late = 0
-default_of Monitors = 0
-default_of Hears = DEFAULT_HEARS
+default_of name = (number_setting name).unset
 
--- The setting of this name that is a number, if there is one.
+-- The setting of this word, if there is one.
 abbrev pub name_of : List ℕ → Option Name
-name_of text =
-    if text is codes "delta" then Some Delta
-    else if text is codes "cycles" then Some Cycles
-    else if text is codes "seed" then Some Seed
-    else if text is codes "loss" then Some Loss
-    else if text is codes "again" then Some Again
-    else if text is codes "late" then Some Late
-    else if text is codes "monitors" then Some Monitors
-    else if text is codes "hears" then Some Hears
-    else None
+name_of text = find (λ name. text is (number_setting name).word) (Delta ∷ Cycles ∷ Seed ∷ Loss ∷ Again ∷ Late ∷ Monitors ∷ Hears ∷ [])
 
 -- The policy of this letter, if there is one.
 abbrev pub spelled_policy : List ℕ → Option Policy
@@ -57,7 +51,7 @@ spelled_policy text =
 
 -- A number is the setting's value where it is in its range.
 abbrev pub number_set : Option Name → Option ℕ → Option Setting
-number_set (Some name) (Some n) = if outside (range_of name).0 (range_of name).1 n then None else Some (setting.Number name n)
+number_set (Some name) (Some n) = if outside (number_setting name).least (number_setting name).most n then None else Some (setting.Number name n)
 number_set name n = None
 
 -- The setting that a name and a value spell, if they spell one.
@@ -65,17 +59,9 @@ abbrev pub setting_of : List ℕ → List ℕ → Option Setting
 setting_of name value =
     if name is codes "policy" then option_map setting.Policy (spelled_policy value) else number_set (name_of name) (number_of value)
 
--- The two names are the same.
+-- The two have the same word.
 abbrev pub same_name : Name → Name → Bool
-same_name Delta Delta = true
-same_name Cycles Cycles = true
-same_name Seed Seed = true
-same_name Loss Loss = true
-same_name Again Again = true
-same_name Late Late = true
-same_name Monitors Monitors = true
-same_name Hears Hears = true
-same_name a b = false
+same_name a b = (number_setting a).word is (number_setting b).word
 
 -- The two set the same thing, whatever they set it to.
 abbrev pub same_setting : Setting → Setting → Bool
@@ -90,7 +76,7 @@ number_said name (setting.Number other n) = if same_name name other then Some n 
 
 -- The value of a name: the one that was set, else its default.
 abbrev pub number_in : Name → List Setting → ℕ
-number_in name [] = default_of name
+number_in name [] = (number_setting name).unset
 number_in name (said ∷ settings) = unwrap_or (number_said name said) (number_in name settings)
 
 -- The policy: the one that was set, else F-Matrix.

@@ -4,7 +4,7 @@ ghost use Rattle.std.specs.Prelude.{◌≡◌, ◌≤◌, drop, length, IfErr, I
 ghost use Rattle.csv.specs.Records.{fields_of};
 ghost use Rattle.air_base.specs.declared.limits.TheConstants.{MOST_DECK_BYTES};
 ghost use Rattle.item_catalog.specs.RecordKinds.{first_of};
-ghost use Rattle.item_catalog.specs.Declarations.{entry_by, spelled_declaration, tag_of};
+ghost use Rattle.item_catalog.specs.Declarations.{declaration_by, spelled_declaration, tag_of};
 ghost use Rattle.item_catalog.specs.Private.Drafts.{deck_from};
 ghost use Rattle.item_catalog.specs.Private.ReadEnds.{CanEnd, EndsBy};
 ghost use Rattle.item_catalog.specs.Faults.{end_tests};
@@ -55,7 +55,7 @@ fn tag_of(text: &[u8]) -> Option<Tag>
 
 /// The tag of a record.
 pub(crate) fn read_tag(row: &ByteRecord) -> Option<Tag>
-    ensures { spelled_declaration (fields_of row.now) ≡ entry_by result (drop 1 (fields_of row.now)) }
+    ensures { spelled_declaration (fields_of row.now) ≡ declaration_by result (drop 1 (fields_of row.now)) }
 {
     match row.get(0) {
         Some(text) => tag_of(text),

@@ -16,18 +16,18 @@ use Rattle.air_history.specs.Reads.{origin, stale}
 use Rattle.air_history.specs.Tables.{table, value_after, value_on_base, write_of}
 use Rattle.air_history.specs.declared.histories.Event.{Event}
 use Rattle.air_history.specs.declared.histories.Event.TheVariants as e
-use Rattle.air_model.specs.Decks.{Deck, IsDeck, IsLegal, IsUpdate}
+use Rattle.air_model.specs.Decks.{Deck, IsDeck, IsUpdate}
 use Rattle.air_model.specs.Reports.{Report}
 use Rattle.air_model.proofs.RelationExamples.{pair_is_deck}
 use Rattle.air_model.proofs.SessionExamples.{pair}
 use Rattle.air_report.specs.LineTexts.{short_of, spelled_item, spelled_place, spelled_read}
 use Rattle.air_report.specs.ReadReports.{IsReportOf}
-use Rattle.air_report.specs.ReportFaults.{line_kinds_at}
-use Rattle.air_report.specs.ReportGrammar.{HasReportFault, RowsSpellLines, SpellsReport}
+use Rattle.air_report.specs.LineFaults.{line_kinds_at}
+use Rattle.air_report.specs.LineGrammar.{HasLineFault, RowsSpellLines, SpellsLines}
+use Rattle.air_report.specs.ReportGrammar.{HasReportFault}
 use Rattle.air_report.specs.ReportLines.{lines_in}
 use Rattle.air_report.specs.declared.reading.ReadReport.{ReadReport}
-use Rattle.air_report.proofs.KeptLines.{spelled_kept}
-use Rattle.air_report.proofs.LegalLines.{legal}
+use Rattle.air_report.proofs.TiedReports.{spelled_report, told_fault}
 use Rattle.live_replay.specs.AuditAnswers.{CanBeAudited, IsAudit, IsTooMuch}
 use Rattle.live_replay.specs.Audits.{findings, replayed_in}
 use Rattle.live_replay.specs.FindingLaws.{GivesVerdict}
@@ -37,7 +37,6 @@ use Rattle.live_replay.specs.declared.findings.Finding.{Finding}
 use Rattle.live_replay.proofs.AuditLemmas.{no_report_fault, one_report}
 use Rattle.live_replay.proofs.FindingLemmas.{agrees, look_agrees}
 use Rattle.live_replay.proofs.FindingTexts.{none_differ}
-use Rattle.live_replay.proofs.RowFindings.{by_rows}
 use Rattle.live_replay.proofs.TrueReports.{judged_lines, judged_session, none_differ as lines_agree}
 
 -- The fields of a record.
@@ -115,16 +114,17 @@ rows_spell : RowsSpellLines small rows (lines_in report)
 unfolding spelled_read spelled_place spelled_item short_of number_of all_some
 rows_spell = record { faultless = no_kind; sections = refl }
 
-spells : SpellsReport small its_bytes (lines_in report)
-unfolding SpellsReport csv_on_literals
+spells : SpellsLines small its_bytes (lines_in report)
+unfolding SpellsLines csv_on_literals
 spells = rows_spell
 
-is_legal : IsLegal small report.history
-is_legal = let kept = spelled_kept small rows (lines_in report) rows_spell in legal small (lines_in report).events kept.events
-
+-- It is the report that is printed so.
 pub is_report : IsReportOf small its_bytes (read_in 11)
-unfolding csv_on_literals spelled_read spelled_place spelled_item short_of number_of all_some
-is_report = record { spelled = spells; legal = is_legal; verdict_rows = refl; glance_rows = refl; look_rows = refl }
+is_report = record { spelled = spelled_report small its_bytes (lines_in report) spells; verdict_rows = refl; glance_rows = refl; look_rows = refl }
+
+-- Not where the verdict is told to stand in another row.
+not_report : IsReportOf small its_bytes (read_in 10) → ⊥
+not_report h = let rows_are : 10 ∷ [] ≡ 11 ∷ [] = h.verdict_rows in let row : 10 ≡ 11 = ap (λ rs. get_or rs 0 0) rows_are in omega (arith, row)
 
 -- ---- what may be audited
 
@@ -136,9 +136,9 @@ can_be_audited = record { read = read_in 11; is = is_report; within = omega arit
 abbrev pub faulty : List ℕ
 faulty = codes "start\nlook,0,2,30\n"
 
-pub has_fault : HasReportFault small faulty 2 6
-unfolding HasReportFault line_kinds_at csv_on_literals spelled_read spelled_place spelled_item short_of number_of all_some
-has_fault = (
+line_fault : HasLineFault small faulty 2 6
+unfolding HasLineFault line_kinds_at csv_on_literals spelled_read spelled_place spelled_item short_of number_of all_some
+line_fault = (
   1,
   refl,
   record {
@@ -157,6 +157,9 @@ has_fault = (
     least_kind (suc zero) d below = omega arith
     least_kind (suc (suc k)) d below = absurd (omega arith)
 
+pub has_fault : HasReportFault small faulty 2 6
+has_fault = told_fault small faulty 2 6 line_fault
+
 not_audited : CanBeAudited small faulty → ⊥
 not_audited h = no_report_fault small faulty h.read 2 6 h.is has_fault
 
@@ -170,21 +173,15 @@ not_too_much product h =
 
 -- ---- what is true of an audit
 
-pub true_audit : IsTrueAudit small its_bytes (read_in 11)
+pub true_audit : IsTrueAudit small (read_in 11)
 true_audit = record {
   verdicts = agrees small report.history;
   looks = look_agrees small report.history;
-  rows = by_rows small its_bytes (read_in 11) is_report;
   judged = λ r heard k d below. (agrees small report.history _).1 (judged_session small report.history r heard small_is_deck k d below);
   sessions = λ heard same glances looks. lines_agree small (read_in 11)
       (subst (All (GivesVerdict small report.history)) (sym same) (judged_lines small report.history heard small_is_deck)) glances looks;
   none = none_differ (findings small (read_in 11));
 }
-
--- With another row it isn't.
-not_true : IsTrueAudit small its_bytes (read_in 10) → ⊥
-unfolding findings csv_on_literals spelled_read spelled_place spelled_item short_of number_of all_some
-not_true h = let same : 10 ∷ [] ≡ 11 ∷ [] = ap (map (λ (f : Finding). f.row)) h.rows in let row : 10 ≡ 11 = ap (λ rs. get_or rs 0 0) same in omega (arith, same)
 
 -- Its one finding: the verdict in row 11 agrees.
 abbrev pub one_finding : List Finding

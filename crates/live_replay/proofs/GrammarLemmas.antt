@@ -6,23 +6,21 @@ use Rattle.std.specs.Option.{option_map_or}
 use Rattle.std.proofs.lemmas.Bool.{and_parts, cases_lt, eqb-true, leb-true, false≢true}
 use Rattle.std.proofs.lemmas.List.{get_or_past}
 use Rattle.std.proofs.lemmas.List.Elements.{All-cons, All-head, All-map, All-nil, All-tail}
-use Rattle.std.proofs.lemmas.List.Sums.{AllPass-from_list_all, sum_by-cons}
+use Rattle.std.proofs.lemmas.List.Sums.{AllPass-from_list_all}
 use Rattle.std.proofs.lemmas.Option.{get_or_from_slice_get, slice_get_within}
 use Rattle.air_base.specs.declared.verdicts.ReadOf.{ReadOf}
 use Rattle.air_base.specs.declared.verdicts.VerdictKind.{VerdictKind}
 use Rattle.air_base.specs.declared.verdicts.VerdictKind.TheVariants.{Accept, Abort, Unfinished}
-use Rattle.air_history.specs.declared.histories.Event.{Event}
-use Rattle.air_history.specs.declared.histories.Event.TheVariants.{Commit, Start}
-use Rattle.air_history.specs.Histories.{is_start, starts}
+use Rattle.air_history.specs.Histories.{starts}
 use Rattle.air_history.specs.Reads.{IsRead}
 use Rattle.air_model.specs.Decks.{Deck, IsDeck, IsQuery}
 use Rattle.air_model.specs.Reports.{Report}
 use Rattle.air_model.specs.declared.reports.VerdictLine.{VerdictLine}
-use Rattle.air_report.specs.ReportFaults.{end_begun, follow, has_begun, leads, read_item}
-use Rattle.air_report.specs.ReportLines.{its_line, lines_in, starts_cycle, starts_in}
-use Rattle.air_report.specs.declared.reading.lines.EventLine.TheVariants as EventLine
+use Rattle.air_report.specs.LineFaults.{end_begun, follow, has_begun, leads, read_item}
+use Rattle.air_report.specs.ReportLines.{lines_in, starts_in}
 use Rattle.air_report.specs.declared.reading.lines.Line.TheVariants as l
-use Rattle.air_report.specs.ReportRules.{InGrammar, IsRight}
+use Rattle.air_report.specs.LineRules.{InGrammar, IsRight}
+use Rattle.air_report.proofs.PrintedGrammar.{starts_of}
 use Rattle.live_replay.specs.Findings.{place_of_line, places_of}
 use Rattle.live_replay.specs.Private.Lines.{EndFits, LineFits}
 
@@ -77,13 +75,6 @@ line_fits deck starts line is right =
       | inl below ↦ below
       | inr past ↦ absurd (let none = ap length (get_or_past deck.queries r [] past) in omega arith)
     ]
-
--- The lines of a history have its starts.
-starts_of : (H : List Event) → starts_in (map its_line H) ≡ starts H
-unfolding starts is_start
-starts_of [] = refl
-starts_of (Commit by seq u ∷ H) = sum_by-cons (λ x. cond (starts_cycle x) 1 0) (EventLine.Commit by seq) (map its_line H) ∙ ap (λ n. 0 + n) (starts_of H) ∙ sym (sum_by-cons (λ x. cond (is_start x) 1 0) (Commit by seq u) H)
-starts_of (Start ∷ H) = sum_by-cons (λ x. cond (starts_cycle x) 1 0) EventLine.Start (map its_line H) ∙ ap (λ n. 1 + n) (starts_of H) ∙ sym (sum_by-cons (λ x. cond (is_start x) 1 0) Start H)
 
 pub grammar_fits : (deck : Deck) (report : Report) → IsDeck deck → InGrammar deck (lines_in report) → All (LineFits (length deck.items) (starts report.history)) report.verdicts
 grammar_fits deck report is g = λ k d l. subst (λ n. LineFits (length deck.items) n (get_or report.verdicts k d)) (starts_of report.history) (line_fits deck (starts_in (lines_in report).events) (get_or report.verdicts k d) is (g.verdicts k d l))

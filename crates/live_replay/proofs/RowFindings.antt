@@ -1,16 +1,17 @@
 -- The findings of a report are those of the lines in a text's rows, in the order of the rows.
 use Rattle.std.proofs.Common.{◌≡◌, ℕ, ◌+◌, Option, Some, List, [], ◌∷◌, ◌++◌, length, map, refl, sym, ◌∙◌, ap}
 use Rattle.std.specs.List.{enumerate_from, filter_map, range_with_len}
-use Rattle.std.proofs.lemmas.List.{append-nil}
+use Rattle.std.proofs.lemmas.List.{append-nil, length-map}
 use Rattle.item_catalog.specs.Records.{records_of}
 use Rattle.air_model.specs.Decks.{Deck}
 use Rattle.air_report.specs.LineTexts.{spelled_line}
-use Rattle.air_report.specs.ReportLines.{ReportLines, lines_in}
+use Rattle.air_report.specs.ReportLines.{ReportLines, its_line, lines_in}
 use Rattle.air_report.specs.declared.reading.lines.Line.{Line}
 use Rattle.air_report.specs.declared.reading.lines.Line.TheVariants as l
 use Rattle.air_report.specs.ReadReports.{IsReportOf}
 use Rattle.air_report.specs.declared.reading.ReadReport.{ReadReport}
-use Rattle.air_report.proofs.LineRows.{all_of, by_records, by_sections, each, glance_rows, look_rows, nothing, verdict_rows}
+use Rattle.air_report.proofs.LineRows.{all_of, by_records, by_sections, each, nothing}
+use Rattle.air_report.proofs.TiedReports.{report_lines}
 use Rattle.live_replay.specs.declared.findings.Cause.{Cause}
 use Rattle.live_replay.specs.declared.findings.Finding.{Finding}
 use Rattle.live_replay.specs.Audits.{findings, found_in}
@@ -40,6 +41,9 @@ module _ (deck : Deck) (text : List ℕ) (read : ReadReport) (is : IsReportOf de
   abbrev told : ℕ → Line → Option Finding
   told row line = finding_of deck read.report.history row line
 
+  events : length read.report.history ≡ length lines.events
+  events = sym (length-map read.report.history its_line)
+
   section : {L : Type 0} (wrap : L → Line) (cause : L → Option Cause) (rows : List ℕ) (n : ℕ) (xs : List L) →
       ((row : ℕ) (x : L) → told row (wrap x) ≡ Some (record { row = row; differs = cause x })) → rows ≡ range_with_len n (length xs) →
       all_of told n (map wrap xs) ≡ found_in cause rows xs
@@ -54,12 +58,12 @@ module _ (deck : Deck) (text : List ℕ) (read : ReadReport) (is : IsReportOf de
       let E = all_of told 1 (map l.Event lines.events) in let V = all_of told n (map l.Verdict lines.verdicts) in let C = all_of told m (map l.Counts lines.counts) in
       let G = all_of told g (map l.Glance lines.glances) in let K = all_of told k (map l.Look lines.looks) in
       let verdicts : V ≡ found_in (verdict_cause deck H) read.verdict_rows read.report.verdicts =
-      section l.Verdict (verdict_cause deck H) read.verdict_rows n lines.verdicts (λ row x. refl) (is.verdict_rows ∙ verdict_rows deck text lines is.spelled) in
+      section l.Verdict (verdict_cause deck H) read.verdict_rows n lines.verdicts (λ row x. refl) (is.verdict_rows ∙ ap (λ h. range_with_len (1 + h) (length lines.verdicts)) events) in
       let glances : G ≡ found_in (look_cause deck H) read.glance_rows read.report.glances =
-      section l.Glance (look_cause deck H) read.glance_rows g lines.glances (λ row x. refl) (is.glance_rows ∙ glance_rows deck text lines is.spelled) in
+      section l.Glance (look_cause deck H) read.glance_rows g lines.glances (λ row x. refl) (is.glance_rows ∙ ap (λ h. range_with_len (1 + h + length lines.verdicts + length lines.counts) (length lines.glances)) events) in
       let looks : K ≡ found_in (look_cause deck H) read.look_rows read.report.looks =
-      section l.Look (look_cause deck H) read.look_rows k lines.looks (λ row x. refl) (is.look_rows ∙ look_rows deck text lines is.spelled) in
+      section l.Look (look_cause deck H) read.look_rows k lines.looks (λ row x. refl) (is.look_rows ∙ ap (λ h. range_with_len (1 + h + length lines.verdicts + length lines.counts + length lines.glances) (length lines.looks)) events) in
       let two : E ++ V ++ C ≡ V =
       back_none (E ++ V) C (nothing told l.Counts m lines.counts (λ row x. refl)) ∙ front_none E V (nothing told l.Event 1 lines.events (λ row x. refl)) in
-      sym (by_records (λ row o. spelled_finding deck H row o) deck text lines is.spelled ∙ by_sections told lines
+      sym (by_records (λ row o. spelled_finding deck H row o) deck text lines (report_lines deck text read.report is.spelled) ∙ by_sections told lines
       ∙ ap (λ fs. fs ++ G ++ K) two ∙ rw (verdicts, glances, looks) refl)

@@ -32,7 +32,7 @@ pub record IsAudit (deck : Deck) (bytes : List ℕ) (found : List Finding) : Typ
   pub is : IsReportOf deck bytes read
   pub within : replayed_in read.report ≤ MOST_REPLAYED
   pub are : found ≡ findings deck read
-  pub true_of : IsTrueAudit deck bytes read
+  pub true_of : IsTrueAudit deck read
 
 -- The answer is the text of the findings, and whether some differs.
 abbrev pub HasAudit : Deck → List ℕ → AuditText → Type 0

@@ -1,7 +1,5 @@
--- What is true of an audit: when it says that a line agrees, of which rows its findings are, that it finds true sessions so, and
--- when nothing differs.
+-- What is true of an audit: when it says that a line agrees, that it finds true sessions so, and when nothing differs.
 use Rattle.std.specs.Prelude.{◌≡◌, ◌↔◌, ℕ, false, List, All, Option, None}
-use Rattle.std.specs.List.{enumerate_from, filter_map}
 use Rattle.air_model.specs.Aired.{scheme_in}
 use Rattle.air_model.specs.Buckets.{Bucket}
 use Rattle.air_model.specs.Decks.{Deck, values_in}
@@ -10,24 +8,20 @@ use Rattle.air_model.specs.ReceiverLaws.{session_of}
 use Rattle.air_model.specs.Reports.{line_by, verdict_lines}
 use Rattle.air_model.specs.declared.reports.LookLine.{LookLine}
 use Rattle.air_model.specs.declared.reports.VerdictLine.{VerdictLine}
-use Rattle.air_report.specs.LineTexts.{spelled_line}
-use Rattle.item_catalog.specs.Records.{records_of}
 use Rattle.air_report.specs.declared.reading.ReadReport.{ReadReport}
 use Rattle.live_replay.specs.Audits.{findings}
 use Rattle.live_replay.specs.FindingLaws.{GivesLook, GivesVerdict}
 use Rattle.live_replay.specs.Findings.{look_cause, verdict_cause}
-use Rattle.live_replay.specs.ReportFindings.{sessions_judged, spelled_finding}
+use Rattle.live_replay.specs.ReportFindings.{sessions_judged}
 use Rattle.live_replay.specs.FindingTexts.{some_differ}
 
 -- The line of a verdict agrees exactly where the replay over the report's history gives its reads' values and its verdict, and
--- that of a glance or a look where it gives the total. The findings are those of the text's records, in order, each with its
--- record's row. Each verdict of a session that the history judges agrees, whatever its reader heard, and whatever else the report
+-- that of a glance or a look where it gives the total. Each verdict of a session that the history judges agrees, whatever its reader heard, and whatever else the report
 -- tells; where all verdicts are those of such sessions, and all totals are the history's, every line agrees. Nothing differs exactly
 -- where every line agrees.
-pub record IsTrueAudit (deck : Deck) (text : List ℕ) (read : ReadReport) : Type 0 where
+pub record IsTrueAudit (deck : Deck) (read : ReadReport) : Type 0 where
   pub verdicts : (line : VerdictLine) → (verdict_cause deck read.report.history line ≡ None) ↔ GivesVerdict deck read.report.history line
   pub looks : (line : LookLine) → (look_cause deck read.report.history line ≡ None) ↔ GivesLook deck read.report.history line
-  pub rows : findings deck read ≡ filter_map (λ p. spelled_finding deck read.report.history p.0 (spelled_line p.1)) (enumerate_from 1 (records_of text))
   pub judged : (r : ℕ) (heard : List (Option Bucket)) → All (λ line. verdict_cause deck read.report.history (line_by r line) ≡ None)
       (session_of (by_history (scheme_in deck) (values_in deck) read.report.history) deck r heard).lines
   pub sessions : (heard : ℕ → List (Option Bucket)) → read.report.verdicts ≡ verdict_lines (sessions_judged deck read.report.history heard)

@@ -24,8 +24,8 @@ pub struct MeetingGate {
     in_vain: AtomicU64,
 }
 
-/// Notes that the call was made.
-fn note(count: &AtomicU64) {
+/// Marks that the call was made.
+fn mark(count: &AtomicU64) {
     count.fetch_add(1, Ordering::SeqCst);
 }
 
@@ -52,7 +52,7 @@ impl MeetingGate {
             }
             thread::yield_now();
         }
-        note(&self.in_vain);
+        mark(&self.in_vain);
     }
 
     /// How often each named call was made, and how often one was waited for in vain.
@@ -73,15 +73,15 @@ impl MeetingGate {
 impl Gate for MeetingGate {
     fn before_commit(&self, by: u32, seq: u32) {
         if (by, seq) == (0, 1) {
-            note(&self.second_commits);
+            mark(&self.second_commits);
             self.wait_for(&self.third_starts);
         }
     }
 
     fn after_commit(&self, by: u32, seq: u32) {
         match (by, seq) {
-            (0, 0) => note(&self.first_committed),
-            (0, 1) => note(&self.second_committed),
+            (0, 0) => mark(&self.first_committed),
+            (0, 1) => mark(&self.second_committed),
             _ => {}
         }
     }
@@ -90,7 +90,7 @@ impl Gate for MeetingGate {
         match cycle {
             1 => self.wait_for(&self.first_committed),
             3 => {
-                note(&self.third_starts);
+                mark(&self.third_starts);
                 self.wait_for(&self.second_committed);
                 self.wait_for(&self.last_looked);
             }
@@ -100,20 +100,20 @@ impl Gate for MeetingGate {
 
     fn after_cycle(&self, cycle: u32) {
         if cycle == 3 {
-            note(&self.third_aired);
+            mark(&self.third_aired);
         }
     }
 
     fn before_look(&self, look: u32) {
         if look == 99 {
-            note(&self.last_looks);
+            mark(&self.last_looks);
             self.wait_for(&self.third_starts);
         }
     }
 
     fn after_look(&self, look: u32) {
         if look == 99 {
-            note(&self.last_looked);
+            mark(&self.last_looked);
         }
     }
 }

@@ -28,7 +28,7 @@ pub fn tell_fault(alloc: Global, fault: &PlanFault, came: &mut Vec<u8>) -> Resul
 }
 
 /// Adds for each disk its frequency, the number of its chunks and their length.
-#[tactic(auto, using(crate::proofs::DiskCounts::length_disks_in))]
+#[tactic(auto, using(chunk_program::proofs::CutLemmas::length_disks_in))]
 fn add_disks(planned: &Planned, out: &mut Vec<u8>) -> Result<(), NoMemory> {
     let deck = planned.deck();
     let program = planned.program();

@@ -15,7 +15,8 @@ use Rattle.air_model.specs.Rows.{rows_text}
 use Rattle.air_report.specs.declared.status.Status.{Status}
 use Rattle.air_report.specs.declared.status.Status.TheVariants as status
 use Rattle.air_report.specs.LineTexts.{short_of}
-use Rattle.air_report.specs.ReportFaults.{line_kinds_at}
+use Rattle.air_report.specs.LineFaults.{line_kinds_at}
+use Rattle.air_report.specs.LineGrammar.{HasLineFault}
 use Rattle.air_report.specs.ReportGrammar.{HasReportFault}
 use Rattle.air_report.specs.ReportLines.{ReportLines, lines_in}
 use Rattle.air_report.specs.declared.reading.lines.EventLine.TheVariants.{Start}
@@ -28,10 +29,10 @@ use Rattle.live_replay.specs.declared.findings.Cause.TheVariants.{Clash, Total}
 use Rattle.live_replay.specs.AuditAnswers.{HasAudit, UnauditedCause}
 use Rattle.live_replay.specs.FindingTexts.{findings_text, some_differ}
 use Rattle.live_replay.specs.declared.audits.reports.AuditText.{AuditText}
+use Rattle.air_report.proofs.TiedReports.{one_fault, report_or_fault, told_fault}
 use Rattle.live_replay.proofs.AuditLemmas.{one_report}
 use Rattle.text_pins.proofs.PlaceLemmas.{first_fault, none_before_0}
-use Rattle.report_pins.proofs.FaultLemmas.{no_lines, same_fault}
-use Rattle.report_pins.proofs.ReadLemmas.{history_read, lines_read}
+use Rattle.report_pins.proofs.ReadLemmas.{history_read, lines_read, rows_told}
 use Rattle.report_pins.specs.SmallDeck.{line, small_deck, two_looks}
 use Rattle.report_pins.specs.SmallReports.{found}
 
@@ -62,11 +63,12 @@ two_lines = record {
 looks_read : (read : ReadReport) → IsReportOf small_deck two_looks read → read ≡ made (e.Start ∷ []) two_lines [] [] (2 ∷ 3 ∷ [])
 unfolding short_of number_of csv_on_literals
 looks_read read is =
+    let rows = rows_told small_deck two_looks read two_lines is refl in
     ap (λ H. made H (lines_in read.report) read.verdict_rows read.glance_rows read.look_rows) (history_read small_deck two_looks read (Start ∷ []) is refl)
     ∙ ap (λ l. made (e.Start ∷ []) l read.verdict_rows read.glance_rows read.look_rows) (lines_read small_deck two_looks read is)
-    ∙ ap (λ rows. made (e.Start ∷ []) two_lines rows read.glance_rows read.look_rows) is.verdict_rows
-    ∙ ap (λ rows. made (e.Start ∷ []) two_lines [] rows read.look_rows) is.glance_rows
-    ∙ ap (λ rows. made (e.Start ∷ []) two_lines [] [] rows) is.look_rows
+    ∙ ap (λ ns. made (e.Start ∷ []) two_lines ns read.glance_rows read.look_rows) rows.verdicts
+    ∙ ap (λ ns. made (e.Start ∷ []) two_lines [] ns read.look_rows) rows.glances
+    ∙ ap (λ ns. made (e.Start ∷ []) two_lines [] [] ns) rows.looks
 
 looks_found : findings small_deck (made (e.Start ∷ []) two_lines [] [] (2 ∷ 3 ∷ [])) ≡ found 2 None ∷ found 3 (Some Total) ∷ []
 unfolding findings look_cause total_at is_start front table value_after write_of value_on_base
@@ -103,18 +105,18 @@ of_looks (Err error) P gives has = has
 -- ---- a record of an unknown tag
 
 unknown : HasReportFault small_deck (codes "a") 1 3
-unfolding HasReportFault line_kinds_at csv_on_literals
-unknown = (0, refl, first_fault _ 1 0 3 (omega arith) (none_before_0 _) refl)
+unfolding HasLineFault line_kinds_at csv_on_literals
+unknown = told_fault small_deck (codes "a") 1 3 (0, refl, first_fault _ 1 0 3 (omega arith) (none_before_0 _) refl)
 
 refused : (result : Result AuditText Status) → IfOk result (HasAudit small_deck (codes "a")) → IfErr result (UnauditedCause small_deck (codes "a"))
     → (result ≡ Err status.NoMemory) ⊎ (result ≡ Err (status.Report 1 3))
 unfolding UnauditedCause
-refused (Ok audited) has cause = absurd (no_lines small_deck (codes "a") (lines_in has.3.read.report) 1 3 has.3.is.spelled unknown)
+refused (Ok audited) has cause = absurd (report_or_fault small_deck (codes "a") has.3.read.report 1 3 has.3.is.spelled unknown)
 refused (Err (status.Report row kind)) has cause =
-    let same = same_fault small_deck (codes "a") row kind 1 3 cause unknown in
+    let same = one_fault small_deck (codes "a") row kind 1 3 cause unknown in
     inr (ap (λ r. Err (status.Report r kind)) same.0 ∙ ap (λ k. Err (status.Report 1 k)) same.1)
 refused (Err (status.TooMuch product)) has cause =
-    absurd (no_lines small_deck (codes "a") (lines_in cause.read.report) 1 3 cause.is.spelled unknown)
+    absurd (report_or_fault small_deck (codes "a") cause.read.report 1 3 cause.is.spelled unknown)
 refused (Err status.NoMemory) has cause = inl refl
 refused (Err other) has cause = absurd cause
 
@@ -139,7 +141,7 @@ refused_by_its_product d bytes (Ok audited) read is counted has cause =
     let within : replayed_in has.3.read.report ≤ MOST_REPLAYED = has.3.within in
     absurd (omega arith)
 refused_by_its_product d bytes (Err (status.Report row kind)) read is counted has cause =
-    absurd (no_lines d bytes (lines_in read.report) row kind is.spelled cause)
+    absurd (report_or_fault d bytes read.report row kind is.spelled cause)
 refused_by_its_product d bytes (Err (status.TooMuch product)) read is counted has cause =
     inr (ap (λ p. Err (status.TooMuch p)) (cause.counted ∙ same_product d bytes cause.read read cause.is is ∙ counted))
 refused_by_its_product d bytes (Err status.NoMemory) read is counted has cause = inl refl

@@ -1,5 +1,7 @@
 -- What is read of short texts of the small deck, computed: histories by the lines that name them, and rows.
-use Rattle.std.proofs.Common.{◌≡◌, ◌∷◌, ◌∙◌, ℕ, List, [], Result, Ok, Err, IfOk, ap, map, refl, subst, sym}
+use Rattle.std.proofs.Common.{◌≡◌, ◌+◌, ◌∷◌, ◌∙◌, ℕ, List, [], Result, Ok, Err, IfOk, ap, length, map, refl, subst, sym}
+use Rattle.std.specs.List.{range_with_len}
+use Rattle.std.proofs.lemmas.List.{length-map}
 use Rattle.csv.proofs.OnLiterals.{csv_on_literals}
 use Rattle.air_base.specs.Numbers.{number_of}
 use Rattle.air_base.specs.NumberLists.{all_some}
@@ -7,27 +9,46 @@ use Rattle.air_history.specs.declared.histories.Event.TheVariants as e
 use Rattle.air_model.specs.Decks.{Deck}
 use Rattle.item_catalog.specs.Records.{records_of}
 use Rattle.air_report.specs.LineTexts.{short_of, spelled_item, spelled_place, spelled_read}
-use Rattle.air_report.specs.ReportFaults.{spelled_lines}
-use Rattle.air_report.specs.ReportGrammar.{SpellsReport}
-use Rattle.air_report.specs.ReportLines.{event_in, lines_in, sections_of}
+use Rattle.air_report.specs.LineFaults.{spelled_lines}
+use Rattle.air_report.specs.LineGrammar.{SpellsLines}
+use Rattle.air_report.specs.ReportLines.{ReportLines, event_in, its_line, lines_in, sections_of}
 use Rattle.air_report.specs.declared.reading.faults.ReportError.{ReportError}
 use Rattle.air_report.specs.declared.reading.lines.EventLine.{EventLine}
 use Rattle.air_report.specs.declared.reading.lines.EventLine.TheVariants.{Commit}
 use Rattle.air_report.proofs.SameHistories.{legal_same}
 use Rattle.air_report.specs.ReadReports.{IsReportOf}
+use Rattle.air_report.proofs.TiedReports.{report_lines}
 use Rattle.air_report.specs.declared.reading.ReadReport.{ReadReport}
 use Rattle.report_pins.specs.SmallDeck.{add_to, each_section, set_to, small_deck, two_commits}
 
 -- The lines that are read are those of the text's records.
 pub lines_read : (deck : Deck) (text : List ℕ) (read : ReadReport) → IsReportOf deck text read → lines_in read.report ≡ sections_of (spelled_lines (records_of text))
-unfolding SpellsReport
-lines_read deck text read is = is.spelled.sections
+unfolding SpellsLines
+lines_read deck text read is = (report_lines deck text read.report is.spelled).sections
 
 -- The history that is read is the one that the lines name.
 pub history_read : (deck : Deck) (text : List ℕ) (read : ReadReport) (events : List EventLine) → IsReportOf deck text read
     → (sections_of (spelled_lines (records_of text))).events ≡ events → read.report.history ≡ map (event_in deck) events
 history_read deck text read events is given =
-    sym (legal_same deck read.report.history is.legal) ∙ ap (λ lines. map (event_in deck) lines) (ap (λ l. l.events) (lines_read deck text read is) ∙ given)
+    sym (legal_same deck read.report.history is.spelled.report.legal) ∙ ap (λ lines. map (event_in deck) lines) (ap (λ l. l.events) (lines_read deck text read is) ∙ given)
+
+-- The rows of each section, by the numbers of lines before it.
+pub record RowsTold (read : ReadReport) (lines : ReportLines) : Type 0 where
+  pub verdicts : read.verdict_rows ≡ range_with_len (1 + length lines.events) (length lines.verdicts)
+  pub glances : read.glance_rows ≡ range_with_len (1 + length lines.events + length lines.verdicts + length lines.counts) (length lines.glances)
+  pub looks : read.look_rows ≡ range_with_len (1 + length lines.events + length lines.verdicts + length lines.counts + length lines.glances) (length lines.looks)
+
+pub rows_told : (deck : Deck) (text : List ℕ) (read : ReadReport) (lines : ReportLines) → IsReportOf deck text read → sections_of (spelled_lines (records_of text)) ≡ lines → RowsTold read lines
+rows_told deck text read lines is given =
+    let same : lines_in read.report ≡ lines = lines_read deck text read is ∙ given in
+    let r = read.report in
+    let events : length r.history ≡ length (lines_in r).events = sym (length-map r.history its_line) in record {
+      verdicts = is.verdict_rows ∙ ap (λ h. range_with_len (1 + h) (length r.verdicts)) events ∙ ap (λ (l : ReportLines). range_with_len (1 + length l.events) (length l.verdicts)) same;
+      glances = is.glance_rows ∙ ap (λ h. range_with_len (1 + h + length r.verdicts + length r.counts) (length r.glances)) events
+          ∙ ap (λ (l : ReportLines). range_with_len (1 + length l.events + length l.verdicts + length l.counts) (length l.glances)) same;
+      looks = is.look_rows ∙ ap (λ h. range_with_len (1 + h + length r.verdicts + length r.counts + length r.glances) (length r.looks)) events
+          ∙ ap (λ (l : ReportLines). range_with_len (1 + length l.events + length l.verdicts + length l.counts + length l.glances) (length l.looks)) same;
+    }
 
 -- The deck and the text are given by equations, as a call has them.
 pub report_given : (d deck : Deck) (bytes text : List ℕ) (read : ReadReport) → d ≡ deck → bytes ≡ text → IsReportOf d bytes read → IsReportOf deck text read
@@ -52,7 +73,9 @@ pub record RowsRead (read : ReadReport) : Type 0 where
 
 rows_of_each : (read : ReadReport) → IsReportOf small_deck each_section read → RowsRead read
 unfolding spelled_read spelled_place spelled_item short_of number_of all_some csv_on_literals
-rows_of_each read is = record { verdicts = is.verdict_rows; glances = is.glance_rows; looks = is.look_rows }
+rows_of_each read is =
+    let rows = rows_told small_deck each_section read (sections_of (spelled_lines (records_of each_section))) is refl in
+    record { verdicts = rows.verdicts; glances = rows.glances; looks = rows.looks }
 
 pub rows_read : (d : Deck) (bytes : List ℕ) (result : Result ReadReport ReportError) → d ≡ small_deck → bytes ≡ each_section → IfOk result (IsReportOf d bytes)
     → IfOk result RowsRead

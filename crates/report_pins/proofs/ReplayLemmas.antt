@@ -11,7 +11,8 @@ use Rattle.air_history.specs.Clashes.{least, is_late, clash_by_history}
 use Rattle.air_history.specs.ClashLaws.{passes}
 use Rattle.air_model.specs.Decks.{Deck, IsLegal}
 use Rattle.air_model.specs.Reports.{total_at}
-use Rattle.air_report.specs.ReportRules.{InGrammar, IsRight}
+use Rattle.air_report.specs.LineRules.{InGrammar, IsRight}
+use Rattle.air_report.proofs.PrintedGrammar.{begun_of, known_of}
 use Rattle.air_report.proofs.SameHistories.{same_legal}
 use Rattle.air_report.specs.ReportLines.{lines_in}
 use Rattle.air_report.specs.declared.reading.lines.Line.TheVariants.{Look, Verdict}
@@ -68,7 +69,8 @@ late_lines = record {
 kept : KeepsGrammar small_deck read_report
 kept = record {
   legal = legal;
-  lines = lines;
+  known = known_of small_deck (lines_in read_report.report) lines;
+  begun = begun_of small_deck (lines_in read_report.report) lines;
   verdict_rows = refl;
   glance_rows = refl;
   look_rows = refl;
@@ -81,7 +83,8 @@ kept = record {
 late_kept : KeepsGrammar r_matrix_deck late_report
 late_kept = record {
   legal = r_matrix_legal;
-  lines = late_lines;
+  known = known_of r_matrix_deck (lines_in late_report.report) late_lines;
+  begun = begun_of r_matrix_deck (lines_in late_report.report) late_lines;
   verdict_rows = refl;
   glance_rows = refl;
   look_rows = refl;

@@ -2,31 +2,32 @@
 
 ghost use Rattle.std.specs.Prelude.{◌≡◌, ℕ};
 ghost use Rattle.air_model.specs.Reports.{Report, report_text};
-ghost use Rattle.air_report.specs.ReportRules.{HasWidths, InGrammar};
+ghost use Rattle.air_report.specs.LineRules.{InGrammar};
 ghost use Rattle.air_report.specs.ReportGrammar.{HasReportFault, SpellsReport};
-ghost use Rattle.air_report.specs.ReportLines.{ReportLines, lines_in};
+ghost use Rattle.air_report.specs.ReportLines.{lines_in};
+ghost use Rattle.air_report.specs.ReportRules.{HasWidths};
 ghost use Rattle.report_pins.specs.SmallDeck.{small_deck, two_commits};
 
 use air_report::{not_both_reports_law, one_report_law, read_back_law};
 
-/// A text that spells lines has no fault.
+/// A text that spells a report has no fault.
 pub fn fault_beside_the_lines()
-    ensures { (lines : ReportLines) (row kind : ℕ) →
-        SpellsReport small_deck two_commits lines → HasReportFault small_deck two_commits row kind → ⊥ }
+    ensures { (report : Report) (row kind : ℕ) →
+        SpellsReport small_deck two_commits report → HasReportFault small_deck two_commits row kind → ⊥ }
 {
     not_both_reports_law();
 }
 
-/// No text spells the lines of two reports.
+/// No text spells two reports.
 pub fn two_reports_of_a_text()
-    ensures { (a b : ReportLines) → SpellsReport small_deck two_commits a → SpellsReport small_deck two_commits b → a ≡ b }
+    ensures { (a b : Report) → SpellsReport small_deck two_commits a → SpellsReport small_deck two_commits b → a ≡ b }
 {
     one_report_law();
 }
 
 /// What is written of a report in the grammar has no fault.
 pub fn written_report_with_a_fault()
-    ensures { (report : Report) (row kind : ℕ) → HasWidths (lines_in report) → InGrammar small_deck (lines_in report) →
+    ensures { (report : Report) (row kind : ℕ) → HasWidths report → InGrammar small_deck (lines_in report) →
         HasReportFault small_deck (report_text report) row kind → ⊥ }
 {
     read_back_law();

@@ -1,26 +1,26 @@
-//! Where the pieces of a tape go: a sink takes them, one behind another, into a place.
+//! Where the pieces of a tape go: a sink takes them, one behind another, into an output.
 
 ghost use Rattle.std.specs.Prelude.{◌++◌, ℕ, List, IfErr, OnOk, ⊤};
 
 use air_base::NoMemory;
 
-/// Takes the pieces of a tape, one behind another, into a place.
+/// Takes the pieces of a tape, one behind another, into an output.
 pub trait PieceSink<P> {
     /// Why a piece isn't taken, or that memory ran out.
     type Fault: From<NoMemory>;
 
-    /// Just these bytes were taken since the place was as at first.
+    /// Just these bytes were taken since the output was as at first.
     ghost HasTaken: { Self → List ℕ → P → P → Type 0 };
 
-    /// A beginning of these bytes was taken since the place was as at first, and then the sink failed.
+    /// A beginning of these bytes was taken since the output was as at first, and then the sink failed.
     ghost HasFailed: { Self → List ℕ → P → P → Self.Fault → Type 0 };
 
     /// Takes a piece behind those before.
-    fn take(&self, place: &mut P, piece: &[u8]) -> Result<(), Self::Fault>
-        ensures taken { (first : P) (so_far : List ℕ) → HasTaken self.now so_far first place.old →
-            OnOk result (HasTaken self.now (so_far ++ piece.now) first place.new) }
-        ensures failed { (first : P) (so_far rest : List ℕ) → HasTaken self.now so_far first place.old →
-            IfErr result (HasFailed self.now ((so_far ++ piece.now) ++ rest) first place.new) };
+    fn take(&self, output: &mut P, piece: &[u8]) -> Result<(), Self::Fault>
+        ensures taken { (first : P) (so_far : List ℕ) → HasTaken self.now so_far first output.old →
+            OnOk result (HasTaken self.now (so_far ++ piece.now) first output.new) }
+        ensures failed { (first : P) (so_far rest : List ℕ) → HasTaken self.now so_far first output.old →
+            IfErr result (HasFailed self.now ((so_far ++ piece.now) ++ rest) first output.new) };
 }
 
 /// Takes every piece, and keeps none.
@@ -34,7 +34,7 @@ impl PieceSink<()> for Discard {
 
     ghost HasFailed = { λ _ _ _ _ _. ⊥ };
 
-    fn take(&self, _place: &mut (), _piece: &[u8]) -> Result<(), NoMemory> {
+    fn take(&self, _output: &mut (), _piece: &[u8]) -> Result<(), NoMemory> {
         Ok(())
     }
 }

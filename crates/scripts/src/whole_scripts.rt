@@ -30,20 +30,20 @@ pub fn air_script<T: Threads + Sync, P, S: PieceSink<P>>(
     alloc: Global,
     planned: &Planned,
     sink: &S,
-    place: &mut P,
+    output: &mut P,
 ) -> Result<AiredScript, S::Fault>
     requires { length (script_tape planned.now) ≤ MOST_TAPE_BYTES }
     ensures events { IfOk result (λ s. s.events.items ≡ script_history planned.now) }
     ensures verdicts { IfOk result (λ s. s.sessions.verdicts.items ≡ verdict_lines (true_sessions planned.now (script_history planned.now))) }
     ensures counts { IfOk result (λ s. s.sessions.counts.items ≡ counts_lines (true_sessions planned.now (script_history planned.now))) }
-    ensures taken { (first : P) → S.HasTaken sink.now [] first place.old → OnOk result (S.HasTaken sink.now (script_tape planned.now) first place.new) }
-    ensures stopped { (first : P) → S.HasTaken sink.now [] first place.old →
-        IfErr result (StopsAt (S.Fault.from_gives (record {})) (λ bytes. S.HasTaken sink.now bytes first place.new) (λ bytes. S.HasFailed sink.now bytes first place.new) (script_tape planned.now)) }
+    ensures taken { (first : P) → S.HasTaken sink.now [] first output.old → OnOk result (S.HasTaken sink.now (script_tape planned.now) first output.new) }
+    ensures stopped { (first : P) → S.HasTaken sink.now [] first output.old →
+        IfErr result (StopsAt (S.Fault.from_gives (record {})) (λ bytes. S.HasTaken sink.now bytes first output.new) (λ bytes. S.HasFailed sink.now bytes first output.new) (script_tape planned.now)) }
 {
     let mut aired = ScriptAiring::new(alloc, planned, piece_cycles(planned))?;
     while !aired.is_done(planned) {
         aired.next_piece(threads, alloc, planned)?;
-        sink.take(place, aired.piece())?;
+        sink.take(output, aired.piece())?;
     }
     let (events, sessions) = aired.end(threads, alloc, planned)?;
     Ok(AiredScript { events, sessions })

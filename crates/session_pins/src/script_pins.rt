@@ -51,13 +51,13 @@ pub fn last_piece_not_taken<T: Threads + Sync, P, S: PieceSink<P>>(
     alloc: Global,
     planned: &Planned,
     sink: &S,
-    place: &mut P,
+    output: &mut P,
 ) -> Result<AiredScript, S::Fault>
     requires deck { planned.now ≡ pair }
-    requires begun { S.HasTaken sink.now [] place.old place.old }
-    ensures { OnOk result (S.HasTaken sink.now pair_tape place.old place.new) }
+    requires begun { S.HasTaken sink.now [] output.old output.old }
+    ensures { OnOk result (S.HasTaken sink.now pair_tape output.old output.new) }
 {
-    let aired = air_script(threads, alloc, planned, sink, place)?;
+    let aired = air_script(threads, alloc, planned, sink, output)?;
     Ok(aired)
 }
 

@@ -145,7 +145,7 @@ fn is_complete(passes: &[UpdaterPass], updaters: u32) -> bool
 
 /// How many events and starts a history has, how many receipts each updater got, how many starts were answered to the conductor,
 /// and the first two values at the history's end, or the first place that was answered otherwise than by a core.
-pub type Found = (u64, u32, [usize; 3], Result<[u64; 2], usize>);
+pub type HistoryCounts = (u64, u32, [usize; 3], Result<[u64; 2], usize>);
 
 /// Closes the station, and replays its history from these values; none where a pass is missing.
 pub fn close(
@@ -155,7 +155,7 @@ pub fn close(
     one: Worker,
     two: Worker,
     first: &[u64],
-) -> Result<Option<Found>, NoMemory>
+) -> Result<Option<HistoryCounts>, NoMemory>
     requires conductor { (conductor.pass.station ≡ station) × (conductor.pass.updaters ≡ 2) }
     requires workers { (one.pass.station ≡ station) × (two.pass.station ≡ station) }
 {

@@ -1,7 +1,7 @@
 //! A closed station's history once more, event by event on a core: what the station answered has to be what the core answers.
 ghost use Rattle.std.specs.Prelude.{◌≡◌, ◌<◌, ◌≤◌, ◌+◌, length};
 
-use crate::workers::Started;
+use crate::workers::StartAnswer;
 use air_base::NoMemory;
 use air_history::{Event, History};
 use std::alloc::Global;
@@ -43,7 +43,7 @@ fn mark_of(event: &Event) -> Mark {
 }
 
 /// Whether the start at this place gave just this number and these events.
-pub fn gives(starts: &[Started], place: usize, number: u32, marks: &[Mark]) -> bool {
+pub fn gives(starts: &[StartAnswer], place: usize, number: u32, marks: &[Mark]) -> bool {
     let Some(started) = starts.get(place) else {
         return false;
     };
@@ -76,7 +76,7 @@ fn is_replayed(
     items: u16,
     event: &Event,
     receipts: &[&Vec<Receipt>; 2],
-    starts: &[Started],
+    starts: &[StartAnswer],
 ) -> Result<bool, NoMemory>
     requires core { (core.old.updaters ≡ 2) × (length core.old.values ≡ items) × (length core.old.events < 1000000) }
     ensures core { (core.new.updaters ≡ 2) × (length core.new.values ≡ items) × (length core.new.events ≤ length core.old.events + 1) }
@@ -110,7 +110,7 @@ pub fn replay(
     history: &History,
     first: &[u64],
     receipts: [&Vec<Receipt>; 2],
-    starts: &[Started],
+    starts: &[StartAnswer],
 ) -> Result<Result<[u64; 2], usize>, NoMemory> {
     if first.len() < 2 || first.len() > 1000 {
         return Ok(Err(0));

@@ -3,7 +3,7 @@
 //! At the end the closing history has each call once, in its caller's order; each receipt has its place there and says what a core
 //! answers there, and each start gave its number and the events since the start before, with itself.
 
-use crate::crews::{Found, close, open, work_all};
+use crate::crews::{HistoryCounts, close, open, work_all};
 use crate::replays::Mark::{Commit, Start};
 use crate::replays::{gives, says};
 use crate::workers::{Conductor, Worker};
@@ -23,7 +23,10 @@ fn made(one: &Worker, two: &Worker, conductor: &Conductor) -> [u32; 3] {
 }
 
 /// Makes calls one after another on one thread; what is found then, and whether each was answered as by hand.
-fn call_each<R: Wait>(wait: &R, alloc: Global) -> Result<Option<(Found, [bool; 10])>, Fail> {
+fn call_each<R: Wait>(
+    wait: &R,
+    alloc: Global,
+) -> Result<Option<(HistoryCounts, [bool; 10])>, Fail> {
     let Some((station, mut conductor, mut one, mut two)) = open(alloc, CALLED)? else {
         return Ok(None);
     };
@@ -71,7 +74,7 @@ fn let_work<R: Threads + Wait + Sync>(
     alloc: Global,
     commits: u32,
     cycles: u32,
-) -> Result<Option<Found>, Fail> {
+) -> Result<Option<HistoryCounts>, Fail> {
     let Some((station, mut conductor, mut one, mut two)) = open(alloc, SHARED)? else {
         return Ok(None);
     };

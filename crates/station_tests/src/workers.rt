@@ -19,7 +19,7 @@ pub struct Worker {
 
 /// What the start of a cycle gave: the cycle's number, and the events since the start before it, with the start itself.
 #[derive(Drop)]
-pub struct Started {
+pub struct StartAnswer {
     pub number: u32,
     pub events: Vec<Event>,
 }
@@ -28,7 +28,7 @@ pub struct Started {
 #[derive(Drop)]
 pub struct Conductor {
     pub pass: ConductorPass,
-    pub starts: Vec<Started>,
+    pub starts: Vec<StartAnswer>,
 }
 
 impl Worker {
@@ -65,7 +65,7 @@ impl Conductor {
             let Ok(number) = station.start_cycle(wait, alloc, &mut self.pass, &mut events) else {
                 return;
             };
-            if self.starts.push(Started { number, events }).is_err() {
+            if self.starts.push(StartAnswer { number, events }).is_err() {
                 return;
             }
         }

@@ -85,7 +85,7 @@ pub fn report_in_place_of_the_text(
 }
 
 /// The line of a cut tape has the number 6, and tells the byte.
-#[tactic(auto, unfolding(air_model::specs::Reports::fault_line, air_model::specs::Rows::rows_text, air_base::specs::Numbers::number_text, csv::specs::Writing::fields_text, csv::specs::Writing::is_blank))]
+#[tactic(auto, unfolding(air_model::specs::Rows::rows_text, air_base::specs::Numbers::number_text, csv::specs::Writing::fields_text, csv::specs::Writing::is_blank))]
 pub fn cut_told_as_too_large(alloc: Global, status: &Status) -> Result<Vec<u8>, NoMemory>
     requires { status.now ≡ Status.TapeCut 36 }
     ensures { IfOk result (λ text. text.items ≡ line (codes "fault,6,36")) }

@@ -1,6 +1,8 @@
 //! The command `audit`: what the replay of a named report finds, by a named deck.
 
-ghost use Rattle.std.specs.Prelude.{IfErr, IfOk};
+ghost use Rattle.std.specs.Prelude.{◌≤◌, length, IfErr, IfOk};
+ghost use Rattle.air_report.specs.declared.reading.limits.TheConstants.{MOST_REPORT_BYTES};
+ghost use Rattle.live_replay.specs.AuditAnswers.{HasAudit, UnauditedCause};
 ghost use Rattle.air_cli.specs.Private.BeforeDelivery.{IsMade, IsUnmade, ReadsInputs};
 ghost use Rattle.air_cli.specs.Audit.{audit_meaning};
 
@@ -10,11 +12,21 @@ use crate::outputs::report_and_tape::ReportAndTape;
 use air_devices::Shelf;
 use air_report::Status;
 use air_report::reading::limits::MOST_REPORT_BYTES;
-use live_replay::audit_report;
+use item_catalog::Deck;
+use live_replay::{AuditText, audit_report};
 use std::alloc::Global;
 
+/// The findings of a report that was read, by its deck.
+fn audit_read(alloc: Global, deck: Deck, bytes: Vec<u8>) -> Result<AuditText, Status>
+    requires { length bytes.items ≤ MOST_REPORT_BYTES }
+    ensures audit { IfOk result (HasAudit deck bytes.items) }
+    ensures refused { IfErr result (UnauditedCause deck bytes.items) }
+{
+    audit_report(alloc, &deck, &bytes)
+}
+
 /// The findings of the named report, by the named deck.
-#[tactic(auto, using(crate::proofs::MakeLemmas::is_unmade, crate::proofs::AuditLemmas::deck_audit, crate::proofs::AuditLemmas::unread_later, crate::proofs::AuditLemmas::unaudited_later, crate::proofs::AuditLemmas::audited_later, crate::proofs::AuditLemmas::reads_both))]
+#[tactic(auto, using(crate::proofs::AuditLemmas::reads_both))]
 pub(crate) fn audit<S: Shelf>(
     alloc: Global,
     shelf: &mut S,
@@ -28,8 +40,7 @@ pub(crate) fn audit<S: Shelf>(
     let deck = read_deck_file(alloc, shelf, name)?;
     deck.shows_well_made();
     let bytes = read_bytes(alloc, shelf, report, MOST_REPORT_BYTES)?;
-    let bytes: &[u8] = &bytes;
-    let audited = audit_report(alloc, &deck, bytes)?;
+    let audited = audit_read(alloc, deck, bytes)?;
     Ok(ReportAndTape {
         text: audited.text,
         tape: None,

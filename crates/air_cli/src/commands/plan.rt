@@ -1,8 +1,10 @@
 //! The command `plan`: what the plan of a named deck gives.
 
-ghost use Rattle.std.specs.Prelude.{IfErr, IfOk};
+ghost use Rattle.std.specs.Prelude.{◌≡◌, IfErr, IfOk, OnOk};
+ghost use Rattle.air_model.specs.Outputs.{plan_output};
 ghost use Rattle.air_cli.specs.Private.BeforeDelivery.{IsMade, IsUnmade, ReadsInputs};
 ghost use Rattle.air_cli.specs.Plan.{plan_meaning};
+ghost use Rattle.air_cli.specs.RunnableDecks.{HasShortProgram, LengthCause};
 
 mod rows;
 
@@ -12,10 +14,23 @@ use crate::files::plans::plan_deck;
 use crate::outputs::report_and_tape::ReportAndTape;
 use air_devices::Shelf;
 use air_report::Status;
+use item_catalog::Deck;
 use std::alloc::Global;
 
+/// The text of the plan of a deck that was read.
+#[tactic(auto, unfolding(crate::specs::RunnableDecks::LengthCause))]
+fn text_of_plan(alloc: Global, deck: Deck) -> Result<Vec<u8>, Status>
+    ensures text { IfOk result (λ text. text.items ≡ plan_output deck) }
+    ensures short { OnOk result (HasShortProgram deck) }
+    ensures refused { IfErr result (LengthCause deck) }
+{
+    let (cut, planned) = plan_deck(alloc, deck)?;
+    let text = plan_text(alloc, &cut, &planned)?;
+    Ok(text)
+}
+
 /// The text of the named deck's plan.
-#[tactic(auto, using(crate::proofs::MakeLemmas::is_unmade, crate::proofs::MakeLemmas::is_unmade_calm, crate::proofs::CauseLemmas::deck_runs, crate::proofs::CauseLemmas::length_runs, crate::proofs::PlanMeaningLemmas::wanting_plan))]
+#[tactic(auto, using(crate::proofs::MakeLemmas::is_unmade, crate::proofs::MakeLemmas::is_unmade_calm, crate::proofs::CauseLemmas::deck_runs, crate::proofs::CauseLemmas::length_runs))]
 pub(crate) fn plan<S: Shelf>(
     alloc: Global,
     shelf: &mut S,
@@ -27,8 +42,7 @@ pub(crate) fn plan<S: Shelf>(
 {
     let deck = read_deck_file(alloc, shelf, name)?;
     deck.shows_well_made();
-    let (cut, planned) = plan_deck(alloc, deck)?;
-    let text = plan_text(alloc, &cut, &planned)?;
+    let text = text_of_plan(alloc, deck)?;
     Ok(ReportAndTape {
         text,
         tape: None,

@@ -55,8 +55,8 @@ impl<S: Shelf> PieceSink<S> for NamedOutput<'_> {
 
     ghost HasFailed = { λ output bytes first now fault. (fault ≡ status.WriteFault) × IsCutOff (option_map (λ name. name.now) output.name) bytes (S.state first) (S.state now) };
 
-    fn take(&self, place: &mut S, piece: &[u8]) -> Result<(), Status> {
-        match append_piece(place, self.name, piece) {
+    fn take(&self, shelf: &mut S, piece: &[u8]) -> Result<(), Status> {
+        match append_piece(shelf, self.name, piece) {
             Ok(()) => Ok(()),
             Err(_) => Err(Status::WriteFault),
         }

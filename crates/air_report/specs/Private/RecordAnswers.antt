@@ -6,7 +6,7 @@ use Rattle.item_catalog.specs.RecordKinds.{least_kind, with_spelled}
 use Rattle.item_catalog.specs.Private.ReadAnswers.{Answers}
 use Rattle.item_catalog.specs.declared.records.refusals.Refusal.{Refusal}
 use Rattle.item_catalog.specs.declared.records.refusals.Refusal.TheVariants.{NoMemory}
-use Rattle.air_report.specs.ReportFaults.{line_tests}
+use Rattle.air_report.specs.LineFaults.{line_tests}
 use Rattle.air_report.specs.ReportLines.{ReportLines, commits_by}
 use Rattle.air_report.specs.declared.reading.kinds.FaultKind.{FaultKind}
 use Rattle.air_report.specs.declared.reading.lines.EventLine.{EventLine}

@@ -1,26 +1,26 @@
-//! Laws of reports as texts: every text spells the lines of a report, or has just one fault. Each is carried by a function that
+//! Laws of reports as texts: every text spells a report of a deck, or has just one fault. Each is carried by a function that
 //! does nothing.
 
 ghost use Rattle.std.specs.Prelude.{◌≡◌, ◌⊎◌, ℕ, List};
 ghost use Rattle.air_model.specs.Decks.{Deck};
+ghost use Rattle.air_model.specs.Reports.{Report};
 ghost use Rattle.air_report.specs.ReportGrammar.{HasReportFault, SpellsReport};
-ghost use Rattle.air_report.specs.ReportLines.{ReportLines};
 
-/// Against every deck a text spells lines or has a fault.
+/// Against every deck a text spells a report or has a fault.
 pub fn report_or_fault_law()
     ensures { (deck : Deck) (text : List ℕ) →
-        ((lines : ReportLines) × SpellsReport deck text lines) ⊎ ((row : ℕ) × (kind : ℕ) × HasReportFault deck text row kind) }
+        ((report : Report) × SpellsReport deck text report) ⊎ ((row : ℕ) × (kind : ℕ) × HasReportFault deck text row kind) }
 {}
 
-/// No text spells lines and has a fault.
+/// No text spells a report and has a fault.
 pub fn not_both_reports_law()
-    ensures { (deck : Deck) (text : List ℕ) (lines : ReportLines) (row kind : ℕ) →
-        SpellsReport deck text lines → HasReportFault deck text row kind → ⊥ }
+    ensures { (deck : Deck) (text : List ℕ) (report : Report) (row kind : ℕ) →
+        SpellsReport deck text report → HasReportFault deck text row kind → ⊥ }
 {}
 
-/// No text spells the lines of two reports.
+/// No text spells two reports.
 pub fn one_report_law()
-    ensures { (deck : Deck) (text : List ℕ) (a b : ReportLines) → SpellsReport deck text a → SpellsReport deck text b → a ≡ b }
+    ensures { (deck : Deck) (text : List ℕ) (a b : Report) → SpellsReport deck text a → SpellsReport deck text b → a ≡ b }
 {}
 
 /// No text has two faults.

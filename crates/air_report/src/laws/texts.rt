@@ -1,28 +1,43 @@
-//! Laws of the lines of reports: what is written of lines in the grammar spells these lines, what is spelled is in the grammar,
-//! and a text tells the history that it begins with. No code runs.
+//! Laws of the lines of reports: a text spells a report exactly if its records spell the report's lines, and has the fault that the
+//! records tell; what is printed of a report spells it; and a text tells the history that it begins with. No code runs.
 
 ghost use Rattle.std.specs.Prelude.{◌≡◌, ◌↔◌, ℕ, List, [], map};
 ghost use Rattle.air_history.specs.declared.histories.Event.{Event};
 ghost use Rattle.air_model.specs.Decks.{Deck, IsLegal};
 ghost use Rattle.air_model.specs.Reports.{Report, report_text};
 ghost use Rattle.item_catalog.specs.DeckLimits.{WithinLimits};
-ghost use Rattle.air_report.specs.ReportGrammar.{SpellsReport};
+ghost use Rattle.air_report.specs.LineGrammar.{HasLineFault, SpellsLines};
+ghost use Rattle.air_report.specs.LineRules.{EachNext, InGrammar};
+ghost use Rattle.air_report.specs.ReportGrammar.{HasReportFault, SpellsReport};
 ghost use Rattle.air_report.specs.ReportLines.{ReportLines, event_in, its_line, lines_in, report_in};
-ghost use Rattle.air_report.specs.ReportRules.{EachNext, HasWidths, InGrammar};
+ghost use Rattle.air_report.specs.ReportRules.{HasWidths, IsReport};
 
-/// The text of a report whose numbers fit their types and whose lines are in the grammar spells these lines.
+/// The text of a report of a deck spells it. That of a report whose numbers fit their types and whose lines are in the grammar spells these
+/// lines, whatever updates its commits have.
 pub fn round_trip_law()
-    ensures { (deck : Deck) (report : Report) → HasWidths (lines_in report) → InGrammar deck (lines_in report) → SpellsReport deck (report_text report) (lines_in report) }
+    ensures report { (deck : Deck) (report : Report) → IsReport deck report → SpellsReport deck (report_text report) report }
+    ensures lines { (deck : Deck) (report : Report) → HasWidths report → InGrammar deck (lines_in report) → SpellsLines deck (report_text report) (lines_in report) }
+{}
+
+/// Lines that the records of a text spell stand for the report that the text spells, and the other way round.
+pub fn spelled_lines_law()
+    ensures report { (deck : Deck) (text : List ℕ) (lines : ReportLines) → SpellsLines deck text lines → SpellsReport deck text (report_in deck lines) }
+    ensures lines { (deck : Deck) (text : List ℕ) (report : Report) → SpellsReport deck text report → SpellsLines deck text (lines_in report) }
+{}
+
+/// The fault of a text is the one that its records tell, read one by one.
+pub fn told_fault_law()
+    ensures { (deck : Deck) (text : List ℕ) (row kind : ℕ) → HasReportFault deck text row kind ↔ HasLineFault deck text row kind }
 {}
 
 /// The lines that a text spells are in the grammar.
 pub fn kept_law()
-    ensures { (deck : Deck) (text : List ℕ) (lines : ReportLines) → SpellsReport deck text lines → InGrammar deck lines }
+    ensures { (deck : Deck) (text : List ℕ) (lines : ReportLines) → SpellsLines deck text lines → InGrammar deck lines }
 {}
 
 /// The history of the lines that a text spells is legal for the deck.
 pub fn legal_report_law()
-    ensures { (deck : Deck) (text : List ℕ) (lines : ReportLines) → SpellsReport deck text lines → IsLegal deck (report_in deck lines).history }
+    ensures { (deck : Deck) (text : List ℕ) (lines : ReportLines) → SpellsLines deck text lines → IsLegal deck (report_in deck lines).history }
 {}
 
 /// A printed text tells the history that it begins with: for a deck of the grammar two reports with legal histories that are the same text

@@ -6,7 +6,7 @@
 ghost use Rattle.std.specs.Prelude.{◌≡◌, [], Ok, None};
 ghost use Rattle.csv.specs.Records.{fields_of};
 ghost use Rattle.air_report.specs.LineTexts.{spelled_line};
-ghost use Rattle.air_report.specs.ReportFaults.{comes_after_later_section, comes_next, is_next};
+ghost use Rattle.air_report.specs.LineFaults.{comes_after_later_section, comes_next, is_next};
 ghost use Rattle.air_report.specs.ReportLines.{sections_of};
 ghost use Rattle.air_report.specs.Private.RecordAnswers.{AddsLine, CanCommit, CanPush, Pushed, line_record_kind, with_one_line};
 

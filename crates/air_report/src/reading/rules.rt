@@ -2,7 +2,7 @@
 
 ghost use Rattle.std.specs.Prelude.{◌≡◌, ◌==◌, map};
 ghost use Rattle.std.specs.List.{list_all, list_any};
-ghost use Rattle.air_report.specs.ReportFaults.{end_begun, follow, has_begun, is_begun, is_known, is_tried, leads, read_item};
+ghost use Rattle.air_report.specs.LineFaults.{end_begun, follow, has_begun, is_begun, is_known, is_tried, leads, read_item};
 
 use crate::reading::lines::Line;
 use air_base::{ReadOf, VerdictKind};

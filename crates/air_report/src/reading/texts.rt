@@ -2,7 +2,8 @@
 
 ghost use Rattle.std.specs.Prelude.{◌≤◌, length, IfErr, IfOk};
 ghost use Rattle.air_report.specs.declared.reading.limits.TheConstants.{MOST_REPORT_BYTES};
-ghost use Rattle.air_report.specs.ReportGrammar.{IsReportAnswer, SpellsReport};
+ghost use Rattle.air_report.specs.LineGrammar.{SpellsLines};
+ghost use Rattle.air_report.specs.ReportGrammar.{IsReportAnswer};
 
 use crate::reading::draft::Draft;
 use crate::reading::faults::ReportError;
@@ -14,7 +15,7 @@ use std::alloc::Global;
 /// The lines of the report of the deck that a text spells, or the first faulty record of the text with the least kind that applies there.
 pub fn read_lines(alloc: Global, deck: &Deck, bytes: &[u8]) -> Result<ReadLines, ReportError>
     requires limit { length bytes.now ≤ MOST_REPORT_BYTES }
-    ensures lines { IfOk result (SpellsReport deck.now bytes.now) }
+    ensures lines { IfOk result (SpellsLines deck.now bytes.now) }
     ensures fault { IfErr result (IsReportAnswer deck.now bytes.now) }
 {
     let mut draft = Draft::new(alloc);

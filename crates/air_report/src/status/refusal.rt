@@ -11,7 +11,6 @@ use air_base::NoMemory;
 use std::alloc::Global;
 
 /// The line that a refusal prints; nothing where the status tells no fault.
-#[tactic(auto, unfolding(air_model::specs::Reports::fault_line))]
 pub fn refusal_line(alloc: Global, status: &Status) -> Result<Vec<u8>, NoMemory>
     ensures { IfOk result (λ text. text.items ≡ status_line status.now) }
 {

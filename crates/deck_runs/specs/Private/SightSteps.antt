@@ -5,7 +5,7 @@ use Rattle.air_history.specs.declared.histories.Event.{Event}
 use Rattle.air_model.specs.declared.reports.LookLine.{LookLine}
 use Rattle.cycle_snapshot.specs.SnapshotStates.{HasLooked, MonitorState, PublisherState}
 use Rattle.deck_runs.specs.declared.jobs.crews.MonitorRun.{MonitorRun}
-use Rattle.deck_runs.specs.Looks.{IsLineOf}
+use Rattle.deck_runs.specs.Looks.{IsLookLineOf}
 
 -- The watcher's glance, with this number; and with the same number a look of its monitor, after it learned all that the publisher has.
 pub record AreSights (f : PublisherState) (number : ℕ) (run : MonitorRun) (glance look : LookLine) : Type 0 where
@@ -16,7 +16,7 @@ pub record AreSights (f : PublisherState) (number : ℕ) (run : MonitorRun) (gla
   pub learnt : IsPrefix f.batches told
   pub monitor : MonitorState
   pub looked : HasLooked (record run.monitor { told = told }) monitor
-  pub look_is : IsLineOf monitor look
+  pub look_is : IsLookLineOf monitor look
   pub number_is : look.monitor ≡ number
 
 -- Those of each watcher, by its place.

@@ -6,13 +6,13 @@ ghost use Rattle.air_history.specs.Histories.{starts};
 ghost use Rattle.air_model.specs.declared.reports.LookLine.{LookLine};
 ghost use Rattle.cycle_snapshot.specs.SnapshotStates.{HasLooked, MonitorState};
 ghost use Rattle.deck_runs.specs.PublishedBatches.{IsUpTo};
-ghost use Rattle.deck_runs.specs.Looks.{IsLineOf, LookedTimes, ShowsFront};
+ghost use Rattle.deck_runs.specs.Looks.{IsLookLineOf, LookedTimes, ShowsFront};
 
 /// A monitor m whose job left n, and which then learned all batches that its publisher will have, and whose look left o: its glance
 /// and its last look each show what the conductor had seen up to a start, and the last look shows the last of them.
 pub fn look_law()
     ensures { (conductor : List Event) (all told : List (List Event)) (times : ℕ) (m n o : MonitorState) (glance look : LookLine) →
-        IsUpTo 0 conductor all → length all ≡ m.most → 1 ≤ times → LookedTimes times m n → IsLineOf n glance →
-        IsPrefix all told → HasLooked (record n { told = told }) o → IsLineOf o look →
+        IsUpTo 0 conductor all → length all ≡ m.most → 1 ≤ times → LookedTimes times m n → IsLookLineOf n glance →
+        IsPrefix all told → HasLooked (record n { told = told }) o → IsLookLineOf o look →
         ShowsFront m.values conductor glance × ShowsFront m.values conductor look × (look.cycle ≡ starts conductor) }
 {}

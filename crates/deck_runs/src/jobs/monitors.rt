@@ -2,7 +2,7 @@
 ghost use Rattle.std.specs.Prelude.{◌≡◌, ℕ, ◌<◌, ◌≤◌, IfOk, MatchResult};
 ghost use Rattle.cycle_snapshot.specs.SnapshotStates.{HasLooked};
 ghost use mathlib.Core.List.{IsPrefix};
-ghost use Rattle.deck_runs.specs.Looks.{IsLineOf, LookedTimes};
+ghost use Rattle.deck_runs.specs.Looks.{IsLookLineOf, LookedTimes};
 
 use air_base::NoMemory;
 use air_devices::Gate;
@@ -11,7 +11,7 @@ use cycle_snapshot::{Monitor, Publisher};
 
 /// What the monitor keeps, as the line of a monitor of number 0.
 fn line_of(monitor: &Monitor) -> LookLine
-    ensures line { IsLineOf monitor.now result }
+    ensures line { IsLookLineOf monitor.now result }
     ensures number { result.monitor ≡ 0 }
 {
     LookLine {
@@ -29,7 +29,7 @@ pub fn monitor_job<G: Gate>(
     gate: &G,
 ) -> Result<LookLine, NoMemory>
     requires some { 1 ≤ looks }
-    ensures looked { MatchResult result (λ line. LookedTimes looks monitor.old monitor.new × IsLineOf monitor.new line) (λ _. (n : ℕ) × (n < looks) × LookedTimes n monitor.old monitor.new) }
+    ensures looked { MatchResult result (λ line. LookedTimes looks monitor.old monitor.new × IsLookLineOf monitor.new line) (λ _. (n : ℕ) × (n < looks) × LookedTimes n monitor.old monitor.new) }
     ensures number { IfOk result (λ line. line.monitor ≡ 0) }
 {
     let _before = monitor.looks();
@@ -45,7 +45,7 @@ pub fn monitor_job<G: Gate>(
 pub fn last_look(monitor: &mut Monitor, publisher: &Publisher) -> Result<LookLine, NoMemory>
     requires own { monitor.old.publisher ≡ publisher.now.id }
     ensures told { IsPrefix publisher.now.batches monitor.new.told × IsPrefix monitor.old.told monitor.new.told }
-    ensures looked { MatchResult result (λ line. HasLooked (record monitor.old { told = monitor.new.told }) monitor.new × IsLineOf monitor.new line) (λ _. monitor.new ≡ record monitor.old { told = monitor.new.told }) }
+    ensures looked { MatchResult result (λ line. HasLooked (record monitor.old { told = monitor.new.told }) monitor.new × IsLookLineOf monitor.new line) (λ _. monitor.new ≡ record monitor.old { told = monitor.new.told }) }
     ensures number { IfOk result (λ line. line.monitor ≡ 0) }
 {
     monitor.learn(publisher.tell());

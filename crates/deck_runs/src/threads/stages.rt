@@ -1,11 +1,13 @@
 //! What the jobs of a run work on: how it is made, how they run on it, and how it ends.
 
-ghost use Rattle.std.specs.Prelude.{◌≡◌, ◌↔◌, ◌<◌, ◌≤◌, ◌^◌, [], length, All, IfOk, IsTrue, MatchResult, OnOk, vec_capacity};
+ghost use Rattle.std.specs.Prelude.{◌≡◌, ◌↔◌, ◌<◌, ◌≤◌, ◌+◌, ◌*◌, ◌^◌, [], length, All, IfOk, IsTrue, MatchResult, OnOk, vec_capacity};
+ghost use Rattle.air_history.specs.Boards.{board_of};
 ghost use Rattle.air_history.specs.Histories.{starts};
 ghost use Rattle.air_model.specs.Decks.{values_in};
 ghost use Rattle.air_devices.specs.Masts.{Changes, with_buckets};
 ghost use Rattle.air_model.specs.Batches.{AirsByBatches};
-ghost use Rattle.cycle_snapshot.specs.SnapshotStates.{new_monitor, new_publisher};
+ghost use Rattle.bucket_codec.specs.declared.offsets.TheConstants.{ENTRY_BYTES, HEAD_BYTES};
+ghost use Rattle.cycle_snapshot.specs.SnapshotStates.{MonitorState, new_monitor, new_publisher};
 ghost use Rattle.std.specs.Thread.{IsSync};
 ghost use Rattle.deck_runs.specs.Crews.{CanConduct, EachDone, EachWatched, HasNewPass, passes_of};
 ghost use Rattle.deck_runs.specs.PublishedBatches.{IsUpTo, PublishesOn};
@@ -25,8 +27,8 @@ use air_history::History;
 use bucket_codec::offsets::{ENTRY_BYTES, HEAD_BYTES};
 use chunk_program::Planned;
 use control_matrix::Board;
-use cycle_snapshot::{Publisher, publisher};
-use station::{Station, UpdaterPass};
+use cycle_snapshot::{Monitor, Publisher, publisher};
+use station::{ConductorPass, Station, UpdaterPass};
 use std::alloc::Global;
 use std::sync::Wait;
 use std::thread::{Threads, join_mut};
@@ -42,6 +44,25 @@ pub(crate) struct Stage<'a> {
     pub passes: Vec<UpdaterPass>,
 }
 
+/// A conductor of the deck with this pass, before all events.
+fn conductor_of(
+    alloc: Global,
+    planned: &Planned,
+    pass: ConductorPass,
+) -> Result<ConductorRun, NoMemory>
+    ensures pass { IfOk result (λ run. run.pass ≡ pass) }
+    ensures board { IfOk result (λ run. run.board ≡ board_of (values_in planned.now) []) }
+    ensures buffer { IfOk result (λ run. HEAD_BYTES + ENTRY_BYTES * length planned.now.items ≤ length run.buf.items) }
+{
+    let deck = planned.deck();
+    let values = first_values(alloc, deck)?;
+    Ok(ConductorRun {
+        pass,
+        board: Board::new(alloc, &values)?,
+        buf: vec![in alloc; 0; HEAD_BYTES + ENTRY_BYTES * deck.items() as usize]?,
+    })
+}
+
 /// A stage of the deck, before all events.
 pub(crate) fn open_stage<'a>(alloc: Global, planned: &'a Planned) -> Result<Stage<'a>, NoMemory>
     ensures planned { IfOk result (λ s. s.planned.now ≡ planned.now) }
@@ -54,18 +75,32 @@ pub(crate) fn open_stage<'a>(alloc: Global, planned: &'a Planned) -> Result<Stag
     let deck = planned.deck();
     let (station, passes, pass) = Station::new(alloc, deck)?;
     let updaters = updaters_of(alloc, &station, deck, passes)?;
-    let values = first_values(alloc, deck)?;
+    let conductor = conductor_of(alloc, planned, pass)?;
     Ok(Stage {
         planned,
         station,
-        conductor: ConductorRun {
-            pass,
-            board: Board::new(alloc, &values)?,
-            buf: vec![in alloc; 0; HEAD_BYTES + ENTRY_BYTES * deck.items() as usize]?,
-        },
+        conductor,
         passes: Vec::with_capacity(alloc, updaters.len())?,
         updaters,
     })
+}
+
+/// The deck's publisher, which has to be closed, and its monitors.
+fn publisher_of<R: Wait>(
+    wait: &R,
+    alloc: Global,
+    planned: &Planned,
+) -> Result<(Publisher, Vec<Monitor>), NoMemory>
+    ensures publisher { IfOk result (λ made. made.0 ≡ new_publisher made.0.id (values_in planned.now) planned.now.settings.cycles) }
+    ensures count { IfOk result (λ made. length made.1.items ≡ planned.now.settings.monitors) }
+    ensures few { IfOk result (λ made. length made.1.items < 2 ^ 32) }
+    ensures each { IfOk result (λ made. All (λ (m : MonitorState). m ≡ new_monitor made.0) made.1.items) }
+{
+    let deck = planned.deck();
+    let settings = deck.settings();
+    let values = first_values(alloc, deck)?;
+    let made = publisher(wait, alloc, &values, settings.monitors, settings.cycles)?;
+    Ok(made)
 }
 
 /// The deck's publisher, which has to be closed, and a watcher for each of its monitors.
@@ -79,10 +114,7 @@ pub(crate) fn open_publisher<R: Wait>(
     ensures few { IfOk result (λ made. length made.1.items < 2 ^ 32) }
     ensures each { IfOk result (λ made. All (λ (run : Watcher). run.monitor ≡ new_monitor made.0) made.1.items) }
 {
-    let deck = planned.deck();
-    let settings = deck.settings();
-    let values = first_values(alloc, deck)?;
-    let (source, monitors) = publisher(wait, alloc, &values, settings.monitors, settings.cycles)?;
+    let (source, monitors) = publisher_of(wait, alloc, planned)?;
     match watchers_of(alloc, monitors) {
         Ok(watchers) => Ok((source, watchers)),
         Err(error) => {

@@ -8,6 +8,6 @@ pub fn end_note(before: &RecordsBefore) -> Sentence<'static> {
     if before.items == 0 && before.sizes == 0 {
         return Sentence::numbers("there is no item and no disk", 0, 0, 0);
     }
-    let form = "the sizes of the disks add up to #first#, and the number of items is #second#";
-    Sentence::numbers(form, before.sizes, before.items, 0)
+    let wording = "the sizes of the disks add up to #first#, and the number of items is #second#";
+    Sentence::numbers(wording, before.sizes, before.items, 0)
 }

@@ -15,15 +15,15 @@ fn total(count: u64, name: &'static str, most: u64) -> Option<Sentence<'static>>
     if count <= most {
         return None;
     }
-    let form = "makes #first# #name#: at most #second#";
-    Some(Sentence::words(form, "", name, "").with(count, most, ""))
+    let wording = "makes #first# #name#: at most #second#";
+    Some(Sentence::words(wording, "", name, "").with(count, most, ""))
 }
 
 /// The first updater of a script record whose number is too great; none where there is none.
 fn passing_updater(events: &str) -> Option<Sentence<'static>> {
     let (_, by) = first_failing(events, Test::Item(MOST_UPDATERS as u64))?;
-    let form = "has updater #first#: at most #second#";
-    Some(Sentence::numbers(form, by, MOST_UPDATERS as u64 - 1, 0))
+    let wording = "has updater #first#: at most #second#";
+    Some(Sentence::numbers(wording, by, MOST_UPDATERS as u64 - 1, 0))
 }
 
 /// A script's record passes a limit; none where it doesn't.
@@ -56,12 +56,12 @@ pub fn overdrawn_note(before: &RecordsBefore, record: &Record) -> Option<Sentenc
         let committed = all.commits_by[by];
         let there = all.updates_by[by];
         if there < committed {
-            let form = if committed == 1 {
+            let wording = if committed == 1 {
                 "up to here the script commits 1 update of updater #last#, which has "
             } else {
                 "up to here the script commits #first# updates of updater #last#, which has "
             };
-            let sentence = Sentence::numbers(form, committed, 0, by as u64);
+            let sentence = Sentence::numbers(wording, committed, 0, by as u64);
             return Some(sentence.only(there, "update", "updates"));
         }
     }

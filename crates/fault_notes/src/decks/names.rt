@@ -8,8 +8,9 @@ use crate::words::sentences::Sentence;
 
 /// An item's id isn't the number of items before it.
 pub fn id_note<'a>(before: &RecordsBefore, record: &'a Record) -> Sentence<'a> {
-    let form = "the item has the id #text#, and #first# is the next: ids run from 0 without a gap";
-    Sentence::words(form, record.field(1), "", "").with(before.items, 0, "")
+    let wording =
+        "the item has the id #text#, and #first# is the next: ids run from 0 without a gap";
+    Sentence::words(wording, record.field(1), "", "").with(before.items, 0, "")
 }
 
 /// The first part of a list that fails by an item that isn't declared; none where each keeps this.
@@ -20,8 +21,8 @@ fn first_undeclared<'a>(
     items: u64,
 ) -> Option<Sentence<'a>> {
     let (_, item) = first_failing(list, test)?;
-    let form = "has item #first# among its #text#, and up to here the deck has ";
-    let sentence = Sentence::words(form, name, "", "").with(item, 0, "");
+    let wording = "has item #first# among its #text#, and up to here the deck has ";
+    let sentence = Sentence::words(wording, name, "", "").with(item, 0, "");
     Some(sentence.only(items, "item", "items"))
 }
 
@@ -42,15 +43,15 @@ pub fn undeclared_note(
     if reader < before.readers {
         return first_undeclared(record.field(2), Test::Item(items), "items", items);
     }
-    let form = "is of reader #first#, and up to here the deck has ";
-    Some(Sentence::numbers(form, reader, 0, 0).only(before.readers, "reader", "readers"))
+    let wording = "is of reader #first#, and up to here the deck has ";
+    Some(Sentence::numbers(wording, reader, 0, 0).only(before.readers, "reader", "readers"))
 }
 
 /// An item stands twice in a list.
 pub fn twice_note(record: &Record, tag: Tag) -> Option<Sentence<'static>> {
     let reads = record.field(2);
     let writes = record.field(3);
-    let (form, item) = match first_failing(reads, Test::Once(reads)) {
+    let (wording, item) = match first_failing(reads, Test::Once(reads)) {
         Some((_, item)) if tag == Tag::Query => ("has item #first# twice: each stands once", item),
         Some((_, item)) => (
             "has item #first# twice among its reads: each stands once",
@@ -64,13 +65,13 @@ pub fn twice_note(record: &Record, tag: Tag) -> Option<Sentence<'static>> {
             )
         }
     };
-    Some(Sentence::numbers(form, item, 0, 0))
+    Some(Sentence::numbers(wording, item, 0, 0))
 }
 
 /// A base isn't among the reads.
 pub fn unread_note(record: &Record) -> Option<Sentence<'_>> {
     let (text, base) = first_failing(record.field(3), Test::Read(record.field(2)))?;
-    let form =
+    let wording =
         "the write #text# has item #first# for its base, and the update doesn't have it among its reads";
-    Some(Sentence::words(form, text, "", "").with(base, 0, ""))
+    Some(Sentence::words(wording, text, "", "").with(base, 0, ""))
 }

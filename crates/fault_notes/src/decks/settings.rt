@@ -39,8 +39,8 @@ fn policy_note(text: &str) -> Option<Sentence<'_>> {
     if text == "F" || text == "D" || text == "R" {
         return None;
     }
-    let form = "the setting policy has the value #text#: #why#F, D and R are the values";
-    Some(Sentence::words(form, text, "", space_of(text)))
+    let wording = "the setting policy has the value #text#: #why#F, D and R are the values";
+    Some(Sentence::words(wording, text, "", space_of(text)))
 }
 
 /// A setting's value is no number within its limits; none where it is one.
@@ -55,17 +55,17 @@ fn value_note<'a>(
         Some(_) => (range(least), ""),
         None => ("#why#", why_no_number(text)),
     };
-    let form = "the setting #name# has the value #text#: ";
-    Some(Sentence::words(form, text, name, why).with(0, most, tail))
+    let wording = "the setting #name# has the value #text#: ";
+    Some(Sentence::words(wording, text, name, why).with(0, most, tail))
 }
 
 /// A setting is unknown, was set before, or can't have its value.
 pub fn setting_note<'a>(before: &RecordsBefore, record: &'a Record) -> Option<Sentence<'a>> {
     let text = record.field(1);
     let Some(place) = setting_place(text) else {
-        let form =
+        let wording =
             "there is no setting #text#: #why#policy, delta, cycles, seed, loss, again, late, monitors and hears are the settings";
-        return Some(Sentence::words(form, text, "", space_of(text)));
+        return Some(Sentence::words(wording, text, "", space_of(text)));
     };
     let (name, least, most) = SETTINGS[place];
     if before.set[place] {

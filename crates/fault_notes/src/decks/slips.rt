@@ -33,8 +33,8 @@ fn separators_in(text: &str) -> Option<&'static str> {
 fn separator_note(record: &Record) -> Option<Sentence<'static>> {
     for place in 0..record.len() {
         if let Some(name) = separators_in(record.field(place)) {
-            let form = "it has #name# between its fields, and commas separate fields";
-            return Some(Sentence::words(form, "", name, ""));
+            let wording = "it has #name# between its fields, and commas separate fields";
+            return Some(Sentence::words(wording, "", name, ""));
         }
     }
     None
@@ -70,12 +70,12 @@ fn tag_slip(record: &Record, row: u32) -> Option<Sentence<'_>> {
         return Some(sentence);
     }
     if let Some(name) = known_tag(tag) {
-        let form = "the tag is #text#: it is written #name#, in small letters";
-        return Some(Sentence::words(form, tag, name, ""));
+        let wording = "the tag is #text#: it is written #name#, in small letters";
+        return Some(Sentence::words(wording, tag, name, ""));
     }
     if row == 1 && is_wordy(record) {
-        let form = "the tag is #text#: a deck has no header line";
-        return Some(Sentence::words(form, tag, "", ""));
+        let wording = "the tag is #text#: a deck has no header line";
+        return Some(Sentence::words(wording, tag, "", ""));
     }
     None
 }
@@ -85,9 +85,9 @@ fn line_feed_note(record: &Record) -> Option<Sentence<'_>> {
     for place in 0..record.len() {
         let text = record.field(place);
         if text.contains('\n') || text.contains('\r') {
-            let form =
+            let wording =
                 "the field #text# has a line feed: a quote opens in it and closes on a later line";
-            return Some(Sentence::words(form, text, "", ""));
+            return Some(Sentence::words(wording, text, "", ""));
         }
     }
     None
@@ -96,8 +96,8 @@ fn line_feed_note(record: &Record) -> Option<Sentence<'_>> {
 /// A note that a quote never closes, or closes on a later line, or `None`.
 fn quote_note(record: &Record, open_quote: Option<u64>) -> Option<Sentence<'_>> {
     if let Some(line) = open_quote {
-        let form = "the quote that opens in line #first# never closes";
-        return Some(Sentence::numbers(form, line, 0, 0));
+        let wording = "the quote that opens in line #first# never closes";
+        return Some(Sentence::numbers(wording, line, 0, 0));
     }
     line_feed_note(record)
 }
@@ -114,8 +114,8 @@ fn record_slip(record: &Record, row: u32, kind: u8) -> Option<Sentence<'_>> {
         return separator_note(record);
     }
     if kind == 2 && is_item_header(record, row) {
-        let form = "its fields have no number: a deck has no header line";
-        return Some(Sentence::numbers(form, 0, 0, 0));
+        let wording = "its fields have no number: a deck has no header line";
+        return Some(Sentence::numbers(wording, 0, 0, 0));
     }
     if kind == 9 {
         return tag_slip(record, row);

@@ -174,14 +174,14 @@ fn list_note<'a>(name: &'static str, form: Form, list: &'a str) -> Option<Senten
         return None;
     }
     if matches!(form, Form::Writes) && has_inner_space(list) {
-        let form = "has #text# among its #name#: no space stands within a write";
-        return Some(Sentence::words(form, list, name, ""));
+        let wording = "has #text# among its #name#: no space stands within a write";
+        return Some(Sentence::words(wording, list, name, ""));
     }
     for text in list.split(' ') {
         if text.is_empty() {
-            let form =
+            let wording =
                 "has an empty part among its #name#: one space stands between two parts, and none at the ends";
-            return Some(Sentence::words(form, text, name, ""));
+            return Some(Sentence::words(wording, text, name, ""));
         }
         if let Some(why) = form.why_not(text) {
             return Some(Sentence::words("has #text# among its #name#: #why#", text, name, why));
@@ -197,18 +197,18 @@ fn field_note<'a>(field: Field, text: &'a str) -> Option<Sentence<'a>> {
         return list_note(name, form, text);
     }
     let why = form.why_not(text)?;
-    let form = if matches!(form, Form::Frequency) {
+    let wording = if matches!(form, Form::Frequency) {
         "has the #name# #text#: no single -, and #why#"
     } else {
         "has the #name# #text#: #why#"
     };
-    Some(Sentence::words(form, text, name, why))
+    Some(Sentence::words(wording, text, name, why))
 }
 
 /// A field passes a limit; none where it doesn't.
 fn limit_note<'a>(field: Field, text: &'a str) -> Option<Sentence<'a>> {
     let (_, name, form, least, most) = field;
-    let (form, number) = if form.is_list() {
+    let (wording, number) = if form.is_list() {
         ("has #first# #name#: ", parts_in(text))
     } else {
         ("has the #name# #first#: ", read_u64(text.as_bytes())?)
@@ -216,7 +216,7 @@ fn limit_note<'a>(field: Field, text: &'a str) -> Option<Sentence<'a>> {
     if least <= number && number <= most {
         return None;
     }
-    Some(Sentence::words(form, "", name, "").with(number, most, range(least)))
+    Some(Sentence::words(wording, "", name, "").with(number, most, range(least)))
 }
 
 /// The first field of a record that isn't of its form, or that passes a limit; none where there is none.

@@ -12,22 +12,22 @@ const MARKS_16: [&[u8]; 2] = [&[0xff, 0xfe], &[0xfe, 0xff]];
 
 /// The state of a csv reader at a place of a text: at the start of a field, in a field without quotes, within quotes, or after a quote within quotes.
 #[derive(Clone, Copy, PartialEq, Eq)]
-enum Place {
+enum CsvState {
     Start,
     Plain,
     Quoted,
     Quote,
 }
 
-impl Place {
+impl CsvState {
     /// The state after a byte.
-    fn after(self, byte: u8) -> Place {
+    fn after(self, byte: u8) -> CsvState {
         match self {
-            Place::Quoted if byte == b'"' => Place::Quote,
-            Place::Quoted => Place::Quoted,
-            Place::Start | Place::Quote if byte == b'"' => Place::Quoted,
-            _ if byte == b',' || byte == b'\n' || byte == b'\r' => Place::Start,
-            _ => Place::Plain,
+            CsvState::Quoted if byte == b'"' => CsvState::Quote,
+            CsvState::Quoted => CsvState::Quoted,
+            CsvState::Start | CsvState::Quote if byte == b'"' => CsvState::Quoted,
+            _ if byte == b',' || byte == b'\n' || byte == b'\r' => CsvState::Start,
+            _ => CsvState::Plain,
         }
     }
 }
@@ -55,16 +55,16 @@ fn without_mark(bytes: &[u8]) -> &[u8] {
 
 /// The place of an opening quote that never closes, or `None`.
 fn open_quote(bytes: &[u8]) -> Option<u64> {
-    let mut place = Place::Start;
+    let mut state = CsvState::Start;
     let mut opened = 0;
     for (at, byte) in bytes.iter().enumerate() {
-        let next = place.after(*byte);
-        if place == Place::Start && next == Place::Quoted {
+        let next = state.after(*byte);
+        if state == CsvState::Start && next == CsvState::Quoted {
             opened = at as u64;
         }
-        place = next;
+        state = next;
     }
-    if place == Place::Quoted {
+    if state == CsvState::Quoted {
         Some(opened)
     } else {
         None

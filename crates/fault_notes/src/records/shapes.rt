@@ -41,21 +41,21 @@ pub fn count_note<'a>(record: &Record, line: Line) -> Sentence<'a> {
     } else {
         ""
     };
-    let form = if count == 1 {
+    let wording = if count == 1 {
         "it has 1 field, and #why# has #second#"
     } else {
         "it has #first# fields, and #why# has #second#"
     };
-    Sentence::words(form, "", "", line.form).with(count, wanted, tail)
+    Sentence::words(wording, "", "", line.form).with(count, wanted, tail)
 }
 
 /// The tag of the record is none of these.
 pub fn tag_note<'a>(record: &'a Record, name: &'static str) -> Sentence<'a> {
     let text = record.field(0);
-    let form = if has_outer_space(text) {
+    let wording = if has_outer_space(text) {
         "the tag is #text#: it has a space, and is none of #name#"
     } else {
         "the tag is #text#: none of #name#"
     };
-    Sentence::words(form, text, name, "")
+    Sentence::words(wording, text, name, "")
 }

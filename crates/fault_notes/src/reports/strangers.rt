@@ -33,16 +33,16 @@ pub fn commit_note(deck: &Deck, before: &RecordsBefore, record: &Record) -> Sent
     let next = committed_by(before, by);
     let seq = record.number(2);
     if next < there {
-        let form =
+        let wording =
             "has the seq #first#, and #second# is the next of updater #last#: the commits of an updater run from 0 without a gap";
-        return Sentence::numbers(form, seq, next, by);
+        return Sentence::numbers(wording, seq, next, by);
     }
-    let form = if there == 0 {
+    let wording = if there == 0 {
         "has the updater #last#, of which the deck has "
     } else {
         "has the seq #first#, and each update of updater #last# is committed above it: the deck has "
     };
-    Sentence::numbers(form, seq, 0, by).only(there, "update", "updates")
+    Sentence::numbers(wording, seq, 0, by).only(there, "update", "updates")
 }
 
 /// A number that is no reader or monitor of the deck, which has so many; none where it is one.
@@ -55,8 +55,8 @@ fn stranger(
     if number < count {
         return None;
     }
-    let form = "has the #why# #first#, and the deck has ";
-    Some(Sentence::numbers(form, number, 0, 0).only(count, one, several))
+    let wording = "has the #why# #first#, and the deck has ";
+    Some(Sentence::numbers(wording, number, 0, 0).only(count, one, several))
 }
 
 /// The first read that isn't of the query's item in its place; none where each is.
@@ -65,15 +65,15 @@ fn read_note(query: &[u16], reads: &str) -> Option<Sentence<'static>> {
     for part in reads.split(' ') {
         let first = item_of(part)?;
         let Some((item, more)) = rest.split_first() else {
-            let form = "has item #first# among its reads, behind the last item of its query";
-            return Some(Sentence::numbers(form, first, 0, 0));
+            let wording = "has item #first# among its reads, behind the last item of its query";
+            return Some(Sentence::numbers(wording, first, 0, 0));
         };
         rest = more;
         let second = *item as u64;
         if first != second {
-            let form =
+            let wording =
                 "has item #first# among its reads in the place of item #second#: reads stand in the order of the query";
-            return Some(Sentence::numbers(form, first, second, 0));
+            return Some(Sentence::numbers(wording, first, second, 0));
         }
     }
     None
@@ -83,15 +83,15 @@ fn read_note(query: &[u16], reads: &str) -> Option<Sentence<'static>> {
 fn abort_note(next: u64, record: &Record) -> Option<Sentence<'static>> {
     let first = item_of(record.field(5))?;
     if first != next {
-        let form = "has the refused item #first#, and item #second# is the next of its query";
-        return Some(Sentence::numbers(form, first, next, 0));
+        let wording = "has the refused item #first#, and item #second# is the next of its query";
+        return Some(Sentence::numbers(wording, first, next, 0));
     }
     let first = record.number(6);
     if 0 < times_in(record.field(4), first) {
         return None;
     }
-    let form = "has the clash #first#, which is no item of its reads";
-    Some(Sentence::numbers(form, first, 0, 0))
+    let wording = "has the clash #first#, which is no item of its reads";
+    Some(Sentence::numbers(wording, first, 0, 0))
 }
 
 /// The reads of an attempt don't follow its query; none where they do.
@@ -100,7 +100,7 @@ fn items_note(query: &[u16], record: &Record, tag: Tag) -> Option<Sentence<'stat
         return Some(sentence);
     }
     let count = parts_in(record.field(4));
-    let form = match query.get(count as usize) {
+    let wording = match query.get(count as usize) {
         Some(_) if tag == Tag::Accept => {
             "has #first# of the #second# items of its query, and an accept has each"
         }
@@ -109,7 +109,7 @@ fn items_note(query: &[u16], record: &Record, tag: Tag) -> Option<Sentence<'stat
         None if tag == Tag::Accept => return None,
         None => "has each item of its query, as an accept alone has",
     };
-    Some(Sentence::numbers(form, count, query.len() as u64, 0))
+    Some(Sentence::numbers(wording, count, query.len() as u64, 0))
 }
 
 /// A verdict isn't on an attempt of the deck: by its reader, its attempt, its query or its items; none where it is.
@@ -123,16 +123,16 @@ fn attempt_note(deck: &Deck, record: &Record, tag: Tag) -> Option<Sentence<'stat
     let first = record.number(3);
     let second = deck.reader(reader).tries as u64;
     if first < 1 || second < first {
-        let form = "has the attempt #first#: for reader #last# it is 1 to #second#";
-        return Some(Sentence::numbers(form, first, second, last));
+        let wording = "has the attempt #first#: for reader #last# it is 1 to #second#";
+        return Some(Sentence::numbers(wording, first, second, last));
     }
     let first = record.number(2);
     let count = deck.queries(reader) as u64;
     if first < count {
         return items_note(deck.query(reader, first as u32), record, tag);
     }
-    let form = "has the query #first#, and reader #last# has ";
-    Some(Sentence::numbers(form, first, 0, last).only(count, "query", "queries"))
+    let wording = "has the query #first#, and reader #last# has ";
+    Some(Sentence::numbers(wording, first, 0, last).only(count, "query", "queries"))
 }
 
 /// What a line names isn't the deck's; none where it is.

@@ -9,7 +9,7 @@ use std::fmt;
 /// name's first letter.
 #[derive(Clone, Copy)]
 pub struct Sentence<'a> {
-    form: &'static str,
+    wording: &'static str,
     tail: &'static str,
     text: &'a str,
     name: &'static str,
@@ -29,7 +29,7 @@ pub fn range(least: u64) -> &'static str {
 }
 
 /// So many things with numbers from 0: `why` is the name of one of them, `name` that of several, and `second` the last one's number.
-fn range_form(count: u64) -> &'static str {
+fn range_wording(count: u64) -> &'static str {
     match count {
         0 => "no #why#",
         1 => "only #why# 0",
@@ -41,13 +41,13 @@ fn range_form(count: u64) -> &'static str {
 impl<'a> Sentence<'a> {
     /// A sentence with a text, the name of what that is, and why it is wrong.
     pub fn words(
-        form: &'static str,
+        wording: &'static str,
         text: &'a str,
         name: &'static str,
         why: &'static str,
     ) -> Sentence<'a> {
         Sentence {
-            form,
+            wording,
             tail: "",
             text,
             name,
@@ -59,9 +59,9 @@ impl<'a> Sentence<'a> {
     }
 
     /// A sentence with numbers.
-    pub fn numbers(form: &'static str, first: u64, second: u64, last: u64) -> Sentence<'a> {
+    pub fn numbers(wording: &'static str, first: u64, second: u64, last: u64) -> Sentence<'a> {
         Sentence {
-            form,
+            wording,
             tail: "",
             text: "",
             name: "",
@@ -82,7 +82,7 @@ impl<'a> Sentence<'a> {
 
     /// The same, with so many things that have numbers from 0.
     pub fn only(mut self, count: u64, one: &'static str, several: &'static str) -> Sentence<'a> {
-        self.tail = range_form(count);
+        self.tail = range_wording(count);
         self.why = one;
         self.name = several;
         self.second = count.saturating_sub(1);
@@ -124,7 +124,7 @@ impl Sentence<'_> {
 
 impl fmt::Display for Sentence<'_> {
     fn fmt<W: fmt::Write>(&self, f: &mut fmt::Formatter<W>) -> fmt::Result {
-        self.write_part(f, self.form)?;
+        self.write_part(f, self.wording)?;
         self.write_part(f, self.tail)
     }
 }

@@ -52,18 +52,18 @@ abbrev pub push_at : {A : Type 0} → List (List A) → ℕ → A → List (List
 push_at lists place x = slice_set lists place (get_or lists place [] ++ x ∷ [])
 
 -- One more declaration.
-abbrev pub with_entry : DraftValue → Declaration → DraftValue
-with_entry d (e.Item id value rate) = record d { items = d.items ++ record { value = value; rate = rate } ∷ [] }
-with_entry d (e.Disk size freq) = record d { disks = d.disks ++ record { size = size; freq = freq } ∷ [] }
-with_entry d (e.Update by reads writes) = record d {
+abbrev pub with_declaration : DraftValue → Declaration → DraftValue
+with_declaration d (e.Item id value rate) = record d { items = d.items ++ record { value = value; rate = rate } ∷ [] }
+with_declaration d (e.Disk size freq) = record d { disks = d.disks ++ record { size = size; freq = freq } ∷ [] }
+with_declaration d (e.Update by reads writes) = record d {
   updates = push_at d.updates by (record { reads = reads; writes = writes });
   updaters = max d.updaters (by + 1);
   update_count = d.update_count + 1;
 }
-with_entry d (e.Reader room age tries) = record d { readers = d.readers ++ record { room = room; age = age; tries = tries } ∷ [] }
-with_entry d (e.Query reader items) = record d { queries = push_at d.queries reader items; query_count = d.query_count + 1 }
-with_entry d (e.Script events) = record d { script = d.script ++ events }
-with_entry d (e.Set setting) = record d { set = d.set ++ setting ∷ [] }
+with_declaration d (e.Reader room age tries) = record d { readers = d.readers ++ record { room = room; age = age; tries = tries } ∷ [] }
+with_declaration d (e.Query reader items) = record d { queries = push_at d.queries reader items; query_count = d.query_count + 1 }
+with_declaration d (e.Script events) = record d { script = d.script ++ events }
+with_declaration d (e.Set setting) = record d { set = d.set ++ setting ∷ [] }
 
 -- The kinds that a declaration may have after the parts so far, by rising kind, each with its test.
 abbrev pub draft_tests : DraftValue → Declaration → List (FaultKind × Bool)
@@ -93,7 +93,7 @@ record_kind d spelled = least_kind (draft_tests d) spelled
 
 -- A call adds what a record spells, where no kind applies; else it tells the least. What it leaves then is not told.
 abbrev pub AddsDeclaration : {A : Type 0} → Result A (Refusal FaultKind) → Result Declaration FaultKind → DraftValue → DraftValue → Type 0
-AddsDeclaration result spelled old new = Answers result (record_kind old spelled) (λ _. new ≡ with_spelled with_entry old spelled)
+AddsDeclaration result spelled old new = Answers result (record_kind old spelled) (λ _. new ≡ with_spelled with_declaration old spelled)
 
 -- A call reads what an update spells, and adds nothing.
 abbrev pub UpdateRead : Result (ℕ × UpdateLists) (Refusal FaultKind) → Result Declaration FaultKind → DraftValue → Type 0

@@ -1,6 +1,6 @@
 //! The audit of a report's bytes, or the status that refuses them.
 
-ghost use Rattle.std.specs.Prelude.{ℕ, ◌≤◌, List, IfErr, IfOk, length};
+ghost use Rattle.std.specs.Prelude.{◌≤◌, IfErr, IfOk, length};
 ghost use Rattle.air_report.specs.declared.reading.limits.TheConstants.{MOST_REPORT_BYTES};
 ghost use Rattle.air_report.specs.declared.reading.ReadReport.{ReadReport};
 ghost use Rattle.air_report.specs.ReadReports.{IsReportOf};
@@ -11,7 +11,7 @@ ghost use Rattle.live_replay.specs.TrueAudits.{IsTrueAudit};
 use crate::audits::audit;
 use crate::audits::texts::{differing_count, findings_text};
 use crate::findings::AuditError;
-use crate::laws::{agrees_law, rows_law, session_law, true_report_law};
+use crate::laws::{agrees_law, session_law, true_report_law};
 use air_report::{ReadReport, ReportError, Status, read_report};
 use item_catalog::Deck;
 use std::alloc::Global;
@@ -64,11 +64,10 @@ fn audit_read(
 
 /// Audits are true, by the laws of replays. The calls do nothing.
 fn shows_audit_truth(deck: &Deck)
-    ensures { (text : List ℕ) (read : ReadReport) → IsReportOf deck.now text read → IsTrueAudit deck.now text read }
+    ensures { (read : ReadReport) → IsTrueAudit deck.now read }
 {
     deck.shows_well_made();
     agrees_law();
-    rows_law();
     session_law();
     true_report_law();
 }

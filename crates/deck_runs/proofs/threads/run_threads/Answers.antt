@@ -119,10 +119,22 @@ returns-clause-run g c =
     let ended = subst (λ d. IsEnd d seen H) (ap (λ p. p.now) c.play-conducted.ensures.planned) c.in_ok-history.ensures.end in
     subst (λ d. IsRun d c.new.result) c.in_ok-stage.ensures.planned (subst (IsRun deck) (sym c.new.ensures) (record {
       whole = ended.whole whole.1;
-      batches = subst (AirsByBatches deck H) (sym (ap (λ (l : Beginning). l.batches) c.tell-note.ensures)) (airs_further deck seen H h.batches ended.goes_on c.in_ok-conducted.ensures.conducted.batches);
       glances = glances_are deck f h runs.items now glances looks seen H given.publisher given.count given.each on watched sights whole.0 whole.1 ended.goes_on;
       looks = looks_are deck f h runs.items now glances looks seen H given.publisher given.count given.each on watched sights whole.0 whole.1 ended.goes_on;
     }))
+
+pub returns-clause-batches : goal.returns-clause-batches
+unfolding HasAired
+returns-clause-batches g c =
+    let deck = c.in_ok-stage.stage.planned.now in
+    let h = c.play-conducted.new.source in
+    let seen = c.play-conducted.new.self.conductor.pass.seen in
+    let H = c.in_ok-history.history in
+    let ended = subst (λ d. IsEnd d seen H) (ap (λ p. p.now) c.play-conducted.ensures.planned) c.in_ok-history.ensures.end in
+    let by = airs_further deck seen H h.batches ended.goes_on c.in_ok-conducted.ensures.conducted.batches in
+    let told = subst (AirsByBatches deck H) (sym (ap (λ (l : Beginning). l.batches) c.tell-told.ensures)) by in
+    subst (λ d. AirsByBatches d c.new.result.history c.new.result.batches) c.in_ok-stage.ensures.planned
+    (subst (λ (run : Run). AirsByBatches deck run.history run.batches) (sym c.new.ensures) told)
 
 pub returns-clause-aired : goal.returns-clause-aired
 unfolding HasAired

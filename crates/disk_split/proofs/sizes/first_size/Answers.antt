@@ -1,14 +1,14 @@
 use Rattle.std.proofs.Common.{◌≡◌, ◌<◌, ◌≤◌, ◌⊎◌, inl, inr, ◌+◌, ℕ, slice_index, subst, arith}
 use Rattle.std.proofs.lemmas.Bool.{cases_lt}
-use Rattle.disk_split.specs.declared.sizes.Left.{Left}
-use Rattle.disk_split.specs.Private.Lefts.{IsAfter}
-use Rattle.disk_split.proofs.LeftSteps.{some_first}
+use Rattle.disk_split.specs.declared.sizes.RestToPlace.{RestToPlace}
+use Rattle.disk_split.specs.Private.RestsToPlace.{IsAfter}
+use Rattle.disk_split.proofs.RestSteps.{some_first}
 use Rattle.disk_split.proofs.sizes.first_size.Goals as goal
 
 pub loop-size-preserved : goal.loop-size-preserved
 loop-size-preserved c = λ less some below other is. by less some below other is (cases_lt less c.loop-size.size)
   where
-    by : (less : ℕ) → 1 ≤ less → less < c.loop-size.size + 1 → (other : Left) → IsAfter c.args.sums.now (slice_index c.args.chunks.now 0) c.args.next.now c.args.left less other
+    by : (less : ℕ) → 1 ≤ less → less < c.loop-size.size + 1 → (other : RestToPlace) → IsAfter c.args.sums.now (slice_index c.args.chunks.now 0) c.args.next.now c.args.left less other
         → ((less < c.loop-size.size) ⊎ (c.loop-size.size ≤ less)) → ⊥
     by less some below other is (inl low) = c.loop-size.invariant less some low other is
     by less some below other is (inr up) =

@@ -1,7 +1,7 @@
 use Rattle.std.proofs.Common.{rules, ◌≡◌, ◌+◌, ◌==◌, true, [], length, refl, sym, subst, ap, ◌∙◌}
 use Rattle.std.specs.Result.{is_ok}
 use Rattle.std.proofs.lemmas.List.{length_push}
-use Rattle.disk_split.specs.Private.Tables.{IsRow}
+use Rattle.disk_split.specs.Private.Tables.{IsTableRow}
 use Rattle.disk_split.proofs.TableSteps.{each_more, row_of_none}
 use Rattle.disk_split.proofs.tables.last_table.Goals as goal
 
@@ -10,9 +10,9 @@ loop-from-preserved c =
     let sums = c.args.sums.now in let from = c.loop-from.from in let i = c.loop-from.invariant in
     let good : is_ok c.push.result ≡ true = search rules in
     let pushed = rw good at c.push.ensures.items in
-    let own : IsRow sums [] from c.args.width c.in_ok-last_row.field-0 =
-    subst (IsRow sums [] from c.args.width) (sym c.in_ok-last_row.ensures) (row_of_none sums from c.args.width (from + 1 == length sums) c.requires.wide refl) in
+    let own : IsTableRow sums [] from c.args.width c.in_ok-last_row.field-0 =
+    subst (IsTableRow sums [] from c.args.width) (sym c.in_ok-last_row.ensures) (row_of_none sums from c.args.width (from + 1 == length sums) c.requires.wide refl) in
     record {
       long = ap length pushed ∙ length_push c.loop-from.rows.items _ ∙ ap (λ n. n + 1) i.long;
-      rows = each_more (λ k row. IsRow sums [] k c.args.width row) c.loop-from.rows.items _ _ [] from i.long pushed i.rows own;
+      rows = each_more (λ k row. IsTableRow sums [] k c.args.width row) c.loop-from.rows.items _ _ [] from i.long pushed i.rows own;
     }

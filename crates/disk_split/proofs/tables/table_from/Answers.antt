@@ -1,7 +1,7 @@
 use Rattle.std.proofs.Common.{rules, ◌≡◌, ◌+◌, true, [], length, ap, ◌∙◌}
 use Rattle.std.specs.Result.{is_ok}
 use Rattle.std.proofs.lemmas.List.{length_push}
-use Rattle.disk_split.specs.Private.Tables.{IsRow}
+use Rattle.disk_split.specs.Private.Tables.{IsTableRow}
 use Rattle.disk_split.proofs.TableSteps.{each_more}
 use Rattle.disk_split.proofs.tables.table_from.Goals as goal
 
@@ -12,5 +12,5 @@ loop-from-preserved c =
     let pushed = rw good at c.push.ensures.items in
     record {
       long = ap length pushed ∙ length_push c.loop-from.rows.items _ ∙ ap (λ n. n + 1) i.long;
-      rows = each_more (λ k row. IsRow sums chunks k c.args.width row) c.loop-from.rows.items _ _ [] from i.long pushed i.rows c.in_ok-row_from.ensures;
+      rows = each_more (λ k row. IsTableRow sums chunks k c.args.width row) c.loop-from.rows.items _ _ [] from i.long pushed i.rows c.in_ok-row_from.ensures;
     }

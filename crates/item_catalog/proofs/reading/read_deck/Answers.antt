@@ -3,10 +3,10 @@ use Rattle.csv.specs.Records.{fields_of}
 use Rattle.item_catalog.specs.RecordKinds.{with_spelled}
 use Rattle.item_catalog.proofs.RowLemmas.{few_records}
 use Rattle.item_catalog.specs.Kinds.{deck_kind_number}
-use Rattle.item_catalog.specs.Private.Drafts.{DraftValue, draft_of, record_kind, with_entry}
+use Rattle.item_catalog.specs.Private.Drafts.{DraftValue, draft_of, record_kind, with_declaration}
 use Rattle.item_catalog.specs.Private.ReadEnds.{CanEnd}
 use Rattle.item_catalog.specs.Declarations.{spelled_declaration}
-use Rattle.item_catalog.specs.Faults.{entries_in}
+use Rattle.item_catalog.specs.Faults.{declarations_in}
 use Rattle.item_catalog.specs.Grammar.{HasFault, IsErrorOf, Spells}
 use Rattle.item_catalog.proofs.PlaceLemmas.{added, none_added}
 use Rattle.item_catalog.proofs.ReadingLemmas.{can_end, ends_deck, ends_fault, err_more, ok_more, read_fault}
@@ -19,11 +19,11 @@ pub loop-row-preserved : goal.loop-row-preserved
 loop-row-preserved c =
     let inv = c.loop-row.invariant in let rows = inv.0 in let row = fields_of c.next.new.row in let left = c.next.new.self in
     let read : c.loop-row.records ≡ row ∷ left = rw c.if-not-branch.false at c.in_ok-next.ensures in
-    let none : record_kind (draft_of (entries_in rows)) (spelled_declaration row) ≡ None = ap (λ d. record_kind d (spelled_declaration row)) (sym inv.3) ∙ c.in-Ok.ensures.0 in (
+    let none : record_kind (draft_of (declarations_in rows)) (spelled_declaration row) ≡ None = ap (λ d. record_kind d (spelled_declaration row)) (sym inv.3) ∙ c.in-Ok.ensures.0 in (
       rows ++ row ∷ [],
       inv.1 ∙ ap (λ more. rows ++ more) read ∙ sym (append_assoc rows (row ∷ []) left),
       none_added rows row inv.2 none,
-      c.in-Ok.ensures.1 ∙ ap (λ d. with_spelled with_entry d (spelled_declaration row)) inv.3 ∙ added rows row none,
+      c.in-Ok.ensures.1 ∙ ap (λ d. with_spelled with_declaration d (spelled_declaration row)) inv.3 ∙ added rows row none,
       omega (arith, length-append rows (row ∷ []), inv.4),
     )
 

@@ -7,7 +7,7 @@ invariant-loop-aired g l =
     let Taken = g.S.PieceSink.HasTaken l.sink in
     record {
       kept : IsAiring l.planned l.aired;
-      taken : (first : g.row.P.Denot) → Taken [] first l.fn.place → Taken (tape_so_far l.planned l.aired) first l.place;
+      taken : (first : g.row.P.Denot) → Taken [] first l.fn.output → Taken (tape_so_far l.planned l.aired) first l.output;
     }
 
 abbrev pub decreases-loop-aired : goal.decreases-loop-aired

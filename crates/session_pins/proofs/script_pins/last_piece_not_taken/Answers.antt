@@ -7,5 +7,5 @@ air_script-requires-after_bounds g c κs within = pair_short c.args.planned.now 
 
 pub returns : goal.returns
 returns g c =
-    let taken = c.in_ok-aired.ensures.taken c.args.place.now c.requires.begun in
-    subst (λ tape. g.S.PieceSink.HasTaken c.args.sink.now tape c.args.place.now c.air_script.new.place) (pair_taped c.args.planned.now c.requires.deck) taken
+    let taken = c.in_ok-aired.ensures.taken c.args.output.now c.requires.begun in
+    subst (λ tape. g.S.PieceSink.HasTaken c.args.sink.now tape c.args.output.now c.air_script.new.output) (pair_taped c.args.planned.now c.requires.deck) taken

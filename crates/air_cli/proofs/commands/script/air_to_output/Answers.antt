@@ -12,7 +12,7 @@ returns-in_err-aired-clause-stopped g c =
     let S = g.S.Shelf in
     let output : Option (List ℕ) = option_map (λ (name : Bor (List ℕ)). name.now) c.args.output in
     let before = c.args.shelf.now in
-    let h : IsStopped output c.args.planned.now (S.state before) (S.state c.air_script.new.place) c.in_err-aired.field-0.0 = c.in_err-aired.ensures.stopped before c.in-Ok.ensures.begun in
+    let h : IsStopped output c.args.planned.now (S.state before) (S.state c.air_script.new.output) c.in_err-aired.field-0.0 = c.in_err-aired.ensures.stopped before c.in-Ok.ensures.begun in
     search (rules, h)
 
 pub returns-in_err-text-clause-stopped : goal.returns-in_err-text-clause-stopped
@@ -21,7 +21,7 @@ returns-in_err-text-clause-stopped g c =
     let output : Option (List ℕ) = option_map (λ (name : Bor (List ℕ)). name.now) c.args.output in
     let d = c.args.planned.now in
     let before = c.args.shelf.now in
-    let h : IsStopped output d (S.state before) (S.state c.air_script.new.place) status.NoMemory =
+    let h : IsStopped output d (S.state before) (S.state c.air_script.new.output) status.NoMemory =
     inl (refl, record { so_far = script_tape d; left = []; joined = sym (append-nil (script_tape d)); taken = c.in_ok-aired.ensures.taken before c.in-Ok.ensures.begun }) in
     search (rules, h)
 

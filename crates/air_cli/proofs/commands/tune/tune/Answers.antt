@@ -1,16 +1,13 @@
-use Rattle.std.proofs.Common.{refl, ap, inl, inr, subst, sym, rules}
+use Rattle.std.proofs.Common.{refl, inl, inr, subst, sym, rules}
 use Rattle.std.specs.Io.KnownBytes.{IsAtEnd}
 use Rattle.air_base.specs.declared.limits.TheConstants.{MOST_TAPE_BYTES}
-use Rattle.air_report.specs.declared.status.Status.TheVariants as status
 use Rattle.air_cli.specs.NamedDecks.{HasDeck}
 use Rattle.air_cli.specs.RunnableDecks.{HasShortProgram}
 use Rattle.air_cli.specs.Private.BeforeDelivery.{IsUnmade}
-use Rattle.air_cli.specs.ReportsAndTapes.{ReportAndTape}
 use Rattle.air_cli.specs.Tune.{TuneGives, tune_meaning}
-use Rattle.air_cli.proofs.AnswerLemmas.{only_text}
 use Rattle.air_cli.proofs.ReadLemmas.{end_still}
 use Rattle.air_cli.proofs.CountLemmas.{kept_twice}
-use Rattle.air_cli.proofs.TuneLemmas.{heard_text, of_heard, unheard_since, unheard_tune, unrunnable_tune, wanting_tune}
+use Rattle.air_cli.proofs.TuneLemmas.{of_heard, unheard_since, unheard_tune, unrunnable_tune}
 use Rattle.air_cli.proofs.commands.tune.tune.Goals as goal
 
 pub returns-in_err-planned-clause-unmade : goal.returns-in_err-planned-clause-unmade
@@ -24,30 +21,18 @@ returns-in_err-planned-clause-unmade g c =
     } in
     search (rules, h)
 
-pub returns-in_err-sessions-clause-unmade : goal.returns-in_err-sessions-clause-unmade
-returns-in_err-sessions-clause-unmade g c =
+pub returns-in_err-text-clause-unmade : goal.returns-in_err-text-clause-unmade
+returns-in_err-text-clause-unmade g c =
     let S = g.S.Shelf in
     let tape = c.args.tape.now in
     let before = S.state c.args.shelf.now in
     let mid = S.state c.read_runnable_deck.new.shelf in
-    let now = S.state c.file_sessions.new.shelf in
+    let now = S.state c.tape_report.new.shelf in
     let can : HasDeck c.args.name.now before HasShortProgram = (c.in_ok-planned.planned, c.in_ok-planned.ensures.deck, c.in_ok-planned.ensures.made, c.in_ok-planned.ensures.runnable) in
-    let unheard = unheard_since tape MOST_TAPE_BYTES before mid now c.in_err-sessions.field-0.0 (c.read_runnable_deck.ensures.reads.rest.files tape) c.in_ok-planned.ensures.reads.calm c.in_err-sessions.ensures.refused in
-    let h : IsUnmade (tune_meaning c.args.name.now tape) before now c.in_err-sessions.field-0.0 = record {
-      cause = unheard_tune c.args.name.now tape before now c.in_err-sessions.field-0.0 can unheard;
-      kept = λ read. kept_twice before.faults mid.faults now.faults c.in_ok-planned.ensures.reads.calm (c.in_err-sessions.ensures.reads.kept read);
-    } in
-    search (rules, h)
-
-pub returns-in_err-text-clause-unmade : goal.returns-in_err-text-clause-unmade
-returns-in_err-text-clause-unmade g c =
-    let S = g.S.Shelf in
-    let before = S.state c.args.shelf.now in
-    let mid = S.state c.read_runnable_deck.new.shelf in
-    let now = S.state c.file_sessions.new.shelf in
-    let h : IsUnmade (tune_meaning c.args.name.now c.args.tape.now) before now status.NoMemory = record {
-      cause = wanting_tune c.args.name.now c.args.tape.now before now;
-      kept = λ read. kept_twice before.faults mid.faults now.faults c.in_ok-planned.ensures.reads.calm c.in_ok-sessions.ensures.reads.calm;
+    let unheard = unheard_since tape MOST_TAPE_BYTES before mid now c.in_err-text.field-0.0 (c.read_runnable_deck.ensures.reads.rest.files tape) c.in_ok-planned.ensures.reads.calm c.in_err-text.ensures.refused in
+    let h : IsUnmade (tune_meaning c.args.name.now tape) before now c.in_err-text.field-0.0 = record {
+      cause = unheard_tune c.args.name.now tape before now c.in_err-text.field-0.0 can unheard;
+      kept = λ read. kept_twice before.faults mid.faults now.faults c.in_ok-planned.ensures.reads.calm (c.in_err-text.ensures.reads.kept read);
     } in
     search (rules, h)
 
@@ -58,29 +43,15 @@ returns-clause-made g c =
     let tape = c.args.tape.now in
     let before = S.state c.args.shelf.now in
     let mid = S.state c.read_runnable_deck.new.shelf in
-    let now = S.state c.file_sessions.new.shelf in
+    let now = S.state c.tape_report.new.shelf in
     let deck = c.in_ok-planned.planned in
-    let sessions = c.in_ok-sessions.sessions in
-    let heard = c.in_ok-sessions.ensures.heard in
-    let work : ReportAndTape = only_text c.in_ok-text.text.items in
-    let text = heard_text tape mid deck sessions c.in_ok-text.text.items heard c.in_ok-text.ensures in
-    let deck_end = end_still c.args.name.now tape mid now c.file_sessions.ensures.reads.rest c.in_ok-planned.ensures.reads.end c.in_ok-sessions.ensures.reads.end in
+    let told = of_heard tape before mid deck c.in_ok-text.text.items c.in_ok-text.ensures.heard (c.read_runnable_deck.ensures.reads.rest.files tape) c.shows_tape_truth.ensures in
+    let deck_end = end_still c.args.name.now tape mid now c.tape_report.ensures.reads.rest c.in_ok-planned.ensures.reads.end c.in_ok-text.ensures.reads.end in
     record {
-      gives = (
-        refl,
-        (
-          deck,
-          c.in_ok-planned.ensures.deck,
-          c.in_ok-planned.ensures.made,
-          (
-            c.in_ok-planned.ensures.runnable,
-            of_heard tape before mid deck sessions work heard (c.read_runnable_deck.ensures.reads.rest.files tape) (c.shows_tape_truth.ensures _) (ap only_text text),
-          ),
-        ),
-      );
+      gives = (refl, (deck, c.in_ok-planned.ensures.deck, c.in_ok-planned.ensures.made, (c.in_ok-planned.ensures.runnable, told)));
       read = λ name input. elim input [
         | inl same ↦ subst (λ input. IsAtEnd (now.told.left input)) (sym same) deck_end
-        | inr same ↦ subst (λ input. IsAtEnd (now.told.left input)) (sym same) c.in_ok-sessions.ensures.reads.end
+        | inr same ↦ subst (λ input. IsAtEnd (now.told.left input)) (sym same) c.in_ok-text.ensures.reads.end
       ];
-      calm = kept_twice before.faults mid.faults now.faults c.in_ok-planned.ensures.reads.calm c.in_ok-sessions.ensures.reads.calm;
+      calm = kept_twice before.faults mid.faults now.faults c.in_ok-planned.ensures.reads.calm c.in_ok-text.ensures.reads.calm;
     }

@@ -1,5 +1,5 @@
 use Rattle.std.proofs.Common.{◌≡◌, drop, map}
-use Rattle.air_report.specs.ReportFaults.{leads, read_item}
+use Rattle.air_report.specs.LineFaults.{leads, read_item}
 use Rattle.air_report.proofs.reading.rules.leads.Given as goal
 
 abbrev pub invariant-loop-read : goal.invariant-loop-read

@@ -1,6 +1,6 @@
 use Rattle.std.proofs.Common.{◌≡◌, drop}
 use Rattle.std.specs.List.{list_all}
-use Rattle.air_report.specs.ReportFaults.{has_begun}
+use Rattle.air_report.specs.LineFaults.{has_begun}
 use Rattle.air_report.proofs.reading.rules.reads_begun.Given as goal
 
 abbrev pub invariant-loop-read : goal.invariant-loop-read

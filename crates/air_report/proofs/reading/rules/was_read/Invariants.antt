@@ -1,7 +1,7 @@
 use Rattle.std.proofs.Common.{◌≡◌, drop, map}
 use Rattle.std.specs.Prelude.{◌==◌}
 use Rattle.std.specs.List.{list_any}
-use Rattle.air_report.specs.ReportFaults.{read_item}
+use Rattle.air_report.specs.LineFaults.{read_item}
 use Rattle.air_report.proofs.reading.rules.was_read.Given as goal
 
 abbrev pub invariant-loop-read : goal.invariant-loop-read

@@ -4,12 +4,14 @@ use Rattle.item_catalog.specs.RecordKinds.{with_spelled}
 use Rattle.item_catalog.proofs.RowLemmas.{few_records}
 use Rattle.air_report.specs.Kinds.{report_kind_number}
 use Rattle.air_report.specs.LineTexts.{spelled_line}
-use Rattle.air_report.specs.ReportFaults.{spelled_lines}
-use Rattle.air_report.specs.ReportGrammar.{HasReportFault, IsReportAnswer, SpellsReport}
+use Rattle.air_report.specs.LineFaults.{spelled_lines}
+use Rattle.air_report.specs.LineGrammar.{SpellsLines}
+use Rattle.air_report.specs.ReportGrammar.{HasReportFault, IsReportAnswer}
 use Rattle.air_report.specs.ReportLines.{ReportLines, sections_of}
 use Rattle.air_report.specs.Private.RecordAnswers.{line_record_kind, with_one_line}
 use Rattle.air_report.proofs.PlaceLemmas.{added, none_added}
-use Rattle.air_report.proofs.ReadingLemmas.{read_all, read_fault}
+use Rattle.air_report.proofs.ReadingLemmas.{read_all}
+use Rattle.air_report.proofs.TiedReports.{told_after}
 use Rattle.air_report.proofs.reading.texts.read_lines.Goals as goal
 
 pub loop-row-init : goal.loop-row-init
@@ -31,7 +33,7 @@ pub returns-then-not-branch-clause-lines : goal.returns-then-not-branch-clause-l
 returns-then-not-branch-clause-lines c =
     let inv = c.loop-row.invariant in
     let end : c.loop-row.records ≡ [] = rw c.if-not-branch.true at c.in_ok-next.ensures in
-    let P : ReportLines → Type 0 = λ lines. SpellsReport c.args.deck.now c.args.bytes.now lines in
+    let P : ReportLines → Type 0 = λ lines. SpellsLines c.args.deck.now c.args.bytes.now lines in
     subst P (sym (c.into_lines.ensures ∙ inv.3)) (read_all c.args.deck.now c.args.bytes.now inv.0 inv.2 (inv.1 ∙ ap (λ more. inv.0 ++ more) end))
 
 pub returns-in-Err-Kind-clause-fault : goal.returns-in-Err-Kind-clause-fault
@@ -41,7 +43,7 @@ returns-in-Err-Kind-clause-fault c =
     let told : line_record_kind deck c.loop-row.draft (spelled_line row) ≡ Some c.in-Err-Kind.kind = rw c.in-Err-Kind.field-0-is at c.in-Err-Kind.ensures in
     let P : ℕ → Type 0 = λ r. HasReportFault deck c.args.bytes.now r (report_kind_number c.in-Err-Kind.kind) in
     let fault : P c.loop-row.row = subst P (sym inv.4)
-    (read_fault deck c.args.bytes.now rows inv.2 row left c.in-Err-Kind.kind (inv.1 ∙ ap (λ more. rows ++ more) read) (ap (λ d. line_record_kind deck d (spelled_line row)) (sym inv.3) ∙ told)) in
+    (told_after deck c.args.bytes.now rows inv.2 row left c.in-Err-Kind.kind (inv.1 ∙ ap (λ more. rows ++ more) read) (ap (λ d. line_record_kind deck d (spelled_line row)) (sym inv.3) ∙ told)) in
     subst (IsReportAnswer deck c.args.bytes.now) (sym c.at.ensures) (rw c.in-Err-Kind.kind-is fault)
 
 pub unreachable-requires : goal.unreachable-requires

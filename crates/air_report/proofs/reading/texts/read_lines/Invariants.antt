@@ -1,7 +1,7 @@
 use Rattle.std.proofs.Common.{◌≡◌, ◌+◌, ◌++◌, ℕ, List, length}
 use Rattle.item_catalog.specs.FirstFaults.{NoneBefore}
 use Rattle.item_catalog.specs.Records.{records_of}
-use Rattle.air_report.specs.ReportFaults.{line_kinds_at, spelled_lines}
+use Rattle.air_report.specs.LineFaults.{line_kinds_at, spelled_lines}
 use Rattle.air_report.specs.ReportLines.{sections_of}
 use Rattle.air_report.proofs.reading.texts.read_lines.Given as goal
 

@@ -1,6 +1,4 @@
 use Rattle.std.proofs.Common.{◌∙◌, All, length, refl, sym, ap, subst, arith}
-use Rattle.air_history.specs.Boards.{board_of}
-use Rattle.air_model.specs.Decks.{values_in}
 use Rattle.station.specs.PassStates.{new_pass}
 use Rattle.deck_runs.specs.Crews.{HasNewPass}
 use Rattle.deck_runs.specs.Private.StageSteps.{AreNewUpdaters}
@@ -17,9 +15,8 @@ returns c =
     let new = new_updaters station deck updaters c.in_ok-station.passes.items c.in_ok-updaters.ensures.passes (first.count ∙ ap (λ d. length d.updates) told) (λ by p at. first.each by p at ∙ ap (λ d. new_pass station d by) told) in
     record {
       planned = refl;
-      conductor = can_conduct deck _ _ station c.in_ok-station.pass c.station.view_is c.pass.view_is (first.conductor ∙ ap (λ d. new_pass station d (length d.updates)) told)
-          (c.in_ok-new.ensures.empty ∙ ap (λ values. board_of values _) (c.deref.ensures.value ∙ c.in_ok-values.ensures ∙ ap values_in told))
-          (omega (arith, c.in_ok-vec.ensures.len, c.items.ensures.told, ap (λ d. length d.items) told, c.in_ok-vec.field-0.ok.0));
+      conductor = can_conduct deck _ _ station c.in_ok-station.pass c.station.view_is c.in_ok-conductor.ensures.pass (first.conductor ∙ ap (λ d. new_pass station d (length d.updates)) told)
+          c.in_ok-conductor.ensures.board c.in_ok-conductor.ensures.buffer;
       updaters = subst (λ t. AreNewUpdaters t deck updaters) (sym c.station.view_is) new;
       ready = subst (λ t. All (HasNewPass t deck) updaters) (sym c.station.view_is) (all_ready station deck updaters new);
       empty = c.in_ok-with_capacity.ensures.items;

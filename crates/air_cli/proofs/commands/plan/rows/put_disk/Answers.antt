@@ -7,17 +7,18 @@ use Rattle.air_model.specs.Programs.{num_minors}
 use Rattle.air_model.specs.PlanTexts.{disk_row}
 use Rattle.air_model.specs.Rows.{row_writer}
 use Rattle.air_report.specs.RowWriters.{written_text}
-use Rattle.air_cli.proofs.PlanLemmas.{disk_freq, disk_text, length-disks_in}
+use Rattle.chunk_program.proofs.CutLemmas.{length_disks_in}
+use Rattle.air_cli.proofs.PlanLemmas.{disk_freq, disk_text}
 use Rattle.air_cli.proofs.commands.plan.rows.put_disk.Goals as goal
 
 pub freq-requires : goal.freq-requires
 freq-requires c = omega (arith, ap (λ (d : Deck). length d.disks) c.deck-deck.ensures.told)
 
 pub chunks-requires : goal.chunks-requires
-chunks-requires c = omega (arith, ap length c.program-program.ensures.told, length-disks_in c.args.planned.now)
+chunks-requires c = omega (arith, ap length c.program-program.ensures.told, length_disks_in c.args.planned.now)
 
 pub chunk_len-requires : goal.chunk_len-requires
-chunk_len-requires c = omega (arith, ap length c.program-program.ensures.told, length-disks_in c.args.planned.now)
+chunk_len-requires c = omega (arith, ap length c.program-program.ensures.told, length_disks_in c.args.planned.now)
 
 pub returns-clause-text : goal.returns-clause-text
 returns-clause-text c =

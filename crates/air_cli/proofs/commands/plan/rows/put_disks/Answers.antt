@@ -6,7 +6,8 @@ use Rattle.air_model.specs.Programs.{num_minors}
 use Rattle.air_model.specs.PlanTexts.{disk_row}
 use Rattle.air_report.specs.RowWriters.{written_text}
 use Rattle.air_report.proofs.RowLemmas.{rows_none}
-use Rattle.air_cli.proofs.PlanLemmas.{all_rows, disks_more, length-disks_in}
+use Rattle.chunk_program.proofs.CutLemmas.{length_disks_in}
+use Rattle.air_cli.proofs.PlanLemmas.{all_rows, disks_more}
 use Rattle.air_cli.proofs.commands.plan.rows.put_disks.Goals as goal
 
 pub loop-d-init : goal.loop-d-init
@@ -20,11 +21,11 @@ loop-d-preserved c =
     let disks = disks_in c.args.planned.now in (
       c.in_ok-put_disk.ensures.ready,
       disks_more (num_minors disks) disks c.loop-d.d (written_text c.args.wtr.now) (written_text c.loop-d.wtr) (written_text c.put_disk.new.wtr)
-          (omega (arith, length-disks_in c.args.planned.now, ap (λ (d : Deck). length d.disks) c.deck-deck.ensures.told, c.disks-d-end.ensures.told)) c.loop-d.invariant.1 c.in_ok-put_disk.ensures.text,
+          (omega (arith, length_disks_in c.args.planned.now, ap (λ (d : Deck). length d.disks) c.deck-deck.ensures.told, c.disks-d-end.ensures.told)) c.loop-d.invariant.1 c.in_ok-put_disk.ensures.text,
     )
 
 pub returns-clause-text : goal.returns-clause-text
 returns-clause-text c =
     let disks = disks_in c.args.planned.now in
     all_rows (disk_row (num_minors disks)) (enumerate_from 0 disks) c.loop-d.d (written_text c.args.wtr.now) (written_text c.loop-d.wtr)
-    (omega (arith, length-enumerate_from 0 disks, length-disks_in c.args.planned.now, ap (λ (d : Deck). length d.disks) c.deck-deck.ensures.told, c.disks-d-end.ensures.told)) c.loop-d.invariant.1
+    (omega (arith, length-enumerate_from 0 disks, length_disks_in c.args.planned.now, ap (λ (d : Deck). length d.disks) c.deck-deck.ensures.told, c.disks-d-end.ensures.told)) c.loop-d.invariant.1

@@ -5,7 +5,7 @@ use Rattle.air_base.specs.NumberLists.{list_of}
 use Rattle.air_history.specs.UpdateLists.{UpdateLists}
 use Rattle.air_model.specs.Decks.{count_parts}
 use Rattle.item_catalog.specs.RecordKinds.{with_spelled}
-use Rattle.item_catalog.specs.Private.Drafts.{DraftValue, record_kind, with_entry}
+use Rattle.item_catalog.specs.Private.Drafts.{DraftValue, record_kind, with_declaration}
 use Rattle.item_catalog.specs.Declarations as e
 use Rattle.item_catalog.specs.Declarations.{script_by}
 use Rattle.item_catalog.specs.Faults.{script_passes, some_below}
@@ -57,5 +57,5 @@ pub returns : goal.returns
 returns c =
     let a = (goal.at.returns c).After-overdraws in let r = read_events a in (
       ap (record_kind c.args.self.now) r.spelled ∙ judged_by c.args.self.now r.events false r.within (sym c.if-overdraws.false ∙ r.told),
-      ap (λ (d : DraftValue). with_script d c.read.new.self) c.self.view_is ∙ ap (with_script c.args.self.now) r.added ∙ sym (ap (with_spelled with_entry c.args.self.now) r.spelled),
+      ap (λ (d : DraftValue). with_script d c.read.new.self) c.self.view_is ∙ ap (with_script c.args.self.now) r.added ∙ sym (ap (with_spelled with_declaration c.args.self.now) r.spelled),
     )

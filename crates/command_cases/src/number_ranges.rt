@@ -7,11 +7,11 @@ use air_base::{NoMemory, write_u64};
 use case_lines::{BadCase, Parts};
 
 /// How many numbers there are at most.
-const MOST_TURNS: u64 = 1_000;
+const MOST_NUMBERS: u64 = 1_000;
 
 /// What a number is set for.
 #[derive(Clone, Copy)]
-pub enum Turned {
+pub enum Target {
     Fail,
     Both,
     AirFail,
@@ -23,26 +23,26 @@ pub enum Turned {
 
 /// What is set, and the numbers from the first to the one before the end.
 #[derive(Clone, Copy)]
-pub struct Turns {
-    pub what: Turned,
+pub struct NumberRange {
+    pub what: Target,
     pub first: u64,
     pub end: u64,
 }
 
-impl Turned {
+impl Target {
     /// What the word says.
-    fn of(parts: &mut Parts<'_>) -> Turned {
+    fn of(parts: &mut Parts<'_>) -> Target {
         match parts.next() {
-            b"fail" => Turned::Fail,
-            b"both" => Turned::Both,
-            b"air_fail" => Turned::AirFail,
-            b"room" => Turned::Room,
-            b"cut" => Turned::Cut,
-            b"flip" => Turned::Flip,
-            b"line" => Turned::Line,
+            b"fail" => Target::Fail,
+            b"both" => Target::Both,
+            b"air_fail" => Target::AirFail,
+            b"room" => Target::Room,
+            b"cut" => Target::Cut,
+            b"flip" => Target::Flip,
+            b"line" => Target::Line,
             _ => {
                 parts.refuse(BadCase::NoSuchWord);
-                Turned::Fail
+                Target::Fail
             }
         }
     }
@@ -50,27 +50,27 @@ impl Turned {
     /// The word.
     fn word(self) -> &'static [u8] {
         match self {
-            Turned::Fail => b"fail",
-            Turned::Both => b"both",
-            Turned::AirFail => b"air_fail",
-            Turned::Room => b"room",
-            Turned::Cut => b"cut",
-            Turned::Flip => b"flip",
-            Turned::Line => b"line",
+            Target::Fail => b"fail",
+            Target::Both => b"both",
+            Target::AirFail => b"air_fail",
+            Target::Room => b"room",
+            Target::Cut => b"cut",
+            Target::Flip => b"flip",
+            Target::Line => b"line",
         }
     }
 }
 
-impl Turns {
+impl NumberRange {
     /// What the parts say: what is set, the first number and the last.
-    pub fn of(parts: &mut Parts<'_>) -> Turns {
-        let what = Turned::of(parts);
+    pub fn of(parts: &mut Parts<'_>) -> NumberRange {
+        let what = Target::of(parts);
         let first = parts.number();
         let end = parts.number().saturating_add(1);
-        if end <= first || end - first > MOST_TURNS {
+        if end <= first || end - first > MOST_NUMBERS {
             parts.refuse(BadCase::NoCall);
         }
-        Turns { what, first, end }
+        NumberRange { what, first, end }
     }
 
     /// Adds the numbers from one to the one before another, and what came of each of them.

@@ -5,10 +5,10 @@ use Rattle.air_base.specs.Numbers.{number_of}
 use Rattle.air_base.specs.NumberLists.{all_some}
 use Rattle.air_base.specs.declared.verdicts.Policy.TheVariants.{FMatrix, Datacycle, RMatrix}
 use Rattle.item_catalog.specs.Declarations as e
-use Rattle.item_catalog.specs.Declarations.{Declaration, disk_by, entry_by, item_by, query_by, reader_by, script_by, set_by, spelled_declaration, tag_of, update_by}
+use Rattle.item_catalog.specs.Declarations.{Declaration, disk_by, declaration_by, item_by, query_by, reader_by, script_by, set_by, spelled_declaration, tag_of, update_by}
 use Rattle.item_catalog.specs.Fields.{freq_of, spelled_event}
 use Rattle.item_catalog.specs.RecordFields.{◌is◌, four_of, seven_of, six_of}
-use Rattle.item_catalog.specs.Settings.{default_of, name_of, number_in, number_said, number_set, policy_in, range_of, same_name, same_setting, setting_of, settings_in, spelled_policy}
+use Rattle.item_catalog.specs.Settings.{NumberSetting, default_of, name_of, number_in, number_said, number_set, number_setting, policy_in, range_of, same_name, same_setting, setting_of, settings_in, spelled_policy}
 use Rattle.item_catalog.specs.Spelled.{◌>>=◌, or_fault}
 use Rattle.item_catalog.specs.Tags.{by_tag}
 use Rattle.item_catalog.specs.Writes.{constant, spelled_value_write, spelled_write, write_by, write_from, write_on_base}
@@ -38,8 +38,8 @@ pub record Fields : Type 0 where
   spelled : or_fault {A = ℕ} fault.Form (Some 3) ≡ Ok 3
   not_spelled : or_fault {A = ℕ} fault.Form None ≡ Err fault.Form
   -- The tag is the first field.
-  tagged : by_tag tag_of entry_by (codes "disk" ∷ codes "2" ∷ codes "1" ∷ []) ≡ Ok (e.Disk 2 (Some 1))
-  untagged : by_tag tag_of entry_by [] ≡ Err fault.Tag
+  tagged : by_tag tag_of declaration_by (codes "disk" ∷ codes "2" ∷ codes "1" ∷ []) ≡ Ok (e.Disk 2 (Some 1))
+  untagged : by_tag tag_of declaration_by [] ≡ Err fault.Tag
   -- writes
   an_amount : constant (Some 3) (Some 4) ≡ Some (record { item = 3; base = None; minus = false; amount = 4 })
   no_amount : constant (Some 3) None ≡ None
@@ -82,7 +82,7 @@ fields = record {
 abbrev an_item : Declaration
 an_item = e.Item 0 10 1
 
-pub record Entries : Type 0 where
+pub record DeclarationsRead : Type 0 where
   item : item_by (Some (codes "0", codes "10", codes "1")) ≡ Ok an_item
   item_form : item_by (Some (codes "0", codes "10", codes "x")) ≡ Err fault.Form
   item_fields : item_by None ≡ Err fault.Fields
@@ -101,11 +101,11 @@ pub record Entries : Type 0 where
   set_fields : set_by None ≡ Err fault.Fields
   its_tag : tag_of (codes "script") ≡ Some t.Script
   no_tag : tag_of (codes "Script") ≡ None
-  by_tag_of_reader : entry_by (Some t.Reader) (codes "1" ∷ codes "2" ∷ []) ≡ Err fault.Fields
-  by_no_tag : entry_by None (codes "1" ∷ []) ≡ Err fault.Tag
+  by_tag_of_reader : declaration_by (Some t.Reader) (codes "1" ∷ codes "2" ∷ []) ≡ Err fault.Fields
+  by_no_tag : declaration_by None (codes "1" ∷ []) ≡ Err fault.Tag
   of_row : spelled_declaration (codes "item" ∷ codes "0" ∷ codes "10" ∷ codes "1" ∷ []) ≡ Ok an_item
 
-declarations : Entries
+declarations : DeclarationsRead
 unfolding number_of freq_of spelled_event spelled_value_write spelled_write all_some
 declarations = record {
   item = refl;
@@ -131,12 +131,17 @@ declarations = record {
   of_row = refl;
 }
 
+-- A share of 100, none where it isn't set.
+abbrev share_of_loss : NumberSetting
+share_of_loss = record { word = codes "loss"; least = 0; most = 100; unset = 0 }
+
 pub record SettingsSet : Type 0 where
-  share : range_of Loss ≡ (0, 100)
-  hears : range_of Hears ≡ (1, 100000000)
+  share : number_setting Loss ≡ share_of_loss
+  hears : number_setting Hears ≡ record { word = codes "hears"; least = 1; most = 100000000; unset = 1000000 }
   -- Delta is 0 where it isn't set, and a disk's `-` is then 1.
   no_delta : default_of Delta ≡ 0
   ten_cycles : default_of Cycles ≡ 10
+  of_monitors : range_of Monitors ≡ (0, 16)
   named : name_of (codes "monitors") ≡ Some Monitors
   not_named : name_of (codes "monitor") ≡ None
   vectors : spelled_policy (codes "D") ≡ Some Datacycle
@@ -165,6 +170,7 @@ settings = record {
   hears = refl;
   no_delta = refl;
   ten_cycles = refl;
+  of_monitors = refl;
   named = refl;
   not_named = refl;
   vectors = refl;

@@ -1,0 +1,24 @@
+-- Which lines a report's text spells, and which fault it has: by what each record spells, as the reader goes. Reports are said by the rows
+-- that are printed of them, in `ReportGrammar`; the laws of `laws` tie the two.
+--
+-- A text spells lines where no kind of fault applies to any of its records. Else its fault is that of the first record to which
+-- some kind applies, with the least of them. The laws of `laws` say that every text has just one of both.
+use Rattle.std.specs.Prelude.{◌≡◌, ◌+◌, ℕ, List, length}
+use Rattle.air_model.specs.Decks.{Deck}
+use Rattle.item_catalog.specs.FirstFaults.{IsFirstFault, NoneBefore}
+use Rattle.item_catalog.specs.Records.{records_of}
+use Rattle.air_report.specs.LineFaults.{line_kinds_at, spelled_lines}
+use Rattle.air_report.specs.ReportLines.{ReportLines, sections_of}
+
+-- The records spell the lines: no kind applies to a record, and these are the lines that they spell, by their sections.
+pub record RowsSpellLines (deck : Deck) (rows : List (List (List ℕ))) (lines : ReportLines) : Type 0 where
+  pub faultless : NoneBefore (line_kinds_at deck rows) (length rows)
+  pub sections : lines ≡ sections_of (spelled_lines rows)
+
+-- The text spells the lines, as a report of the deck.
+unfoldable pub SpellsLines : Deck → List ℕ → ReportLines → Type 0
+SpellsLines deck text lines = RowsSpellLines deck (records_of text) lines
+
+-- The first faulty record of the text, counted from 1, is this row, and this the least kind that applies there.
+unfoldable pub HasLineFault : Deck → List ℕ → ℕ → ℕ → Type 0
+HasLineFault deck text row kind = (place : ℕ) × (row ≡ place + 1) × IsFirstFault (length (records_of text)) (line_kinds_at deck (records_of text)) place kind
