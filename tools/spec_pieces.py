@@ -19,9 +19,8 @@ def plain(lines):
 def bound(text):
     """The names that a text binds: arguments of equations, and variables of functions, of quantifiers and of steps."""
     found = set()
-    for head in re.finditer(r"^ *[\w\-◌@{}]+ (.*?) = ", text, re.M):
-        if " : " not in head.group(1):
-            found |= set(re.findall(NAME_OF_VARIABLE, head.group(1)))
+    for head in re.finditer(r"^ *[\w\-◌@{}]+ ([^:=\n]*?) = ", text, re.M):
+        found |= set(re.findall(NAME_OF_VARIABLE, head.group(1)))
     for names_of in re.findall(r"λ ([^.:]+)\.", text) + re.findall(r"\(([a-z][\w ]*) : ", text) + re.findall(r"\blet ([a-z]\w*) [:=]", text) + re.findall(r"([a-z]\w*) ← ", text):
         found |= set(re.findall(NAME_OF_VARIABLE, names_of))
     return found

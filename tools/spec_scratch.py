@@ -63,6 +63,7 @@ class Scratch:
             write(self.of(path), text)
         command = [os.environ.get("RT", "rt"), "check", *words]
         done = subprocess.run(command, cwd=os.path.join(self.folder, "crates", crate), stdout=subprocess.PIPE, stderr=subprocess.STDOUT, text=True)
+        write(os.path.join(self.folder, "last.out"), done.stdout)
         if not re.search(r"(?m)^(only=\d+|logic=\S+)", done.stdout):
             raise SystemExit(f"a check of {crate} came to no end:\n{done.stdout[-3000:]}")
         return done.stdout

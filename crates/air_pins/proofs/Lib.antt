@@ -1,2 +1,3 @@
 pub mod EtherWords
 pub mod SplitLemmas
+mod SplitExamples

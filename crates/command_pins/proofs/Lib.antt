@@ -3,3 +3,4 @@ mod HeadlineLemmas
 mod RowLemmas
 mod SplitLemmas
 mod WordLemmas
+mod DeviceExamples

@@ -5,3 +5,4 @@ pub mod RangeLemmas
 pub mod SessionLemmas
 pub mod SizeLemmas
 pub mod TapeCauses
+mod SettleExamples

@@ -3,3 +3,9 @@ pub mod DrillLemmas
 pub mod ReportLemmas
 pub mod DeckLemmas
 pub mod PlaceLemmas
+mod BucketExamples
+mod DeckExamples
+mod DeclarationExamples
+mod DrillExamples
+mod MonitorExamples
+mod TapeExamples
