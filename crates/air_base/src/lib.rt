@@ -26,4 +26,4 @@ pub use number_lists::{
 };
 pub use plain_numbers::{plain_number, plain_short};
 pub use texts::{one_spelling_law, read_u64, text_spells_law, write_u64};
-pub use verdicts::{Clash, Counts, Policy, ReadOf, Verdict, VerdictKind};
+pub use verdicts::{Clash, Counts, Form, Policy, ReadOf, Verdict, VerdictKind};

@@ -2,7 +2,7 @@
 //! here alone: clauses and definitions cite it from here.
 
 /// The most items of a deck.
-pub const MOST_ITEMS: usize = 256;
+pub const MOST_ITEMS: usize = 1_024;
 
 /// The most items of a deck whose buckets have their entries in full, with four bytes each.
 pub const MOST_FULL_ITEMS: usize = 256;
@@ -24,7 +24,10 @@ pub const MOST_RATE: u64 = 1_000_000;
 pub const MOST_DISKS: usize = 8;
 
 /// The most items of a disk.
-pub const MOST_SIZE: u64 = 256;
+pub const MOST_SIZE: u64 = 1_024;
+
+/// The most replans of a deck.
+pub const MOST_REPLANS: usize = 16;
 
 /// How often a cycle airs an item of a disk at most.
 pub const MOST_FREQ: u64 = 64;

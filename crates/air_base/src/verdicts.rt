@@ -13,6 +13,15 @@ pub enum Policy {
     RMatrix,
 }
 
+/// How a deck's buckets are made: by which policy receivers judge them, which decides the entries, and in which version they are
+/// spelled.
+#[derive(Clone, Copy, Debug, PartialEq, Eq)]
+pub struct Form {
+    pub policy: Policy,
+    /// 1 or 2.
+    pub version: u8,
+}
+
 /// A read as a verdict line shows it.
 #[derive(Clone, Copy, Debug, PartialEq, Eq)]
 pub struct ReadOf {
@@ -35,6 +44,8 @@ pub enum VerdictKind {
     Accept,
     /// The read of this item in this cycle clashes with the held read of the item `clash`.
     Abort { item: u16, cycle: u32, clash: u16 },
+    /// The read of this item in this cycle and the held ones lie too far apart to be judged by ages.
+    Aged { item: u16, cycle: u32 },
     /// What the receiver heard ended before the query did.
     Unfinished,
 }

@@ -77,7 +77,7 @@ not_plan = (
 )
 
 -- Where nothing is told there is a deck all the same whose program has the slots that are told.
-program_too_long : (d : Deck) (slots : ℕ) (untold : ShelfState) → untold.told.file (codes "d") ≡ None → IsDeck d → IsTooLong (disks_in d) slots
+program_too_long : (d : Deck) (slots : ℕ) (untold : ShelfState) → untold.told.file (codes "d") ≡ None → IsDeck d → IsTooLong (disks_in d 0) slots
     → UnrunnableCause (codes "d") untold untold (status.PlanTooLong slots)
 unfolding UnrunnableCause
 program_too_long d slots untold none made long =
@@ -113,7 +113,7 @@ not_too_large = (λ h. let limit : 9 ≡ 10 = h.0 in omega (arith, limit), λ h.
 -- Its program isn't too long, whatever number is told.
 not_unrunnable : (slots : ℕ) → UnrunnableCause (codes "d") shelf shelf (status.PlanTooLong slots) → ⊥
 unfolding UnrunnableCause
-not_unrunnable slots (d, is, made, long) = let few : IsTooLong (disks_in small) slots = subst (λ d. IsTooLong (disks_in d) slots) (the_deck d is) long in omega (arith, few.counted, few.above, short)
+not_unrunnable slots (d, is, made, long) = let few : IsTooLong (disks_in small 0) slots = subst (λ d. IsTooLong (disks_in d 0) slots) (the_deck d is) long in omega (arith, few.counted, few.above, short)
 
 -- Out of memory has no cause to show.
 wanting : UnrunnableCause (codes "d") shelf shelf status.NoMemory

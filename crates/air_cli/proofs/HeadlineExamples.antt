@@ -5,18 +5,19 @@ use Rattle.std.specs.Prelude.{codes, if◌then◌else◌, nat_eq}
 use Rattle.std.specs.Cmp.Lexicographic.{pointwise}
 use Rattle.std.proofs.lemmas.Bool.{false≢true}
 use Rattle.std.proofs.lemmas.List.Elements.{All-from_recursion}
-use Rattle.air_base.specs.declared.verdicts.VerdictKind.TheVariants.{Accept, Abort}
+use Rattle.air_base.specs.declared.verdicts.VerdictKind.TheVariants.{Accept, Abort, Aged}
 use Rattle.air_base.specs.declared.verdicts.VerdictKind.{VerdictKind}
 use Rattle.air_base.specs.declared.verdicts.ReadOf.{ReadOf}
 use Rattle.air_devices.specs.Masts.{SentBuckets, fresh_mast}
 use Rattle.air_devices.specs.Shelves.{ShelfState}
+use Rattle.air_history.specs.Ages.{span, spans_too_far}
 use Rattle.air_history.specs.Consistency.{alone, consistent, descends_from, last_alone, picked_events, runs_alone}
 use Rattle.air_history.specs.Descents.{descends, descends_in}
 use Rattle.air_history.specs.Histories.{front, is_start, reads, starts, writer, writer_before, writes}
 use Rattle.air_history.specs.Places.{last_place}
 use Rattle.air_history.specs.Reads.{ReadAt, origin}
 use Rattle.air_history.specs.Tables.{BasesRead, table, value_after, value_on_base, values_of, write_of}
-use Rattle.air_model.specs.Aired.{air_of, scheme_in}
+use Rattle.air_model.specs.Aired.{scheme_in}
 use Rattle.air_model.specs.Decks.{Deck, disks_in, event_of, script_history, values_in}
 use Rattle.air_model.specs.Judges.{by_entries}
 use Rattle.air_model.specs.Outputs.{cast_output, run_tape, script_output, script_tape, sessions_over, tune_output}
@@ -25,12 +26,12 @@ use Rattle.air_model.specs.Reports.{Report, report_text, session_report}
 use Rattle.air_model.specs.Rows.{rows_text}
 use Rattle.air_model.specs.Tapes.{TapeRead, ends_inside, read_from, tape_read}
 use Rattle.air_model.specs.declared.reports.VerdictLine.{VerdictLine}
-use Rattle.air_model.proofs.SessionExamples.{chained_deck, s, u}
+use Rattle.air_model.proofs.SessionExamples.{aired_in, chained_deck, s, u}
 use Rattle.air_report.specs.ReadReports.{IsReportOf}
 use Rattle.air_report.specs.declared.reading.ReadReport.{ReadReport}
 use Rattle.air_report.specs.declared.status.Status.TheVariants as status
 use Rattle.air_sender.specs.TapeSizes.{cycle_size}
-use Rattle.air_sender.proofs.TapeLengths.{tape_size}
+use Rattle.air_sender.proofs.TapeLengths.{plain_size}
 use Rattle.deck_runs.specs.DeckBytes.{deck_bytes}
 use Rattle.deck_runs.specs.RunTapes.{run_tape_len}
 use Rattle.deck_runs.proofs.HeardRunLemmas.{OneHistoryLaw, run_size}
@@ -67,7 +68,8 @@ asked = refl
 
 -- A refused read counts too, after those of the line.
 judged : (judged_on (line Accept (read 0 1 10 ∷ read 1 1 20 ∷ [])) ≡ at 0 1 ∷ at 1 1 ∷ []) × (judged_on (line (Abort 1 2 0) (read 0 1 10 ∷ [])) ≡ at 0 1 ∷ at 1 2 ∷ [])
-judged = (refl, refl)
+    × (judged_on (line (Aged 1 256) (read 0 1 10 ∷ [])) ≡ at 0 1 ∷ at 1 256 ∷ [])
+judged = (refl, refl, refl)
 
 bases_read : All BasesRead ten
 unfolding BasesRead
@@ -80,8 +82,9 @@ right = record {
   consistent = refl;
   values = λ bases. All-from_recursion (λ r. r.value ≡ table (values_of (values_in small)) (alone ten (at 0 1 ∷ at 1 1 ∷ [])) r.item) (read 0 1 10 ∷ read 1 1 20 ∷ []) (refl, (refl, tt));
   shared = tt;
-  accepted = λ f. (λ same. (refl, refl), λ whole. refl);
-  aborted = λ f. (λ aborts. absurd aborts, λ apart. apart refl);
+  aged = λ f. (λ ages. absurd ages, λ far. let e : false ≡ true = far in cc);
+  accepted = λ f. (λ same. (refl, refl, refl), λ whole. refl);
+  aborted = λ f. (λ aborts. absurd aborts, λ apart. apart.1 refl);
 }
 
 -- Item 1 has 20; a query isn't accepted on a part of its items; and reads that are consistent aren't aborted.
@@ -90,9 +93,29 @@ not_right : (IsRightVerdict small ten (line Accept (read 0 1 10 ∷ read 1 1 21 
 unfolding consistent alone picked_events last_alone runs_alone descends_from origin writer writer_before last_place writes descends descends_in reads front is_start starts table value_after write_of value_on_base
 not_right = (
   λ h. let e : 21 ≡ 20 = h.values bases_read 1 (read 1 1 21) (omega arith) in omega (arith, e),
-  λ h. let e : 0 ∷ [] ≡ 0 ∷ 1 ∷ [] = ((h.accepted refl).0 refl).0 in cc,
-  λ h. (h.aborted refl).0 tt refl,
+  λ h. let e : 0 ∷ [] ≡ 0 ∷ 1 ∷ [] = ((h.accepted refl).0 refl).1 in cc,
+  λ h. ((h.aborted refl).0 tt).1 refl,
 )
+
+-- Reads that lie 255 cycles apart can't be judged by ages: an attempt on them is aged where the deck has version 2.
+abbrev aged_at : ℕ → VerdictLine
+aged_at cycle = line (Aged 1 cycle) (read 0 1 10 ∷ [])
+
+right_aged : IsRightVerdict (aired_in 2 small) ten (aged_at 256)
+unfolding span spans_too_far consistent alone picked_events last_alone runs_alone descends_from origin writer writer_before last_place writes descends descends_in reads front is_start starts table value_after write_of value_on_base
+right_aged = record {
+  consistent = refl;
+  values = λ bases. All-from_recursion (λ r. r.value ≡ table (values_of (values_in small)) (alone ten (at 0 1 ∷ [])) r.item) (read 0 1 10 ∷ []) (refl, tt);
+  shared = tt;
+  aged = λ f. (λ ages. refl, λ far. tt);
+  accepted = λ f. (λ same. cc, λ whole. let e : true ≡ false = whole.0 in cc);
+  aborted = λ f. (λ aborts. absurd aborts, λ apart. let e : true ≡ false = apart.0 in cc);
+}
+
+-- Not where they lie closer, and not where it has version 1.
+not_aged : (IsRightVerdict (aired_in 2 small) ten (aged_at 255) → ⊥) × (IsRightVerdict small ten (aged_at 256) → ⊥)
+unfolding span spans_too_far
+not_aged = (λ h. let e : false ≡ true = (h.aged refl).0 tt in cc, λ h. let e : false ≡ true = (h.aged refl).0 tt in cc)
 
 -- Item 0 of cycle 1, and item 1 of cycle 2, which was made of the item 0 that came between: these aren't consistent, and aren't accepted.
 abbrev chain : Deck
@@ -141,7 +164,7 @@ no_tape text h =
     let written : Some [] ≡ Some (run_tape h.d H) = h.written in
     let here : [] ≡ run_tape h.d H = cc in
     let none : [] ≡ run_tape small H = subst (λ d. [] ≡ run_tape d H) same here in
-    let long : length (run_tape small H) ≡ run_tape_len small = tape_size (values_in small) (air_of small) H ∙ ap (λ n. n * cycle_size (length small.items) (program (disks_in small))) cycles ∙ sym (run_size small) in
+    let long : length (run_tape small H) ≡ run_tape_len small = plain_size small refl H ∙ ap (λ n. n * cycle_size small.settings.version (length small.items) (program (disks_in small 0))) cycles ∙ sym (run_size small refl) in
     omega (arith, ap length none, long, run_bytes)
 
 -- None printed nothing: what it prints tells one history, and that has ten starts.

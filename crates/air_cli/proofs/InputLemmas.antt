@@ -54,7 +54,7 @@ both name before bytes P Q told p q =
     (a.1.0, a.1.2, subst Q (one_deck bytes b.1.0 a.1.0 b.1.1 a.1.1) b.1.2)
 
 -- A program isn't both short enough and too long.
-pub too_long : (d : Deck) (slots : ℕ) → HasShortProgram d → IsTooLong (disks_in d) slots → ⊥
+pub too_long : (d : Deck) (slots : ℕ) → HasShortProgram d → IsTooLong (disks_in d 0) slots → ⊥
 too_long d slots short long = omega arith
 
 -- ---- what isn't refused
@@ -83,6 +83,6 @@ pub runs_fits : (name : List ℕ) (before now : ShelfState) (s : Status) (bytes 
     → NoCountRose before.faults now.faults → UnrunnableCause name before now s → s ≡ status.NoMemory
 unfolding UnrunnableCause DeckCause
 runs_fits name before now (status.PlanTooLong slots) bytes told suits calm h =
-    let two = both name before bytes HasShortProgram (λ d. IsTooLong (disks_in d) slots) told suits (of_had name before (λ d. IsTooLong (disks_in d) slots) h) in
+    let two = both name before bytes HasShortProgram (λ d. IsTooLong (disks_in d 0) slots) told suits (of_had name before (λ d. IsTooLong (disks_in d 0) slots) h) in
     absurd (too_long two.0 slots two.1 two.2)
 runs_fits name before now s bytes told suits calm h = deck_fits name before now s bytes HasShortProgram told suits calm h

@@ -1,8 +1,8 @@
 -- The disks of a deck's program beside those of the deck, and the slots of a minor cycle beside those of the program.
 use Rattle.std.proofs.Common.{◌≡◌, ℕ, zero, suc, ◌+◌, ◌*◌, ◌<◌, ◌≤◌, Option, Some, None, List, [], ◌∷◌, ◌++◌, length, map, take, drop, get_or, refl, sym, ap, ◌∙◌, zero-add, codes, subst, arith}
 use Rattle.std.specs.Prelude.{IfSome}
-use Rattle.std.specs.List.{enumerate_from, range_with_len, slice_get}
-use Rattle.std.proofs.lemmas.List.{get_or-map, get_or_default, length-map, take_all}
+use Rattle.std.specs.List.{enumerate_from, flat_map, range_with_len, slice_get}
+use Rattle.std.proofs.lemmas.List.{append-nil, get_or-map, get_or_default, length-map, take_all}
 use Rattle.std.proofs.lemmas.List.FromFn.{get_or-enumerate_from, get_or-range_with_len, length-enumerate_from, length-range_with_len}
 use Rattle.std.proofs.lemmas.Grind.{flat_map-append}
 use Rattle.std.proofs.lemmas.Option.{slice_get-get_or}
@@ -12,7 +12,7 @@ use Rattle.air_model.specs.Decks.{Deck, Item, disks_in, rates_in}
 use Rattle.air_model.specs.Disks.{Disk, DiskSpec, all_items, cut, order}
 use Rattle.air_model.specs.Programs.{chunk_len, minor_cycle, minor_len, num_chunks, num_minors, program}
 use Rattle.air_model.specs.Airings.{slot_item}
-use Rattle.air_model.specs.PlanTexts.{disk_row, item_row, minor_row, plan_rows, plan_text, program_row}
+use Rattle.air_model.specs.PlanTexts.{disk_row, item_row, minor_row, plan_rows, plan_text, program_row, replan_rows}
 use Rattle.air_model.specs.Outputs.{plan_output}
 use Rattle.air_model.specs.Rows.{row_writer, rows_text}
 use Rattle.air_model.proofs.SlotPlaces.{get_or_even, length_minor}
@@ -27,7 +27,7 @@ cut_freq items [] n f h = h
 cut_freq items (spec ∷ specs) zero f h = h
 cut_freq items (spec ∷ specs) (suc n) f h = cut_freq (drop spec.size items) specs n f h
 
-pub disk_freq : (d : Deck) (n f : ℕ) → IfSome (slice_get d.disks n) (λ spec. f ≡ spec.freq) → IfSome (slice_get (disks_in d) n) (λ disk. f ≡ disk.freq)
+pub disk_freq : (d : Deck) (n f : ℕ) → IfSome (slice_get d.disks n) (λ spec. f ≡ spec.freq) → IfSome (slice_get (disks_in d 0) n) (λ disk. f ≡ disk.freq)
 disk_freq d n f h = cut_freq (order (rates_in d)) d.disks n f h
 
 -- ---- slots
@@ -52,7 +52,7 @@ disk_text (Some disk) m n f c l before after freq chunks len told =
     ∙ ap (λ l. before ++ row_text row_writer (codes "disk" ∷ map number_text (n ∷ disk.freq ∷ num_chunks m disk ∷ l ∷ []))) len
 
 -- An item of the deck is one of the program's.
-pub held_item : (d : Deck) (disks : List Disk) (i : ℕ) → length (all_items (disks_in d)) ≡ length d.items → disks ≡ disks_in d → i < length d.items → i < length (all_items disks)
+pub held_item : (d : Deck) (disks : List Disk) (i : ℕ) → length (all_items (disks_in d 0)) ≡ length d.items → disks ≡ disks_in d 0 → i < length d.items → i < length (all_items disks)
 held_item d disks i all same below = rw same (omega arith)
 
 -- ---- rows one after another
@@ -124,7 +124,9 @@ plan_is disks rates program disk minor item is_program is_disk is_minor is_item 
     let second : minor ≡ rows_text ((A ∷ B) ++ C) = is_minor ∙ ap (λ t. t ++ rows_text C) first ∙ sym (rows_both (A ∷ B) C) in
     is_item ∙ ap (λ t. t ++ rows_text D) second ∙ sym (rows_both ((A ∷ B) ++ C) D)
 
--- The text of a deck's plan.
-pub plan_text_is : (d : Deck) (text : List ℕ) → text ≡ rows_text (plan_rows (disks_in d) (rates_in d)) → text ≡ plan_output d
+-- The text of a deck's plan: without replans it has the rows of the deck's own disks alone.
+pub plan_text_is : (d : Deck) (text : List ℕ) → d.replans ≡ [] → text ≡ rows_text (plan_rows (disks_in d 0) (rates_in d)) → text ≡ plan_output d
 unfolding plan_text
-plan_text_is d text h = h
+plan_text_is d text none h =
+    let own = plan_rows (disks_in d 0) (rates_in d) in
+    h ∙ ap rows_text (sym (append-nil own)) ∙ ap (λ rs. rows_text (own ++ flat_map (replan_rows (rates_in d)) (enumerate_from 1 rs))) (sym none)

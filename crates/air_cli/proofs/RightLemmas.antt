@@ -20,12 +20,13 @@ use Rattle.air_cli.proofs.TruthLemmas.{map_numbers}
 
 module _ (d : Deck) (H : List Event) where
   -- A sound line that is exact under F-Matrix is a right verdict of its reader.
-  right_line : (r : ℕ) (l : Line) → IsSoundLine (values_in d) d.settings.policy H l → (d.settings.policy ≡ FMatrix → IsExactLine H (reader_of d r) l)
+  right_line : (r : ℕ) (l : Line) → IsSoundLine (values_in d) d.settings.policy H l → (d.settings.policy ≡ FMatrix → IsExactLine d.settings.version H (reader_of d r) l)
       → IsRightVerdict d H (line_by r l)
   right_line r l sound exact = record {
     consistent = sound.reads.consistent;
     values = sound.by_ancestors;
     shared = sound.reads.shared;
+    aged = λ f. (exact f).aged;
     accepted = λ f. (exact f).accepted;
     aborted = λ f. (exact f).aborted;
   }

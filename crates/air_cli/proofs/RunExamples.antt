@@ -18,7 +18,7 @@ use Rattle.air_history.specs.UpdateLists.{UpdateLists}
 use Rattle.air_history.specs.declared.histories.Event.TheVariants.{Commit}
 use Rattle.air_model.specs.Aired.{body_fits, body_of, bucket_of, buckets_of, fits}
 use Rattle.air_model.specs.Airings.{chunks_of, disk_number, pix_number}
-use Rattle.air_model.specs.Buckets.{body_at, bucket_at, count_of, entries_at, entries_of, entry_count, is_placed, is_shaped, item_of, kind_of, reading, spelling, value_of}
+use Rattle.air_model.specs.Buckets.{body_at, bucket_at, capped_body, capped_entries, count_of, entries_at, entries_of, entry_bytes, entry_count, entry_told, is_entry, is_placed, is_shaped, item_of, kind_of, raw_entries, reading, spelling, value_of}
 use Rattle.air_model.specs.Copies.{keep, with_copy, without_item}
 use Rattle.air_model.specs.Decks.{IsWhole, is_by, updates_by, values_in}
 use Rattle.air_model.specs.Disks.{cut, order, order_with}
@@ -31,7 +31,7 @@ use Rattle.air_model.specs.Programs.{chunk, chunk_len, least_common_multiple, mi
 use Rattle.air_model.specs.Reports.{report_text}
 use Rattle.air_model.specs.Rows.{rows_text}
 use Rattle.air_model.specs.Runs.{IsRun, Run}
-use Rattle.air_model.specs.Sessions.{abort, accept_if_whole, copy_of, count_copied, count_dozed, count_foreign, count_late, count_opened, count_refused, decide, drop_copy, end, end_query, hear, hear_all, hear_read, hold, is_unusable, line_of, next_attempt, next_query, offer, open_bucket, query_of, session, settle, turn, turn_with, wanted, with_line}
+use Rattle.air_model.specs.Sessions.{abort, accept_if_whole, copy_of, count_copied, count_dozed, count_foreign, count_late, count_opened, count_refused, decide, drop_copy, end, end_aged, end_query, hear, hear_all, hear_read, hold, is_unusable, judge_read, line_of, next_attempt, next_query, offer, open_bucket, query_of, session, settle, turn, turn_with, wanted, with_line}
 use Rattle.air_report.specs.declared.status.Status.TheVariants as status
 use Rattle.deck_runs.specs.Casts.{IsCastPart, all_sent}
 use Rattle.deck_runs.specs.DeckBytes.{deck_bytes}
@@ -95,7 +95,7 @@ run_gives one_history = (refl, (small, spells_deck, small_is_deck, can_run, (ten
 
 -- Its report is the one that the shelf tells.
 pub its_report : run_output small ten [] [] ≡ its_bytes
-unfolding number_text escaped fields_text is_blank last_place greatest cycle_at front starts writer writer_before writes reads is_start descends descends_in column_entry value_on_base write_of value_after table origin stale descends_from runs_alone last_alone consistent least is_late clash_by_history body_at bucket_at count_of entries_at entries_of entry_count is_placed is_shaped item_of kind_of reading spelling value_of words_by due_at due_number heard_list heard_by heard_places places_due times_heard keep without_item with_copy order order_with cut program least_common_multiple num_minors num_chunks chunk_len chunk minor_cycle disk_number chunks_of pix_number body_of bucket_of buckets_of body_fits fits by_history session query_of wanted line_of with_line count_copied count_opened count_dozed count_late count_refused count_foreign next_query next_attempt accept_if_whole hold abort is_unusable drop_copy copy_of turn_with turn settle decide offer open_bucket hear_read hear hear_all end_query end rows_text report_text true_sessions
+unfolding number_text escaped fields_text is_blank last_place greatest cycle_at front starts writer writer_before writes reads is_start descends descends_in column_entry value_on_base write_of value_after table origin stale descends_from runs_alone last_alone consistent least is_late clash_by_history body_at bucket_at count_of entries_at entry_told raw_entries entries_of entry_count is_placed is_shaped is_entry item_of kind_of reading spelling entry_bytes value_of words_by due_at due_number heard_list heard_by heard_places places_due times_heard keep without_item with_copy order order_with cut program least_common_multiple num_minors num_chunks chunk_len chunk minor_cycle disk_number chunks_of pix_number body_of bucket_of capped_entries capped_body buckets_of body_fits fits by_history session query_of wanted line_of with_line count_copied count_opened count_dozed count_late count_refused count_foreign next_query next_attempt accept_if_whole hold abort is_unusable drop_copy copy_of turn_with turn settle decide offer open_bucket end_aged judge_read hear_read hear hear_all end_query end rows_text report_text true_sessions
 its_report = refl
 
 -- What has another tape, or something that differs, isn't given.

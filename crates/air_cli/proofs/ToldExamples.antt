@@ -13,7 +13,7 @@ use Rattle.air_devices.specs.Shelves.{ShelfState}
 use Rattle.air_history.specs.Histories.{is_start, starts}
 use Rattle.air_history.specs.UpdateRules.{has_repeat}
 use Rattle.air_model.specs.Aired.{body_of, bucket_of, buckets_of}
-use Rattle.air_model.specs.Buckets.{count_of, entries_of, item_of, kind_of, spelling, value_of}
+use Rattle.air_model.specs.Buckets.{capped_body, capped_entries, count_of, entries_of, entry_bytes, item_of, kind_of, spelling, value_of}
 use Rattle.air_model.specs.Decks.{Deck, event_of, script_history}
 use Rattle.air_model.specs.Disks.{cut, order, order_with}
 use Rattle.air_model.specs.Outputs.{script_tape}
@@ -75,12 +75,12 @@ unfolding order order_with cut program least_common_multiple num_minors num_chun
 two_slots = refl
 
 pub script_bytes : length (script_tape small) ≡ 72
-unfolding order order_with cut program least_common_multiple num_minors num_chunks chunk_len chunk minor_cycle script_history event_of is_start starts buckets_of bucket_of body_of spelling kind_of count_of item_of value_of entries_of record_bytes tape_of
+unfolding order order_with cut program least_common_multiple num_minors num_chunks chunk_len chunk minor_cycle script_history event_of is_start starts buckets_of bucket_of capped_entries capped_body body_of spelling entry_bytes kind_of count_of item_of value_of entries_of record_bytes tape_of
 script_bytes = refl
 
 pub run_bytes : run_tape_len small ≡ 720
 unfolding order order_with cut program least_common_multiple num_minors num_chunks chunk_len chunk minor_cycle
-run_bytes = run_size small
+run_bytes = run_size small refl
 
 pub short : HasShortProgram small
 short = omega (arith, two_slots)

@@ -11,6 +11,7 @@ use Rattle.air_model.specs.AiredLaws.{CanAir}
 use Rattle.air_model.specs.Outputs.{ether_of, odds_in}
 use Rattle.air_cli.proofs.ModelLaws.{BytesLaw, EventsLaw, HeardWasPushedLaw, ReceiverLaw, ScriptLaw}
 use Rattle.air_cli.specs.RunnableDecks.{HasShortProgram}
+use Rattle.air_sender.proofs.TapeLemmas.{slots_short}
 use Rattle.air_sender.proofs.TapeSizes.{starts_script}
 use Rattle.air_cli.specs.Truths.{IsTrueScript, IsTrueTape}
 
@@ -21,7 +22,7 @@ can_air d made limits short script = record {
   made = made;
   legal = script d made.script;
   cycles = omega (arith, starts_script d, limits.starts);
-  slots = omega arith;
+  slots = slots_short d made short;
 }
 
 pub true_script : (d : Deck) → IsDeck d → WithinLimits d → HasShortProgram d → ScriptLaw → EventsLaw → BytesLaw → HeardWasPushedLaw → ReceiverLaw → IsTrueScript d

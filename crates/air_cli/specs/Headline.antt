@@ -2,7 +2,7 @@
 --
 -- `WhereTold x P` is P of what a device tells, and says nothing where it tells nothing. The devices in memory tell all: over them each
 -- field is exact. A real file, terminal or socket tells nothing: over it there are such a deck, history and report all the same.
-use Rattle.std.specs.Prelude.{◌≡◌, ◌↔◌, ℕ, List, [], ◌++◌, map, take, get_or, All, IfSome, Option, Some, None, ⊤}
+use Rattle.std.specs.Prelude.{◌≡◌, ◌↔◌, ℕ, false, List, [], ◌++◌, map, take, get_or, All, IfSome, IsTrue, Option, Some, None, ⊤}
 use Rattle.air_base.specs.declared.verdicts.Policy.TheVariants.{FMatrix}
 use Rattle.air_base.specs.declared.verdicts.VerdictKind.TheVariants.{Accept}
 use Rattle.air_devices.specs.Ears.{EarState}
@@ -22,7 +22,7 @@ use Rattle.air_model.specs.Judges.{by_entries, by_history}
 use Rattle.air_model.specs.MonitorSights.{AreGlances, AreLooks}
 use Rattle.air_model.specs.Outputs.{ether_of, run_tape, script_tape, sessions_over}
 use Rattle.air_model.specs.Reports.{Report, counts_lines, report_text, session_report, verdict_lines}
-use Rattle.air_model.specs.SessionLaws.{IsAbort, decided_on}
+use Rattle.air_model.specs.SessionLaws.{IsAbort, IsAged, are_far, decided_on}
 use Rattle.air_model.specs.Tapes.{tape_read}
 use Rattle.air_model.specs.declared.reports.VerdictLine.{VerdictLine}
 use Rattle.air_report.specs.ReadReports.{IsReportOf}
@@ -52,7 +52,7 @@ NowPrints text before now = WhereTold before.told.printed (λ said. now.told.pri
 
 -- ---- verdicts
 
--- The reads on which a verdict was decided: those of its line, and after them the refused one where it is an abort.
+-- The reads on which a verdict was decided: those of its line, and after them the refused one where it is an abort or aged.
 abbrev pub judged_on : VerdictLine → List ReadAt
 judged_on line = decided_on line.verdict.kind (places_of line.reads)
 
@@ -61,15 +61,18 @@ abbrev pub asked_query : Deck → VerdictLine → List ℕ
 asked_query d line = get_or (get_or d.queries line.reader []) line.verdict.query []
 
 -- A verdict is right by a history. Its reads are consistent, they have the values that the updates from which they descend leave when
--- these run alone, and they share the cycle that the policy gives them. Under F-Matrix it is an accept exactly if the reads on which it
--- was decided are all of its query and are consistent, and an abort exactly if they aren't consistent.
+-- these run alone, and they share the cycle that the policy gives them. Under F-Matrix it is aged exactly if the reads on which it was
+-- decided lie too far apart for the deck's version; else it is an accept exactly if they are all of its query and are consistent, and an
+-- abort exactly if they aren't consistent.
 pub record IsRightVerdict (d : Deck) (H : List Event) (line : VerdictLine) : Type 0 where
   pub consistent : IsConsistent H (places_of line.reads)
   pub values : All BasesRead H → All (λ r. r.value ≡ table (values_of (values_in d)) (alone H (places_of line.reads)) r.item) line.reads
   pub shared : SharesItsCycle d.settings.policy H (places_of line.reads)
-  pub accepted : d.settings.policy ≡ FMatrix →
-      (line.verdict.kind ≡ Accept) ↔ ((map (λ r. r.item) (judged_on line) ≡ asked_query d line) × IsConsistent H (judged_on line))
-  pub aborted : d.settings.policy ≡ FMatrix → IsAbort line.verdict.kind ↔ (IsConsistent H (judged_on line) → ⊥)
+  pub aged : d.settings.policy ≡ FMatrix → IsAged line.verdict.kind ↔ IsTrue (are_far d.settings.version (judged_on line))
+  pub accepted : d.settings.policy ≡ FMatrix → (line.verdict.kind ≡ Accept)
+      ↔ ((are_far d.settings.version (judged_on line) ≡ false) × (map (λ r. r.item) (judged_on line) ≡ asked_query d line) × IsConsistent H (judged_on line))
+  pub aborted : d.settings.policy ≡ FMatrix → IsAbort line.verdict.kind
+      ↔ ((are_far d.settings.version (judged_on line) ≡ false) × (IsConsistent H (judged_on line) → ⊥))
 
 -- A report has the verdicts and counts that a history decides for the deck's readers, each over what it heard; and each verdict is right.
 pub record IsJudgedReport (d : Deck) (H : List Event) (heard : ℕ → List (List ℕ)) (report : Report) : Type 0 where

@@ -1,8 +1,8 @@
 -- The buckets of a history: they are those that fit and are the history's, they are in range, and their bytes are read back.
-use Rattle.std.proofs.Common.{◌≡◌, ℕ, zero, suc, ◌+◌, ◌-◌, ◌<◌, ◌≤◌, true, ◌==◌, Option, Some, None, List, [], ◌∷◌, length, map, get_or, refl, sym, ◌∙◌, subst, inl, inr, arith, ◌↔◌, All}
+use Rattle.std.proofs.Common.{◌≡◌, ℕ, zero, suc, ◌+◌, ◌-◌, ◌<◌, ◌≤◌, true, ◌==◌, Option, Some, None, List, [], ◌∷◌, length, map, get_or, refl, sym, ◌∙◌, ap, subst, inl, inr, arith, ◌↔◌, All}
 use Rattle.std.specs.Prelude.{Contains, IfSome, IsTrue}
 use Rattle.std.specs.List.{flat_map, range_with_len}
-use Rattle.std.proofs.lemmas.Bool.{and_from, and_parts, eq-eqb, lt-ltb, ltb-true}
+use Rattle.std.proofs.lemmas.Bool.{and_from, and_parts, eq-eqb, eqb-true, le-leb, leb-true, lt-ltb, ltb-true}
 use Rattle.std.proofs.lemmas.List.Elements.{Contains-append_cases, Contains-append_left, Contains-append_right}
 use Rattle.std.proofs.lemmas.List.FromFn.{get_or-map-range_with_len, get_or-range_with_len, length-map-range_with_len, length-range_with_len}
 use Rattle.air_base.specs.declared.verdicts.Policy.{Policy}
@@ -13,7 +13,8 @@ use Rattle.air_history.specs.Columns.{scheme_of, policy_entries}
 use Rattle.air_history.specs.Tables.{values_of}
 use Rattle.air_history.specs.Reads.{read_value}
 use Rattle.air_model.specs.Buckets.{Bucket}
-use Rattle.air_model.specs.Aired.{Air, IsAired, IsAiredBucket, aired_as, body_fits, body_of, bucket_of, buckets_of, fits}
+use Rattle.air_model.specs.Aired.{Air, IsAired, IsAiredBucket, aired_as, body_fits, body_of, bucket_of, buckets_of, cycle_buckets, edition_at, fits, slots_at}
+use Rattle.air_model.proofs.CapLemmas.{fits_kept}
 
 -- ---- members of lists of lists
 
@@ -69,23 +70,23 @@ pub record IsOwn (values : List ℕ) (air : Air) (H : List Event) (b : Bucket) :
   pub slot : ℕ
   pub from_one : 1 ≤ cycle
   pub started : cycle ≤ starts H
-  pub within : slot < length air.slots
-  pub same : b ≡ bucket_of values air H cycle slot
+  pub within : slot < length (slots_at air cycle)
+  pub same : b ≡ bucket_of values air H air.version cycle slot
 
 pub own_from : (values : List ℕ) (air : Air) (H : List Event) (b : Bucket) → Contains (buckets_of values air H) b → IsOwn values air H b
 unfolding buckets_of Gives
 own_from values air H b h =
-    let in_cycle = flat_from (λ c. map (bucket_of values air H c) (range_with_len 0 (length air.slots))) (range_with_len 1 (starts H)) b h in
+    let in_cycle = flat_from (cycle_buckets values air H) (range_with_len 1 (starts H)) b h in
     let c = in_cycle.0 in
     let cycles = range_from 1 (starts H) c in_cycle.1 in
-    let at = map_from (bucket_of values air H c) (length air.slots) b in_cycle.2 in
+    let at = map_from (bucket_of values air H air.version c) (length (slots_at air c)) b in_cycle.2 in
     record { cycle = c; slot = at.0; from_one = cycles.0; started = (let high = cycles.1 in omega arith); within = at.1; same = at.2 }
 
-own_to : (values : List ℕ) (air : Air) (H : List Event) (c s : ℕ) → 1 ≤ c → c ≤ starts H → s < length air.slots → Contains (buckets_of values air H) (bucket_of values air H c s)
+own_to : (values : List ℕ) (air : Air) (H : List Event) (c s : ℕ) → 1 ≤ c → c ≤ starts H → s < length (slots_at air c) → Contains (buckets_of values air H) (bucket_of values air H air.version c s)
 unfolding buckets_of
 own_to values air H c s one started within =
-    flat_to (λ c. map (bucket_of values air H c) (range_with_len 0 (length air.slots))) (range_with_len 1 (starts H)) c (bucket_of values air H c s)
-    (range_to 1 (starts H) c one (omega arith)) (map_to (bucket_of values air H c) (length air.slots) s within)
+    flat_to (cycle_buckets values air H) (range_with_len 1 (starts H)) c (bucket_of values air H air.version c s)
+    (range_to 1 (starts H) c one (omega arith)) (map_to (bucket_of values air H air.version c) (length (slots_at air c)) s within)
 
 pub entries_long : (p : Policy) (n : ℕ) (H : List Event) (c j : ℕ) → length (policy_entries p n H c j) ≡ n
 entries_long FMatrix n H c j = length-map-range_with_len _ 0 n
@@ -111,23 +112,50 @@ own_body_fits values air H c (Some i) = by air.scheme.policy
     by Datacycle = and_from _ _ (and_from (i == i) true (eq-eqb i i refl) refl) (fit Datacycle)
     by RMatrix = and_from _ _ (and_from (i == i) true (eq-eqb i i refl) refl) (fit RMatrix)
 
-own_fits : (values : List ℕ) (air : Air) (H : List Event) (c s : ℕ) → s < length air.slots → fits air (bucket_of values air H c s) ≡ true
+own_fits : (values : List ℕ) (air : Air) (H : List Event) (c s : ℕ) → s < length (slots_at air c) → fits air (bucket_of values air H air.version c s) ≡ true
 unfolding fits bucket_of
-own_fits values air H c s l = and_from _ _ (lt-ltb s (length air.slots) l) (own_body_fits values air H c (get_or air.slots s None))
+own_fits values air H c s l =
+    let slot = get_or (slots_at air c) s None in
+    and_from _ _ (and_from _ _ (and_from _ _ (le-leb air.version air.version (omega arith)) (eq-eqb (edition_at air c) (edition_at air c) refl)) (lt-ltb s (length (slots_at air c)) l))
+    (fits_kept air slot air.version c (body_of values air H c slot) ∙ own_body_fits values air H c slot)
 
-own_aired : (values : List ℕ) (air : Air) (H : List Event) (c s : ℕ) → 1 ≤ c → c ≤ starts H → IsAiredBucket values air H (bucket_of values air H c s)
+own_aired : (values : List ℕ) (air : Air) (H : List Event) (v c s : ℕ) → 1 ≤ c → c ≤ starts H → IsAiredBucket values air H (bucket_of values air H v c s)
 unfolding bucket_of
-own_aired values air H c s one started = record { from_one = one; started = started; same = refl }
+own_aired values air H v c s one started = record { from_one = one; started = started; same = refl }
+
+own_version : (values : List ℕ) (air : Air) (H : List Event) (v c s : ℕ) → (bucket_of values air H v c s).version ≡ v
+unfolding bucket_of
+own_version values air H v c s = refl
+
+-- What it is for a bucket to fit.
+pub record Fits (air : Air) (b : Bucket) : Type 0 where
+  pub version : b.version ≤ air.version
+  pub edition : b.edition ≡ edition_at air b.cycle
+  pub within : b.slot < length (slots_at air b.cycle)
+  pub body : body_fits air (get_or (slots_at air b.cycle) b.slot None) b.body ≡ true
+
+pub fit_parts : (air : Air) (b : Bucket) → fits air b ≡ true → Fits air b
+unfolding fits
+fit_parts air b t =
+    let whole = and_parts _ _ t in
+    let placed = and_parts _ _ whole.0 in
+    let known = and_parts _ _ placed.0 in
+    record {
+      version = leb-true b.version air.version known.0;
+      edition = eqb-true b.edition (edition_at air b.cycle) known.1;
+      within = ltb-true b.slot (length (slots_at air b.cycle)) placed.1;
+      body = whole.1;
+    }
 
 pub own_buckets : (values : List ℕ) (air : Air) (H : List Event) (b : Bucket) →
-    Contains (buckets_of values air H) b ↔ (IsTrue (fits air b) × IsAiredBucket values air H b)
-unfolding fits
+    Contains (buckets_of values air H) b ↔ (IsTrue (fits air b) × IsAiredBucket values air H b × (b.version ≡ air.version))
 own_buckets values air H b = (
   λ h. let own = own_from values air H b h in
-      subst (λ b. IsTrue (fits air b) × IsAiredBucket values air H b) (sym own.same)
-      (own_fits values air H own.cycle own.slot own.within, own_aired values air H own.cycle own.slot own.from_one own.started),
-  λ h. let within : b.slot < length air.slots = ltb-true b.slot (length air.slots) ((and_parts _ _ (and_parts _ _ h.0).0).1) in
-      subst (Contains (buckets_of values air H)) (sym (h.1.same)) (own_to values air H b.cycle b.slot h.1.from_one h.1.started within),
+      subst (λ b. IsTrue (fits air b) × IsAiredBucket values air H b × (b.version ≡ air.version)) (sym own.same)
+      (own_fits values air H own.cycle own.slot own.within, own_aired values air H air.version own.cycle own.slot own.from_one own.started, own_version values air H air.version own.cycle own.slot),
+  λ h. let is = h.1 in
+      subst (Contains (buckets_of values air H)) (sym (is.same ∙ ap (λ v. bucket_of values air H v b.cycle b.slot) h.2))
+      (own_to values air H b.cycle b.slot is.from_one is.started (fit_parts air b h.0).within),
 )
 
 pub aired : (values : List ℕ) (air : Air) (H : List Event) (heard : List (Option Bucket)) →

@@ -1,5 +1,5 @@
 -- A whole run of two updaters and two cycles: what it is, and what its buckets carry; and what isn't one.
-use Rattle.std.proofs.Common.{◌≡◌, ℕ, zero, suc, ◌<◌, ◌^◌, true, false, Some, List, [], ◌∷◌, All, refl, sym, ap, subst, arith, Contains}
+use Rattle.std.proofs.Common.{◌≡◌, ℕ, zero, suc, ◌<◌, ◌^◌, true, false, Some, List, [], ◌∷◌, All, refl, sym, ap, subst, arith, Contains, sum_by}
 use Rattle.std.specs.Prelude.{slice_get}
 use Rattle.std.proofs.lemmas.List.Elements.{All-from_recursion}
 use Rattle.air_history.specs.declared.histories.Event.{Event}
@@ -13,13 +13,14 @@ use Rattle.air_history.specs.UpdateRules.{has_repeat, update_fault}
 use Rattle.air_model.specs.Aired.{air_of, body_of, bucket_of, buckets_of}
 use Rattle.air_model.specs.AiredItems.{AirsItems, IsAiredItem, carries_in}
 use Rattle.air_model.specs.Batches.{aired_by, last_buckets}
-use Rattle.air_model.specs.Buckets.{Bucket, Column, Idle}
+use Rattle.air_model.specs.Buckets.{Bucket, Column, Idle, capped_body, capped_entries}
 use Rattle.air_model.specs.Decks.{Deck, IsDeck, IsUpdate, IsWhole, disks_in, is_by, values_in}
 use Rattle.air_model.specs.Disks.{Disk, cut, order, order_with}
 use Rattle.air_model.specs.Programs.{chunk, chunk_len, least_common_multiple, minor_cycle, num_chunks, num_minors, program}
 use Rattle.air_model.specs.Runs.{IsRun, Run}
 use Rattle.air_model.specs.declared.reports.LookLine.{LookLine}
 use Rattle.air_model.proofs.ClosingLemmas.{whole_closing}
+use Rattle.air_model.proofs.DeckLemmas.{each_edition}
 use Rattle.air_model.proofs.ItemLemmas.{items_aired}
 use Rattle.air_model.proofs.RelationExamples.{pair_is_deck}
 use Rattle.air_model.proofs.RunExamples.{by_batches, closing, first, fits, glances, history, line, looks, made, not_looks, passes, second, two}
@@ -33,10 +34,14 @@ is_update item l value few = record { rules = refl; fits = fits item l value; am
 two_is_deck : IsDeck two
 two_is_deck = record {
   some = pair_is_deck.some;
+  version = pair_is_deck.version;
   most = pair_is_deck.most;
   values = pair_is_deck.values;
-  sizes = refl;
-  aired = pair_is_deck.aired;
+  sizes = each_edition (λ specs. sum_by (λ d. d.size) specs ≡ 2) two refl refl;
+  aired = each_edition (All (λ d. (0 < d.size) × (0 < d.freq))) two refl (pair_is_deck.aired 0 (omega arith));
+  few = omega arith;
+  from_two = pair_is_deck.from_two;
+  rising = pair_is_deck.rising;
   updates = All-from_recursion (All (IsUpdate 2)) two.updates (
     All-from_recursion (IsUpdate 2) (update [] (set_to 0 11 ∷ []) ∷ []) (is_update 0 (omega arith) 11 (omega arith), tt),
     (All-from_recursion (IsUpdate 2) (update [] (set_to 1 21 ∷ []) ∷ []) (is_update 1 (omega arith) 21 (omega arith), tt), tt),
@@ -45,6 +50,7 @@ two_is_deck = record {
   tries = pair_is_deck.tries;
   queries = pair_is_deck.queries;
   script = λ by. omega arith;
+  plain = (refl, refl);
 }
 
 -- The history is whole: each updater made all of its updates, and the conductor both cycles.
@@ -77,16 +83,16 @@ not_run = (
 
 -- The bucket of an item of this value in a cycle.
 abbrev bucket : ℕ → ℕ → ℕ → Bucket
-bucket cycle item value = record { edition = 0; cycle = cycle; slot = item; body = Column item value (0 ∷ 0 ∷ []) }
+bucket cycle item value = record { version = 1; edition = 0; cycle = cycle; slot = item; body = Column item value (0 ∷ 0 ∷ []) }
 
 -- A bucket carries its own item in its own cycle alone; an idle one carries none.
 carried : (carries_in 1 0 (bucket 1 0 11) ≡ true) × (carries_in 2 0 (bucket 1 0 11) ≡ false) × (carries_in 1 1 (bucket 1 0 11) ≡ false)
-    × (carries_in 1 0 (record { edition = 0; cycle = 1; slot = 0; body = Idle 2 }) ≡ false)
+    × (carries_in 1 0 (record { version = 1; edition = 0; cycle = 1; slot = 0; body = Idle 2 }) ≡ false)
 carried = (refl, refl, refl, refl)
 
 -- What the first batch airs: item 0 with its new value.
 first_cycle : last_buckets (values_in two) (air_of two) (first ∷ Start ∷ []) ≡ bucket 1 0 11 ∷ bucket 1 1 20 ∷ []
-unfolding is_start starts bucket_of body_of front table value_after value_on_base write_of column_entry greatest last_place writer writer_before writes reads descends descends_in cycle_at order order_with cut program least_common_multiple num_minors num_chunks chunk_len chunk minor_cycle
+unfolding is_start starts bucket_of capped_entries capped_body body_of front table value_after value_on_base write_of column_entry greatest last_place writer writer_before writes reads descends descends_in cycle_at order order_with cut program least_common_multiple num_minors num_chunks chunk_len chunk minor_cycle
 first_cycle = refl
 
 -- Both batches air all that the history airs.
@@ -105,7 +111,7 @@ not_airs = (
   λ h. let item = h.times 1 0 (omega arith) (omega arith) (omega arith) in never item.number item.disk item.there item.times,
 )
   where
-    never : (number : ℕ) (disk : Disk) → slice_get (disks_in two) number ≡ Some disk → 0 ≡ disk.freq → ⊥
+    never : (number : ℕ) (disk : Disk) → slice_get (disks_in two 0) number ≡ Some disk → 0 ≡ disk.freq → ⊥
     never zero disk there none = let is : record { items = 0 ∷ 1 ∷ []; freq = 1 } ≡ disk = cc in let freq : 1 ≡ disk.freq = ap (λ d. d.freq) is in omega (arith, freq)
     never (suc number) disk there none = cc
 
@@ -126,7 +132,7 @@ not_twice h = never h.number h.disk h.there h.on h.times
     other (zero, within, is) = omega (arith, is)
     other (suc k, within, is) = omega (arith, within)
 
-    never : (number : ℕ) (disk : Disk) → slice_get (disks_in on_two_disks) number ≡ Some disk → Contains disk.items 1 → 2 ≡ disk.freq → ⊥
+    never : (number : ℕ) (disk : Disk) → slice_get (disks_in on_two_disks 0) number ≡ Some disk → Contains disk.items 1 → 2 ≡ disk.freq → ⊥
     never zero disk there on twice = let is : record { items = 0 ∷ []; freq = 2 } ≡ disk = cc in other (subst (λ d. Contains d.items 1) (sym is) on)
     never (suc zero) disk there on twice = let is : record { items = 1 ∷ []; freq = 1 } ≡ disk = cc in let freq : 1 ≡ disk.freq = ap (λ d. d.freq) is in omega (arith, freq)
     never (suc (suc number)) disk there on twice = cc

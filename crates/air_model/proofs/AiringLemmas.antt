@@ -5,7 +5,7 @@ use Rattle.std.proofs.lemmas.Grind.{flat_map-append}
 use Rattle.air_history.specs.declared.histories.Event.{Event}
 use Rattle.air_history.specs.Histories.{starts}
 use Rattle.air_model.specs.Buckets.{Bucket}
-use Rattle.air_model.specs.Aired.{Air, bucket_of, buckets_of}
+use Rattle.air_model.specs.Aired.{Air, bucket_of, buckets_of, cycle_buckets, slots_at}
 use Rattle.air_model.proofs.LaterLemmas.{later}
 use Rattle.air_model.proofs.StartLemmas.{starts_append}
 
@@ -34,10 +34,10 @@ map_same f g (x ∷ xs) h = ap (λ y. y ∷ map f xs) (h x) ∙ ap (λ l. g x �
 
 -- What is aired behind a history: the cycles that the events behind it start.
 pub buckets_behind : (values : List ℕ) (air : Air) (H after : List Event) → buckets_of values air (H ++ after)
-    ≡ buckets_of values air H ++ flat_map (λ c. map (bucket_of values air (H ++ after) c) (range_with_len 0 (length air.slots))) (range_with_len (1 + starts H) (starts after))
+    ≡ buckets_of values air H ++ flat_map (cycle_buckets values air (H ++ after)) (range_with_len (1 + starts H) (starts after))
 unfolding buckets_of
 buckets_behind values air H after =
-    let cycle : List Event → ℕ → List Bucket = λ G c. map (bucket_of values air G c) (range_with_len 0 (length air.slots)) in
+    let cycle : List Event → ℕ → List Bucket = λ G. cycle_buckets values air G in
     let m = starts H in
     let n = starts after in
     let more = flat_map (cycle (H ++ after)) (range_with_len (1 + m) n) in
@@ -45,18 +45,18 @@ buckets_behind values air H after =
     ∙ ap (flat_map (cycle (H ++ after))) (range_append 1 m n)
     ∙ flat_map-append (cycle (H ++ after)) (range_with_len 1 m) (range_with_len (1 + m) n)
     ∙ ap (λ l. l ++ more) (flat_same (cycle (H ++ after)) (cycle H) 1 m
-    (λ c l. map_same (bucket_of values air (H ++ after) c) (bucket_of values air H c) (range_with_len 0 (length air.slots)) (λ s. later values air H after c s (omega arith))))
+    (λ c l. map_same (bucket_of values air (H ++ after) air.version c) (bucket_of values air H air.version c) (range_with_len 0 (length (slots_at air c))) (λ s. later values air H after air.version c s (omega arith))))
 
 pub more_buckets : (values : List ℕ) (air : Air) (H after : List Event) → (more : List Bucket) × (buckets_of values air (H ++ after) ≡ buckets_of values air H ++ more)
 more_buckets values air H after = (
-  flat_map (λ c. map (bucket_of values air (H ++ after) c) (range_with_len 0 (length air.slots))) (range_with_len (1 + starts H) (starts after)),
+  flat_map (cycle_buckets values air (H ++ after)) (range_with_len (1 + starts H) (starts after)),
   buckets_behind values air H after,
 )
 
 pub same_buckets : (values : List ℕ) (air : Air) (H after : List Event) → starts after ≡ 0 → buckets_of values air (H ++ after) ≡ buckets_of values air H
 unfolding buckets_of
 same_buckets values air H after none =
-    let cycle : List Event → ℕ → List Bucket = λ G c. map (bucket_of values air G c) (range_with_len 0 (length air.slots)) in
+    let cycle : List Event → ℕ → List Bucket = λ G. cycle_buckets values air G in
     ap (λ k. flat_map (cycle (H ++ after)) (range_with_len 1 k)) (let both = starts_append H after in let same : starts (H ++ after) ≡ starts H = omega arith in same)
     ∙ flat_same (cycle (H ++ after)) (cycle H) 1 (starts H)
-    (λ c l. map_same (bucket_of values air (H ++ after) c) (bucket_of values air H c) (range_with_len 0 (length air.slots)) (λ s. later values air H after c s (omega arith)))
+    (λ c l. map_same (bucket_of values air (H ++ after) air.version c) (bucket_of values air H air.version c) (range_with_len 0 (length (slots_at air c))) (λ s. later values air H after air.version c s (omega arith)))

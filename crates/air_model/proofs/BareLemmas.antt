@@ -1,5 +1,5 @@
 -- By the history a session is the same without heard values and entries: each rule commutes with leaving them out.
-use Rattle.std.proofs.Common.{◌≡◌, ℕ, zero, suc, ◌+◌, ◌-◌, max, Bool, true, false, cond, ◌||◌, ◌&&◌, ◌==◌, nat_lt, Option, Some, None, List, [], ◌∷◌, ◌++◌, length, map, get_or, refl, sym, ◌∙◌, ap, not}
+use Rattle.std.proofs.Common.{◌≡◌, ℕ, zero, suc, ◌+◌, ◌-◌, max, Bool, true, false, cond, ◌||◌, ◌&&◌, ◌==◌, nat_le, nat_lt, Option, Some, None, List, [], ◌∷◌, ◌++◌, length, map, get_or, refl, sym, ◌∙◌, ap, not}
 use Rattle.std.specs.Prelude.{count_by, sum_by}
 use Rattle.std.specs.List.{filter, find, slice_get}
 use Rattle.std.specs.Option.{is_some, option_map}
@@ -9,7 +9,7 @@ use Rattle.std.proofs.lemmas.List.{length-map, map-append}
 use Rattle.std.proofs.lemmas.List.Sums.{length-filter}
 use Rattle.air_base.specs.declared.verdicts.Clash.{Clash}
 use Rattle.air_base.specs.declared.verdicts.VerdictKind.{VerdictKind}
-use Rattle.air_base.specs.declared.verdicts.VerdictKind.TheVariants.{Accept, Abort, Unfinished}
+use Rattle.air_base.specs.declared.verdicts.VerdictKind.TheVariants.{Accept, Abort, Aged, Unfinished}
 use Rattle.air_base.specs.declared.verdicts.ReadOf.{ReadOf}
 use Rattle.air_history.specs.declared.histories.Event.{Event}
 use Rattle.air_history.specs.Tables.{values_of}
@@ -20,10 +20,10 @@ use Rattle.air_model.specs.Buckets.{Body, Bucket, Column, Idle, Vector}
 use Rattle.air_model.specs.Reads.{Read}
 use Rattle.air_model.specs.Copies.{goes_before, keep, with_copy, without_item}
 use Rattle.air_model.specs.Airings.{carries}
-use Rattle.air_model.specs.Aired.{Air, airs_columns, body_fits, fits}
+use Rattle.air_model.specs.Aired.{Air, airs_columns, body_fits, edition_at, fits, pix_at, slots_at}
 use Rattle.air_model.specs.Judges.{Judge, by_history, place_of}
-use Rattle.air_model.specs.Sessions.{Reader, Line, State, start, read_in, is_wanted, wanted, comes_late, query_of, next_query, next_attempt, copy_of, drop_copy, offer, line_of, with_line, count_copied, count_opened, count_dozed, count_late, count_refused, count_foreign, accept_if_whole, hold, abort, is_unusable, turn_with, turn, settle, decide, open_bucket, hear_read, hear, hear_all, end_query, end, session}
-use Rattle.air_model.specs.SessionLaws.{bare, bare_body}
+use Rattle.air_model.specs.Sessions.{Reader, Line, State, start, read_in, is_wanted, wanted, comes_aged, comes_late, query_of, next_query, next_attempt, copy_of, drop_copy, offer, line_of, with_line, count_copied, count_opened, count_dozed, count_late, count_refused, count_foreign, accept_if_whole, hold, abort, is_unusable, turn_with, turn, settle, decide, end_aged, judge_read, open_bucket, hear_read, hear, hear_all, end_query, end, session}
+use Rattle.air_model.specs.SessionLaws.{are_far, bare, bare_body}
 
 -- The read without its value, and with 0 for each entry.
 bare_read : Read → Read
@@ -91,9 +91,9 @@ drop_bare item s = ap (λ S. let t : State = record s { held = map bare_read s.h
 offer_bare : (air : Air) (reader : Reader) (x : Read) (s : State) → offer air reader (bare_read x) (bare_state s) ≡ bare_state (offer air reader x s)
 unfolding offer bare_state
 offer_bare air reader x s = ap (λ S. let t : State = record s { held = map bare_read s.held; copies = S } in t)
-    (ap (keep reader.plan.room air.pix) (with_copy_bare x s.copies) ∙ keep_bare reader.plan.room air.pix (with_copy x s.copies))
+    (ap (keep reader.plan.room (pix_at air s.now)) (with_copy_bare x s.copies) ∙ keep_bare reader.plan.room (pix_at air s.now) (with_copy x s.copies))
 
--- ---- what is wanted, late and fitting
+-- ---- what is wanted, late, aged and fitting
 
 places_bare : (R : List Read) → map place_of (map bare_read R) ≡ map place_of R
 unfolding bare_read
@@ -107,6 +107,10 @@ late_bare : (air : Air) (s : State) (x : Read) → comes_late air (bare_state s)
 unfolding bare_state bare_read
 late_bare air s x = ap (λ S. is_late air.scheme.policy S (place_of x)) (places_bare s.held)
 
+aged_bare : (air : Air) (s : State) (x : Read) → comes_aged air (bare_state s) (bare_read x) ≡ comes_aged air s x
+unfolding bare_state bare_read
+aged_bare air s x = ap (λ S. are_far air.version (S ++ place_of x ∷ [])) (places_bare s.held)
+
 body_bare : (air : Air) (o : Option ℕ) (y : Body) → body_fits air o (bare_body y) ≡ body_fits air o y
 unfolding body_fits
 body_bare air o (Idle count) = refl
@@ -115,7 +119,8 @@ body_bare air o (Vector item value entries) = ap (λ n. carries item o && not (a
 
 fits_bare : (air : Air) (b : Bucket) → fits air (bare b) ≡ fits air b
 unfolding fits
-fits_bare air b = ap (λ t. (b.edition == 0) && nat_lt b.slot (length air.slots) && t) (body_bare air (get_or air.slots b.slot None) b.body)
+fits_bare air b = ap (λ t. nat_le b.version air.version && (b.edition == edition_at air b.cycle) && nat_lt b.slot (length (slots_at air b.cycle)) && t)
+    (body_bare air (get_or (slots_at air b.cycle) b.slot None) b.body)
 
 read_bare : (c : ℕ) (y : Body) → read_in c (bare_body y) ≡ option_map bare_read (read_in c y)
 unfolding bare_read
@@ -155,19 +160,28 @@ module _ (V : List ℕ) (air : Air) (H : List Event) (reader : Reader) where
       ap (λ R. accept_if_whole judge air reader (record s { held = R; copies = map bare_read s.copies })) (sym (map-append bare_read s.held (x ∷ [])))
       ∙ accept_bare (record s { held = s.held ++ x ∷ [] })
 
+  next_attempt_bare : (t : State) → next_attempt reader (bare_state t) ≡ bare_state (next_attempt reader t)
+  unfolding next_attempt next_query bare_state
+  next_attempt_bare t = cond_bare (nat_lt t.attempt reader.plan.tries) (record t { attempt = t.attempt + 1; held = [] }) (next_query t)
+
   abort_bare : (x : Read) (item : ℕ) (s : State) → abort judge air reader (bare_read x) item (bare_state s) ≡ bare_state (abort judge air reader x item s)
-  unfolding abort next_attempt next_query bare_state bare_read
+  unfolding abort bare_read
   abort_bare x item s =
-      let t = drop_copy item (with_line judge (Abort x.item x.cycle item) s) in
+      let t = with_line judge (Abort x.item x.cycle item) s in
       ap (λ u. next_attempt reader (drop_copy item u)) (with_line_bare (Abort x.item x.cycle item) s)
-      ∙ ap (next_attempt reader) (drop_bare item (with_line judge (Abort x.item x.cycle item) s))
-      ∙ cond_bare (nat_lt t.attempt reader.plan.tries) (record t { attempt = t.attempt + 1; held = [] }) (next_query t)
+      ∙ ap (next_attempt reader) (drop_bare item t)
+      ∙ next_attempt_bare (drop_copy item t)
+
+  end_aged_bare : (x : Read) (s : State) → end_aged judge air reader (bare_read x) (bare_state s) ≡ bare_state (end_aged judge air reader x s)
+  unfolding end_aged bare_read
+  end_aged_bare x s = ap (next_attempt reader) (with_line_bare (Aged x.item x.cycle) s) ∙ next_attempt_bare (with_line judge (Aged x.item x.cycle) s)
 
   usable_bare : (x : Read) (s : State) → is_unusable judge air reader (bare_read x) (bare_state s) ≡ is_unusable judge air reader x s
   unfolding is_unusable bare_state bare_read
   usable_bare x s =
-      ap (λ b. nat_lt reader.plan.age (s.now - x.cycle) || b || is_some (judge.clash (map bare_read s.held) (bare_read x))) (late_bare air s x)
-      ∙ ap (λ o. nat_lt reader.plan.age (s.now - x.cycle) || comes_late air s x || is_some o) (clash_bare s.held x)
+      ap (λ b. nat_lt reader.plan.age (s.now - x.cycle) || b || comes_aged air (bare_state s) (bare_read x) || is_some (judge.clash (map bare_read s.held) (bare_read x))) (late_bare air s x)
+      ∙ ap (λ b. nat_lt reader.plan.age (s.now - x.cycle) || comes_late air s x || b || is_some (judge.clash (map bare_read s.held) (bare_read x))) (aged_bare air s x)
+      ∙ ap (λ o. nat_lt reader.plan.age (s.now - x.cycle) || comes_late air s x || comes_aged air s x || is_some o) (clash_bare s.held x)
 
   turn_with_bare : (o : Option Read) (s : State) → turn_with judge air reader (option_map bare_read o) (bare_state s) ≡ bare_state (turn_with judge air reader o s)
   unfolding turn_with count_copied bare_state bare_read
@@ -197,12 +211,23 @@ module _ (V : List ℕ) (air : Air) (H : List Event) (reader : Reader) where
   decide_bare x None s = hold_bare x s
   decide_bare x (Some c) s = abort_bare x c.item s
 
+  decided_bare : (x : Read) (s : State) → decide judge air reader (bare_read x) (judge.clash (bare_state s).held (bare_read x)) (bare_state s) ≡ bare_state (decide judge air reader x (judge.clash s.held x) s)
+  unfolding bare_state
+  decided_bare x s = ap (λ o. decide judge air reader (bare_read x) o (bare_state s)) (clash_bare s.held x) ∙ decide_bare x (judge.clash s.held x) s
+
+  judge_read_bare : (x : Read) (s : State) → judge_read judge air reader (bare_read x) (bare_state s) ≡ bare_state (judge_read judge air reader x s)
+  unfolding judge_read
+  judge_read_bare x s =
+      ap (λ b. cond b (end_aged judge air reader (bare_read x) (bare_state s)) (decide judge air reader (bare_read x) (judge.clash (bare_state s).held (bare_read x)) (bare_state s))) (aged_bare air s x)
+      ∙ ap (λ t. cond (comes_aged air s x) t (decide judge air reader (bare_read x) (judge.clash (bare_state s).held (bare_read x)) (bare_state s))) (end_aged_bare x s)
+      ∙ ap (λ t. cond (comes_aged air s x) (bare_state (end_aged judge air reader x s)) t) (decided_bare x s)
+      ∙ cond_bare (comes_aged air s x) (end_aged judge air reader x s) (decide judge air reader x (judge.clash s.held x) s)
+
   open_bare : (x : Read) (s : State) → open_bucket judge air reader (bare_read x) (bare_state s) ≡ bare_state (open_bucket judge air reader x s)
   unfolding open_bucket count_opened bare_state
   open_bare x s =
-      ap (λ o. offer air reader (bare_read x) (decide judge air reader (bare_read x) o (count_opened (bare_state s)))) (clash_bare s.held x)
-      ∙ ap (offer air reader (bare_read x)) (decide_bare x (judge.clash s.held x) (count_opened s))
-      ∙ offer_bare air reader x (decide judge air reader x (judge.clash s.held x) (count_opened s))
+      ap (offer air reader (bare_read x)) (judge_read_bare x (count_opened s))
+      ∙ offer_bare air reader x (judge_read judge air reader x (count_opened s))
 
   hear_read_bare : (o : Option Read) (s : State) → hear_read judge air reader (option_map bare_read o) (bare_state s) ≡ bare_state (hear_read judge air reader o s)
   unfolding hear_read count_dozed count_late bare_state bare_read

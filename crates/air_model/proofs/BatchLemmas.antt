@@ -1,12 +1,12 @@
 -- What batches air, one after another.
-use Rattle.std.proofs.Common.{◌≡◌, ℕ, zero, suc, ◌+◌, List, [], ◌∷◌, ◌++◌, length, map, take, All, refl, sym, ◌∙◌, ap, subst, arith, append_assoc}
+use Rattle.std.proofs.Common.{◌≡◌, ℕ, zero, suc, ◌+◌, List, [], ◌∷◌, ◌++◌, length, take, All, refl, sym, ◌∙◌, ap, subst, arith, append_assoc}
 use Rattle.std.specs.List.{flat_map, range_with_len}
 use Rattle.std.proofs.lemmas.List.{append-nil}
 use Rattle.std.proofs.lemmas.List.Elements.{All-head, All-tail}
 use Rattle.air_history.specs.declared.histories.Event.{Event}
 use Rattle.air_history.specs.declared.histories.Event.TheVariants.{Start}
 use Rattle.air_history.specs.Histories.{is_start, starts}
-use Rattle.air_model.specs.Aired.{Air, air_of, bucket_of, buckets_of}
+use Rattle.air_model.specs.Aired.{Air, air_of, buckets_of, cycle_buckets}
 use Rattle.air_model.specs.Buckets.{Bucket}
 use Rattle.air_model.specs.Closings.{GoesOnWithout}
 use Rattle.air_model.specs.Decks.{Deck, values_in}
@@ -36,7 +36,7 @@ module _ (values : List ℕ) (air : Air) where
   -- A history with one start more airs the cycle that it starts.
   one_more : (G b : List Event) → starts b ≡ 1 → buckets_of values air (G ++ b) ≡ buckets_of values air G ++ last_buckets values air (G ++ b)
   one_more G b one =
-      let cycle : ℕ → List Bucket = λ c. map (bucket_of values air (G ++ b) c) (range_with_len 0 (length air.slots)) in
+      let cycle : ℕ → List Bucket = cycle_buckets values air (G ++ b) in
       let last : 1 + starts G ≡ starts (G ++ b) = let a = starts_append G b in omega arith in
       buckets_behind values air G b
       ∙ ap (λ n. buckets_of values air G ++ flat_map cycle (range_with_len (1 + starts G) n)) one

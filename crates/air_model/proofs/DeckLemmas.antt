@@ -15,7 +15,7 @@ use Rattle.air_history.specs.Histories.{EventFits, ItemsFit}
 use Rattle.air_history.specs.Tables.{BasesRead}
 use Rattle.air_model.specs.Disks.{Disk, DiskSpec, cut, is_hotter, order, order_with}
 use Rattle.air_model.specs.Programs.{chunk, minor_cycle, num_chunks, num_minors, program}
-use Rattle.air_model.specs.Decks.{Deck, IsDeck, IsLegal, IsQuery, IsUpdate, disks_in, rates_in, updates_by}
+use Rattle.air_model.specs.Decks.{Deck, IsDeck, IsLegal, IsQuery, IsUpdate, count_editions, disks_in, rates_in, specs_in, updates_by}
 use Rattle.air_model.specs.Aired.{SlotsFit, air_of}
 use Rattle.air_model.specs.SessionLaws.{QueriesFilled}
 use Rattle.air_model.specs.Sessions.{reader_of}
@@ -27,6 +27,13 @@ all_at P xss h n = elim (cases_lt n (length xss)) as (λ _. All P (get_or xss n 
   | inl l ↦ h n [] l
   | inr past ↦ subst (All P) (sym (get_or_past xss n [] past)) (All-nil P)
 ]
+
+-- ---- editions
+
+-- What a deck's own disks keep, the disks of each edition keep where there is no replan.
+pub each_edition : (P : List DiskSpec → Type 0) (deck : Deck) → deck.replans ≡ [] → P deck.disks → (e : ℕ) → e < count_editions deck → P (specs_in deck e)
+each_edition P deck none h zero l = h
+each_edition P deck none h (suc k) l = absurd (let no : length deck.replans ≡ 0 = ap length none in omega arith)
 
 -- ---- updates in a history
 
@@ -115,11 +122,15 @@ order_all : (rates : List ℕ) → All (λ i. i < length rates) (order rates)
 unfolding order
 order_all rates = fold_all (λ i. i < length rates) rates (range_with_len 0 (length rates)) [] (numbers_below (length rates)) (All-nil _)
 
+edition_all : (deck : Deck) (e : ℕ) → All (λ o. IfSome o (λ i. i < length deck.items)) (program (disks_in deck e))
+edition_all deck e = program_all (λ i. i < length deck.items) (disks_in deck e) (cut_all (λ i. i < length deck.items) (order (rates_in deck)) (specs_in deck e)
+    (subst (λ n. All (λ i. i < n) (order (rates_in deck))) (length-map deck.items (λ i. i.rate)) (order_all (rates_in deck))))
+
 -- ---- the law
 
 pub air : (deck : Deck) → IsDeck deck → SlotsFit (air_of deck) × ((r : ℕ) → QueriesFilled (reader_of deck r))
 air deck is = (
-  program_all (λ i. i < length deck.items) (disks_in deck) (cut_all (λ i. i < length deck.items) (order (rates_in deck)) deck.disks
-      (subst (λ n. All (λ i. i < n) (order (rates_in deck))) (length-map deck.items (λ i. i.rate)) (order_all (rates_in deck)))),
+  All-map (All (λ o. IfSome o (λ i. i < length deck.items))) (λ e. program (disks_in deck e)) (range_with_len 0 (count_editions deck))
+      (λ k d l. edition_all deck (get_or (range_with_len 0 (count_editions deck)) k d)),
   λ r q d l. (all_at (IsQuery (length deck.items)) deck.queries is.queries r q d l).filled,
 )

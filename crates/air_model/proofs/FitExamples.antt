@@ -8,11 +8,11 @@ use Rattle.air_model.specs.Buckets.{Body, Bucket, Column, Idle, Vector}
 
 -- Two items in the slots 0 and 1, and an idle slot 2.
 abbrev two : Policy → Air
-two policy = record { scheme = scheme_of policy; items = 2; slots = Some 0 ∷ Some 1 ∷ None ∷ []; pix = 1 ∷ 1 ∷ [] }
+two policy = record { scheme = scheme_of policy; version = 1; items = 2; replans = []; slots = (Some 0 ∷ Some 1 ∷ None ∷ []) ∷ []; pix = (1 ∷ 1 ∷ []) ∷ [] }
 
 -- A bucket of an edition and a slot in cycle 1.
 abbrev of_slot : ℕ → ℕ → Body → Bucket
-of_slot edition slot body = record { edition = edition; cycle = 1; slot = slot; body = body }
+of_slot edition slot body = record { version = 1; edition = edition; cycle = 1; slot = slot; body = body }
 
 -- Whether it fits under F-Matrix.
 abbrev fits_two : ℕ → ℕ → Body → Bool

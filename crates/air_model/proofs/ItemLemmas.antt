@@ -13,13 +13,15 @@ use Rattle.air_history.specs.declared.histories.Event.{Event}
 use Rattle.air_history.specs.Histories.{starts}
 use Rattle.air_history.specs.Reads.{read_value}
 use Rattle.air_history.specs.Tables.{values_of}
-use Rattle.air_model.specs.Buckets.{Bucket}
-use Rattle.air_model.specs.Aired.{Air, air_of, aired_as, body_of, bucket_of, buckets_of}
+use Rattle.air_model.specs.Buckets.{Bucket, capped_body}
+use Rattle.air_model.specs.Aired.{Air, air_of, aired_as, body_of, bucket_of, buckets_of, cycle_buckets, slots_at}
 use Rattle.air_model.specs.Airings.{airings, carries}
-use Rattle.air_model.specs.Decks.{Deck, IsDeck, Item, disks_in, rates_in, values_in}
+use Rattle.air_model.specs.Decks.{Deck, IsDeck, Item, count_editions, disks_in, edition, rates_in, specs_in, values_in}
 use Rattle.air_model.specs.Disks.{Disk, all_items, order}
 use Rattle.air_model.specs.Sessions.{read_in}
 use Rattle.air_model.proofs.AiredLemmas.{own_from}
+use Rattle.air_model.proofs.CapLemmas.{item_told, value_told}
+use Rattle.air_model.proofs.EditionLemmas.{edition_within, slots_are}
 use Rattle.air_model.proofs.ProgramLemmas.{item_airings}
 use Rattle.air_model.proofs.ItemOrder.{cut_airable, cut_items, length-order, order_only}
 use Rattle.air_model.specs.AiredItems.{AirsItems, carries_in}
@@ -44,14 +46,14 @@ module _ (values : List ℕ) (air : Air) (H : List Event) where
   body_valued c None = tt
   body_valued c (Some item) = body_value air.scheme.policy item _ _ c HasValue refl
 
-  bucket_valued : (c s : ℕ) → IsValued (bucket_of values air H c s)
+  bucket_valued : (v c s : ℕ) → IsValued (bucket_of values air H v c s)
   unfolding bucket_of
-  bucket_valued c s = body_valued c (get_or air.slots s None)
+  bucket_valued v c s = let slot = get_or (slots_at air c) s None in value_told HasValue v c c (body_of values air H c slot) (body_valued c slot)
 
   all_valued : All IsValued (buckets_of values air H)
   all_valued k d l =
       let own = own_from values air H (get_or (buckets_of values air H) k d) (Contains-get_or (buckets_of values air H) k d l) in
-      subst IsValued (sym own.same) (bucket_valued own.cycle own.slot)
+      subst IsValued (sym own.same) (bucket_valued air.version own.cycle own.slot)
 
 -- ---- how often
 
@@ -105,9 +107,12 @@ module _ (values : List ℕ) (air : Air) (H : List Event) (c i : ℕ) where
   slot_carries d None = refl
   slot_carries d (Some item) = body_carries air.scheme.policy item _ _ d i
 
-  own_cycle : (s : ℕ) → carries_in c i (bucket_of values air H c s) ≡ carries i (get_or air.slots s None)
+  own_cycle : (v s : ℕ) → carries_in c i (bucket_of values air H v c s) ≡ carries i (get_or (slots_at air c) s None)
   unfolding bucket_of
-  own_cycle s = ap (λ b. b && option_map_or (λ r. r.item == i) (read_in c (body_of values air H c (get_or air.slots s None))) false) (eq-eqb c c refl) ∙ slot_carries c (get_or air.slots s None)
+  own_cycle v s =
+      let slot = get_or (slots_at air c) s None in
+      let body = body_of values air H c slot in
+      ap (λ b. b && option_map_or (λ r. r.item == i) (read_in c (capped_body v c body)) false) (eq-eqb c c refl) ∙ item_told i v c c body ∙ slot_carries c slot
 
   not_same : (d : ℕ) → d ≢ c → (d == c) ≡ false
   not_same d apart = other (d == c) refl
@@ -116,22 +121,23 @@ module _ (values : List ℕ) (air : Air) (H : List Event) (c i : ℕ) where
       other true t = absurd (apart (eqb-true d c t))
       other false f = refl
 
-  other_cycle : (d : ℕ) → d ≢ c → (s : ℕ) → carries_in c i (bucket_of values air H d s) ≡ false
+  other_cycle : (d : ℕ) → d ≢ c → (v s : ℕ) → carries_in c i (bucket_of values air H v d s) ≡ false
   unfolding bucket_of
-  other_cycle d apart s = ap (λ b. b && option_map_or (λ r. r.item == i) (read_in d (body_of values air H d (get_or air.slots s None))) false) (not_same d apart)
+  other_cycle d apart v s = ap (λ b. b && option_map_or (λ r. r.item == i) (read_in d (capped_body v d (body_of values air H d (get_or (slots_at air d) s None)))) false) (not_same d apart)
 
   none_of : (f : ℕ → Bucket) → ((s : ℕ) → carries_in c i (f s) ≡ false) → (xs : List ℕ) → count_by (carries_in c i) (map f xs) ≡ 0
   none_of f h [] = refl
   none_of f h (s ∷ xs) =
       count_cons (carries_in c i) (f s) (map f xs) ∙ ap (λ b. cond b 1 0 + count_by (carries_in c i) (map f xs)) (h s) ∙ (let rest = none_of f h xs in omega arith)
 
-  item_times : 1 ≤ c → c ≤ starts H → count_by (carries_in c i) (buckets_of values air H) ≡ airings air.slots i
+  item_times : 1 ≤ c → c ≤ starts H → count_by (carries_in c i) (buckets_of values air H) ≡ airings (slots_at air c) i
   unfolding buckets_of
   item_times low high =
-      let cycle : ℕ → List Bucket = λ d. map (bucket_of values air H d) (range_with_len 0 (length air.slots)) in
-      one_among (carries_in c i) cycle 1 (starts H) c (λ d apart. none_of (bucket_of values air H d) (other_cycle d apart) (range_with_len 0 (length air.slots))) low (omega arith)
-      ∙ count_places (carries_in c i) (carries i) air.slots (bucket_of values air H c) 0
-      (λ k. ap (λ n. carries_in c i (bucket_of values air H c n)) (omega arith) ∙ own_cycle k)
+      let v = air.version in
+      one_among (carries_in c i) (cycle_buckets values air H) 1 (starts H) c
+      (λ d apart. none_of (bucket_of values air H v d) (other_cycle d apart v) (range_with_len 0 (length (slots_at air d)))) low (omega arith)
+      ∙ count_places (carries_in c i) (carries i) (slots_at air c) (bucket_of values air H v c) 0
+      (λ k. ap (λ n. carries_in c i (bucket_of values air H v c n)) (omega arith) ∙ own_cycle v k)
 
 -- ---- its disk
 
@@ -143,24 +149,27 @@ disk_with (d ∷ disks) i h = elim (Contains-append_cases d.items (all_items dis
   | inr rest ↦ (let (n, e, at, on) = disk_with disks i rest in (suc n, e, at, on))
 ]
 
-item_disk : (deck : Deck) (i : ℕ) → IsDeck deck → i < length deck.items → (n : ℕ) × (d : Disk) × (slice_get (disks_in deck) n ≡ Some d) × Contains d.items i
-item_disk deck i is l =
+item_disk : (deck : Deck) (e i : ℕ) → IsDeck deck → e < count_editions deck → i < length deck.items → (n : ℕ) × (d : Disk) × (slice_get (disks_in deck e) n ≡ Some d) × Contains d.items i
+item_disk deck e i is some l =
     let rates = rates_in deck in
     let many : length rates ≡ length deck.items = length-map deck.items (λ (x : Item). x.rate) in
-    let all : all_items (disks_in deck) ≡ order rates = cut_items (order rates) deck.disks (is.sizes ∙ sym (length-order rates ∙ many)) in
+    let all : all_items (disks_in deck e) ≡ order rates = cut_items (order rates) (specs_in deck e) (is.sizes e some ∙ sym (length-order rates ∙ many)) in
     let there : Contains (order rates) i = ((((order_only rates (order rates)).1 refl).members i).1 (omega arith)) in
-    disk_with (disks_in deck) i (subst (λ items. Contains items i) (sym all) there)
+    disk_with (disks_in deck e) i (subst (λ items. Contains items i) (sym all) there)
 
 pub items_aired : (deck : Deck) (H : List Event) → IsDeck deck → AirsItems deck H (buckets_of (values_in deck) (air_of deck) H)
 items_aired deck H is = record {
   times = λ c i low high l.
-      let (n, d, at, on) = item_disk deck i is l in
+      let e = edition deck c in
+      let some : e < count_editions deck = edition_within deck c in
+      let (n, d, at, on) = item_disk deck e i is some l in
       record {
         number = n;
         disk = d;
         there = at;
         on = on;
-        times = item_times (values_in deck) (air_of deck) H c i low high ∙ item_airings (disks_in deck) n d i (cut_airable (rates_in deck) deck.disks (λ k e b. (is.aired k e b).1)) at on;
+        times = item_times (values_in deck) (air_of deck) H c i low high ∙ ap (λ slots. airings slots i) (slots_are deck c)
+            ∙ item_airings (disks_in deck e) n d i (cut_airable (rates_in deck) (specs_in deck e) (λ k z b. (is.aired e some k z b).1)) at on;
       };
   values = all_valued (values_in deck) (air_of deck) H;
 }

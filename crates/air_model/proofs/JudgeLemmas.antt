@@ -4,7 +4,7 @@ use Rattle.std.proofs.Common.{◌≡◌, ℕ, zero, suc, ◌-◌, ◌<◌, ◌�
 use Rattle.std.specs.Prelude.{AllPairs, IfSome, IsTrue, sum_by}
 use Rattle.std.specs.Option.{is_some}
 use Rattle.std.specs.Fn.{iterate}
-use Rattle.std.proofs.lemmas.Bool.{ltb-true, ltb-false, and_parts}
+use Rattle.std.proofs.lemmas.Bool.{leb-false, lt-leb, ltb-false}
 use Rattle.std.proofs.lemmas.Simd.{map-map}
 use Rattle.std.proofs.lemmas.List.{map-append}
 use Rattle.std.proofs.lemmas.List.Elements.{All-head, All-tail, All-push, All-nil, All-map}
@@ -13,29 +13,30 @@ use Rattle.air_base.specs.declared.verdicts.Policy.{Policy}
 use Rattle.air_base.specs.declared.verdicts.Policy.TheVariants.{FMatrix, Datacycle, RMatrix}
 use Rattle.air_base.specs.declared.verdicts.Clash.{Clash}
 use Rattle.air_base.specs.declared.verdicts.VerdictKind.{VerdictKind}
-use Rattle.air_base.specs.declared.verdicts.VerdictKind.TheVariants.{Accept, Abort, Unfinished}
+use Rattle.air_base.specs.declared.verdicts.VerdictKind.TheVariants.{Accept, Abort, Aged, Unfinished}
 use Rattle.air_base.specs.declared.verdicts.ReadOf.{ReadOf}
 use Rattle.air_history.specs.declared.histories.Event.{Event}
 use Rattle.air_history.specs.Columns.{aired_entries}
 use Rattle.air_history.specs.Tables.{values_of}
 use Rattle.air_history.specs.Reads.{ReadAt, read_value, last_cycle}
 use Rattle.air_history.specs.Clashes.{read_at, is_late, clash_by_history, clash_by_entries}
-use Rattle.air_history.specs.ClashLaws.{HasAiredEntries, IsAllowed}
-use Rattle.air_history.proofs.ClashLemmas.{clash, cond_same}
-use Rattle.air_model.specs.Buckets.{Bucket}
+use Rattle.air_history.specs.ClashLaws.{IsAllowed}
+use Rattle.air_history.proofs.ClashLemmas.{clash_told, cond_same}
+use Rattle.air_model.specs.Buckets.{Bucket, capped_body, has_ages}
 use Rattle.air_model.specs.Reads.{Read}
-use Rattle.air_model.specs.Aired.{Air, fits, body_of, aired_as, bucket_of, IsAiredBucket, SlotsFit, IsAired}
+use Rattle.air_model.specs.Aired.{Air, fits, body_of, aired_as, bucket_of, edition_at, slots_at, IsAiredBucket, SlotsFit, IsAired}
 use Rattle.air_model.specs.Judges.{place_of, heard_of, by_history, by_entries}
-use Rattle.air_model.specs.Sessions.{Reader, Line, State, start, read_in, is_wanted, wanted, comes_late, query_of, next_query, next_attempt, copy_of, drop_copy, offer, line_of, with_line, count_copied, count_opened, accept_if_whole, hold, abort, is_unusable, turn_with, turn, settle, decide, open_bucket, hear_read, hear, hear_all, end_query, end, session}
-use Rattle.air_model.specs.SessionLaws.{QueriesFilled}
-use Rattle.air_model.proofs.MomentLemmas.{Good, Keeps, Gives, turn_good, settle_good, hear_good, hear_all_good, end_query_good, start_good, copy_of_is}
+use Rattle.air_model.specs.Sessions.{Reader, Line, State, start, read_in, is_wanted, wanted, comes_aged, comes_late, query_of, next_query, next_attempt, copy_of, drop_copy, offer, line_of, with_line, count_copied, count_opened, accept_if_whole, hold, abort, is_unusable, turn_with, turn, settle, decide, end_aged, judge_read, open_bucket, hear_read, hear, hear_all, end_query, end, session}
+use Rattle.air_model.specs.SessionLaws.{QueriesFilled, are_far}
+use Rattle.air_model.proofs.AiredLemmas.{fit_parts}
+use Rattle.air_model.proofs.CapLemmas.{at_or_none}
+use Rattle.air_model.proofs.HeardLemmas.{MayBeHeard, has_capped, has_full, have_aired, told_by}
+use Rattle.air_model.proofs.MomentLemmas.{Good, Keeps, Gives, lies_far, turn_good, settle_good, hear_good, hear_all_good, end_query_good, start_good, copy_of_is}
 
--- The read is one of H, with H's value and the entries that were aired with it.
+-- The read is one of H, with H's value and the entries that were aired with it, in full or as ages tell them where the air has ages.
 pub record IsReadOf (values : List ℕ) (air : Air) (H : List Event) (x : Read) : Type 0 where
-  pub from_one : 1 ≤ x.cycle
-  pub within : x.item < air.items
   pub value : x.value ≡ read_value (values_of values) H (place_of x)
-  pub entries : x.entries ≡ aired_entries air.scheme air.items H x.cycle x.item
+  pub heard : MayBeHeard air.scheme air.version air.items H (heard_of x)
 
 -- ---- the clashes
 
@@ -73,11 +74,11 @@ map_same f g (r ∷ R) h =
     let rest : map f R ≡ map g R = map_same f g R (All-tail (λ r. f r ≡ g r) r R h) in
     cc
 
-or_same : (a l : Bool) (b c : Bool) → (l ≡ false → b ≡ c) → (a || l || b) ≡ (a || l || c)
-or_same true true b c h = refl
-or_same true false b c h = refl
-or_same false true b c h = refl
-or_same false false b c h = h refl
+or_same : (a l f : Bool) (b c : Bool) → (l ≡ false → f ≡ false → b ≡ c) → (a || l || f || b) ≡ (a || l || f || c)
+or_same true l f b c h = refl
+or_same false true f b c h = refl
+or_same false false true b c h = refl
+or_same false false false b c h = h refl refl
 
 module _ (V : List ℕ) (air : Air) (H : List Event) (reader : Reader) (filled : QueriesFilled reader) where
   -- what the held reads keep
@@ -87,29 +88,29 @@ module _ (V : List ℕ) (air : Air) (H : List Event) (reader : Reader) (filled :
   abbrev ok : State → Type 0
   ok = Good reader (IsReadOf V air H) K (λ l. Unit {0})
 
-  told : (x : Read) → IsReadOf V air H x → HasAiredEntries air.scheme air.items H (heard_of x)
-  told x r = record { cycle = r.from_one; within = r.within; entries = r.entries }
-
-  clash_is : (R : List Read) (x : Read) → K 0 0 R → IsReadOf V air H x → is_late air.scheme.policy (map place_of R) (place_of x) ≡ false →
+  clash_is : (R : List Read) (x : Read) → K 0 0 R → IsReadOf V air H x → is_late air.scheme.policy (map place_of R) (place_of x) ≡ false → lies_far air R x ≡ false →
       (by_history air.scheme V H).clash R x ≡ (by_entries air.scheme).clash R x
   unfolding by_history by_entries
-  clash_is R x k r late =
+  clash_is R x k r late near =
       let same : map read_at (map heard_of R) ≡ map place_of R = map-map read_at heard_of R in
       subst (λ S. clash_by_history air.scheme.policy H S (place_of x) ≡ clash_by_entries air.scheme.policy (map heard_of R) (heard_of x)) same
-      (clash air.scheme air.items H (map heard_of R) (heard_of x)
-      (All-map (HasAiredEntries air.scheme air.items H) heard_of R (λ i d l. told (get_or R i d) (k.0 i d l))) (told x r)
+      (clash_told air.scheme air.items H (map heard_of R) (heard_of x)
+      (have_aired air.scheme air.version air.items H (map heard_of R) (heard_of x)
+      (All-map (MayBeHeard air.scheme air.version air.items H) heard_of R (λ i d l. (k.0 i d l).heard)) r.heard
+      (subst (λ S. are_far air.version (S ++ place_of x ∷ []) ≡ false) (sym same) near))
       (subst (λ S. IsAllowed air.scheme.policy (S ++ place_of x ∷ [])) (sym same) (allowed_more air.scheme.policy (map place_of R) (place_of x) k.1 late)))
 
   rules : Keeps (by_history air.scheme V H) air reader (IsReadOf V air H) K (λ l. Unit {0})
   rules = record {
     first = λ q. (All-nil (IsReadOf V air H), allowed_none air.scheme.policy);
     again = λ q a R k l. (All-nil (IsReadOf V air H), allowed_none air.scheme.policy);
-    more = λ q a R x k r judged none. (
+    more = λ q a R x k r judged near none. (
       All-push (IsReadOf V air H) R x k.0 r,
       subst (IsAllowed air.scheme.policy) (sym (map-append place_of R (x ∷ []))) (allowed_more air.scheme.policy (map place_of R) (place_of x) k.1 judged.in_time),
     );
     accepted = λ q a R k l e. tt;
-    aborted = λ q a R x c k r judged e. tt;
+    aborted = λ q a R x c k r judged near e. tt;
+    aged = λ q a R x k r judged far. tt;
     unfinished = λ q a R k e. tt;
   }
 
@@ -134,6 +135,10 @@ module _ (V : List ℕ) (air : Air) (H : List Event) (reader : Reader) (filled :
   unfolding abort
   abort_same x i s k = ap (λ t. next_attempt reader (drop_copy i t)) (with_line_same (Abort x.item x.cycle i) s k)
 
+  aged_same : (x : Read) (s : State) → All (IsReadOf V air H) s.held → end_aged (by_history air.scheme V H) air reader x s ≡ end_aged (by_entries air.scheme) air reader x s
+  unfolding end_aged
+  aged_same x s k = ap (next_attempt reader) (with_line_same (Aged x.item x.cycle) s k)
+
   -- ---- settling
 
   turn_with_same : (o : Option Read) (s : State) → ok s → IfSome o (IsReadOf V air H) → turn_with (by_history air.scheme V H) air reader o s ≡ turn_with (by_entries air.scheme) air reader o s
@@ -141,7 +146,7 @@ module _ (V : List ℕ) (air : Air) (H : List Event) (reader : Reader) (filled :
   turn_with_same None s g h = refl
   turn_with_same (Some x) s g h =
       ap (λ b. cond b (drop_copy x.item s) (hold (by_history air.scheme V H) air reader x (count_copied s)))
-      (or_same (nat_lt reader.plan.age (s.now - x.cycle)) (comes_late air s x) _ _ (λ late. ap is_some (clash_is s.held x g.held h late)))
+      (or_same (nat_lt reader.plan.age (s.now - x.cycle)) (comes_late air s x) (comes_aged air s x) _ _ (λ late near. ap is_some (clash_is s.held x g.held h late near)))
       ∙ ap (cond (is_unusable (by_entries air.scheme) air reader x s) (drop_copy x.item s)) (hold_same x (count_copied s) g.held.0 h)
 
   turn_same : (s : State) → ok s → turn (by_history air.scheme V H) air reader s ≡ turn (by_entries air.scheme) air reader s
@@ -164,11 +169,17 @@ module _ (V : List ℕ) (air : Air) (H : List Event) (reader : Reader) (filled :
   decide_same x None s k r = hold_same x s k r
   decide_same x (Some c) s k r = abort_same x c.item s k
 
+  judge_read_same : (x : Read) (s : State) → ok s → IsReadOf V air H x → comes_late air s x ≡ false → judge_read (by_history air.scheme V H) air reader x s ≡ judge_read (by_entries air.scheme) air reader x s
+  unfolding judge_read
+  judge_read_same x s g r late = cond_same (comes_aged air s x) _ _ _ _
+      (λ far. aged_same x s g.held.0)
+      (λ near. ap (λ o. decide (by_history air.scheme V H) air reader x o s) (clash_is s.held x g.held r late near)
+      ∙ decide_same x ((by_entries air.scheme).clash s.held x) s g.held.0 r)
+
   open_same : (x : Read) (s : State) → ok s → IsReadOf V air H x → comes_late air s x ≡ false → open_bucket (by_history air.scheme V H) air reader x s ≡ open_bucket (by_entries air.scheme) air reader x s
-  unfolding open_bucket count_opened
-  open_same x s g r late =
-      ap (λ o. offer air reader x (decide (by_history air.scheme V H) air reader x o (count_opened s))) (clash_is s.held x g.held r late)
-      ∙ ap (offer air reader x) (decide_same x ((by_entries air.scheme).clash s.held x) (count_opened s) g.held.0 r)
+  unfolding open_bucket count_opened wanted query_of
+  open_same x s g r late = ap (offer air reader x)
+      (judge_read_same x (count_opened s) (record { held = g.held; copies = g.copies; lines = g.lines; unread = g.unread }) r late)
 
   hear_read_same : (o : Option Read) (s : State) → ok s → IfSome o (IsReadOf V air H) → hear_read (by_history air.scheme V H) air reader o s ≡ hear_read (by_entries air.scheme) air reader o s
   unfolding hear_read
@@ -211,24 +222,33 @@ module _ (V : List ℕ) (air : Air) (H : List Event) (reader : Reader) (filled :
 
 -- ---- what an aired bucket gives
 
-body_gives : (V : List ℕ) (air : Air) (H : List Event) (c : ℕ) → 1 ≤ c → (o : Option ℕ) → IfSome o (λ i. i < air.items) → IfSome (read_in c (body_of V air H c o)) (IsReadOf V air H)
-unfolding body_of
-body_gives V air H c pos None h = tt
-body_gives V air H c pos (Some i) h = by air.scheme.policy
+-- No newer version than one without ages has ages.
+older_full : (v w : ℕ) → v ≤ w → has_ages w ≡ false → has_ages v ≡ false
+older_full v w l full = let less = leb-false 2 w full in lt-leb 2 v (omega arith)
+
+body_gives : (V : List ℕ) (air : Air) (H : List Event) (v c : ℕ) → v ≤ air.version → 1 ≤ c → (o : Option ℕ) → IfSome o (λ i. i < air.items) →
+    IfSome (read_in c (capped_body v c (body_of V air H c o))) (IsReadOf V air H)
+unfolding body_of capped_body
+body_gives V air H v c old pos None h = tt
+body_gives V air H v c old pos (Some i) h = by air.scheme.policy
   where
-    by : (p : Policy) → IfSome (read_in c (aired_as p i (read_value (values_of V) H (record { item = i; cycle = c })) (aired_entries air.scheme air.items H c i))) (IsReadOf V air H)
-    by FMatrix = record { from_one = pos; within = h; value = refl; entries = refl }
-    by Datacycle = record { from_one = pos; within = h; value = refl; entries = refl }
-    by RMatrix = record { from_one = pos; within = h; value = refl; entries = refl }
+    heard : MayBeHeard air.scheme air.version air.items H (told_by air.scheme air.items H v c i)
+    heard = (has_capped air.scheme air.items H v c i pos h, λ full. has_full air.scheme air.items H v c i pos h (older_full v air.version old full))
+
+    by : (p : Policy) → IfSome (read_in c (capped_body v c (aired_as p i (read_value (values_of V) H (record { item = i; cycle = c })) (aired_entries air.scheme air.items H c i)))) (IsReadOf V air H)
+    by FMatrix = record { value = refl; heard = heard }
+    by Datacycle = record { value = refl; heard = heard }
+    by RMatrix = record { value = refl; heard = heard }
 
 aired_gives : (V : List ℕ) (air : Air) (H : List Event) → SlotsFit air → (o : Option Bucket) → IfSome o (λ b. IsTrue (fits air b) → IsAiredBucket V air H b) → Gives air (IsReadOf V air H) o
-unfolding fits bucket_of
+unfolding bucket_of
 aired_gives V air H slots None h = tt
 aired_gives V air H slots (Some b) h = λ t.
     let is = h t in
-    let within : b.slot < length air.slots = ltb-true b.slot (length air.slots) ((and_parts _ _ (and_parts _ _ t).0).1) in
+    let f = fit_parts air b t in
+    let items : All (λ o. IfSome o (λ i. i < air.items)) (slots_at air b.cycle) = at_or_none (All (λ o. IfSome o (λ i. i < air.items))) air.slots (edition_at air b.cycle) slots (All-nil _) in
     subst (λ y. IfSome (read_in b.cycle y) (IsReadOf V air H)) (sym (ap (λ (b : Bucket). b.body) is.same))
-    (body_gives V air H b.cycle is.from_one (get_or air.slots b.slot None) (slots b.slot None within))
+    (body_gives V air H b.version b.cycle f.version is.from_one (get_or (slots_at air b.cycle) b.slot None) (items b.slot None f.within))
 
 pub judges : (values : List ℕ) (air : Air) (H : List Event) (reader : Reader) (heard : List (Option Bucket)) → SlotsFit air → QueriesFilled reader → IsAired values air H heard →
     session (by_history air.scheme values H) air reader heard ≡ session (by_entries air.scheme) air reader heard

@@ -9,8 +9,8 @@ use Rattle.air_history.specs.Histories.{front, is_start, starts}
 use Rattle.air_history.specs.Columns.{policy_entries, column, vector}
 use Rattle.air_history.specs.Tables.{table, values_of}
 use Rattle.air_history.specs.Reads.{read_value}
-use Rattle.air_model.specs.Buckets.{Body, Bucket}
-use Rattle.air_model.specs.Aired.{Air, aired_as, body_of, bucket_of}
+use Rattle.air_model.specs.Buckets.{Body, capped_bucket}
+use Rattle.air_model.specs.Aired.{Air, aired_as, body_of, bucket_of, edition_at, slots_at}
 
 starts_start : (H : List Event) → starts (Start ∷ H) ≡ 1 + starts H
 unfolding starts is_start
@@ -53,7 +53,8 @@ body_later values air H later c (Some item) l =
     ∙ ap (λ G. body_by values air G item air.scheme.policy) (front_append H later c l)
     ∙ sym (body_is values air H c item air.scheme.policy)
 
-pub later : (values : List ℕ) (air : Air) (H later : List Event) (c s : ℕ) → c ≤ starts H →
-    bucket_of values air (H ++ later) c s ≡ bucket_of values air H c s
+pub later : (values : List ℕ) (air : Air) (H later : List Event) (v c s : ℕ) → c ≤ starts H →
+    bucket_of values air (H ++ later) v c s ≡ bucket_of values air H v c s
 unfolding bucket_of
-later values air H more c s l = ap (λ y. let b : Bucket = record { edition = 0; cycle = c; slot = s; body = y } in b) (body_later values air H more c (get_or air.slots s None) l)
+later values air H more v c s l =
+    ap (λ y. capped_bucket (record { version = v; edition = edition_at air c; cycle = c; slot = s; body = y })) (body_later values air H more c (get_or (slots_at air c) s None) l)

@@ -6,9 +6,13 @@ pub mod SlotPlaces
 pub mod ProgramLemmas
 pub mod ProgramExamples
 pub mod ByteLemmas
+pub mod EntryLemmas
 pub mod FieldLemmas
+pub mod BucketFields
 pub mod BucketLemmas
 pub mod BucketExamples
+pub mod AgeBucketExamples
+pub mod CapLemmas
 pub mod FitExamples
 pub mod TapeLemmas
 pub mod TapeExamples
@@ -20,6 +24,8 @@ pub mod DueLemmas
 pub mod EtherExamples
 pub mod DrillExamples
 pub mod AiredLemmas
+pub mod EditionLemmas
+pub mod HeardLemmas
 pub mod BareLemmas
 pub mod DeckLemmas
 pub mod ExactLemmas
@@ -34,8 +40,11 @@ pub mod ReceiverLemmas
 pub mod ScriptLemmas
 pub mod SettleLemmas
 pub mod SoundLemmas
+pub mod ReaderLemmas
 pub mod SessionExamples
 pub mod SessionRuleExamples
+pub mod AgedExamples
+pub mod ReplanExamples
 pub mod OutputExamples
 pub mod RelationExamples
 pub mod LineExamples

@@ -3,7 +3,8 @@ use Rattle.std.proofs.Common.{true, false, ◌≡◌, ◌≤◌, Some, None, [],
 use Rattle.std.proofs.lemmas.List.Elements.{All-from_recursion}
 use Rattle.std.proofs.lemmas.Bool.{false≢true}
 use Rattle.air_base.specs.declared.verdicts.Policy.TheVariants.{FMatrix, Datacycle}
-use Rattle.air_base.specs.declared.verdicts.VerdictKind.TheVariants.{Accept, Abort, Unfinished}
+use Rattle.air_base.specs.declared.verdicts.VerdictKind.TheVariants.{Accept, Abort, Aged, Unfinished}
+use Rattle.air_history.specs.Ages.{span, spans_too_far}
 use Rattle.air_history.specs.Clashes.{clash_by_entries, is_late, least}
 use Rattle.air_history.specs.Columns.{scheme_of, column_entry}
 use Rattle.air_history.specs.Consistency.{alone, consistent, descends_from, last_alone, picked_events, runs_alone}
@@ -12,7 +13,7 @@ use Rattle.air_history.specs.Histories.{cycle_at, front, is_start, reads, starts
 use Rattle.air_history.specs.Places.{greatest, last_place}
 use Rattle.air_history.specs.Reads.{origin, stale}
 use Rattle.air_history.specs.Tables.{BasesRead, table, value_after, value_on_base, write_of}
-use Rattle.air_model.specs.Buckets.{Column}
+use Rattle.air_model.specs.Buckets.{Column, capped_body, capped_entries}
 use Rattle.air_model.specs.Copies.{keep, with_copy, without_item}
 use Rattle.air_model.specs.Decks.{Deck, event_of, script_history, values_in}
 use Rattle.air_model.specs.Disks.{cut, order, order_with}
@@ -22,17 +23,17 @@ use Rattle.air_model.specs.Aired.{IsAired, air_of, body_fits, body_of, bucket_of
 use Rattle.air_model.specs.Judges.{Judge, by_entries, by_history}
 use Rattle.air_model.specs.ReceiverLaws.{IsTrueSession, session_of}
 use Rattle.air_model.specs.SessionLaws.{CyclesFromOne, IsExactLine, follows_query, IsOfReader, IsSoundLine, NamesHeld, after}
-use Rattle.air_model.specs.Sessions.{Line, abort, accept_if_whole, copy_of, count_copied, count_dozed, count_foreign, count_late, count_opened, count_refused, decide, drop_copy, end, end_query, hear, hear_all, hear_read, hold, is_unusable, line_of, next_attempt, next_query, offer, open_bucket, query_of, reader_of, session, settle, start, turn, turn_with, wanted, with_line}
+use Rattle.air_model.specs.Sessions.{Line, abort, accept_if_whole, copy_of, count_copied, count_dozed, count_foreign, count_late, count_opened, count_refused, decide, drop_copy, end, end_query, hear, hear_all, hear_read, hold, is_unusable, line_of, next_attempt, next_query, offer, open_bucket, query_of, reader_of, session, settle, start, turn, turn_with, wanted, with_line, end_aged, judge_read}
 use Rattle.air_model.proofs.AiredLemmas.{aired}
 use Rattle.air_model.proofs.NameLemmas.{names}
 use Rattle.air_model.proofs.ReceiverLemmas.{receiver}
 use Rattle.air_model.proofs.RelationExamples.{pair_filled, pair_is_deck}
-use Rattle.air_model.proofs.SoundLemmas.{of_reader}
+use Rattle.air_model.proofs.ReaderLemmas.{of_reader}
 use Rattle.air_model.proofs.SessionExamples.{all_of, chained_deck, line, pair, read, s, swapped_deck, u}
 
 -- The script's history aired all of its own buckets.
 pub own_buckets_aired : IsAired (values_in pair) (air_of pair) (script_history pair) (all_of pair)
-unfolding event_of script_history starts is_start cut order order_with chunk chunk_len least_common_multiple minor_cycle num_chunks num_minors program bucket_of buckets_of
+unfolding event_of script_history starts is_start cut order order_with chunk chunk_len least_common_multiple minor_cycle num_chunks num_minors program bucket_of capped_entries capped_body buckets_of
 own_buckets_aired = aired (values_in pair) (air_of pair) (script_history pair) (all_of pair)
     (All-from_recursion (λ o. IfSome o (Contains (buckets_of (values_in pair) (air_of pair) (script_history pair)))) (all_of pair) ((0, omega arith, refl), ((1, omega arith, refl), tt)))
 
@@ -45,7 +46,7 @@ abbrev accept_line : Line
 accept_line = line 0 1 Accept (read 0 1 10 ∷ read 1 1 20 ∷ [])
 
 one_line : (session_of (by_entries (scheme_of FMatrix)) pair 0 (all_of pair)).lines ≡ accept_line ∷ []
-unfolding column_entry front greatest starts is_start table event_of script_history cut order order_with chunk chunk_len least_common_multiple minor_cycle num_chunks num_minors program chunks_of disk_number pix_number body_fits body_of bucket_of buckets_of fits by_entries clash_by_entries is_late least keep with_copy without_item abort accept_if_whole copy_of count_copied count_dozed count_foreign count_late count_opened count_refused decide drop_copy end end_query hear hear_all hear_read hold is_unusable line_of next_attempt next_query offer open_bucket query_of session settle turn turn_with wanted with_line
+unfolding column_entry front greatest starts is_start table event_of script_history cut order order_with chunk chunk_len least_common_multiple minor_cycle num_chunks num_minors program chunks_of disk_number pix_number body_fits body_of bucket_of capped_entries capped_body buckets_of fits by_entries clash_by_entries is_late least keep with_copy without_item abort accept_if_whole copy_of count_copied count_dozed count_foreign count_late count_opened count_refused decide drop_copy end end_query hear hear_all hear_read hold is_unusable line_of next_attempt next_query offer open_bucket end_aged judge_read query_of session settle turn turn_with wanted with_line
 one_line = refl
 
 -- What the session's lines keep, that line keeps: it is sound, exact, and the reader's own.
@@ -59,8 +60,8 @@ pub own_line : IsOfReader (reader_of pair 0) accept_line
 own_line = kept (IsOfReader (reader_of pair 0))
     (of_reader (by_entries (scheme_of FMatrix)) (air_of pair) (reader_of pair 0) (all_of pair) (names (scheme_of FMatrix) (values_in pair) (script_history pair)).1 pair_filled (omega arith))
 
-pub exact_line : IsExactLine (script_history pair) (reader_of pair 0) accept_line
-exact_line = kept (IsExactLine (script_history pair) (reader_of pair 0)) (true_session.exact refl)
+pub exact_line : IsExactLine 1 (script_history pair) (reader_of pair 0) accept_line
+exact_line = kept (IsExactLine 1 (script_history pair) (reader_of pair 0)) (true_session.exact refl)
 
 -- ---- lines that aren't so
 
@@ -74,13 +75,19 @@ apart = swapped_deck (s ∷ u ∷ u ∷ s ∷ [])
 
 pub record NoLines : Type 0 where
   -- reads that aren't consistent are neither accepted nor unfinished
-  accepted_not_consistent : IsExactLine (script_history chain) (reader_of chain 0) (line 0 1 Accept (read 0 1 10 ∷ read 1 2 13 ∷ [])) → ⊥
-  unfinished_not_consistent : IsExactLine (script_history chain) (reader_of chain 0) (line 0 1 Unfinished (read 0 1 10 ∷ read 1 2 13 ∷ [])) → ⊥
+  accepted_not_consistent : IsExactLine 1 (script_history chain) (reader_of chain 0) (line 0 1 Accept (read 0 1 10 ∷ read 1 2 13 ∷ [])) → ⊥
+  unfinished_not_consistent : IsExactLine 1 (script_history chain) (reader_of chain 0) (line 0 1 Unfinished (read 0 1 10 ∷ read 1 2 13 ∷ [])) → ⊥
   -- consistent ones aren't aborted
-  aborted_consistent : IsExactLine (script_history pair) (reader_of pair 0) (line 0 1 (Abort 1 1 0) (read 0 1 10 ∷ [])) → ⊥
+  aborted_consistent : IsExactLine 1 (script_history pair) (reader_of pair 0) (line 0 1 (Abort 1 1 0) (read 0 1 10 ∷ [])) → ⊥
   -- a query isn't accepted on a part of its items, and isn't unfinished where all were read
-  accepted_part : IsExactLine (script_history pair) (reader_of pair 0) (line 0 1 Accept (read 0 1 10 ∷ [])) → ⊥
-  unfinished_whole : IsExactLine (script_history pair) (reader_of pair 0) (line 0 1 Unfinished (read 0 1 10 ∷ read 1 1 20 ∷ [])) → ⊥
+  accepted_part : IsExactLine 1 (script_history pair) (reader_of pair 0) (line 0 1 Accept (read 0 1 10 ∷ [])) → ⊥
+  unfinished_whole : IsExactLine 1 (script_history pair) (reader_of pair 0) (line 0 1 Unfinished (read 0 1 10 ∷ read 1 1 20 ∷ [])) → ⊥
+  -- by ages, reads that lie 255 cycles apart are aged alone, and those that lie 254 apart aren't
+  accepted_far : IsExactLine 2 (script_history pair) (reader_of pair 0) (line 0 1 Accept (read 0 1 10 ∷ read 1 256 20 ∷ [])) → ⊥
+  aborted_far : IsExactLine 2 (script_history pair) (reader_of pair 0) (line 0 1 (Abort 1 256 0) (read 0 1 10 ∷ [])) → ⊥
+  unfinished_far : IsExactLine 2 (script_history pair) (reader_of pair 0) (line 0 1 Unfinished (read 0 1 10 ∷ read 1 256 20 ∷ [])) → ⊥
+  aged_near : IsExactLine 2 (script_history pair) (reader_of pair 0) (line 0 1 (Aged 1 255) (read 0 1 10 ∷ [])) → ⊥
+  aged_in_full : IsExactLine 1 (script_history pair) (reader_of pair 0) (line 0 1 (Aged 1 256) (read 0 1 10 ∷ [])) → ⊥
   -- a line of reads that aren't consistent isn't sound
   not_consistent : IsSoundLine (values_in chain) FMatrix (script_history chain) (line 0 1 Accept (read 0 1 10 ∷ read 1 2 13 ∷ [])) → ⊥
   -- nor is one under Datacycle whose reads share no cycle
@@ -89,16 +96,31 @@ pub record NoLines : Type 0 where
   wrong_value : IsSoundLine (values_in pair) FMatrix (script_history pair) (line 0 1 Accept (read 0 1 10 ∷ read 1 1 21 ∷ [])) → ⊥
 
 pub no_lines : NoLines
-unfolding script_history event_of consistent alone picked_events last_alone runs_alone descends_from origin stale writer writer_before last_place writes descends descends_in reads front cycle_at is_start starts table value_after write_of value_on_base BasesRead
+unfolding spans_too_far span script_history event_of consistent alone picked_events last_alone runs_alone descends_from origin stale writer writer_before last_place writes descends descends_in reads front cycle_at is_start starts table value_after write_of value_on_base BasesRead
 no_lines = record {
-  accepted_not_consistent = λ h. let e : false ≡ true = (h.accepted.0 refl).1 in false≢true e;
-  unfinished_not_consistent = λ h. let e : false ≡ true = (h.unfinished.0 refl).0 in false≢true e;
-  aborted_consistent = λ h. h.aborted.0 tt refl;
-  accepted_part = λ h. let e : 0 ∷ [] ≡ 0 ∷ 1 ∷ [] = (h.accepted.0 refl).0 in cc;
-  unfinished_whole = λ h. (h.unfinished.0 refl).1 refl;
+  accepted_not_consistent = λ h. let e : false ≡ true = (h.accepted.0 refl).2 in false≢true e;
+  unfinished_not_consistent = λ h. let e : false ≡ true = (h.unfinished.0 refl).1 in false≢true e;
+  aborted_consistent = λ h. (h.aborted.0 tt).1 refl;
+  accepted_part = λ h. let e : 0 ∷ [] ≡ 0 ∷ 1 ∷ [] = (h.accepted.0 refl).1 in cc;
+  unfinished_whole = λ h. (h.unfinished.0 refl).2 refl;
+  accepted_far = λ h. let e : true ≡ false = (h.accepted.0 refl).0 in cc;
+  aborted_far = λ h. let e : true ≡ false = (h.aborted.0 tt).0 in cc;
+  unfinished_far = λ h. let e : true ≡ false = (h.unfinished.0 refl).0 in cc;
+  aged_near = λ h. let e : false ≡ true = h.aged.0 tt in cc;
+  aged_in_full = λ h. let e : false ≡ true = h.aged.0 tt in cc;
   not_consistent = λ h. let e : false ≡ true = h.reads.consistent in false≢true e;
   not_shared = λ h. let e : true ≡ false = h.reads.shared 0 (record { item = 0; cycle = 1 }) (omega arith) in cc;
   wrong_value = λ h. let e : 21 ≡ 20 = h.by_ancestors (All-from_recursion BasesRead (script_history pair) (tt, tt)) 1 (read 1 1 21) (omega arith) in omega arith;
+}
+
+-- Where they lie 255 apart, an aged line is exact.
+pub aged_line : IsExactLine 2 (script_history pair) (reader_of pair 0) (line 0 1 (Aged 1 256) (read 0 1 10 ∷ []))
+unfolding spans_too_far span
+aged_line = record {
+  aged = (λ _. refl, λ _. tt);
+  accepted = (λ e. cc, λ a. let e : true ≡ false = a.0 in cc);
+  aborted = (λ no. absurd no, λ a. let e : true ≡ false = a.0 in cc);
+  unfinished = (λ e. cc, λ a. let e : true ≡ false = a.0 in cc);
 }
 
 -- A line that stands before those of a state.
@@ -127,17 +149,23 @@ not_aborted : (follows_query (0 ∷ 1 ∷ []) (Abort 0 2 0) (0 ∷ []) ≡ false
 unfolding follows_query
 not_aborted = (refl, refl)
 
+-- The refused item of an aged attempt is the next one too.
+aged_follows : (follows_query (0 ∷ 1 ∷ []) (Aged 1 256) (0 ∷ []) ≡ true) × (follows_query (0 ∷ 1 ∷ []) (Aged 0 256) (0 ∷ []) ≡ false)
+    × (follows_query (0 ∷ 1 ∷ []) (Aged 0 256) (1 ∷ []) ≡ false) × (follows_query (0 ∷ 1 ∷ []) (Aged 1 256) (0 ∷ 1 ∷ []) ≡ false)
+unfolding follows_query
+aged_follows = (refl, refl, refl, refl)
+
 -- Nor do items that aren't the query's first ones, before the next one was refused or where one is missing.
 not_the_first_ones : (follows_query (0 ∷ 1 ∷ 2 ∷ []) (Abort 2 3 0) (1 ∷ 0 ∷ []) ≡ false) × (follows_query (0 ∷ 1 ∷ []) Unfinished (1 ∷ []) ≡ false)
 unfolding follows_query
 not_the_first_ones = (refl, refl)
 
 -- Cycles count from 1 where the bucket fits; of one that doesn't, of another edition, nothing is asked.
-pub cycles_from_one : CyclesFromOne (air_of pair) (Some (record { edition = 0; cycle = 1; slot = 0; body = Column 0 10 (0 ∷ 0 ∷ []) })
-    ∷ None ∷ Some (record { edition = 1; cycle = 0; slot = 0; body = Column 0 10 (0 ∷ 0 ∷ []) }) ∷ [])
+pub cycles_from_one : CyclesFromOne (air_of pair) (Some (record { version = 1; edition = 0; cycle = 1; slot = 0; body = Column 0 10 (0 ∷ 0 ∷ []) })
+    ∷ None ∷ Some (record { version = 1; edition = 1; cycle = 0; slot = 0; body = Column 0 10 (0 ∷ 0 ∷ []) }) ∷ [])
 unfolding fits
 cycles_from_one = All-from_recursion (λ o. IfSome o (λ b. IsTrue (fits (air_of pair) b) → 1 ≤ b.cycle))
-    (Some (record { edition = 0; cycle = 1; slot = 0; body = Column 0 10 (0 ∷ 0 ∷ []) }) ∷ None ∷ Some (record { edition = 1; cycle = 0; slot = 0; body = Column 0 10 (0 ∷ 0 ∷ []) }) ∷ [])
+    (Some (record { version = 1; edition = 0; cycle = 1; slot = 0; body = Column 0 10 (0 ∷ 0 ∷ []) }) ∷ None ∷ Some (record { version = 1; edition = 1; cycle = 0; slot = 0; body = Column 0 10 (0 ∷ 0 ∷ []) }) ∷ [])
     (λ _. omega arith, (tt, (λ f. absurd (false≢true f), tt)))
 
 -- Both judges name a held item; one that names item 7 whatever is held doesn't.

@@ -5,14 +5,14 @@ use Rattle.std.specs.Option.{is_some}
 use Rattle.std.specs.Fn.{iterate}
 use Rattle.air_base.specs.declared.verdicts.Clash.{Clash}
 use Rattle.air_base.specs.declared.verdicts.VerdictKind.{VerdictKind}
-use Rattle.air_base.specs.declared.verdicts.VerdictKind.TheVariants.{Accept, Abort, Unfinished}
+use Rattle.air_base.specs.declared.verdicts.VerdictKind.TheVariants.{Accept, Abort, Aged, Unfinished}
 use Rattle.air_history.proofs.ClashLemmas.{cond_same}
 use Rattle.air_model.specs.Buckets.{Bucket}
 use Rattle.air_model.specs.Reads.{Read}
 use Rattle.air_model.specs.Aired.{Air, fits}
 use Rattle.air_model.specs.Judges.{Judge}
 use Rattle.air_model.specs.Sessions
-use Rattle.air_model.specs.Sessions.{Reader, Line, State, read_in, is_wanted, wanted, comes_late, query_of, next_query, next_attempt, copy_of, drop_copy, offer, with_line, line_of, count_copied, count_opened, count_dozed, count_late, count_refused, count_foreign, accept_if_whole, hold, abort, is_unusable, turn_with, turn, settle, decide, open_bucket, hear_read, hear, end_query}
+use Rattle.air_model.specs.Sessions.{Reader, Line, State, read_in, is_wanted, wanted, comes_aged, comes_late, query_of, next_query, next_attempt, copy_of, drop_copy, offer, with_line, line_of, count_copied, count_opened, count_dozed, count_late, count_refused, count_foreign, accept_if_whole, hold, abort, is_unusable, turn_with, turn, settle, decide, end_aged, judge_read, open_bucket, hear_read, hear, end_query}
 use Rattle.air_model.specs.SessionLaws.{after}
 
 cond_after : (L : List Line) (b : Bool) (x y : State) → cond b (after L x) (after L y) ≡ after L (cond b x y)
@@ -42,6 +42,12 @@ module _ (judge : Judge) (air : Air) (reader : Reader) (L : List Line) where
       ap (λ u. next_attempt reader (drop_copy i u)) (line_after (Abort x.item x.cycle i) s)
       ∙ cond_after L (nat_lt t.attempt reader.plan.tries) (record t { attempt = t.attempt + 1; held = [] }) (next_query t)
 
+  aged_after : (x : Read) (s : State) → end_aged judge air reader x (after L s) ≡ after L (end_aged judge air reader x s)
+  unfolding end_aged next_attempt next_query
+  aged_after x s =
+      let t = with_line judge (Aged x.item x.cycle) s in
+      ap (next_attempt reader) (line_after (Aged x.item x.cycle) s) ∙ cond_after L (nat_lt t.attempt reader.plan.tries) (record t { attempt = t.attempt + 1; held = [] }) (next_query t)
+
   turn_with_after : (o : Option Read) (s : State) → turn_with judge air reader o (after L s) ≡ after L (turn_with judge air reader o s)
   unfolding turn_with is_unusable drop_copy count_copied
   turn_with_after None s = refl
@@ -66,12 +72,18 @@ module _ (judge : Judge) (air : Air) (reader : Reader) (L : List Line) where
   decide_after x None s = hold_after x s
   decide_after x (Some c) s = abort_after x c.item s
 
+  judge_read_after : (x : Read) (s : State) → judge_read judge air reader x (after L s) ≡ after L (judge_read judge air reader x s)
+  unfolding judge_read
+  judge_read_after x s =
+      cond_same (comes_aged air s x) _ _ _ _ (λ _. aged_after x s) (λ _. decide_after x (judge.clash s.held x) s)
+      ∙ cond_after L (comes_aged air s x) (end_aged judge air reader x s) (decide judge air reader x (judge.clash s.held x) s)
+
   hear_read_after : (o : Option Read) (s : State) → hear_read judge air reader o (after L s) ≡ after L (hear_read judge air reader o s)
   unfolding hear_read count_dozed count_late open_bucket count_opened offer wanted query_of
   hear_read_after None s = refl
   hear_read_after (Some x) s =
       cond_same (is_wanted (wanted reader s) x.item) _ _ _ _
-      (λ _. cond_same (comes_late air s x) _ _ _ _ (λ _. refl) (λ _. ap (offer air reader x) (decide_after x (judge.clash s.held x) (count_opened s)))
+      (λ _. cond_same (comes_late air s x) _ _ _ _ (λ _. refl) (λ _. ap (offer air reader x) (judge_read_after x (count_opened s)))
       ∙ cond_after L (comes_late air s x) (count_late s) (open_bucket judge air reader x s))
       (λ _. refl)
       ∙ cond_after L (is_wanted (wanted reader s) x.item) (cond (comes_late air s x) (count_late s) (open_bucket judge air reader x s)) (count_dozed s)

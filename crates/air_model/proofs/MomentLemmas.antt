@@ -9,14 +9,15 @@ use Rattle.std.proofs.lemmas.Bool.{eqb-true, ltb-true}
 use Rattle.std.proofs.lemmas.List.{length_push}
 use Rattle.std.proofs.lemmas.List.Elements.{All-head, All-tail, All-push, All-filter, All-nil, All-append, All-cons}
 use Rattle.air_base.specs.declared.verdicts.Clash.{Clash}
-use Rattle.air_base.specs.declared.verdicts.VerdictKind.TheVariants.{Accept, Abort, Unfinished}
+use Rattle.air_base.specs.declared.verdicts.VerdictKind.TheVariants.{Accept, Abort, Aged, Unfinished}
 use Rattle.air_history.specs.Clashes.{is_late}
 use Rattle.air_model.specs.Buckets.{Bucket}
 use Rattle.air_model.specs.Reads.{Read}
 use Rattle.air_model.specs.Copies.{keep, without_item, with_copy}
 use Rattle.air_model.specs.Aired.{Air, fits}
 use Rattle.air_model.specs.Judges.{Judge, place_of}
-use Rattle.air_model.specs.Sessions.{Reader, Line, State, start, read_in, is_wanted, query_of, wanted, comes_late, next_query, next_attempt, copy_of, drop_copy, offer, line_of, with_line, count_copied, count_opened, count_dozed, count_late, count_refused, count_foreign, accept_if_whole, hold, abort, is_unusable, turn_with, turn, settle, decide, open_bucket, hear_read, hear, hear_all, end_query, end, session}
+use Rattle.air_model.specs.SessionLaws.{are_far}
+use Rattle.air_model.specs.Sessions.{Reader, Line, State, start, read_in, is_wanted, query_of, wanted, comes_aged, comes_late, next_query, next_attempt, copy_of, drop_copy, offer, line_of, with_line, count_copied, count_opened, count_dozed, count_late, count_refused, count_foreign, accept_if_whole, hold, abort, is_unusable, turn_with, turn, settle, decide, end_aged, judge_read, open_bucket, hear_read, hear, hear_all, end_query, end, session}
 
 -- The item that the query q wants after the reads R.
 abbrev pub item_after : Reader → ℕ → List Read → Option ℕ
@@ -27,13 +28,18 @@ pub record IsJudged (air : Air) (reader : Reader) (q : ℕ) (R : List Read) (x :
   pub wanted : item_after reader q R ≡ Some x.item
   pub in_time : is_late air.scheme.policy (map place_of R) (place_of x) ≡ false
 
+-- Whether the new read x and the held ones R lie too far apart for the air's version.
+abbrev pub lies_far : Air → List Read → Read → Bool
+lies_far air R x = are_far air.version (map place_of R ++ place_of x ∷ [])
+
 -- Q of each read that was heard, K of the query, the attempt and its held reads, and L of each line stand at every moment.
 pub record Keeps (judge : Judge) (air : Air) (reader : Reader) (Q : Read → Type 0) (K : ℕ → ℕ → List Read → Type 0) (L : Line → Type 0) : Type 0 where
   pub first : (q : ℕ) → K q 1 []
   pub again : (q a : ℕ) (R : List Read) → K q a R → a < reader.plan.tries → K q (a + 1) []
-  pub more : (q a : ℕ) (R : List Read) (x : Read) → K q a R → Q x → IsJudged air reader q R x → judge.clash R x ≡ None → K q a (R ++ x ∷ [])
+  pub more : (q a : ℕ) (R : List Read) (x : Read) → K q a R → Q x → IsJudged air reader q R x → lies_far air R x ≡ false → judge.clash R x ≡ None → K q a (R ++ x ∷ [])
   pub accepted : (q a : ℕ) (R : List Read) → K q a R → 0 < length R → item_after reader q R ≡ None → L (line_of judge q a Accept R)
-  pub aborted : (q a : ℕ) (R : List Read) (x : Read) (c : Clash) → K q a R → Q x → IsJudged air reader q R x → judge.clash R x ≡ Some c → L (line_of judge q a (Abort x.item x.cycle c.item) R)
+  pub aborted : (q a : ℕ) (R : List Read) (x : Read) (c : Clash) → K q a R → Q x → IsJudged air reader q R x → lies_far air R x ≡ false → judge.clash R x ≡ Some c → L (line_of judge q a (Abort x.item x.cycle c.item) R)
+  pub aged : (q a : ℕ) (R : List Read) (x : Read) → K q a R → Q x → IsJudged air reader q R x → lies_far air R x ≡ true → L (line_of judge q a (Aged x.item x.cycle) R)
   pub unfinished : (q a : ℕ) (R : List Read) → K q a R → is_some (item_after reader q R) ≡ true → L (line_of judge q a Unfinished R)
 
 -- Q of the read that a heard member gives where it fits.
@@ -92,26 +98,33 @@ module _ (judge : Judge) (air : Air) (reader : Reader) (Q : Read → Type 0) (K 
       (λ t. record { held = rules.again s.query s.attempt s.held k (ltb-true s.attempt reader.plan.tries t); copies = cs; lines = ls; unread = λ l. first_some (get_or reader.queries s.query []) (filled s.query [] l) })
       (λ _. next_query_good s cs ls)
 
-  pub hold_good : (x : Read) (s : State) → Good reader Q K L s → Q x → wanted reader s ≡ Some x.item → comes_late air s x ≡ false → judge.clash s.held x ≡ None → Good reader Q K L (hold judge air reader x s)
+  pub hold_good : (x : Read) (s : State) → Good reader Q K L s → Q x → wanted reader s ≡ Some x.item → comes_late air s x ≡ false → comes_aged air s x ≡ false → judge.clash s.held x ≡ None → Good reader Q K L (hold judge air reader x s)
   unfolding hold accept_if_whole with_line wanted query_of
-  hold_good x s g qx w late none =
-      let more = rules.more s.query s.attempt s.held x g.held qx (record { wanted = w; in_time = late }) none in
+  hold_good x s g qx w late near none =
+      let more = rules.more s.query s.attempt s.held x g.held qx (record { wanted = w; in_time = late }) near none in
       cond_keeps (Good reader Q K L) (is_some (item_after reader s.query (s.held ++ x ∷ []))) _ _
       (λ t. record { held = more; copies = g.copies; lines = g.lines; unread = λ _. t })
       (λ f. next_query_good _ g.copies (All-push L s.lines _ g.lines (rules.accepted s.query s.attempt (s.held ++ x ∷ []) more (omega (arith, length_push s.held x)) (none_from _ f))))
 
-  abort_good : (x : Read) (i : Clash) (s : State) → Good reader Q K L s → Q x → wanted reader s ≡ Some x.item → comes_late air s x ≡ false → judge.clash s.held x ≡ Some i → Good reader Q K L (abort judge air reader x i.item s)
+  abort_good : (x : Read) (i : Clash) (s : State) → Good reader Q K L s → Q x → wanted reader s ≡ Some x.item → comes_late air s x ≡ false → comes_aged air s x ≡ false → judge.clash s.held x ≡ Some i → Good reader Q K L (abort judge air reader x i.item s)
   unfolding abort with_line drop_copy without_item wanted query_of
-  abort_good x i s g qx w late some = next_attempt_good _ g.held (All-filter _ Q s.copies g.copies)
-      (All-push L s.lines _ g.lines (rules.aborted s.query s.attempt s.held x i g.held qx (record { wanted = w; in_time = late }) some))
+  abort_good x i s g qx w late near some = next_attempt_good _ g.held (All-filter _ Q s.copies g.copies)
+      (All-push L s.lines _ g.lines (rules.aborted s.query s.attempt s.held x i g.held qx (record { wanted = w; in_time = late }) near some))
+
+  aged_good : (x : Read) (s : State) → Good reader Q K L s → Q x → wanted reader s ≡ Some x.item → comes_late air s x ≡ false → comes_aged air s x ≡ true → Good reader Q K L (end_aged judge air reader x s)
+  unfolding end_aged with_line wanted query_of
+  aged_good x s g qx w late far = next_attempt_good _ g.held g.copies
+      (All-push L s.lines _ g.lines (rules.aged s.query s.attempt s.held x g.held qx (record { wanted = w; in_time = late }) far))
 
   turn_with_good : (o : Option Read) (s : State) → Good reader Q K L s → IfSome o (λ x. Q x × (wanted reader s ≡ Some x.item)) → Good reader Q K L (turn_with judge air reader o s)
   unfolding turn_with is_unusable drop_copy without_item count_copied wanted query_of
   turn_with_good None s g h = g
-  turn_with_good (Some x) s g h = cond_keeps (Good reader Q K L) (nat_lt reader.plan.age (s.now - x.cycle) || comes_late air s x || is_some (judge.clash s.held x)) _ _
+  turn_with_good (Some x) s g h = cond_keeps (Good reader Q K L) (nat_lt reader.plan.age (s.now - x.cycle) || comes_late air s x || comes_aged air s x || is_some (judge.clash s.held x)) _ _
       (λ _. record { held = g.held; copies = All-filter _ Q s.copies g.copies; lines = g.lines; unread = g.unread })
-      (λ f. let parts = or_false _ _ f in
-      hold_good x (count_copied s) (record { held = g.held; copies = g.copies; lines = g.lines; unread = g.unread }) h.0 h.1 (or_false _ _ parts.0).1 (none_from _ parts.1))
+      (λ f. let whole = or_false _ _ f in
+      let near = or_false _ _ whole.0 in
+      let late = or_false _ _ near.0 in
+      hold_good x (count_copied s) (record { held = g.held; copies = g.copies; lines = g.lines; unread = g.unread }) h.0 h.1 late.1 near.1 (none_from _ whole.1))
 
   pub copy_of_is : (w : Option ℕ) (s : State) → All Q s.copies → IfSome (copy_of w s) (λ x. Q x × (w ≡ Some x.item))
   unfolding copy_of
@@ -130,10 +143,16 @@ module _ (judge : Judge) (air : Air) (reader : Reader) (Q : Read → Type 0) (K 
   unfolding settle
   settle_good s g = iterate_keeps (Good reader Q K L) (turn judge air reader) turn_good (sum_by length reader.queries) s g
 
-  decide_good : (x : Read) (o : Option Clash) (s : State) → Good reader Q K L s → Q x → wanted reader s ≡ Some x.item → comes_late air s x ≡ false → judge.clash s.held x ≡ o → Good reader Q K L (decide judge air reader x o s)
+  decide_good : (x : Read) (o : Option Clash) (s : State) → Good reader Q K L s → Q x → wanted reader s ≡ Some x.item → comes_late air s x ≡ false → comes_aged air s x ≡ false → judge.clash s.held x ≡ o → Good reader Q K L (decide judge air reader x o s)
   unfolding decide
-  decide_good x None s g qx w late e = hold_good x s g qx w late e
-  decide_good x (Some i) s g qx w late e = abort_good x i s g qx w late e
+  decide_good x None s g qx w late near e = hold_good x s g qx w late near e
+  decide_good x (Some i) s g qx w late near e = abort_good x i s g qx w late near e
+
+  judge_read_good : (x : Read) (s : State) → Good reader Q K L s → Q x → wanted reader s ≡ Some x.item → comes_late air s x ≡ false → Good reader Q K L (judge_read judge air reader x s)
+  unfolding judge_read
+  judge_read_good x s g qx w late = cond_keeps (Good reader Q K L) (comes_aged air s x) _ _
+      (λ far. aged_good x s g qx w late far)
+      (λ near. decide_good x (judge.clash s.held x) s g qx w late near refl)
 
   offer_good : (x : Read) (s : State) → Good reader Q K L s → Q x → Good reader Q K L (offer air reader x s)
   unfolding offer keep with_copy wanted query_of
@@ -141,7 +160,7 @@ module _ (judge : Judge) (air : Air) (reader : Reader) (Q : Read → Type 0) (K 
 
   open_good : (x : Read) (s : State) → Good reader Q K L s → Q x → wanted reader s ≡ Some x.item → comes_late air s x ≡ false → Good reader Q K L (open_bucket judge air reader x s)
   unfolding open_bucket count_opened wanted query_of
-  open_good x s g qx w late = offer_good x _ (decide_good x (judge.clash s.held x) (count_opened s) (record { held = g.held; copies = g.copies; lines = g.lines; unread = g.unread }) qx w late refl) qx
+  open_good x s g qx w late = offer_good x _ (judge_read_good x (count_opened s) (record { held = g.held; copies = g.copies; lines = g.lines; unread = g.unread }) qx w late) qx
 
   hear_read_good : (o : Option Read) (s : State) → Good reader Q K L s → IfSome o Q → Good reader Q K L (hear_read judge air reader o s)
   unfolding hear_read count_dozed count_late wanted query_of

@@ -5,6 +5,7 @@ use Rattle.air_base.specs.Numbers.{number_text}
 use Rattle.air_base.specs.declared.verdicts.Policy.TheVariants.{Datacycle}
 use Rattle.air_history.specs.declared.histories.Event.{Event}
 use Rattle.air_history.specs.declared.histories.Event.TheVariants.{Commit, Start}
+use Rattle.air_history.specs.Ages.{capped, span, spans_too_far}
 use Rattle.air_history.specs.Places.{last_place, greatest}
 use Rattle.air_history.specs.Histories.{cycle_at, front, starts, writer, writer_before, writes, reads, is_start}
 use Rattle.air_history.specs.Descents.{descends, descends_in}
@@ -13,7 +14,7 @@ use Rattle.air_history.specs.Tables.{value_on_base, write_of, value_after, table
 use Rattle.air_history.specs.Reads.{origin, stale}
 use Rattle.air_history.specs.Consistency.{descends_from, runs_alone, last_alone, consistent}
 use Rattle.air_history.specs.Clashes.{least, is_late, clash_by_history, clash_by_entries}
-use Rattle.air_model.specs.Buckets.{Column, body_at, bucket_at, count_of, entries_at, entries_of, entry_count, is_placed, is_shaped, item_of, kind_of, reading, spelling, value_of}
+use Rattle.air_model.specs.Buckets.{Column, body_at, bucket_at, count_of, entries_at, entries_of, entry_count, is_placed, is_shaped, item_of, kind_of, reading, spelling, value_of, capped_body, capped_entries, entry_bytes, entry_told, is_entry, raw_entries}
 use Rattle.air_model.specs.Tapes.{record_bytes, tape_of}
 use Rattle.air_model.specs.Draws.{words_by}
 use Rattle.air_model.specs.Ethers.{due_at, due_number, heard_by, heard_list, heard_places, places_due, times_heard}
@@ -25,11 +26,11 @@ use Rattle.air_model.specs.PlanTexts.{plan_rows, plan_text}
 use Rattle.air_model.specs.Decks.{Deck, event_of, script_history, values_in}
 use Rattle.air_model.specs.Aired.{body_of, bucket_of, buckets_of, body_fits, fits}
 use Rattle.air_model.specs.Judges.{by_history, by_entries}
-use Rattle.air_model.specs.Sessions.{session, query_of, wanted, line_of, with_line, count_copied, count_opened, count_dozed, count_late, count_refused, count_foreign, next_query, next_attempt, accept_if_whole, hold, abort, is_unusable, drop_copy, copy_of, turn_with, turn, settle, decide, offer, open_bucket, hear_read, hear, hear_all, end_query, end}
+use Rattle.air_model.specs.Sessions.{session, query_of, wanted, line_of, with_line, count_copied, count_opened, count_dozed, count_late, count_refused, count_foreign, next_query, next_attempt, accept_if_whole, hold, abort, is_unusable, drop_copy, copy_of, turn_with, turn, settle, decide, offer, open_bucket, hear_read, hear, hear_all, end_query, end, end_aged, judge_read}
 use Rattle.air_model.specs.Rows.{rows_text}
 use Rattle.air_model.specs.Reports.{report_text, total_at}
 use Rattle.air_model.specs.Outputs.{cast_output, plan_output, run_output, run_tape, script_output, script_tape, true_sessions, tune_output}
-use Rattle.air_model.proofs.SessionExamples.{chained_deck, judged_by, pair, s, set_to, swapped_deck, u, update}
+use Rattle.air_model.proofs.SessionExamples.{aired_in, chained_deck, judged_by, pair, s, set_to, swapped_deck, u, update}
 
 -- The deck with this seed and these odds.
 abbrev through : ℕ → ℕ → ℕ → ℕ → Deck → Deck
@@ -42,6 +43,13 @@ first = 0x41 ∷ 0x44 ∷ 1 ∷ 1 ∷ 0 ∷ 0 ∷ 0 ∷ 2 ∷ 0 ∷ 0 ∷ 0 ∷ 
 -- The bytes of its second bucket.
 abbrev second : List ℕ
 second = 0x41 ∷ 0x44 ∷ 1 ∷ 1 ∷ 0 ∷ 0 ∷ 0 ∷ 2 ∷ 0 ∷ 0 ∷ 0 ∷ 1 ∷ 0 ∷ 1 ∷ 0 ∷ 1 ∷ 0 ∷ 0 ∷ 0 ∷ 0 ∷ 0 ∷ 0 ∷ 0 ∷ 20 ∷ replicate 8 0
+
+-- The same in version 2: each age is the cap.
+abbrev first_aged : List ℕ
+first_aged = 0x41 ∷ 0x44 ∷ 2 ∷ 1 ∷ 0 ∷ 0 ∷ 0 ∷ 2 ∷ 0 ∷ 0 ∷ 0 ∷ 1 ∷ 0 ∷ 0 ∷ 0 ∷ 0 ∷ 0 ∷ 0 ∷ 0 ∷ 0 ∷ 0 ∷ 0 ∷ 0 ∷ 10 ∷ 255 ∷ 255 ∷ []
+
+abbrev second_aged : List ℕ
+second_aged = 0x41 ∷ 0x44 ∷ 2 ∷ 1 ∷ 0 ∷ 0 ∷ 0 ∷ 2 ∷ 0 ∷ 0 ∷ 0 ∷ 1 ∷ 0 ∷ 1 ∷ 0 ∷ 1 ∷ 0 ∷ 0 ∷ 0 ∷ 0 ∷ 0 ∷ 0 ∷ 0 ∷ 20 ∷ 255 ∷ 255 ∷ []
 
 -- Two readers with queries of their own.
 abbrev two_readers : List (List ℕ) → List (List ℕ) → Deck
@@ -84,8 +92,14 @@ pub record Printed : Type 0 where
   -- A byte too many and an entry that isn't below the cycle are refused, and one entry too many is foreign.
   tune : tune_output pair (
       (first ++ 0 ∷ []) ∷ (0x41 ∷ 0x44 ∷ 1 ∷ 1 ∷ 0 ∷ 0 ∷ 0 ∷ 2 ∷ 0 ∷ 0 ∷ 0 ∷ 1 ∷ 0 ∷ 0 ∷ 0 ∷ 0 ∷ 0 ∷ 0 ∷ 0 ∷ 0 ∷ 0 ∷ 0 ∷ 0 ∷ 10 ∷ 0 ∷ 0 ∷ 0 ∷ 1 ∷ replicate 4 0)
-      ∷ spelling (record { edition = 0; cycle = 1; slot = 0; body = Column 0 10 (0 ∷ 0 ∷ 0 ∷ []) }) ∷ first ∷ second ∷ [])
+      ∷ spelling (record { version = 1; edition = 0; cycle = 1; slot = 0; body = Column 0 10 (0 ∷ 0 ∷ 0 ∷ []) }) ∷ first ∷ second ∷ [])
       ≡ codes "accept,0,0,1,0@1=10 1@1=20\ncounts,0,2,0,0,2,1,0\n"
+  -- In version 2 the text is the same, and the tape has a byte an entry.
+  aged_script : script_output (aired_in 2 pair) ≡ codes "start\naccept,0,0,1,0@1=10 1@1=20\ncounts,0,2,0,0,0,0,0\n"
+  aged_tape : script_tape (aired_in 2 pair) ≡ 0 ∷ 0 ∷ 0 ∷ 26 ∷ first_aged ++ 0 ∷ 0 ∷ 0 ∷ 26 ∷ second_aged
+  -- A deck of version 2 hears the tape of version 1, and that of version 1 none of version 2.
+  older_tape : tune_output (aired_in 2 pair) (first ∷ second ∷ []) ≡ codes "accept,0,0,1,0@1=10 1@1=20\ncounts,0,2,0,0,0,0,0\n"
+  newer_tape : tune_output pair (first_aged ∷ second_aged ∷ []) ≡ codes "unfinished,0,0,1,\ncounts,0,0,0,0,0,2,0\n"
   tune_nothing : tune_output pair [] ≡ codes "unfinished,0,0,1,\ncounts,0,0,0,0,0,0,0\n"
   -- A run tells of the history that its threads made, and not of the script's: here of two cycles, where the script has one.
   run_of_its_own : run_output pair two_starts [] [] ≡ codes "start\nstart\naccept,0,0,1,0@1=10 1@1=20\ncounts,0,2,2,0,0,0,0\n"
@@ -122,7 +136,7 @@ pub record Printed : Type 0 where
 
 -- And it is.
 pub printed : Printed
-unfolding number_text escaped fields_text is_blank last_place greatest cycle_at front starts writer writer_before writes reads is_start descends descends_in column_entry vector_entry value_on_base write_of value_after table origin stale descends_from runs_alone last_alone consistent least is_late clash_by_history clash_by_entries body_at bucket_at count_of entries_at entries_of entry_count is_placed is_shaped item_of kind_of reading spelling value_of record_bytes tape_of words_by due_at due_number heard_list heard_by heard_places places_due times_heard keep without_item with_copy order order_with cut program least_common_multiple num_minors num_chunks chunk_len chunk minor_cycle minor_len disk_number chunks_of gap_of next_wake pix_number plan_rows plan_text event_of script_history body_of bucket_of buckets_of body_fits fits by_history by_entries session query_of wanted line_of with_line count_copied count_opened count_dozed count_late count_refused count_foreign next_query next_attempt accept_if_whole hold abort is_unusable drop_copy copy_of turn_with turn settle decide offer open_bucket hear_read hear hear_all end_query end rows_text report_text true_sessions total_at
+unfolding span spans_too_far capped number_text escaped fields_text is_blank last_place greatest cycle_at front starts writer writer_before writes reads is_start descends descends_in column_entry vector_entry value_on_base write_of value_after table origin stale descends_from runs_alone last_alone consistent least is_late clash_by_history clash_by_entries body_at bucket_at count_of entries_at raw_entries entry_told entries_of entry_count is_placed is_shaped is_entry item_of kind_of reading spelling entry_bytes value_of record_bytes tape_of words_by due_at due_number heard_list heard_by heard_places places_due times_heard keep without_item with_copy order order_with cut program least_common_multiple num_minors num_chunks chunk_len chunk minor_cycle minor_len disk_number chunks_of gap_of next_wake pix_number plan_rows plan_text event_of script_history body_of bucket_of capped_entries capped_body buckets_of body_fits fits by_history by_entries session query_of wanted line_of with_line count_copied count_opened count_dozed count_late count_refused count_foreign next_query next_attempt accept_if_whole hold abort is_unusable drop_copy copy_of turn_with turn settle decide offer open_bucket end_aged judge_read hear_read hear hear_all end_query end rows_text report_text true_sessions total_at
 printed = record {
   script = refl;
   tape = refl;
@@ -132,6 +146,10 @@ printed = record {
   mixed = refl;
   all_late = refl;
   tune = refl;
+  aged_script = refl;
+  aged_tape = refl;
+  older_tape = refl;
+  newer_tape = refl;
   tune_nothing = refl;
   run_of_its_own = refl;
   tape_of_its_own = refl;

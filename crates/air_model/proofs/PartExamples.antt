@@ -3,7 +3,8 @@ use Rattle.std.specs.Prelude.{◌≡◌, ℕ, ◌+◌, [], ◌∷◌, Some, None
 use Rattle.rand_pcg.specs.Lcg.{Lcg}
 use Rattle.air_base.specs.declared.verdicts.Policy.{Policy}
 use Rattle.air_base.specs.declared.verdicts.Policy.TheVariants.{FMatrix, Datacycle, RMatrix}
-use Rattle.air_base.specs.declared.verdicts.VerdictKind.TheVariants.{Accept, Abort, Unfinished}
+use Rattle.air_base.specs.declared.verdicts.VerdictKind.TheVariants.{Accept, Abort, Aged, Unfinished}
+use Rattle.air_history.specs.Ages.{span, spans_too_far}
 use Rattle.air_history.specs.Clashes.{is_late}
 use Rattle.air_history.specs.Columns.{scheme_of}
 use Rattle.air_history.specs.Reads.{ReadAt}
@@ -17,8 +18,8 @@ use Rattle.air_model.specs.Ethers.{word_of}
 use Rattle.air_model.specs.Judges.{heard_of}
 use Rattle.air_model.specs.Outputs.{odds_in}
 use Rattle.air_model.specs.Reads.{Read}
-use Rattle.air_model.specs.SessionLaws.{IsAbort, IsExact, decided_on, reads_at}
-use Rattle.air_model.specs.Sessions.{Line, comes_late, is_wanted, no_counts, read_in, start}
+use Rattle.air_model.specs.SessionLaws.{IsAbort, IsAged, IsExact, are_far, decided_on, reads_at}
+use Rattle.air_model.specs.Sessions.{Line, comes_aged, comes_late, is_wanted, no_counts, read_in, start}
 use Rattle.air_model.specs.Tapes.{TapeRead, with_record}
 use Rattle.air_model.specs.Decks.{event_of, script_history}
 use Rattle.air_model.proofs.LineExamples.{exact_line}
@@ -26,7 +27,7 @@ use Rattle.air_model.proofs.SessionExamples.{line, pair, read, set_to, swapped_d
 
 -- What is known of the air under a policy.
 abbrev air : Policy → Air
-air policy = record { scheme = scheme_of policy; items = 2; slots = []; pix = [] }
+air policy = record { scheme = scheme_of policy; version = 1; items = 2; replans = []; slots = []; pix = [] }
 
 -- A read of an item in a cycle, as it was heard.
 abbrev taken : ℕ → ℕ → Read
@@ -87,7 +88,7 @@ pub record Parts : Type 0 where
   disks_of_18 : drill_disks 18 ≡ record { size = 2; freq = 4 } ∷ record { size = 4; freq = 2 } ∷ record { size = 12; freq = 1 } ∷ []
   eight_readers : length drill_readers ≡ 8
   last_reader : get_or drill_readers 7 (record { room = 0; age = 0; tries = 0 }) ≡ record { room = 4; age = 8; tries = 3 }
-  settings : drill_settings 7 ≡ record { policy = FMatrix; cycles = 10; seed = 7; loss = 5; again = 3; late = 10; monitors = 0; hears = 1000000 }
+  settings : drill_settings 7 ≡ record { policy = FMatrix; version = 1; cycles = 10; seed = 7; loss = 5; again = 3; late = 10; monitors = 0; hears = 1000000 }
   fifth_turn : turn_of 5 ≡ None ∷ Some 1 ∷ []
   sixth_turn : turn_of 6 ≡ Some 2 ∷ []
   four_updaters : length (drill_of 3 1 [] [] []).updates ≡ 4
@@ -96,6 +97,12 @@ pub record Parts : Type 0 where
   late_read : comes_late (air RMatrix) (record start { held = taken 0 2 ∷ [] }) (taken 1 1) ≡ true
   read_in_time : comes_late (air RMatrix) (record start { held = taken 0 2 ∷ [] }) (taken 1 2) ≡ false
   late_for_none : comes_late (air FMatrix) (record start { held = taken 0 2 ∷ [] }) (taken 1 1) ≡ false
+  -- a read and the held one lie too far apart in either order, and where there are ages alone
+  far_read : comes_aged (record (air FMatrix) { version = 2 }) (record start { held = taken 0 1 ∷ [] }) (taken 1 256) ≡ true
+  far_behind : comes_aged (record (air FMatrix) { version = 2 }) (record start { held = taken 0 300 ∷ [] }) (taken 1 45) ≡ true
+  near_read : comes_aged (record (air FMatrix) { version = 2 }) (record start { held = taken 0 1 ∷ [] }) (taken 1 255) ≡ false
+  far_for_none : comes_aged (air FMatrix) (record start { held = taken 0 1 ∷ [] }) (taken 1 256) ≡ false
+  first_read : comes_aged (record (air FMatrix) { version = 2 }) start (taken 1 256) ≡ false
   nothing_wanted : is_wanted None 0 ≡ false
   this_wanted : is_wanted (Some 1) 1 ≡ true
   other_wanted : is_wanted (Some 1) 2 ≡ false
@@ -106,16 +113,25 @@ pub record Parts : Type 0 where
   heard : heard_of (taken 1 3) ≡ record { item = 1; cycle = 3; entries = 0 ∷ 1 ∷ [] }
   line_reads : reads_at accept_line ≡ at 0 1 ∷ at 1 1 ∷ []
   decided_with_refused : decided_on (Abort 1 2 0) (at 0 1 ∷ []) ≡ at 0 1 ∷ at 1 2 ∷ []
+  decided_with_far : decided_on (Aged 1 256) (at 0 1 ∷ []) ≡ at 0 1 ∷ at 1 256 ∷ []
   decided_without : decided_on Unfinished (at 0 1 ∷ []) ≡ at 0 1 ∷ []
   aborted : IsAbort (Abort 1 2 0)
   accepted : IsAbort Accept → ⊥
   unfinished : IsAbort Unfinished → ⊥
+  ended_aged : IsAged (Aged 1 256)
+  abort_not_aged : IsAged (Abort 1 256 0) → ⊥
+  aged_not_abort : IsAbort (Aged 1 256) → ⊥
+  -- 255 cycles are too far for version 2 and for those after it, 254 aren't, and in version 1 none are
+  apart : are_far 2 (at 0 1 ∷ at 1 256 ∷ []) ≡ true
+  apart_later : are_far 3 (at 0 1 ∷ at 1 256 ∷ []) ≡ true
+  together : are_far 2 (at 0 1 ∷ at 1 255 ∷ []) ≡ false
+  in_full : are_far 1 (at 0 1 ∷ at 1 256 ∷ []) ≡ false
   -- Both items of the query were read in one cycle; one alone is no accept.
-  exact : IsExact (script_history pair) (0 ∷ 1 ∷ []) Accept (at 0 1 ∷ at 1 1 ∷ [])
-  one_alone : IsExact (script_history pair) (0 ∷ 1 ∷ []) Accept (at 0 1 ∷ []) → ⊥
+  exact : IsExact 1 (script_history pair) (0 ∷ 1 ∷ []) Accept (at 0 1 ∷ at 1 1 ∷ [])
+  one_alone : IsExact 1 (script_history pair) (0 ∷ 1 ∷ []) Accept (at 0 1 ∷ []) → ⊥
 
 parts : Parts
-unfolding draw draw_each draw_update draw_query is_late script_history event_of
+unfolding draw draw_each draw_update draw_query is_late spans_too_far span script_history event_of
 parts = record {
   parts_of_first = refl;
   second_update = refl;
@@ -151,6 +167,11 @@ parts = record {
   late_read = refl;
   read_in_time = refl;
   late_for_none = refl;
+  far_read = refl;
+  far_behind = refl;
+  near_read = refl;
+  far_for_none = refl;
+  first_read = refl;
   nothing_wanted = refl;
   this_wanted = refl;
   other_wanted = refl;
@@ -161,10 +182,18 @@ parts = record {
   heard = refl;
   line_reads = refl;
   decided_with_refused = refl;
+  decided_with_far = refl;
   decided_without = refl;
   aborted = tt;
   accepted = λ h. h;
   unfinished = λ h. h;
+  ended_aged = tt;
+  abort_not_aged = λ h. h;
+  aged_not_abort = λ h. h;
+  apart = refl;
+  apart_later = refl;
+  together = refl;
+  in_full = refl;
   exact = exact_line;
-  one_alone = λ h. let e : 0 ∷ [] ≡ 0 ∷ 1 ∷ [] = (h.accepted.0 refl).0 in cc;
+  one_alone = λ h. let e : 0 ∷ [] ≡ 0 ∷ 1 ∷ [] = (h.accepted.0 refl).1 in cc;
 }

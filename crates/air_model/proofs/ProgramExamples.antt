@@ -18,7 +18,7 @@ abbrev spec : ℕ → ℕ → DiskSpec
 spec size freq = record { size = size; freq = freq }
 
 -- The plan of eleven items of one rate on disks of sizes 1, 2, 8 with frequencies 4, 2, 1.
-pub plan_of_eleven_items : plan_text (replicate 11 1) (spec 1 4 ∷ spec 2 2 ∷ spec 8 1 ∷ [])
+pub plan_of_eleven_items : plan_text (replicate 11 1) (spec 1 4 ∷ spec 2 2 ∷ spec 8 1 ∷ []) []
     ≡ codes "program,16,4,4\ndisk,0,4,1,1\ndisk,1,2,2,1\ndisk,2,1,4,2\n" ++ codes "minor,0,0 1 3 4\nminor,1,0 2 5 6\nminor,2,0 1 7 8\nminor,3,0 2 9 10\n"
     ++ codes "item,0,0,4,4,0,1\nitem,1,1,2,8,1,2\nitem,2,1,2,8,5,2\nitem,3,2,1,16,2,4\nitem,4,2,1,16,3,4\nitem,5,2,1,16,6,4\n"
     ++ codes "item,6,2,1,16,7,4\nitem,7,2,1,16,10,4\nitem,8,2,1,16,11,4\nitem,9,2,1,16,14,4\nitem,10,2,1,16,15,4\n"
@@ -32,14 +32,14 @@ unfolding order order_with cut least_common_multiple num_minors num_chunks chunk
 waits_of_eleven_items = refl
 
 -- The plan of six items on disks of sizes 1 and 5 with frequencies 3 and 2 has idle slots.
-pub plan_with_idle_slots : plan_text (replicate 6 1) (spec 1 3 ∷ spec 5 2 ∷ [])
+pub plan_with_idle_slots : plan_text (replicate 6 1) (spec 1 3 ∷ spec 5 2 ∷ []) []
     ≡ codes "program,18,6,3\ndisk,0,3,2,1\ndisk,1,2,3,2\nminor,0,0 1 2\nminor,1,- 3 4\nminor,2,0 5 -\nminor,3,- 1 2\nminor,4,0 3 4\nminor,5,- 5 -\n"
     ++ codes "item,0,0,3,6,0,2\nitem,1,1,2,9,1,3\nitem,2,1,2,9,2,3\nitem,3,1,2,9,4,3\nitem,4,1,2,9,5,3\nitem,5,1,2,9,7,3\n"
 unfolding order order_with cut least_common_multiple num_minors num_chunks chunk_len chunk minor_cycle minor_len program next_wake disk_number chunks_of gap_of pix_number plan_rows plan_text rows_text number_text escaped fields_text is_blank
 plan_with_idle_slots = refl
 
 -- The plan of five items of different rates on disks of sizes 1 and 4 with frequencies 2 and 1.
-pub plan_of_different_rates : plan_text (1 ∷ 5 ∷ 1 ∷ 5 ∷ 9 ∷ []) (spec 1 2 ∷ spec 4 1 ∷ [])
+pub plan_of_different_rates : plan_text (1 ∷ 5 ∷ 1 ∷ 5 ∷ 9 ∷ []) (spec 1 2 ∷ spec 4 1 ∷ []) []
     ≡ codes "program,6,2,3\ndisk,0,2,1,1\ndisk,1,1,2,2\nminor,0,4 1 3\nminor,1,4 0 2\n"
     ++ codes "item,0,1,1,6,4,2\nitem,1,1,1,6,1,10\nitem,2,1,1,6,5,2\nitem,3,1,1,6,2,10\nitem,4,0,2,3,0,9\n"
 unfolding order order_with cut least_common_multiple num_minors num_chunks chunk_len chunk minor_cycle minor_len program next_wake disk_number chunks_of gap_of pix_number plan_rows plan_text rows_text number_text escaped fields_text is_blank

@@ -15,18 +15,21 @@ use Rattle.air_history.specs.declared.updates.Write.{Write}
 use Rattle.air_history.specs.declared.histories.Event.{Event}
 use Rattle.air_history.specs.declared.histories.Event.TheVariants.{Commit, Start}
 use Rattle.air_history.specs.Histories.{cycle_at, front, starts, writer, writes_of}
+use Rattle.air_history.specs.Ages.{capped}
 use Rattle.air_history.specs.Columns.{policy_entries, column_entry, vector_entry}
 use Rattle.air_history.proofs.StaleLemmas.{cycle_of}
 use Rattle.air_history.specs.Tables.{table, value_after, value_after_write, value_on_base, values_of, write_of}
 use Rattle.air_history.specs.Reads.{read_value}
 use Rattle.air_history.proofs.PlaceLemmas.{greatest_below}
 use Rattle.air_history.proofs.HistoryLemmas.{front_cycle, front_cycle_same, front_prefix, writer_before_some}
-use Rattle.air_model.specs.Buckets.{Body, Bucket, IsInRange, bucket_in, count_of, entries_of, item_of, kind_of, spelling, value_of}
+use Rattle.air_model.specs.Buckets.{Body, Bucket, IsInRange, bucket_in, capped_body, count_of, entries_of, item_of, kind_of, most_count, spelling, value_of}
 use Rattle.air_model.specs.Decks.{Deck, IsDeck, IsLegal, values_in}
-use Rattle.air_model.specs.Aired.{air_of, aired_as, body_of, bucket_of, buckets_of, IsAired}
+use Rattle.air_model.specs.Aired.{air_of, aired_as, body_of, bucket_of, buckets_of, edition_at, slots_at, IsAired}
 use Rattle.air_model.specs.AiredLaws.{CanAir}
 use Rattle.air_model.proofs.BucketLemmas.{ok_from_whole, whole_from_bucket}
+use Rattle.air_model.proofs.CapLemmas.{at_or_none, capped_is_told, capped_under, count_kept, entries_told, item_kept, kind_kept, value_kept}
 use Rattle.air_model.proofs.DeckLemmas.{air, update_is}
+use Rattle.air_model.proofs.EditionLemmas.{edition_is, edition_within}
 use Rattle.air_model.proofs.AiredLemmas.{aired, entries_long, own_from}
 
 -- ---- entries are below the cycle
@@ -110,14 +113,14 @@ value_below deck H is legal c i = table_below (values_of (values_in deck)) (cata
 
 -- ---- a bucket is in range
 
-record BodyFits (c : ℕ) (y : Body) : Type 0 where
+record BodyFits (most c : ℕ) (y : Body) : Type 0 where
   some : 1 ≤ count_of y
-  count : count_of y ≤ 256
+  count : count_of y ≤ most
   placed : (kind_of y ≡ 0) ⊎ (item_of y < count_of y)
   value : value_of y < 2 ^ 64
   entries : All (λ e. e < c) (entries_of y)
 
-body_in_range : (deck : Deck) (H : List Event) → CanAir deck H → (c : ℕ) → 1 ≤ c → (o : Option ℕ) → IfSome o (λ i. i < length deck.items) → BodyFits c (body_of (values_in deck) (air_of deck) H c o)
+body_in_range : (deck : Deck) (H : List Event) → CanAir deck H → (c : ℕ) → 1 ≤ c → (o : Option ℕ) → IfSome o (λ i. i < length deck.items) → BodyFits (most_count deck.settings.version) c (body_of (values_in deck) (air_of deck) H c o)
 unfolding body_of count_of kind_of item_of value_of entries_of
 body_in_range deck H can c one None h = record { some = can.made.some; count = can.made.most; placed = inl refl; value = omega arith; entries = All-nil _ }
 body_in_range deck H can c one (Some i) h = by deck.settings.policy
@@ -137,30 +140,50 @@ body_in_range deck H can c one (Some i) h = by deck.settings.policy
     some : 0 < n
     some = can.made.some
 
-    most : n ≤ 256
+    most : n ≤ most_count deck.settings.version
     most = can.made.most
 
-    by : (p : Policy) → BodyFits c (aired_as p i v (es p))
+    by : (p : Policy) → BodyFits (most_count deck.settings.version) c (aired_as p i v (es p))
     by FMatrix = record { some = omega (arith, long FMatrix, some); count = omega (arith, long FMatrix, most); placed = inr (omega (arith, long FMatrix, h)); value = value_below deck H can.made can.legal c i; entries = entries_below FMatrix n H c i one }
     by Datacycle = record { some = omega (arith, long Datacycle, some); count = omega (arith, long Datacycle, most); placed = inr (omega (arith, long Datacycle, h)); value = value_below deck H can.made can.legal c i; entries = entries_below Datacycle n H c i one }
     by RMatrix = record { some = omega (arith, long RMatrix, some); count = omega (arith, long RMatrix, most); placed = inr (omega (arith, long RMatrix, h)); value = value_below deck H can.made can.legal c i; entries = entries_below RMatrix n H c i one }
 
-bucket_in_range : (deck : Deck) (H : List Event) → CanAir deck H → (c s : ℕ) → 1 ≤ c → c ≤ starts H → s < length ((air_of deck).slots) → IsInRange (bucket_of (values_in deck) (air_of deck) H c s)
+-- The edition of a cycle is few.
+edition_few : (deck : Deck) → IsDeck deck → (c : ℕ) → edition_at (air_of deck) c < 2 ^ 16
+edition_few deck is c =
+    let same = edition_is deck c in
+    let within = edition_within deck c in
+    let few = is.few in
+    omega arith
+
+placed_kept : (v c : ℕ) (y : Body) → (kind_of y ≡ 0) ⊎ (item_of y < count_of y) → (kind_of (capped_body v c y) ≡ 0) ⊎ (item_of (capped_body v c y) < count_of (capped_body v c y))
+placed_kept v c y (inl idle) = inl (kind_kept v c y ∙ idle)
+placed_kept v c y (inr below) = let item = item_kept v c y in let count = count_kept v c y in inr (omega arith)
+
+bucket_in_range : (deck : Deck) (H : List Event) → CanAir deck H → (c s : ℕ) → 1 ≤ c → c ≤ starts H → s < length (slots_at (air_of deck) c) →
+    IsInRange (bucket_of (values_in deck) (air_of deck) H deck.settings.version c s)
 unfolding bucket_of
 bucket_in_range deck H can c s one started within =
-    let body = body_in_range deck H can c one (get_or ((air_of deck).slots) s None) ((air deck can.made).0 s None within) in
+    let a = air_of deck in
+    let v = deck.settings.version in
+    let slot = get_or (slots_at a c) s None in
+    let items : All (λ o. IfSome o (λ i. i < length deck.items)) (slots_at a c) = at_or_none (All (λ o. IfSome o (λ i. i < length deck.items))) a.slots (edition_at a c) (air deck can.made).0 (All-nil _) in
+    let y = body_of (values_in deck) a H c slot in
+    let body : BodyFits (most_count v) c y = body_in_range deck H can c one slot (items s None within) in
     let cycles = can.cycles in
-    let slots = can.slots in
+    let slots : length (slots_at a c) ≤ 2 ^ 16 = at_or_none (λ l. length l ≤ 2 ^ 16) a.slots (edition_at a c) can.slots (omega arith) in
     record {
-      edition = omega arith;
-      some = body.some;
-      count = body.count;
+      version = can.made.version;
+      edition = edition_few deck can.made c;
+      some = subst (λ n. 1 ≤ n) (sym (count_kept v c y)) body.some;
+      count = subst (λ n. n ≤ most_count v) (sym (count_kept v c y)) body.count;
       started = one;
       cycle = omega arith;
       slot = omega arith;
-      placed = body.placed;
-      value = body.value;
-      entries = body.entries;
+      placed = placed_kept v c y body.placed;
+      value = subst (λ n. n < 2 ^ 64) (sym (value_kept v c y)) body.value;
+      entries = subst (All (λ e. e < c)) (sym (entries_told v c y)) (capped_under v c c (entries_of y) body.entries);
+      told = λ ages. subst (All (λ e. capped e c ≡ e)) (sym (entries_told v c y)) (capped_is_told v c (entries_of y) ages);
     }
 
 own_in_range : (deck : Deck) (H : List Event) → CanAir deck H → (b : Bucket) → Contains (buckets_of (values_in deck) (air_of deck) H) b → IsInRange b

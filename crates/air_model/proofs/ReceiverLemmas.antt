@@ -41,7 +41,7 @@ receiver deck H r heard is l aired =
     record {
       same = same;
       sound = subst (λ (s : State). All (IsSoundLine (values_in deck) policy H) s.lines) (sym same) (sound (values_in deck) a H reader heard filled cycles);
-      exact = λ f. subst (λ (s : State). All (IsExactLine H reader) s.lines) (sym same) (exact (values_in deck) a H reader heard f filled cycles);
+      exact = λ f. subst (λ (s : State). All (IsExactLine deck.settings.version H reader) s.lines) (sym same) (exact (values_in deck) a H reader heard f filled cycles);
     }
 
 map_numbers : {X : Type 0} (f g : ℕ → X) (a n : ℕ) → ((k : ℕ) → a ≤ k → k < a + n → f k ≡ g k) → map f (range_with_len a n) ≡ map g (range_with_len a n)

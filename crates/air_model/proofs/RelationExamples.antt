@@ -1,5 +1,5 @@
 -- Small decks, programs, buckets, tapes and heard lists: where each relation of the model holds, and where some don't.
-use Rattle.std.proofs.Common.{◌≡◌, ◌≢◌, ℕ, zero, suc, ◌+◌, ◌<◌, ◌≤◌, ◌^◌, false, Some, None, Option, List, [], ◌∷◌, length, take, All, refl, inr, arith, ◌%◌, ◌==◌, IsTrue, IfSome, Contains}
+use Rattle.std.proofs.Common.{◌≡◌, ◌≢◌, ℕ, zero, suc, ◌+◌, ◌<◌, ◌≤◌, ◌^◌, false, Some, None, Option, List, [], ◌∷◌, length, take, All, refl, inl, inr, arith, ◌%◌, ◌==◌, IsTrue, IfSome, Contains, sum_by}
 use Rattle.std.proofs.lemmas.List.Elements.{All-nil, All-from_recursion}
 use Rattle.std.proofs.lemmas.Bool.{false≢true}
 use Rattle.std.proofs.lemmas.List.Kept.{AllPairs-cons}
@@ -16,7 +16,7 @@ use Rattle.air_model.specs.Disks.{Disk, all_items, cut, order, order_with, is_ho
 use Rattle.air_model.specs.Programs.{chunk, chunk_len, least_common_multiple, minor_cycle, num_chunks, num_minors, program}
 use Rattle.air_model.specs.ProgramLaws.{IsAirable, IsOrder}
 use Rattle.air_model.specs.Airings.{ComesEvery, IsNextWake, slot_item}
-use Rattle.air_model.specs.Buckets.{AreBytes, Bucket, Column, IsBucket, IsInRange, count_of, entries_of, item_of, kind_of, spelling, value_of}
+use Rattle.air_model.specs.Buckets.{AreBytes, Bucket, Column, IsBucket, IsInRange, count_of, entries_of, item_of, kind_of, spelling, value_of, capped_body, capped_entries, entry_bytes}
 use Rattle.air_model.specs.Tapes.{IsCutTape, IsTape, ends_inside, record_bytes, tape_of}
 use Rattle.air_model.specs.Aired.{IsAired, IsAiredBucket, SlotsFit, air_of, body_fits, body_of, bucket_of, fits}
 use Rattle.air_model.specs.AiredLaws.{CanAir}
@@ -26,7 +26,7 @@ use Rattle.air_model.specs.SessionLaws.{QueriesFilled, bare}
 use Rattle.air_model.specs.ReceiverLaws.{IsTrueSession}
 use Rattle.air_model.specs.Sessions.{reader_of}
 use Rattle.air_model.proofs.BucketExamples.{first_bytes}
-use Rattle.air_model.proofs.DeckLemmas.{air}
+use Rattle.air_model.proofs.DeckLemmas.{air, each_edition}
 use Rattle.air_model.proofs.ScriptLemmas.{script}
 use Rattle.air_model.proofs.ReceiverLemmas.{receiver}
 use Rattle.air_model.proofs.SessionExamples.{pair, s, swapped_deck, u}
@@ -39,10 +39,14 @@ pub pair_is_deck : IsDeck pair
 unfolding has_repeat
 pair_is_deck = record {
   some = omega arith;
+  version = inl refl;
   most = omega arith;
   values = All-from_recursion (λ i. i.value < 2 ^ 64) pair.items (omega arith, (omega arith, tt));
-  sizes = refl;
-  aired = All-from_recursion (λ d. (0 < d.size) × (0 < d.freq)) pair.disks ((omega arith, omega arith), tt);
+  sizes = each_edition (λ specs. sum_by (λ d. d.size) specs ≡ 2) pair refl refl;
+  aired = each_edition (All (λ d. (0 < d.size) × (0 < d.freq))) pair refl (All-from_recursion (λ d. (0 < d.size) × (0 < d.freq)) pair.disks ((omega arith, omega arith), tt));
+  few = omega arith;
+  from_two = All-nil (λ r. 2 ≤ r.cycle);
+  rising = λ i j d less within. absurd (omega arith);
   updates = All-from_recursion (All (IsUpdate 2)) pair.updates (All-nil (IsUpdate 2), tt);
   readers = refl;
   tries = All-from_recursion (λ r. 1 ≤ r.tries) pair.readers (omega arith, tt);
@@ -52,6 +56,7 @@ pair_is_deck = record {
     tt,
   );
   script = λ by. omega arith;
+  plain = (refl, refl);
 }
 
 -- Two items that change between two cycles, which are all that its settings ask for.
@@ -173,11 +178,12 @@ once_a_cycle = record { some = omega arith; again = comes; between = not_before 
 
 -- The bucket of item 0 in the first cycle, and its bytes.
 abbrev first : Bucket
-first = record { edition = 0; cycle = 1; slot = 0; body = Column 0 10 (0 ∷ 0 ∷ []) }
+first = record { version = 1; edition = 0; cycle = 1; slot = 0; body = Column 0 10 (0 ∷ 0 ∷ []) }
 
 pub first_in_range : IsInRange first
 unfolding count_of kind_of item_of value_of entries_of
 first_in_range = record {
+  version = inl refl;
   edition = omega arith;
   some = omega arith;
   count = omega arith;
@@ -187,10 +193,11 @@ first_in_range = record {
   placed = inr (omega arith);
   value = omega arith;
   entries = All-from_recursion (λ e. e < 1) (0 ∷ 0 ∷ []) (omega arith, (omega arith, tt));
+  told = λ ages. absurd (false≢true ages);
 }
 
 pub first_is_bucket : IsBucket first_bytes first
-unfolding spelling kind_of count_of item_of value_of entries_of
+unfolding spelling entry_bytes kind_of count_of item_of value_of entries_of
 first_is_bucket = (first_in_range, refl)
 
 -- With an entry that is the cycle it isn't in range.
@@ -218,14 +225,14 @@ cut_tape = record { before = (All-from_recursion (λ r. length r < 2 ^ 32) (firs
 -- The script of the two-item deck can be aired; its slots have items of the catalog, and its queries are filled.
 pub pair_can_air : CanAir pair (script_history pair)
 unfolding script_history event_of order order_with cut program least_common_multiple num_minors num_chunks chunk_len chunk minor_cycle starts is_start
-pair_can_air = record { made = pair_is_deck; legal = script pair pair_is_deck.script; cycles = omega arith; slots = omega arith }
+pair_can_air = record { made = pair_is_deck; legal = script pair pair_is_deck.script; cycles = omega arith; slots = All-from_recursion (λ slots. length slots ≤ 2 ^ 16) ((air_of pair).slots) (omega arith, tt) }
 
 pub pair_filled : QueriesFilled (reader_of pair 0)
 pair_filled = (air pair pair_is_deck).1 0
 
 -- Of a list with that bucket, bytes that are no bucket, and a bucket of another edition, the script's history aired all that fits.
 pub aired_list : IsAired (values_in pair) (air_of pair) (script_history pair) (Some first ∷ None ∷ Some (record first { edition = 1; cycle = 9 }) ∷ [])
-unfolding script_history event_of order order_with cut program least_common_multiple num_minors num_chunks chunk_len chunk minor_cycle starts is_start bucket_of body_of body_fits fits table column_entry front greatest
+unfolding script_history event_of order order_with cut program least_common_multiple num_minors num_chunks chunk_len chunk minor_cycle starts is_start bucket_of capped_entries capped_body body_of body_fits fits table column_entry front greatest
 aired_list = All-from_recursion (λ o. IfSome o (λ b. IsTrue (fits (air_of pair) b) → IsAiredBucket (values_in pair) (air_of pair) (script_history pair) b))
     (Some first ∷ None ∷ Some (record first { edition = 1; cycle = 9 }) ∷ [])
     (λ _. record { from_one = omega arith; started = omega arith; same = refl }, (tt, (λ f. absurd (false≢true f), tt)))
@@ -235,12 +242,12 @@ pub true_session : IsTrueSession pair (script_history pair) 0 (Some first ∷ No
 true_session = receiver pair (script_history pair) 0 (Some first ∷ None ∷ Some (record first { edition = 1; cycle = 9 }) ∷ []) pair_is_deck (omega arith) aired_list
 
 -- Of three slots each that has an item has one of the two.
-pub slots_fit : SlotsFit (record { scheme = scheme_of FMatrix; items = 2; slots = three_slots; pix = [] })
-slots_fit = All-from_recursion (λ o. IfSome o (λ i. i < 2)) three_slots (omega arith, (omega arith, (tt, tt)))
+pub slots_fit : SlotsFit (record { scheme = scheme_of FMatrix; version = 1; items = 2; replans = []; slots = three_slots ∷ []; pix = [] ∷ [] })
+slots_fit = All-from_recursion (All (λ o. IfSome o (λ i. i < 2))) (three_slots ∷ []) (All-from_recursion (λ o. IfSome o (λ i. i < 2)) three_slots (omega arith, (omega arith, (tt, tt))), tt)
 
 -- Of one item alone they don't.
-slots_of_more : SlotsFit (record { scheme = scheme_of FMatrix; items = 1; slots = three_slots; pix = [] }) → ⊥
-slots_of_more h = let low : 1 < 1 = h 1 None (omega arith) in omega arith
+slots_of_more : SlotsFit (record { scheme = scheme_of FMatrix; version = 1; items = 1; replans = []; slots = [] ∷ three_slots ∷ []; pix = [] }) → ⊥
+slots_of_more h = let low : 1 < 1 = h 1 [] (omega arith) 1 None (omega arith) in omega arith
 
 -- What the history looks at of the bucket.
 bare_first : bare first ≡ record first { body = Column 0 0 (0 ∷ 0 ∷ []) }

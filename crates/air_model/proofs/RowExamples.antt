@@ -2,12 +2,12 @@
 use Rattle.std.specs.Prelude.{◌≡◌, List, [], ◌∷◌, Some, None, codes, refl}
 use Rattle.csv.specs.Writing.{escaped, fields_text, is_blank, row_text}
 use Rattle.air_base.specs.Numbers.{number_text}
-use Rattle.air_base.specs.declared.verdicts.VerdictKind.TheVariants.{Accept, Abort}
+use Rattle.air_base.specs.declared.verdicts.VerdictKind.TheVariants.{Accept, Abort, Aged}
 use Rattle.air_history.specs.declared.histories.Event.{Event}
 use Rattle.air_history.specs.declared.histories.Event.TheVariants.{Start}
 use Rattle.air_model.specs.Airings.{chunks_of, disk_number, gap_of, next_wake, pix_number}
 use Rattle.air_model.specs.Disks.{Disk}
-use Rattle.air_model.specs.PlanTexts.{disk_row, item_row, minor_row, program_row, slot_text}
+use Rattle.air_model.specs.PlanTexts.{disk_row, item_row, minor_row, program_row, replan_row, slot_text}
 use Rattle.air_model.specs.Programs.{chunk, chunk_len, least_common_multiple, minor_cycle, minor_len, num_chunks, num_minors, program}
 use Rattle.air_model.specs.Reports.{Report, attempt_row, counts_row, kind_row, look_row, place_text, read_text, report_rows, report_text, session_report, verdict_row}
 use Rattle.air_model.specs.Rows.{row_writer, rows_text}
@@ -49,6 +49,9 @@ pub record Rows : Type 0 where
   of_attempt : attempt_row (codes "accept") abort_line ≡ codes "accept" ∷ codes "2" ∷ codes "3" ∷ codes "1" ∷ codes "6@2=10" ∷ []
   of_accept : kind_row Accept abort_line ≡ codes "accept" ∷ codes "2" ∷ codes "3" ∷ codes "1" ∷ codes "6@2=10" ∷ []
   of_abort : verdict_row abort_line ≡ codes "abort" ∷ codes "2" ∷ codes "3" ∷ codes "1" ∷ codes "6@2=10" ∷ codes "5@4" ∷ codes "6" ∷ []
+  of_aged : kind_row (Aged 5 256) abort_line ≡ codes "aged" ∷ codes "2" ∷ codes "3" ∷ codes "1" ∷ codes "6@2=10" ∷ codes "5@256" ∷ []
+  -- Edition 2 is in force from cycle 5 on.
+  of_replan : replan_row 2 5 ≡ codes "replan" ∷ codes "2" ∷ codes "5" ∷ []
   of_counts : counts_row counts_line ≡ codes "counts" ∷ codes "1" ∷ codes "2" ∷ codes "3" ∷ codes "4" ∷ codes "5" ∷ codes "6" ∷ codes "7" ∷ []
   of_look : look_row (codes "glance") look_line ≡ codes "glance" ∷ codes "1" ∷ codes "2" ∷ codes "30" ∷ []
   all_sections : report_rows of_each ≡ (codes "start" ∷ []) ∷ verdict_row abort_line ∷ counts_row counts_line ∷ look_row (codes "glance") look_line ∷ look_row (codes "look") look_line ∷ []
@@ -72,6 +75,8 @@ rows = record {
   of_attempt = refl;
   of_accept = refl;
   of_abort = refl;
+  of_aged = refl;
+  of_replan = refl;
   of_counts = refl;
   of_look = refl;
   all_sections = refl;

@@ -17,6 +17,7 @@ use Rattle.air_model.proofs.SessionExamples.{pair, set_to, update}
 use Rattle.air_model.specs.Batches.{AirsByBatches, EndsWithStart}
 use Rattle.air_model.specs.RunClosings.{HaveMadeAll, HaveMadeSome, IsClosing}
 use Rattle.air_model.specs.MonitorSights.{AreGlances, AreLooks, EndsAtStart, IsSeen}
+use Rattle.air_model.specs.Buckets.{capped_body, capped_entries}
 
 -- Updater 0 puts 11 into item 0, updater 1 puts 21 into item 1; there are two cycles and a monitor.
 abbrev pub two : Deck
@@ -125,7 +126,7 @@ each_ends = All-from_recursion EndsWithStart ((first ∷ Start ∷ []) ∷ (seco
 
 -- One batch a cycle, each with the commit before its start.
 pub by_batches : AirsByBatches two history ((first ∷ Start ∷ []) ∷ (second ∷ Start ∷ []) ∷ [])
-unfolding is_start starts buckets_of bucket_of body_of front
+unfolding is_start starts buckets_of bucket_of capped_entries capped_body body_of front
 by_batches = record { count = refl; each = each_ends; rest = []; history = refl; quiet = refl; aired = refl }
 
 -- Not by both cycles at once, nor by the first alone, nor by batches that begin with a start.

@@ -17,7 +17,7 @@ use Rattle.air_history.specs.Tables.{value_on_base, write_of, value_after, table
 use Rattle.air_history.specs.Reads.{origin, stale}
 use Rattle.air_history.specs.Consistency.{descends_from, runs_alone, last_alone, consistent}
 use Rattle.air_history.specs.Clashes.{least, is_late, clash_by_history, clash_by_entries}
-use Rattle.air_model.specs.Buckets.{Bucket, Body, Column, Vector}
+use Rattle.air_model.specs.Buckets.{Bucket, Body, Column, Vector, capped_body, capped_entries}
 use Rattle.air_model.specs.Copies.{keep, without_item, with_copy}
 use Rattle.air_model.specs.Disks.{order, order_with, cut}
 use Rattle.air_model.specs.Programs.{program, least_common_multiple, num_minors, num_chunks, chunk_len, chunk, minor_cycle}
@@ -25,7 +25,7 @@ use Rattle.air_model.specs.Airings.{disk_number, chunks_of, pix_number}
 use Rattle.air_model.specs.Decks.{Deck, Item, event_of, script_history, values_in}
 use Rattle.air_model.specs.Aired.{scheme_in, air_of, body_of, bucket_of, buckets_of, body_fits, fits}
 use Rattle.air_model.specs.Judges.{Judge, by_history, by_entries}
-use Rattle.air_model.specs.Sessions.{Line, State, reader_of, session, query_of, wanted, line_of, with_line, count_copied, count_opened, count_dozed, count_late, count_refused, count_foreign, next_query, next_attempt, accept_if_whole, hold, abort, is_unusable, drop_copy, copy_of, turn_with, turn, settle, decide, offer, open_bucket, hear_read, hear, hear_all, end_query, end}
+use Rattle.air_model.specs.Sessions.{Line, State, reader_of, session, query_of, wanted, line_of, with_line, count_copied, count_opened, count_dozed, count_late, count_refused, count_foreign, next_query, next_attempt, accept_if_whole, hold, abort, is_unusable, drop_copy, copy_of, turn_with, turn, settle, decide, offer, open_bucket, hear_read, hear, hear_all, end_query, end, end_aged, judge_read}
 
 -- ---- decks of one disk, one updater and one reader
 
@@ -50,16 +50,21 @@ abbrev pub deck : List Item → List UpdateLists → ℕ × ℕ × ℕ → List 
 deck items updates (room, age, tries) queries script = record {
   items = items;
   disks = record { size = length items; freq = 1 } ∷ [];
+  replans = [];
   updates = updates ∷ [];
   readers = record { room = room; age = age; tries = tries } ∷ [];
   queries = queries ∷ [];
   script = script;
-  settings = record { policy = FMatrix; cycles = 10; seed = 0; loss = 0; again = 0; late = 0; monitors = 0; hears = 1000000 };
+  settings = record { policy = FMatrix; version = 1; cycles = 10; seed = 0; loss = 0; again = 0; late = 0; monitors = 0; hears = 1000000 };
 }
 
 -- The deck with another policy.
 abbrev pub judged_by : Policy → Deck → Deck
 judged_by policy d = record d { settings = record d.settings { policy = policy } }
+
+-- The deck with buckets of another version.
+abbrev pub aired_in : ℕ → Deck → Deck
+aired_in version d = record d { settings = record d.settings { version = version } }
 
 -- A start of the script.
 abbrev pub s : Option ℕ
@@ -96,9 +101,9 @@ crowded_deck = deck (item 10 1 ∷ item 20 1 ∷ item 30 1 ∷ []) [] (1, 9, 1) 
 abbrev pub all_of : Deck → List (Option Bucket)
 all_of d = map Some (buckets_of (values_in d) (air_of d) (script_history d))
 
--- A bucket of this cycle, slot and body.
+-- A bucket of this cycle, slot and body, of edition 0 and version 1.
 abbrev pub bucket : ℕ → ℕ → Body → Option Bucket
-bucket c slot body = Some (record { edition = 0; cycle = c; slot = slot; body = body })
+bucket c slot body = Some (record { version = 1; edition = 0; cycle = c; slot = slot; body = body })
 
 -- The lines and the counts of the deck's reader.
 abbrev pub over : Judge → Deck → List (Option Bucket) → List Line × Counts
@@ -167,7 +172,7 @@ pub record Sessions : Type 0 where
 
 -- And they do.
 pub sessions : Sessions
-unfolding last_place greatest cycle_at front starts writer writer_before writes reads is_start descends descends_in column_entry vector_entry value_on_base write_of value_after table origin stale descends_from runs_alone last_alone consistent least is_late clash_by_history clash_by_entries keep without_item with_copy order order_with cut program least_common_multiple num_minors num_chunks chunk_len chunk minor_cycle disk_number chunks_of pix_number event_of script_history body_of bucket_of buckets_of body_fits fits by_history by_entries session query_of wanted line_of with_line count_copied count_opened count_dozed count_late count_refused count_foreign next_query next_attempt accept_if_whole hold abort is_unusable drop_copy copy_of turn_with turn settle decide offer open_bucket hear_read hear hear_all end_query end
+unfolding last_place greatest cycle_at front starts writer writer_before writes reads is_start descends descends_in column_entry vector_entry value_on_base write_of value_after table origin stale descends_from runs_alone last_alone consistent least is_late clash_by_history clash_by_entries keep without_item with_copy order order_with cut program least_common_multiple num_minors num_chunks chunk_len chunk minor_cycle disk_number chunks_of pix_number event_of script_history body_of bucket_of capped_entries capped_body buckets_of body_fits fits by_history by_entries session query_of wanted line_of with_line count_copied count_opened count_dozed count_late count_refused count_foreign next_query next_attempt accept_if_whole hold abort is_unusable drop_copy copy_of turn_with turn settle decide offer open_bucket end_aged judge_read hear_read hear hear_all end_query end
 sessions = record {
   accepts = (refl, refl);
   f_matrix_accepts = (refl, refl);

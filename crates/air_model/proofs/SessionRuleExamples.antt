@@ -11,7 +11,7 @@ use Rattle.air_history.specs.Tables.{value_on_base, write_of, value_after, table
 use Rattle.air_history.specs.Reads.{origin, stale}
 use Rattle.air_history.specs.Consistency.{descends_from, runs_alone, last_alone, consistent}
 use Rattle.air_history.specs.Clashes.{least, is_late, clash_by_history, clash_by_entries}
-use Rattle.air_model.specs.Buckets.{Bucket, Column, Idle, Vector}
+use Rattle.air_model.specs.Buckets.{Bucket, Column, Idle, Vector, capped_body, capped_entries}
 use Rattle.air_model.specs.Copies.{keep, without_item, with_copy}
 use Rattle.air_model.specs.Disks.{order, order_with, cut}
 use Rattle.air_model.specs.Programs.{program, least_common_multiple, num_minors, num_chunks, chunk_len, chunk, minor_cycle}
@@ -19,7 +19,7 @@ use Rattle.air_model.specs.Airings.{disk_number, chunks_of, pix_number}
 use Rattle.air_model.specs.Decks.{Deck, event_of, script_history}
 use Rattle.air_model.specs.Aired.{body_of, bucket_of, buckets_of, body_fits, fits}
 use Rattle.air_model.specs.Judges.{by_history, by_entries}
-use Rattle.air_model.specs.Sessions.{session, query_of, wanted, line_of, with_line, count_copied, count_opened, count_dozed, count_late, count_refused, count_foreign, next_query, next_attempt, accept_if_whole, hold, abort, is_unusable, drop_copy, copy_of, turn_with, turn, settle, decide, offer, open_bucket, hear_read, hear, hear_all, end_query, end}
+use Rattle.air_model.specs.Sessions.{session, query_of, wanted, line_of, with_line, count_copied, count_opened, count_dozed, count_late, count_refused, count_foreign, next_query, next_attempt, accept_if_whole, hold, abort, is_unusable, drop_copy, copy_of, turn_with, turn, settle, decide, offer, open_bucket, hear_read, hear, hear_all, end_query, end, end_aged, judge_read}
 use Rattle.air_model.proofs.SessionExamples.{all_of, bucket, by_both, chained_deck, counts_with, deck, item, judged_by, line, over, read, s, u}
 
 -- The chain's deck with another reader: room, age and tries, and queries.
@@ -51,7 +51,7 @@ heard_vector i c = bucket c i (Vector i (10 * (i + 1)) (0 ∷ 0 ∷ []))
 
 -- A bucket of another edition and a late cycle.
 abbrev foreign : Option Bucket
-foreign = Some (record { edition = 1; cycle = 9; slot = 0; body = Column 0 10 (0 ∷ 0 ∷ []) })
+foreign = Some (record { version = 1; edition = 1; cycle = 9; slot = 0; body = Column 0 10 (0 ∷ 0 ∷ []) })
 
 -- All six counts.
 abbrev counts : ℕ → ℕ → ℕ → ℕ → ℕ → ℕ → Counts
@@ -94,7 +94,7 @@ pub record KeptCopies : Type 0 where
       ≡ (line 0 1 Accept (read 1 2 20 ∷ []) ∷ line 1 1 Unfinished (read 0 4 10 ∷ []) ∷ [], counts_with 2 0 0)
 
 pub kept_copies : KeptCopies
-unfolding last_place greatest cycle_at front starts writer writer_before writes reads is_start descends descends_in column_entry vector_entry value_on_base write_of value_after table origin stale descends_from runs_alone last_alone consistent least is_late clash_by_history clash_by_entries keep without_item with_copy order order_with cut program least_common_multiple num_minors num_chunks chunk_len chunk minor_cycle disk_number chunks_of pix_number event_of script_history body_of bucket_of buckets_of body_fits fits by_history by_entries session query_of wanted line_of with_line count_copied count_opened count_dozed count_late count_refused count_foreign next_query next_attempt accept_if_whole hold abort is_unusable drop_copy copy_of turn_with turn settle decide offer open_bucket hear_read hear hear_all end_query end
+unfolding last_place greatest cycle_at front starts writer writer_before writes reads is_start descends descends_in column_entry vector_entry value_on_base write_of value_after table origin stale descends_from runs_alone last_alone consistent least is_late clash_by_history clash_by_entries keep without_item with_copy order order_with cut program least_common_multiple num_minors num_chunks chunk_len chunk minor_cycle disk_number chunks_of pix_number event_of script_history body_of bucket_of capped_entries capped_body buckets_of body_fits fits by_history by_entries session query_of wanted line_of with_line count_copied count_opened count_dozed count_late count_refused count_foreign next_query next_attempt accept_if_whole hold abort is_unusable drop_copy copy_of turn_with turn settle decide offer open_bucket end_aged judge_read hear_read hear hear_all end_query end
 kept_copies = record { of_its_age = (refl, refl); too_old = (refl, refl); settled_at_the_end = (refl, refl); by_item = (refl, refl); by_airing = (refl, refl); late_not_kept = refl; late_copy = refl }
 
 -- ---- aborts
@@ -125,7 +125,7 @@ pub record Aborts : Type 0 where
       ≡ (line 0 1 (Abort 1 2 0) (read 0 1 10 ∷ []) ∷ line 1 1 Accept (read 1 2 20 ∷ []) ∷ [], counts_with 2 0 1)
 
 pub aborts : Aborts
-unfolding last_place greatest cycle_at front starts writer writer_before writes reads is_start descends descends_in column_entry vector_entry value_on_base write_of value_after table origin stale descends_from runs_alone last_alone consistent least is_late clash_by_history clash_by_entries keep without_item with_copy order order_with cut program least_common_multiple num_minors num_chunks chunk_len chunk minor_cycle disk_number chunks_of pix_number event_of script_history body_of bucket_of buckets_of body_fits fits by_history by_entries session query_of wanted line_of with_line count_copied count_opened count_dozed count_late count_refused count_foreign next_query next_attempt accept_if_whole hold abort is_unusable drop_copy copy_of turn_with turn settle decide offer open_bucket hear_read hear hear_all end_query end
+unfolding last_place greatest cycle_at front starts writer writer_before writes reads is_start descends descends_in column_entry vector_entry value_on_base write_of value_after table origin stale descends_from runs_alone last_alone consistent least is_late clash_by_history clash_by_entries keep without_item with_copy order order_with cut program least_common_multiple num_minors num_chunks chunk_len chunk minor_cycle disk_number chunks_of pix_number event_of script_history body_of bucket_of capped_entries capped_body buckets_of body_fits fits by_history by_entries session query_of wanted line_of with_line count_copied count_opened count_dozed count_late count_refused count_foreign next_query next_attempt accept_if_whole hold abort is_unusable drop_copy copy_of turn_with turn settle decide offer open_bucket end_aged judge_read hear_read hear hear_all end_query end
 aborts = record { begins_anew = (refl, refl); refused_read_kept = (refl, refl); clash_dropped = (refl, refl); others_kept = (refl, refl); dropped_then_offered = refl }
 
 -- ---- what is heard, and what is left
@@ -158,5 +158,5 @@ pub record Heard : Type 0 where
       ≡ (line 0 1 Unfinished (read 0 4 10 ∷ []) ∷ [], counts 1 1 1 0 0 0)
 
 pub heard : Heard
-unfolding last_place greatest cycle_at front starts writer writer_before writes reads is_start descends descends_in column_entry vector_entry value_on_base write_of value_after table origin stale descends_from runs_alone last_alone consistent least is_late clash_by_history clash_by_entries keep without_item with_copy order order_with cut program least_common_multiple num_minors num_chunks chunk_len chunk minor_cycle disk_number chunks_of pix_number event_of script_history body_of bucket_of buckets_of body_fits fits by_history by_entries session query_of wanted line_of with_line count_copied count_opened count_dozed count_late count_refused count_foreign next_query next_attempt accept_if_whole hold abort is_unusable drop_copy copy_of turn_with turn settle decide offer open_bucket hear_read hear hear_all end_query end
+unfolding last_place greatest cycle_at front starts writer writer_before writes reads is_start descends descends_in column_entry vector_entry value_on_base write_of value_after table origin stale descends_from runs_alone last_alone consistent least is_late clash_by_history clash_by_entries keep without_item with_copy order order_with cut program least_common_multiple num_minors num_chunks chunk_len chunk minor_cycle disk_number chunks_of pix_number event_of script_history body_of bucket_of capped_entries capped_body buckets_of body_fits fits by_history by_entries session query_of wanted line_of with_line count_copied count_opened count_dozed count_late count_refused count_foreign next_query next_attempt accept_if_whole hold abort is_unusable drop_copy copy_of turn_with turn settle decide offer open_bucket end_aged judge_read hear_read hear hear_all end_query end
 heard = record { idle_dozed = (refl, refl); each_left = (refl, refl); left_again = (refl, refl); foreign_no_clock = refl; dozed_clock = refl; idle_clock = refl; dozed_before_late = refl }

@@ -1,19 +1,18 @@
--- What lines tell: each is sound where the history judges, under F-Matrix it tells whether the reads are consistent, and by
--- any judge it is the reader's. Each law is an instance of `kept`.
-use Rattle.std.proofs.Common.{◌≡◌, ℕ, zero, suc, ◌<◌, ◌≤◌, true, false, Option, Some, None, List, [], ◌∷◌, ◌++◌, length, map, take, get_or, All, refl, sym, ◌∙◌, ap, subst, inl, inr, arith, ◌==◌}
-use Rattle.std.specs.Prelude.{Contains, IfSome, IsTrue}
+-- What lines tell: each is sound where the history judges, and under F-Matrix it tells whether the reads are consistent. Each law is an
+-- instance of `kept`.
+use Rattle.std.proofs.Common.{◌≡◌, ℕ, zero, suc, ◌<◌, ◌≤◌, true, false, Option, Some, None, List, [], ◌∷◌, ◌++◌, length, map, take, get_or, All, refl, sym, ◌∙◌, ap, subst, arith}
+use Rattle.std.specs.Prelude.{IfSome, IsTrue}
 use Rattle.std.specs.List.{slice_get}
 use Rattle.std.specs.Option.{is_some}
-use Rattle.std.proofs.lemmas.Bool.{cases_lt, and_from, eq-eqb, lt-ltb}
 use Rattle.std.proofs.lemmas.Option.{get_or_from_slice_get, slice_get_within}
 use Rattle.std.proofs.lemmas.Simd.{map-map}
-use Rattle.std.proofs.lemmas.List.{map-append, take_more, length-map, take_all, length_push, get_or_past, get_or_default}
+use Rattle.std.proofs.lemmas.List.{map-append, take_more, length-map, take_all, length_push}
 use Rattle.std.proofs.lemmas.List.Elements.{All-head, All-tail, All-cons, All-push, All-nil, All-map}
 use Rattle.air_base.specs.declared.verdicts.Policy.{Policy}
 use Rattle.air_base.specs.declared.verdicts.Policy.TheVariants.{FMatrix}
 use Rattle.air_base.specs.declared.verdicts.Clash.{Clash}
 use Rattle.air_base.specs.declared.verdicts.VerdictKind.{VerdictKind}
-use Rattle.air_base.specs.declared.verdicts.VerdictKind.TheVariants.{Accept, Abort, Unfinished}
+use Rattle.air_base.specs.declared.verdicts.VerdictKind.TheVariants.{Accept, Abort, Aged, Unfinished}
 use Rattle.air_history.specs.declared.histories.Event.{Event}
 use Rattle.air_history.specs.Tables.{table, values_of}
 use Rattle.air_history.specs.Reads.{ReadAt, IsRead, read_value}
@@ -28,11 +27,10 @@ use Rattle.air_model.specs.Buckets.{Bucket, Body, Idle, Column, Vector}
 use Rattle.air_model.specs.Reads.{Read}
 use Rattle.air_model.specs.Aired.{Air, fits}
 use Rattle.air_model.specs.Judges.{Judge, place_of, by_history}
-use Rattle.air_model.specs.Sessions.{Reader, Line, line_of, read_in, session, is_wanted}
-use Rattle.air_model.specs.SessionLaws.{CyclesFromOne, follows_query, IsOfReader, IsSoundLine, NamesHeld, QueriesFilled, reads_at}
+use Rattle.air_model.specs.Sessions.{Reader, Line, line_of, read_in, session}
+use Rattle.air_model.specs.SessionLaws.{CyclesFromOne, are_far, decided_on, IsSoundLine, QueriesFilled, reads_at}
+use Rattle.air_model.proofs.HeardLemmas.{none_far}
 use Rattle.air_model.proofs.MomentLemmas.{item_after, Keeps, Gives, kept}
-use Rattle.std.specs.Cmp.Lexicographic.{bytes_decides}
-use Rattle.std.proofs.lemmas.List.Folds.{list_any_at}
 
 -- ---- reads that were accepted
 
@@ -102,19 +100,20 @@ sound V air H reader heard filled cycles = kept (by_history air.scheme V H) air 
     rules = record {
       first = λ q. are_none air.scheme.policy H;
       again = λ q a R k l. are_none air.scheme.policy H;
-      more = λ q a R x k pos judged none. are_more air.scheme.policy H R x k pos judged.in_time none;
+      more = λ q a R x k pos judged near none. are_more air.scheme.policy H R x k pos judged.in_time none;
       accepted = λ q a R k l e. sound_line V air.scheme H q a Accept R k;
-      aborted = λ q a R x c k pos judged e. sound_line V air.scheme H q a (Abort x.item x.cycle c.item) R k;
+      aborted = λ q a R x c k pos judged near e. sound_line V air.scheme H q a (Abort x.item x.cycle c.item) R k;
+      aged = λ q a R x k pos judged far. sound_line V air.scheme H q a (Aged x.item x.cycle) R k;
       unfinished = λ q a R k e. sound_line V air.scheme H q a Unfinished R k;
     }
 
 -- ---- the reads follow the query
 
 -- The reads are of the query's items, in order.
-abbrev InQuery : Reader → ℕ → List Read → Type 0
+abbrev pub InQuery : Reader → ℕ → List Read → Type 0
 InQuery reader q R = map (λ r. r.item) R ≡ take (length R) (get_or reader.queries q [])
 
-in_query_more : (reader : Reader) (q : ℕ) (R : List Read) (x : Read) → InQuery reader q R → item_after reader q R ≡ Some x.item → InQuery reader q (R ++ x ∷ [])
+pub in_query_more : (reader : Reader) (q : ℕ) (R : List Read) (x : Read) → InQuery reader q R → item_after reader q R ≡ Some x.item → InQuery reader q (R ++ x ∷ [])
 in_query_more reader q R x k e =
     let query = get_or reader.queries q [] in
     map-append (λ r. r.item) R (x ∷ []) ∙ ap (λ S. S ++ x.item ∷ []) k
@@ -147,10 +146,17 @@ refuses H R x c are pos k e both =
 unfoldable pub Tells : List Event → List ℕ → VerdictKind → List ReadAt → Type 0
 Tells H query Accept R = (map (λ r. r.item) R ≡ query) × IsConsistent H R
 Tells H query (Abort item cycle clash) R = IsConsistent H R × (IsConsistent H (R ++ record { item = item; cycle = cycle } ∷ []) → ⊥)
+Tells H query (Aged item cycle) R = Unit {0}
 Tells H query Unfinished R = IsConsistent H R × (length R < length query)
 
+-- The reads on which an aged verdict was decided lie too far apart, and those of the others don't.
+abbrev pub TellsSpan : ℕ → VerdictKind → List ReadAt → Type 0
+TellsSpan version (Aged item cycle) R = are_far version R ≡ true
+TellsSpan version other R = are_far version R ≡ false
+
 pub verdict : (values : List ℕ) (air : Air) (H : List Event) (reader : Reader) (heard : List (Option Bucket)) → air.scheme.policy ≡ FMatrix → QueriesFilled reader → CyclesFromOne air heard →
-    All (λ l. Tells H (get_or reader.queries l.verdict.query []) l.verdict.kind (reads_at l)) (session (by_history air.scheme values H) air reader heard).lines
+    All (λ l. Tells H (get_or reader.queries l.verdict.query []) l.verdict.kind (reads_at l) × TellsSpan air.version l.verdict.kind (decided_on l.verdict.kind (reads_at l)))
+    (session (by_history air.scheme values H) air reader heard).lines
 unfolding by_history Tells line_of
 verdict V air H reader heard f filled cycles = kept (by_history air.scheme V H) air reader FromOne K L filled rules heard
     (λ k d l. read_from_one air (get_or heard k d) (cycles k d l))
@@ -159,113 +165,34 @@ verdict V air H reader heard f filled cycles = kept (by_history air.scheme V H) 
     query q = get_or reader.queries q []
 
     K : ℕ → ℕ → List Read → Type 0
-    K q a R = AreAccepted air.scheme.policy H R × InQuery reader q R
+    K q a R = AreAccepted air.scheme.policy H R × InQuery reader q R × (are_far air.version (map place_of R) ≡ false)
 
     L : Line → Type 0
-    L l = Tells H (get_or reader.queries l.verdict.query []) l.verdict.kind (reads_at l)
+    L l = Tells H (get_or reader.queries l.verdict.query []) l.verdict.kind (reads_at l) × TellsSpan air.version l.verdict.kind (decided_on l.verdict.kind (reads_at l))
 
     same : (q a : ℕ) (kind : VerdictKind) (R : List Read) → map place_of R ≡ reads_at (line_of (by_history air.scheme V H) q a kind R)
     same q a kind R = sym (line_reads (by_history air.scheme V H) q a kind R)
 
     rules : Keeps (by_history air.scheme V H) air reader FromOne K L
     rules = record {
-      first = λ q. (are_none air.scheme.policy H, refl);
-      again = λ q a R k l. (are_none air.scheme.policy H, refl);
-      more = λ q a R x k pos judged none. (are_more air.scheme.policy H R x k.0 pos judged.in_time none, in_query_more reader q R x k.1 judged.wanted);
-      accepted = λ q a R k l e. subst (λ S. (map (λ r. r.item) S ≡ query q) × IsConsistent H S) (same q a Accept R)
-          (map-map (λ r. r.item) place_of R ∙ k.1 ∙ take_all (length R) (query q) (whole_query (query q) (length R) e), (are_sound air.scheme.policy H R k.0).consistent);
-      aborted = λ q a R x c k pos judged e. subst (λ S. IsConsistent H S × (IsConsistent H (S ++ place_of x ∷ []) → ⊥)) (same q a (Abort x.item x.cycle c.item) R) (
-        (are_sound air.scheme.policy H R k.0).consistent,
-        refuses H R x c k.0.0 pos (are_sound air.scheme.policy H R k.0).consistent (subst (λ p. clash_by_history p H (map place_of R) (place_of x) ≡ Some c) f e),
+      first = λ q. (are_none air.scheme.policy H, refl, none_far air.version);
+      again = λ q a R k l. (are_none air.scheme.policy H, refl, none_far air.version);
+      more = λ q a R x k pos judged near none. (
+        are_more air.scheme.policy H R x k.0 pos judged.in_time none,
+        in_query_more reader q R x k.1 judged.wanted,
+        subst (λ S. are_far air.version S ≡ false) (sym (map-append place_of R (x ∷ []))) near,
       );
-      unfinished = λ q a R k e. subst (λ S. IsConsistent H S × (length S < length (query q))) (same q a Unfinished R)
-          ((are_sound air.scheme.policy H R k.0).consistent, subst (λ n. n < length (query q)) (sym (length-map R place_of)) (part_of_query (query q) (length R) e));
-    }
-
--- ---- every line is the reader's
-
--- Where something is wanted, the query is one of the reader's.
-query_within : (reader : Reader) (q n : ℕ) → n < length (get_or reader.queries q []) → q < length reader.queries
-query_within reader q n l = elim (cases_lt q (length reader.queries)) as (λ _. q < length reader.queries) [
-  | inl lt ↦ lt
-  | inr ge ↦ absurd (let e = ap length (get_or_past reader.queries q [] ge) in omega arith)
-]
-
--- Items that are all of a query follow it.
-follows_all : (query items : List ℕ) → items ≡ query → follows_query query Accept items ≡ true
-unfolding follows_query
-follows_all query items e = (bytes_decides items query).1 e
-
--- So do its first ones up to a refused one, where the clash is among them.
-follows_to : (query : List ℕ) (item cycle clash : ℕ) (items : List ℕ) → items ≡ take (length items) query → slice_get query (length items) ≡ Some item → Contains items clash →
-    follows_query query (Abort item cycle clash) items ≡ true
-unfolding follows_query
-follows_to query item cycle clash items first next among =
-    and_from _ _ ((bytes_decides items (take (length items) query)).1 first)
-    (and_from _ _ (ap (λ o. is_wanted o item) next ∙ eq-eqb item item refl)
-    (list_any_at (λ i. i == clash) items among.0 0 among.1 (eq-eqb _ _ (get_or_default items among.0 0 clash among.1 ∙ among.2))))
-
--- And its first ones where some are missing.
-follows_in_part : (query items : List ℕ) → items ≡ take (length items) query → length items < length query → follows_query query Unfinished items ≡ true
-unfolding follows_query
-follows_in_part query items first less = and_from _ _ ((bytes_decides items (take (length items) query)).1 first) (lt-ltb (length items) (length query) less)
-
-pub of_reader : (judge : Judge) (air : Air) (reader : Reader) (heard : List (Option Bucket)) → NamesHeld judge → QueriesFilled reader → 1 ≤ reader.plan.tries →
-    All (IsOfReader reader) (session judge air reader heard).lines
-unfolding line_of
-of_reader judge air reader heard names filled tries = kept judge air reader Any K (IsOfReader reader) filled rules heard (λ k d l. gives (get_or heard k d))
-  where
-    Any : Read → Type 0
-    Any r = Unit {0}
-
-    -- the attempt is one of the reader's, and reads were made of one of its queries, in order
-    K : ℕ → ℕ → List Read → Type 0
-    K q a R = ((1 ≤ a) × (a ≤ reader.plan.tries)) × InQuery reader q R × (0 < length R → q < length reader.queries)
-
-    gives : (o : Option Bucket) → Gives air Any o
-    gives None = tt
-    gives (Some b) = λ t. by (read_in b.cycle b.body)
-      where
-        by : (o : Option Read) → IfSome o Any
-        by None = tt
-        by (Some x) = tt
-
-    items : (q a : ℕ) (kind : VerdictKind) (R : List Read) → map (λ r. r.item) R ≡ map (λ r. r.item) ((line_of judge q a kind R).reads)
-    items q a kind R = sym (map-map _ _ R)
-
-    within : (q : ℕ) (R : List Read) (x : Read) → item_after reader q R ≡ Some x.item → q < length reader.queries
-    within q R x e = query_within reader q (length R) (slice_get_within (get_or reader.queries q []) (length R) x.item e)
-
-    taken : (q : ℕ) (R : List Read) → InQuery reader q R → map (λ r. r.item) R ≡ take (length (map (λ r. r.item) R)) (get_or reader.queries q [])
-    taken q R k = k ∙ ap (λ n. take n (get_or reader.queries q [])) (sym (length-map R (λ r. r.item)))
-
-    rules : Keeps judge air reader Any K (IsOfReader reader)
-    rules = record {
-      first = λ q. ((omega arith, tries), refl, λ l. absurd (omega arith));
-      again = λ q a R k l. ((omega arith, omega arith), refl, λ l. absurd (omega arith));
-      more = λ q a R x k any judged none. (k.0, in_query_more reader q R x k.1 judged.wanted, λ l. within q R x judged.wanted);
-      accepted = λ q a R k some e. record {
-        query = k.2 some;
-        begun = k.0.0;
-        tried = k.0.1;
-        follows = follows_all (get_or reader.queries q []) _ (subst (λ S. S ≡ get_or reader.queries q []) (items q a Accept R) (k.1 ∙ take_all (length R) (get_or reader.queries q []) (whole_query (get_or reader.queries q []) (length R) e)));
-      };
-      aborted = λ q a R x c k any judged e. record {
-        query = within q R x judged.wanted;
-        begun = k.0.0;
-        tried = k.0.1;
-        follows = subst (λ S. follows_query (get_or reader.queries q []) (Abort x.item x.cycle c.item) S ≡ true) (items q a (Abort x.item x.cycle c.item) R)
-            (follows_to (get_or reader.queries q []) x.item x.cycle c.item (map (λ r. r.item) R) (taken q R k.1)
-            (ap (slice_get (get_or reader.queries q [])) (length-map R (λ r. r.item)) ∙ judged.wanted) (names R x c e));
-      };
-      unfinished = λ q a R k e.
-          let part : length R < length (get_or reader.queries q []) = part_of_query (get_or reader.queries q []) (length R) e in
-          record {
-            query = query_within reader q (length R) part;
-            begun = k.0.0;
-            tried = k.0.1;
-            follows = subst (λ S. follows_query (get_or reader.queries q []) Unfinished S ≡ true) (items q a Unfinished R)
-                (follows_in_part (get_or reader.queries q []) (map (λ r. r.item) R) (taken q R k.1)
-                (subst (λ n. n < length (get_or reader.queries q [])) (sym (length-map R (λ r. r.item))) part));
-          };
+      accepted = λ q a R k l e. subst (λ S. ((map (λ r. r.item) S ≡ query q) × IsConsistent H S) × (are_far air.version S ≡ false)) (same q a Accept R)
+          ((map-map (λ r. r.item) place_of R ∙ k.1 ∙ take_all (length R) (query q) (whole_query (query q) (length R) e), (are_sound air.scheme.policy H R k.0).consistent), k.2);
+      aborted = λ q a R x c k pos judged near e.
+          subst (λ S. (IsConsistent H S × (IsConsistent H (S ++ place_of x ∷ []) → ⊥)) × (are_far air.version (S ++ place_of x ∷ []) ≡ false)) (same q a (Abort x.item x.cycle c.item) R) (
+            (
+              (are_sound air.scheme.policy H R k.0).consistent,
+              refuses H R x c k.0.0 pos (are_sound air.scheme.policy H R k.0).consistent (subst (λ p. clash_by_history p H (map place_of R) (place_of x) ≡ Some c) f e),
+            ),
+            near,
+          );
+      aged = λ q a R x k pos judged far. (tt, subst (λ S. are_far air.version (S ++ place_of x ∷ []) ≡ true) (same q a (Aged x.item x.cycle) R) far);
+      unfinished = λ q a R k e. subst (λ S. (IsConsistent H S × (length S < length (query q))) × (are_far air.version S ≡ false)) (same q a Unfinished R)
+          (((are_sound air.scheme.policy H R k.0).consistent, subst (λ n. n < length (query q)) (sym (length-map R place_of)) (part_of_query (query q) (length R) e)), k.2);
     }

@@ -6,7 +6,7 @@ use Rattle.air_history.specs.Histories.{starts}
 use Rattle.air_history.specs.Reads.{read_value}
 use Rattle.air_history.specs.Tables.{values_of}
 use Rattle.air_model.specs.Buckets.{Bucket}
-use Rattle.air_model.specs.Decks.{Deck, disks_in, values_in}
+use Rattle.air_model.specs.Decks.{Deck, disks_in, edition, values_in}
 use Rattle.air_model.specs.Disks.{Disk}
 use Rattle.air_model.specs.Sessions.{read_in}
 
@@ -14,11 +14,11 @@ use Rattle.air_model.specs.Sessions.{read_in}
 abbrev pub carries_in : ℕ → ℕ → Bucket → Bool
 carries_in c i b = (b.cycle == c) && option_map_or (λ r. r.item == i) (read_in b.cycle b.body) false
 
--- An item stands on a disk of the deck, and in this cycle just so many of the buckets carry it as the disk says.
+-- An item stands on a disk of the cycle's edition, and in this cycle just so many of the buckets carry it as the disk says.
 pub record IsAiredItem (deck : Deck) (c i : ℕ) (buckets : List Bucket) : Type 0 where
   pub number : ℕ
   pub disk : Disk
-  pub there : slice_get (disks_in deck) number ≡ Some disk
+  pub there : slice_get (disks_in deck (edition deck c)) number ≡ Some disk
   pub on : Contains disk.items i
   pub times : count_by (carries_in c i) buckets ≡ disk.freq
 

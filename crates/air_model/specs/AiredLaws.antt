@@ -1,5 +1,5 @@
 -- The word of the laws that a history's buckets have bytes, `range_law` and `bytes_law` of `aired`.
-use Rattle.std.specs.Prelude.{◌^◌, ◌<◌, ◌≤◌, List, length}
+use Rattle.std.specs.Prelude.{◌^◌, ◌<◌, ◌≤◌, List, length, All}
 use Rattle.air_history.specs.declared.histories.Event.{Event}
 use Rattle.air_history.specs.Histories.{starts}
 use Rattle.air_model.specs.Decks.{Deck, IsDeck, IsLegal}
@@ -10,4 +10,4 @@ pub record CanAir (deck : Deck) (H : List Event) : Type 0 where
   pub made : IsDeck deck
   pub legal : IsLegal deck H
   pub cycles : starts H < 2 ^ 32
-  pub slots : length ((air_of deck).slots) ≤ 2 ^ 16
+  pub slots : All (λ slots. length slots ≤ 2 ^ 16) ((air_of deck).slots)

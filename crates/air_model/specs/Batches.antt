@@ -1,10 +1,10 @@
 -- By which batches a history was aired. The law is `batches_law`.
-use Rattle.std.specs.Prelude.{◌≡◌, ℕ, List, [], ◌∷◌, ◌++◌, length, map, take, All}
+use Rattle.std.specs.Prelude.{◌≡◌, ℕ, List, [], ◌∷◌, ◌++◌, length, take, All}
 use Rattle.std.specs.List.{flat_map, range_with_len}
 use Rattle.air_history.specs.declared.histories.Event.{Event}
 use Rattle.air_history.specs.declared.histories.Event.TheVariants.{Start}
 use Rattle.air_history.specs.Histories.{starts}
-use Rattle.air_model.specs.Aired.{Air, air_of, bucket_of, buckets_of}
+use Rattle.air_model.specs.Aired.{Air, air_of, buckets_of, cycle_buckets}
 use Rattle.air_model.specs.Buckets.{Bucket}
 use Rattle.air_model.specs.Decks.{Deck, values_in}
 
@@ -20,7 +20,7 @@ events_in batches = flat_map (λ batch. batch) batches
 
 -- The buckets of the last cycle that a history starts, slot by slot.
 abbrev pub last_buckets : List ℕ → Air → List Event → List Bucket
-last_buckets values air G = map (bucket_of values air G (starts G)) (range_with_len 0 (length air.slots))
+last_buckets values air G = cycle_buckets values air G (starts G)
 
 -- What batches air, one after another: after each the cycle that it ends with, from the history as far as this batch goes.
 abbrev pub aired_by : List ℕ → Air → List (List Event) → List Bucket

@@ -1,13 +1,30 @@
 -- The bucket: what it says, its one spelling in bytes, and the first fault of bytes that spell none.
 -- Sessions speak of `Bucket`, the codec and the tape of its bytes. The spelling goes from front to back, the
 -- reading by places: that the two meet is `reading_law` of `bucket`.
-use Rattle.std.specs.Prelude.{◌≡◌, ◌<◌, ◌≤◌, ◌⊎◌, ℕ, zero, suc, ◌+◌, ◌*◌, ◌^◌, Bool, not, ◌&&◌, ◌==◌, nat_lt, nat_le, if◌then◌else◌, List, [], ◌∷◌, ◌++◌, length, map, drop, slice_index, flat_map, All, Option, Result, Ok, Err}
+use Rattle.std.specs.Prelude.{◌≡◌, ◌<◌, ◌≤◌, ◌⊎◌, ℕ, zero, suc, ◌+◌, ◌-◌, ◌*◌, ◌^◌, Bool, not, ◌&&◌, ◌||◌, ◌==◌, nat_lt, nat_le, if◌then◌else◌, List, [], ◌∷◌, ◌++◌, length, map, drop, slice_index, flat_map, All, IsTrue, Option, Result, Ok, Err}
 use Rattle.std.specs.List.{list_all, range_with_len}
 use Rattle.std.specs.Result.{result_ok, result_err}
 use Rattle.byteorder.specs.Endian.{big_bytes, big_number}
-use Rattle.air_base.specs.declared.limits.TheConstants.{MOST_ITEMS}
+use Rattle.air_base.specs.declared.limits.TheConstants.{AGE_CAP, MOST_FULL_ITEMS, MOST_ITEMS}
+use Rattle.air_history.specs.Ages.{capped}
 use Rattle.air_model.specs.declared.bucket.BucketFault.{BucketFault}
 use Rattle.air_model.specs.declared.bucket.BucketFault.TheVariants.{Short, Magic, Version, Kind, Length, Shape}
+
+-- ---- versions
+
+-- From version 2 on a bucket has the ages of its entries, of one byte each; in version 1 the entries themselves, of four bytes.
+abbrev pub has_ages : ℕ → Bool
+has_ages version = nat_le 2 version
+
+-- The most items of a bucket.
+abbrev pub most_count : ℕ → ℕ
+most_count version = if has_ages version then MOST_ITEMS else MOST_FULL_ITEMS
+
+-- The bytes of an entry.
+abbrev pub entry_len : ℕ → ℕ
+entry_len version = if has_ages version then 1 else 4
+
+-- ---- buckets
 
 -- What a bucket carries: the number of items alone in an idle slot; else an item, its value, and an entry for each item.
 pub data Body : Type 0 where
@@ -15,8 +32,9 @@ pub data Body : Type 0 where
   Column : ℕ → ℕ → List ℕ → Body
   Vector : ℕ → ℕ → List ℕ → Body
 
--- A bucket: its place on the air, and what it carries.
+-- A bucket: its version, its place on the air, and what it carries.
 pub record Bucket : Type 0 where
+  pub version : ℕ
   pub edition : ℕ
   pub cycle : ℕ
   pub slot : ℕ
@@ -52,24 +70,54 @@ entries_of (Idle count) = []
 entries_of (Column item value entries) = entries
 entries_of (Vector item value entries) = entries
 
+-- ---- entries as ages tell them
+
+-- The entries as a bucket of this version and cycle tells them: those that are too old for an age are 0 where it has ages.
+unfoldable pub capped_entries : ℕ → ℕ → List ℕ → List ℕ
+capped_entries version c entries = if has_ages version then map (λ e. capped e c) entries else entries
+
+-- The body with its entries told so.
+unfoldable pub capped_body : ℕ → ℕ → Body → Body
+capped_body version c (Idle count) = Idle count
+capped_body version c (Column item value entries) = Column item value (capped_entries version c entries)
+capped_body version c (Vector item value entries) = Vector item value (capped_entries version c entries)
+
+-- The bucket with its entries as its version tells them in its cycle.
+abbrev pub capped_bucket : Bucket → Bucket
+capped_bucket b = record b { body = capped_body b.version b.cycle b.body }
+
+-- ---- the spelling
+
+-- The age of an entry in cycle c; the cap where there is no writer.
+abbrev pub age_of : ℕ → ℕ → ℕ
+age_of c e = if e == 0 then AGE_CAP else c - e
+
+-- The bytes of an entry in cycle c: its age, or the entry itself.
+unfoldable pub entry_bytes : ℕ → ℕ → ℕ → List ℕ
+entry_bytes version c e = if has_ages version then age_of c e ∷ [] else big_bytes 4 e
+
 -- The bytes of a bucket: magic, version and kind, then its numbers, each with its high byte first.
 unfoldable pub spelling : Bucket → List ℕ
 spelling b =
-    0x41 ∷ 0x44 ∷ 1 ∷ kind_of b.body ∷ [] ++ big_bytes 2 b.edition ++ big_bytes 2 (count_of b.body) ++ big_bytes 4 b.cycle ++ big_bytes 2 b.slot
-    ++ big_bytes 2 (item_of b.body) ++ big_bytes 8 (value_of b.body) ++ flat_map (big_bytes 4) (entries_of b.body)
+    0x41 ∷ 0x44 ∷ b.version ∷ kind_of b.body ∷ [] ++ big_bytes 2 b.edition ++ big_bytes 2 (count_of b.body) ++ big_bytes 4 b.cycle ++ big_bytes 2 b.slot
+    ++ big_bytes 2 (item_of b.body) ++ big_bytes 8 (value_of b.body) ++ flat_map (entry_bytes b.version b.cycle) (entries_of b.body)
 
--- The numbers of a bucket are in range: each is below its width, cycles count from 1, an item is below the number of items, and
--- each entry is below the cycle.
+-- The numbers of a bucket are in range: the version is 1 or 2, each number is below its width, cycles count from 1, an item is below
+-- the number of items, each entry is below the cycle, and an age can tell it where the bucket has ages.
 pub record IsInRange (b : Bucket) : Type 0 where
+  pub version : (b.version ≡ 1) ⊎ (b.version ≡ 2)
   pub edition : b.edition < 2 ^ 16
   pub some : 1 ≤ count_of b.body
-  pub count : count_of b.body ≤ MOST_ITEMS
+  pub count : count_of b.body ≤ most_count b.version
   pub started : 1 ≤ b.cycle
   pub cycle : b.cycle < 2 ^ 32
   pub slot : b.slot < 2 ^ 16
   pub placed : (kind_of b.body ≡ 0) ⊎ (item_of b.body < count_of b.body)
   pub value : value_of b.body < 2 ^ 64
   pub entries : All (λ e. e < b.cycle) (entries_of b.body)
+  pub told : IsTrue (has_ages b.version) → All (λ e. capped e b.cycle ≡ e) (entries_of b.body)
+
+-- ---- the reading
 
 -- The bytes are this bucket: it is in range, they are its spelling, and nothing follows.
 abbrev pub IsBucket : List ℕ → Bucket → Type 0
@@ -87,23 +135,40 @@ number_at at n bytes = big_number n (drop at bytes)
 unfoldable pub entry_count : ℕ → ℕ → ℕ
 entry_count kind count = if kind == 0 then 0 else count
 
--- The first n entries.
-unfoldable pub entries_at : ℕ → List ℕ → List ℕ
-entries_at n bytes = map (λ i. number_at (24 + 4 * i) 4 bytes) (range_with_len 0 n)
+-- The number that stands for entry i in bytes of this version: an age, or the entry itself.
+abbrev pub raw_entry : ℕ → ℕ → List ℕ → ℕ
+raw_entry version i bytes = number_at (24 + entry_len version * i) (entry_len version) bytes
 
--- The body that bytes of this kind have.
-unfoldable pub body_at : ℕ → List ℕ → Body
-body_at zero bytes = Idle (number_at 6 2 bytes)
-body_at (suc zero) bytes = Column (number_at 14 2 bytes) (number_at 16 8 bytes) (entries_at (number_at 6 2 bytes) bytes)
-body_at (suc (suc more)) bytes = Vector (number_at 14 2 bytes) (number_at 16 8 bytes) (entries_at (number_at 6 2 bytes) bytes)
+-- The numbers that stand for the first n entries.
+unfoldable pub raw_entries : ℕ → ℕ → List ℕ → List ℕ
+raw_entries version n bytes = map (λ i. raw_entry version i bytes) (range_with_len 0 n)
+
+-- The entry for which this number stands in cycle c.
+unfoldable pub entry_told : ℕ → ℕ → ℕ → ℕ
+entry_told version c a = if has_ages version then (if a == AGE_CAP then 0 else c - a) else a
+
+-- Whether this number stands for an entry in cycle c: an age is the cap, or from 1 on and below the cycle; an entry is below the cycle.
+unfoldable pub is_entry : ℕ → ℕ → ℕ → Bool
+is_entry version c a = if has_ages version then (a == AGE_CAP) || (nat_le 1 a && nat_lt a c) else nat_lt a c
+
+-- The first n entries, in cycle c.
+unfoldable pub entries_at : ℕ → ℕ → ℕ → List ℕ → List ℕ
+entries_at version c n bytes = map (entry_told version c) (raw_entries version n bytes)
+
+-- The body that bytes of this version, cycle and kind have.
+unfoldable pub body_at : ℕ → ℕ → ℕ → List ℕ → Body
+body_at version c zero bytes = Idle (number_at 6 2 bytes)
+body_at version c (suc zero) bytes = Column (number_at 14 2 bytes) (number_at 16 8 bytes) (entries_at version c (number_at 6 2 bytes) bytes)
+body_at version c (suc (suc more)) bytes = Vector (number_at 14 2 bytes) (number_at 16 8 bytes) (entries_at version c (number_at 6 2 bytes) bytes)
 
 -- The bucket of bytes without a fault.
 unfoldable pub bucket_at : List ℕ → Bucket
 bucket_at bytes = record {
+  version = slice_index bytes 2;
   edition = number_at 4 2 bytes;
   cycle = number_at 8 4 bytes;
   slot = number_at 12 2 bytes;
-  body = body_at (slice_index bytes 3) bytes;
+  body = body_at (slice_index bytes 2) (number_at 8 4 bytes) (slice_index bytes 3) bytes;
 }
 
 -- Whether these are an idle slot's item and value, or those of another slot.
@@ -113,18 +178,18 @@ is_placed kind item value count = if kind == 0 then (item == 65535) && (value ==
 -- Whether count, cycle, item, value and entries are in range.
 unfoldable pub is_shaped : List ℕ → Bool
 is_shaped bytes =
-    nat_le 1 (number_at 6 2 bytes) && nat_le (number_at 6 2 bytes) MOST_ITEMS && nat_le 1 (number_at 8 4 bytes)
+    nat_le 1 (number_at 6 2 bytes) && nat_le (number_at 6 2 bytes) (most_count (slice_index bytes 2)) && nat_le 1 (number_at 8 4 bytes)
     && is_placed (slice_index bytes 3) (number_at 14 2 bytes) (number_at 16 8 bytes) (number_at 6 2 bytes)
-    && list_all (λ e. nat_lt e (number_at 8 4 bytes)) (entries_at (entry_count (slice_index bytes 3) (number_at 6 2 bytes)) bytes)
+    && list_all (is_entry (slice_index bytes 2) (number_at 8 4 bytes)) (raw_entries (slice_index bytes 2) (entry_count (slice_index bytes 3) (number_at 6 2 bytes)) bytes)
 
 -- What the bytes say: the first fault that applies, or else their bucket.
 unfoldable pub reading : List ℕ → Result Bucket BucketFault
 reading bytes =
     if nat_lt (length bytes) 24 then Err (Short (length bytes))
     else if not ((slice_index bytes 0 == 0x41) && (slice_index bytes 1 == 0x44)) then Err Magic
-    else if not (slice_index bytes 2 == 1) then Err Version
+    else if not ((slice_index bytes 2 == 1) || (slice_index bytes 2 == 2)) then Err Version
     else if not (nat_le (slice_index bytes 3) 2) then Err Kind
-    else if not (length bytes == 24 + 4 * entry_count (slice_index bytes 3) (number_at 6 2 bytes)) then Err Length
+    else if not (length bytes == 24 + entry_len (slice_index bytes 2) * entry_count (slice_index bytes 3) (number_at 6 2 bytes)) then Err Length
     else if not (is_shaped bytes) then Err Shape
     else Ok (bucket_at bytes)
 

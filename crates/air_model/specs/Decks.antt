@@ -1,9 +1,9 @@
 -- The plain deck: what its records say, whatever their order; the histories that keep to it; its script's history.
 -- The laws of `deck` say what legal histories are by updater, and that the script's history is legal.
-use Rattle.std.specs.Prelude.{◌≡◌, ℕ, ◌^◌, ◌<◌, ◌≤◌, Bool, false, ◌==◌, List, [], length, map, take, get_or, count_by, sum_by, slice_get, All, Option, Some, None}
+use Rattle.std.specs.Prelude.{◌≡◌, ◌⊎◌, ℕ, zero, suc, ◌+◌, ◌^◌, ◌<◌, ◌≤◌, Bool, false, ◌==◌, nat_le, List, [], length, map, take, get_or, count_by, sum_by, slice_get, All, AllPairs, Option, Some, None}
 use Rattle.std.specs.List.{range_with_len}
 use Rattle.std.specs.Option.{option_map_or}
-use Rattle.air_base.specs.declared.limits.TheConstants.{MOST_ITEMS}
+use Rattle.air_base.specs.declared.limits.TheConstants.{MOST_REPLANS}
 use Rattle.air_history.specs.declared.histories.Event.{Event}
 use Rattle.air_history.specs.declared.histories.Event.TheVariants.{Commit, Start}
 use Rattle.air_history.specs.UpdateLists.{UpdateLists}
@@ -11,6 +11,7 @@ use Rattle.air_history.specs.UpdateRules.{KeepsRules, UpdateFits, has_repeat}
 use Rattle.air_history.specs.Histories.{starts}
 use Rattle.air_model.specs.declared.deck.ReaderPlan.{ReaderPlan}
 use Rattle.air_model.specs.declared.deck.Settings.{Settings}
+use Rattle.air_model.specs.Buckets.{most_count}
 use Rattle.air_model.specs.Disks.{Disk, DiskSpec, cut, order}
 
 -- An item of the catalog has its first value and its rate.
@@ -18,11 +19,17 @@ pub record Item : Type 0 where
   pub value : ℕ
   pub rate : ℕ
 
--- A deck has items and disks, the updates of each updater, the readers and the queries of each, the script, whose
+-- A replan has the cycle from which on it is in force, and its disks.
+pub record Replan : Type 0 where
+  pub cycle : ℕ
+  pub disks : List DiskSpec
+
+-- A deck has items, disks and replans, the updates of each updater, the readers and the queries of each, the script, whose
 -- parts are starts and numbers of updaters, and the settings.
 pub record Deck : Type 0 where
   pub items : List Item
   pub disks : List DiskSpec
+  pub replans : List Replan
   pub updates : List (List UpdateLists)
   pub readers : List ReaderPlan
   pub queries : List (List (List ℕ))
@@ -37,9 +44,30 @@ values_in deck = map (λ i. i.value) deck.items
 abbrev pub rates_in : Deck → List ℕ
 rates_in deck = map (λ i. i.rate) deck.items
 
--- The disks with their items: the cut of the order of the items.
-abbrev pub disks_in : Deck → List Disk
-disks_in deck = cut (order (rates_in deck)) deck.disks
+-- ---- editions
+
+-- The edition of a cycle is the number of replans that are in force by then; edition 0 has the deck's own disks.
+abbrev pub edition : Deck → ℕ → ℕ
+edition deck c = count_by (λ r. nat_le r.cycle c) deck.replans
+
+-- A deck has one edition more than replans.
+abbrev pub count_editions : Deck → ℕ
+count_editions deck = length deck.replans + 1
+
+-- The replan that stands for one that a deck doesn't have: without a disk.
+abbrev pub no_replan : Replan
+no_replan = record { cycle = 0; disks = [] }
+
+-- The disks of an edition, as the deck says them.
+abbrev pub specs_in : Deck → ℕ → List DiskSpec
+specs_in deck zero = deck.disks
+specs_in deck (suc k) = (get_or deck.replans k no_replan).disks
+
+-- The disks of an edition with their items: its cut of the order of the items.
+abbrev pub disks_in : Deck → ℕ → List Disk
+disks_in deck e = cut (order (rates_in deck)) (specs_in deck e)
+
+-- ---- updates
 
 -- The updates of an updater, in the order in which it commits them.
 abbrev pub updates_by : Deck → ℕ → List UpdateLists
@@ -109,16 +137,27 @@ pub record IsQuery (n : ℕ) (items : List ℕ) : Type 0 where
   pub distinct : has_repeat items ≡ false
   pub within : All (λ i. i < n) items
 
--- A deck is well made where it has items, as many as a deck may have at most, with values of 64 bits, its disks take all of them, each disk is aired,
--- and updates, readers, queries and script are right.
+-- A deck is plain where its buckets are of version 1 and it has no replan.
+abbrev pub IsPlain : Deck → Type 0
+IsPlain deck = (deck.settings.version ≡ 1) × (deck.replans ≡ [])
+
+-- A deck is well made where it has items, as many as its version takes at most, with values of 64 bits, the disks of each edition take all of
+-- them, each disk is aired, replans are few and come in force one after another, from cycle 2 on, and updates, readers, queries and script
+-- are right.
+-- So far each such deck is plain.
 pub record IsDeck (deck : Deck) : Type 0 where
   pub some : 0 < length deck.items
-  pub most : length deck.items ≤ MOST_ITEMS
+  pub version : (deck.settings.version ≡ 1) ⊎ (deck.settings.version ≡ 2)
+  pub most : length deck.items ≤ most_count deck.settings.version
   pub values : All (λ i. i.value < 2 ^ 64) deck.items
-  pub sizes : sum_by (λ d. d.size) deck.disks ≡ length deck.items
-  pub aired : All (λ d. (0 < d.size) × (0 < d.freq)) deck.disks
+  pub sizes : (e : ℕ) → e < count_editions deck → sum_by (λ d. d.size) (specs_in deck e) ≡ length deck.items
+  pub aired : (e : ℕ) → e < count_editions deck → All (λ d. (0 < d.size) × (0 < d.freq)) (specs_in deck e)
+  pub few : length deck.replans ≤ MOST_REPLANS
+  pub from_two : All (λ r. 2 ≤ r.cycle) deck.replans
+  pub rising : AllPairs (λ a b. a.cycle < b.cycle) deck.replans
   pub updates : All (All (IsUpdate (length deck.items))) deck.updates
   pub readers : length deck.queries ≡ length deck.readers
   pub tries : All (λ r. 1 ≤ r.tries) deck.readers
   pub queries : All (All (IsQuery (length deck.items))) deck.queries
   pub script : ScriptFits deck
+  pub plain : IsPlain deck

@@ -72,7 +72,7 @@ drill_readers = replicate 8 (record { room = 4; age = 8; tries = 3 })
 
 -- Some buckets are lost, some are heard again and some late, by the drill's own seed.
 abbrev pub drill_settings : ℕ → Settings
-drill_settings seed = record { policy = FMatrix; cycles = DEFAULT_CYCLES; seed = seed; loss = 5; again = 3; late = 10; monitors = 0; hears = DEFAULT_HEARS }
+drill_settings seed = record { policy = FMatrix; version = 1; cycles = DEFAULT_CYCLES; seed = seed; loss = 5; again = 3; late = 10; monitors = 0; hears = DEFAULT_HEARS }
 
 -- The number of items of a drill of this size.
 abbrev pub drill_items : ℕ → ℕ
@@ -83,6 +83,7 @@ abbrev pub drill_of : ℕ → ℕ → List Item → List UpdateLists → List (L
 drill_of seed size items updates queries = record {
   items = items;
   disks = drill_disks (drill_items size);
+  replans = [];
   updates = map (dealt_to updates) (range_with_len 0 4);
   readers = drill_readers;
   queries = queries;

@@ -36,7 +36,7 @@ true_sessions deck H = sessions_over (by_history (scheme_in deck) (values_in dec
 
 -- What `plan` prints.
 abbrev pub plan_output : Deck → List ℕ
-plan_output deck = plan_text (rates_in deck) deck.disks
+plan_output deck = plan_text (rates_in deck) deck.disks deck.replans
 
 -- What `script` prints.
 abbrev pub script_output : Deck → List ℕ

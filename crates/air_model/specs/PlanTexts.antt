@@ -1,10 +1,11 @@
--- The text of a plan: a line for the program, and for each disk, minor cycle and item.
+-- The text of a plan: a line for the program, and for each disk, minor cycle and item; then those of each replan.
 -- A row is a list of fields, a field a list of bytes; `plan_rows` has them, `plan_text` is what is written.
 use Rattle.std.specs.Prelude.{ℕ, List, [], ◌∷◌, ◌++◌, Option, Some, None, codes, length, map}
-use Rattle.std.specs.List.{enumerate_from, range_with_len}
+use Rattle.std.specs.List.{enumerate_from, flat_map, range_with_len}
 use Rattle.air_base.specs.Numbers.{number_text}
 use Rattle.air_base.specs.NumberLists.{list_text}
 use Rattle.air_model.specs.Rows.{rows_text}
+use Rattle.air_model.specs.Decks.{Replan}
 use Rattle.air_model.specs.Disks.{Disk, DiskSpec, cut, order}
 use Rattle.air_model.specs.Programs.{chunk_len, minor_cycle, minor_len, num_chunks, num_minors, program}
 use Rattle.air_model.specs.Airings.{airings, disk_number, gap_of, next_wake, pix_number}
@@ -36,6 +37,18 @@ unfoldable pub plan_rows : List Disk → List ℕ → List (List (List ℕ))
 plan_rows disks rates = (program_row disks ∷ map (disk_row (num_minors disks)) (enumerate_from 0 disks))
     ++ map (minor_row disks) (range_with_len 0 (num_minors disks)) ++ map (item_row disks) (enumerate_from 0 rates)
 
--- The text of a plan is its rows, for items of these rates on disks of these sizes and frequencies.
-unfoldable pub plan_text : List ℕ → List DiskSpec → List ℕ
-plan_text rates specs = rows_text (plan_rows (cut (order rates) specs) rates)
+-- A replan's row has its edition, and the cycle from which on it is in force.
+abbrev pub replan_row : ℕ → ℕ → List (List ℕ)
+replan_row e cycle = codes "replan" ∷ map number_text (e ∷ cycle ∷ [])
+
+-- The rows of items of these rates on disks of these sizes and frequencies.
+abbrev pub edition_rows : List ℕ → List DiskSpec → List (List (List ℕ))
+edition_rows rates specs = plan_rows (cut (order rates) specs) rates
+
+-- The rows of a replan and of its edition.
+abbrev pub replan_rows : List ℕ → ℕ × Replan → List (List (List ℕ))
+replan_rows rates (e, r) = replan_row e r.cycle ∷ edition_rows rates r.disks
+
+-- The text of a plan is the rows of the deck's own disks, then those of each replan, whose editions count from 1.
+unfoldable pub plan_text : List ℕ → List DiskSpec → List Replan → List ℕ
+plan_text rates specs replans = rows_text (edition_rows rates specs ++ flat_map (replan_rows rates) (enumerate_from 1 replans))

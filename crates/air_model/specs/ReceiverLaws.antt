@@ -19,4 +19,4 @@ session_of judge deck r heard = session judge (air_of deck) (reader_of deck r) h
 pub record IsTrueSession (deck : Deck) (H : List Event) (r : ℕ) (heard : List (Option Bucket)) : Type 0 where
   pub same : session_of (by_entries (scheme_in deck)) deck r heard ≡ session_of (by_history (scheme_in deck) (values_in deck) H) deck r heard
   pub sound : All (IsSoundLine (values_in deck) deck.settings.policy H) (session_of (by_entries (scheme_in deck)) deck r heard).lines
-  pub exact : deck.settings.policy ≡ FMatrix → All (IsExactLine H (reader_of deck r)) (session_of (by_entries (scheme_in deck)) deck r heard).lines
+  pub exact : deck.settings.policy ≡ FMatrix → All (IsExactLine deck.settings.version H (reader_of deck r)) (session_of (by_entries (scheme_in deck)) deck r heard).lines

@@ -4,7 +4,7 @@ use Rattle.std.specs.Prelude.{ℕ, ◌%◌, ◌^◌, List, [], ◌∷◌, ◌++�
 use Rattle.std.specs.List.{enumerate_from, flat_map}
 use Rattle.air_base.specs.declared.verdicts.ReadOf.{ReadOf}
 use Rattle.air_base.specs.declared.verdicts.VerdictKind.{VerdictKind}
-use Rattle.air_base.specs.declared.verdicts.VerdictKind.TheVariants.{Accept, Abort, Unfinished}
+use Rattle.air_base.specs.declared.verdicts.VerdictKind.TheVariants.{Accept, Abort, Aged, Unfinished}
 use Rattle.air_history.specs.declared.histories.Event.{Event}
 use Rattle.air_history.specs.declared.histories.Event.TheVariants.{Commit, Start}
 use Rattle.air_history.specs.Histories.{front}
@@ -35,10 +35,12 @@ abbrev pub attempt_row : List ℕ → VerdictLine → List (List ℕ)
 attempt_row tag l =
     tag ∷ number_text l.reader ∷ number_text l.verdict.query ∷ number_text l.verdict.attempt ∷ list_text (map read_text l.reads) ∷ []
 
--- An abort's row ends with the read that was refused, and the item of the held read with which it clashed.
+-- The row of an abort or an aged attempt ends with the read that was refused, an abort's then with the item of the held read with which it
+-- clashed.
 abbrev pub kind_row : VerdictKind → VerdictLine → List (List ℕ)
 kind_row Accept l = attempt_row (codes "accept") l
 kind_row (Abort item cycle clash) l = attempt_row (codes "abort") l ++ place_text item cycle ∷ number_text clash ∷ []
+kind_row (Aged item cycle) l = attempt_row (codes "aged") l ++ place_text item cycle ∷ []
 kind_row Unfinished l = attempt_row (codes "unfinished") l
 
 -- The row of a verdict and its reads.

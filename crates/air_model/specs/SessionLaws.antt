@@ -1,18 +1,19 @@
 -- The words of the laws of sessions: what heard lists and queries keep, and what each line tells. The laws are the
 -- contracts of the functions of `sessions`.
-use Rattle.std.specs.Prelude.{◌≡◌, ◌↔◌, ℕ, ◌<◌, ◌≤◌, Bool, ◌&&◌, ◌==◌, nat_eq, nat_lt, List, [], ◌∷◌, ◌++◌, length, map, take, get_or, slice_get, All, Contains, IfSome, IsTrue, Option, Some}
+use Rattle.std.specs.Prelude.{◌≡◌, ◌↔◌, ℕ, ◌<◌, ◌≤◌, Bool, false, ◌&&◌, ◌==◌, nat_eq, nat_lt, List, [], ◌∷◌, ◌++◌, length, map, take, get_or, slice_get, All, Contains, IfSome, IsTrue, Option, Some}
 use Rattle.std.specs.List.{list_any}
 use Rattle.std.specs.Cmp.Lexicographic.{pointwise}
 use Rattle.air_base.specs.declared.verdicts.Policy.{Policy}
 use Rattle.air_base.specs.declared.verdicts.Clash.{Clash}
 use Rattle.air_base.specs.declared.verdicts.VerdictKind.{VerdictKind}
-use Rattle.air_base.specs.declared.verdicts.VerdictKind.TheVariants.{Accept, Abort, Unfinished}
+use Rattle.air_base.specs.declared.verdicts.VerdictKind.TheVariants.{Accept, Abort, Aged, Unfinished}
 use Rattle.air_history.specs.declared.histories.Event.{Event}
 use Rattle.air_history.specs.Tables.{table, values_of, BasesRead}
 use Rattle.air_history.specs.Reads.{ReadAt}
+use Rattle.air_history.specs.Ages.{spans_too_far}
 use Rattle.air_history.specs.Consistency.{alone, IsConsistent}
 use Rattle.air_history.specs.ClashLaws.{IsSound}
-use Rattle.air_model.specs.Buckets.{Body, Bucket, Column, Idle, Vector}
+use Rattle.air_model.specs.Buckets.{Body, Bucket, Column, Idle, Vector, has_ages}
 use Rattle.air_model.specs.Reads.{Read}
 use Rattle.air_model.specs.Aired.{Air, fits}
 use Rattle.air_model.specs.Judges.{Judge}
@@ -55,32 +56,45 @@ abbrev pub IsAbort : VerdictKind → Type 0
 IsAbort (Abort item cycle clash) = Unit {0}
 IsAbort other = ⊥
 
--- An attempt was decided on the reads of its line, and on the refused one where it was aborted.
+-- The attempt ended since its reads lie too far apart.
+abbrev pub IsAged : VerdictKind → Type 0
+IsAged (Aged item cycle) = Unit {0}
+IsAged other = ⊥
+
+-- An attempt was decided on the reads of its line, and on the refused one where it was aborted or aged.
 abbrev pub decided_on : VerdictKind → List ReadAt → List ReadAt
 decided_on (Abort item cycle clash) R = R ++ record { item = item; cycle = cycle } ∷ []
+decided_on (Aged item cycle) R = R ++ record { item = item; cycle = cycle } ∷ []
 decided_on other R = R
 
--- A verdict is exact where the query was accepted exactly if the reads are all of its items, and consistent; aborted exactly if
--- they aren't consistent; and unfinished exactly if neither is so.
-pub record IsExact (H : List Event) (query : List ℕ) (kind : VerdictKind) (R : List ReadAt) : Type 0 where
-  pub accepted : (kind ≡ Accept) ↔ ((map (λ r. r.item) R ≡ query) × IsConsistent H R)
-  pub aborted : IsAbort kind ↔ (IsConsistent H R → ⊥)
-  pub unfinished : (kind ≡ Unfinished) ↔ (IsConsistent H R × (map (λ r. r.item) R ≡ query → ⊥))
+-- Whether reads of buckets of this version lie too far apart to be judged.
+abbrev pub are_far : ℕ → List ReadAt → Bool
+are_far version R = has_ages version && spans_too_far R
 
--- The verdict of a line, on the reads on which it was decided.
-abbrev pub IsExactLine : List Event → Reader → Line → Type 0
-IsExactLine H reader l = IsExact H (get_or reader.queries l.verdict.query []) l.verdict.kind (decided_on l.verdict.kind (reads_at l))
+-- A verdict is exact where the attempt is aged exactly if the reads lie too far apart for the version; else the query was accepted
+-- exactly if the reads are all of its items, and consistent; aborted exactly if they aren't consistent; and unfinished exactly if
+-- neither is so.
+pub record IsExact (version : ℕ) (H : List Event) (query : List ℕ) (kind : VerdictKind) (R : List ReadAt) : Type 0 where
+  pub aged : IsAged kind ↔ IsTrue (are_far version R)
+  pub accepted : (kind ≡ Accept) ↔ ((are_far version R ≡ false) × (map (λ r. r.item) R ≡ query) × IsConsistent H R)
+  pub aborted : IsAbort kind ↔ ((are_far version R ≡ false) × (IsConsistent H R → ⊥))
+  pub unfinished : (kind ≡ Unfinished) ↔ ((are_far version R ≡ false) × IsConsistent H R × (map (λ r. r.item) R ≡ query → ⊥))
+
+-- The verdict of a line of an air of this version, on the reads on which it was decided.
+abbrev pub IsExactLine : ℕ → List Event → Reader → Line → Type 0
+IsExactLine version H reader l = IsExact version H (get_or reader.queries l.verdict.query []) l.verdict.kind (decided_on l.verdict.kind (reads_at l))
 
 -- The judge names a held read with which a new one clashes.
 abbrev pub NamesHeld : Judge → Type 0
 NamesHeld judge = (R : List Read) (x : Read) (c : Clash) → judge.clash R x ≡ Some c → Contains (map (λ r. r.item) R) c.item
 
--- Whether read items follow a query: they are all of it where it was accepted; else its first ones, and some are missing; an abort's refused
--- item is the next one, and its clash is one of the read items.
+-- Whether read items follow a query: they are all of it where it was accepted; else its first ones, and some are missing; the refused item of
+-- an abort or an aged attempt is the next one, and an abort's clash is one of the read items.
 unfoldable pub follows_query : List ℕ → VerdictKind → List ℕ → Bool
 follows_query query Accept items = pointwise nat_eq items query
 follows_query query (Abort item cycle clash) items =
     pointwise nat_eq items (take (length items) query) && (is_wanted (slice_get query (length items)) item && list_any (λ i. i == clash) items)
+follows_query query (Aged item cycle) items = pointwise nat_eq items (take (length items) query) && is_wanted (slice_get query (length items)) item
 follows_query query Unfinished items = pointwise nat_eq items (take (length items) query) && nat_lt (length items) (length query)
 
 -- A line is the reader's where its query is one of the reader's, its attempt is from 1 to the tries, and its reads follow

@@ -1,7 +1,7 @@
 -- The session of a receiver: the verdict lines and the counts that a heard list gives, by a judge. The rules are words
 -- of their own: `settle` and `turn` use kept copies, `hear` takes one heard member, `end_query` ends one query.
 -- The laws of `sessions` say that both judges give one session, and what each line tells.
-use Rattle.std.specs.Prelude.{ℕ, ◌+◌, ◌-◌, max, Bool, false, cond, ◌||◌, ◌==◌, nat_lt, List, [], ◌∷◌, ◌++◌, length, map, get_or, sum_by, Option, Some, None}
+use Rattle.std.specs.Prelude.{ℕ, ◌+◌, ◌-◌, max, Bool, false, cond, ◌&&◌, ◌||◌, ◌==◌, nat_lt, List, [], ◌∷◌, ◌++◌, length, map, get_or, sum_by, Option, Some, None}
 use Rattle.std.specs.List.{find, slice_get}
 use Rattle.std.specs.Option.{is_some}
 use Rattle.std.specs.Fn.{iterate}
@@ -10,14 +10,15 @@ use Rattle.air_base.specs.declared.verdicts.Clash.{Clash}
 use Rattle.air_base.specs.declared.verdicts.Counts.{Counts}
 use Rattle.air_base.specs.declared.verdicts.Verdict.{Verdict}
 use Rattle.air_base.specs.declared.verdicts.VerdictKind.{VerdictKind}
-use Rattle.air_base.specs.declared.verdicts.VerdictKind.TheVariants.{Accept, Abort, Unfinished}
+use Rattle.air_base.specs.declared.verdicts.VerdictKind.TheVariants.{Accept, Abort, Aged, Unfinished}
+use Rattle.air_history.specs.Ages.{spans_too_far}
 use Rattle.air_history.specs.Clashes.{is_late}
 use Rattle.air_model.specs.declared.deck.ReaderPlan.{ReaderPlan}
-use Rattle.air_model.specs.Buckets.{Bucket, Body, Idle, Column, Vector}
+use Rattle.air_model.specs.Buckets.{Bucket, Body, Idle, Column, Vector, has_ages}
 use Rattle.air_model.specs.Reads.{Read}
 use Rattle.air_model.specs.Copies.{keep, without_item, with_copy}
 use Rattle.air_model.specs.Decks.{Deck}
-use Rattle.air_model.specs.Aired.{Air, fits}
+use Rattle.air_model.specs.Aired.{Air, fits, pix_at}
 use Rattle.air_model.specs.Judges.{Judge, place_of}
 
 -- A reader has its plan and its queries, each a list of items.
@@ -79,6 +80,10 @@ is_wanted (Some i) item = i == item
 abbrev pub comes_late : Air → State → Read → Bool
 comes_late air s x = is_late air.scheme.policy (map place_of s.held) (place_of x)
 
+-- The new read and the held ones lie too far apart to be judged by ages, where the air's buckets have ages.
+abbrev pub comes_aged : Air → State → Read → Bool
+comes_aged air s x = has_ages air.version && spans_too_far (map place_of s.held ++ place_of x ∷ [])
+
 -- The next query begins at attempt 1 with nothing held.
 unfoldable pub next_query : State → State
 next_query s = record s { query = s.query + 1; attempt = 1; held = [] }
@@ -96,9 +101,9 @@ copy_of (Some item) s = find (λ r. r.item == item) s.copies
 unfoldable pub drop_copy : ℕ → State → State
 drop_copy item s = record s { copies = without_item item s.copies }
 
--- The read is offered to the copies.
+-- The read is offered to the copies, which are worth what the newest heard cycle says.
 unfoldable pub offer : Air → Reader → Read → State → State
-offer air reader x s = record s { copies = keep reader.plan.room air.pix (with_copy x s.copies) }
+offer air reader x s = record s { copies = keep reader.plan.room (pix_at air s.now) (with_copy x s.copies) }
 
 -- The line of an attempt of a query: the verdict, and the reads with the judge's values.
 unfoldable pub line_of : Judge → ℕ → ℕ → VerdictKind → List Read → Line
@@ -148,11 +153,15 @@ module _ (judge : Judge) (air : Air) (reader : Reader) where
   unfoldable pub abort : Read → ℕ → State → State
   abort x item s = next_attempt reader (drop_copy item (with_line judge (Abort x.item x.cycle item) s))
 
+  -- The attempt ends, since the read and the held ones lie too far apart; all copies stay.
+  unfoldable pub end_aged : Read → State → State
+  end_aged x s = next_attempt reader (with_line judge (Aged x.item x.cycle) s)
+
   -- ---- settling
 
-  -- A copy can't be used as a read where it is too old, comes late, or clashes.
+  -- A copy can't be used as a read where it is too old, comes late, lies too far from the held reads, or clashes.
   unfoldable pub is_unusable : Read → State → Bool
-  is_unusable x s = nat_lt reader.plan.age (s.now - x.cycle) || comes_late air s x || is_some (judge.clash s.held x)
+  is_unusable x s = nat_lt reader.plan.age (s.now - x.cycle) || comes_late air s x || comes_aged air s x || is_some (judge.clash s.held x)
 
   -- A copy is dropped where it can't be used, else it is a read.
   unfoldable pub turn_with : Option Read → State → State
@@ -174,9 +183,13 @@ module _ (judge : Judge) (air : Air) (reader : Reader) where
   decide x None s = hold x s
   decide x (Some clash) s = abort x clash.item s
 
-  -- An opened bucket's read is decided on, and then offered to the copies.
+  -- An opened bucket's read ends the attempt where it comes aged, and only else it is asked whether it clashes.
+  unfoldable pub judge_read : Read → State → State
+  judge_read x s = cond (comes_aged air s x) (end_aged x s) (decide x (judge.clash s.held x) s)
+
+  -- An opened bucket's read is judged, and then offered to the copies.
   unfoldable pub open_bucket : Read → State → State
-  open_bucket x s = offer air reader x (decide x (judge.clash s.held x) (count_opened s))
+  open_bucket x s = offer air reader x (judge_read x (count_opened s))
 
   -- The read of a bucket that fits is opened where it is wanted and not late; an idle bucket gives none.
   unfoldable pub hear_read : Option Read → State → State

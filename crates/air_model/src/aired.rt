@@ -11,16 +11,16 @@ ghost use Rattle.air_model.specs.Decks.{Deck, values_in};
 ghost use Rattle.air_model.specs.Aired.{Air, IsAired, IsAiredBucket, air_of, bucket_of, buckets_of, fits};
 ghost use Rattle.air_model.specs.AiredLaws.{CanAir};
 
-/// The buckets of a history are just those that fit the deck and are the history's.
+/// The buckets of a history are just those that fit the deck, are the history's and have the air's version.
 pub fn own_buckets_law()
     ensures { (values : List ℕ) (air : Air) (H : List Event) (b : Bucket) →
-        Contains (buckets_of values air H) b ↔ (IsTrue (fits air b) × IsAiredBucket values air H b) }
+        Contains (buckets_of values air H) b ↔ (IsTrue (fits air b) × IsAiredBucket values air H b × (b.version ≡ air.version)) }
 {}
 
 /// What comes after a history changes no bucket of a cycle that it started: so cycles can be aired while it grows.
 pub fn later_law()
-    ensures { (values : List ℕ) (air : Air) (H later : List Event) (c s : ℕ) → c ≤ starts H →
-        bucket_of values air (H ++ later) c s ≡ bucket_of values air H c s }
+    ensures { (values : List ℕ) (air : Air) (H later : List Event) (v c s : ℕ) → c ≤ starts H →
+        bucket_of values air (H ++ later) v c s ≡ bucket_of values air H v c s }
 {}
 
 /// The buckets of a history that can be aired are in range, so that they have bytes.

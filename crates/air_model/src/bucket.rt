@@ -15,11 +15,11 @@ pub enum BucketFault {
     Short { at: u32 },
     /// The first two bytes aren't the magic.
     Magic,
-    /// The version isn't 1.
+    /// The version is neither 1 nor 2.
     Version,
     /// The kind is none of idle, column and vector.
     Kind,
-    /// The number of bytes isn't that of the kind and the count.
+    /// The number of bytes isn't that of the version, the kind and the count.
     Length,
     /// A number is outside its range.
     Shape,
@@ -30,7 +30,7 @@ impl fmt::Display for BucketFault {
         match self {
             BucketFault::Short { at } => write!(f, "{at} bytes, and a bucket has at least 24"),
             BucketFault::Magic => f.write_str("the first two bytes aren't a bucket's"),
-            BucketFault::Version => f.write_str("the version isn't 1"),
+            BucketFault::Version => f.write_str("the version is neither 1 nor 2"),
             BucketFault::Kind => f.write_str("the kind is none of idle, column and vector"),
             BucketFault::Length => {
                 f.write_str("the number of bytes isn't that of the kind and the count")

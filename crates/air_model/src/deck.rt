@@ -3,14 +3,15 @@
 //! Plain data with public fields. The plain deck of `specs/Decks.antt` has them as they stand here. Each
 //! function's contract is one law of its histories; the bodies are empty.
 
-ghost use Rattle.std.specs.Prelude.{◌≡◌, ◌↔◌, ℕ, List, length, map, take, All};
+ghost use Rattle.std.specs.Prelude.{◌≡◌, ◌↔◌, ℕ, ◌≤◌, List, [], length, map, take, All};
 ghost use Rattle.air_history.specs.declared.histories.Event.{Event};
 ghost use Rattle.air_history.specs.Histories.{starts, EventFits};
 ghost use Rattle.air_history.specs.Tables.{BasesRead};
 ghost use Rattle.air_model.specs.Reports.{event_row};
-ghost use Rattle.air_model.specs.Decks.{Deck, IsDeck, IsLegal, IsWhole, ScriptFits, count_made, script_history, updates_by};
+ghost use Rattle.air_model.specs.Decks.{Deck, IsDeck, IsLegal, IsWhole, ScriptFits, count_made, disks_in, edition, script_history, updates_by};
 ghost use Rattle.air_model.specs.DeckLaws.{HasNumbers, commits_from, made_by};
-ghost use Rattle.air_model.specs.Aired.{SlotsFit, air_of};
+ghost use Rattle.air_model.specs.Programs.{program};
+ghost use Rattle.air_model.specs.Aired.{SlotsFit, air_of, edition_at, pix_at, pix_in, slots_at};
 ghost use Rattle.air_model.specs.Sessions.{reader_of};
 ghost use Rattle.air_model.specs.SessionLaws.{QueriesFilled};
 
@@ -30,6 +31,8 @@ pub struct ReaderPlan {
 pub struct Settings {
     /// How receivers judge what they read.
     pub policy: Policy,
+    /// The version of the buckets: 1 or 2.
+    pub version: u8,
     /// How many cycles the threads of a run start.
     pub cycles: u32,
     /// The seed of every receiver's ether.
@@ -78,4 +81,18 @@ pub fn events_law()
 /// The slots of a well made deck have items of the catalog, and its queries are filled.
 pub fn air_law()
     ensures { (deck : Deck) → IsDeck deck → SlotsFit (air_of deck) × ((r : ℕ) → QueriesFilled (reader_of deck r)) }
+{}
+
+/// In each cycle the air has the program of the deck's edition, and the PIX numbers of its items there; editions never fall from cycle
+/// to cycle.
+pub fn edition_law()
+    ensures edition { (deck : Deck) (c : ℕ) → edition_at (air_of deck) c ≡ edition deck c }
+    ensures slots { (deck : Deck) (c : ℕ) → slots_at (air_of deck) c ≡ program (disks_in deck (edition deck c)) }
+    ensures pix { (deck : Deck) (c : ℕ) → pix_at (air_of deck) c ≡ pix_in deck (edition deck c) }
+    ensures rises { (deck : Deck) (c d : ℕ) → c ≤ d → edition deck c ≤ edition deck d }
+{}
+
+/// Of a deck without replans every cycle is of edition 0.
+pub fn one_edition_law()
+    ensures { (deck : Deck) (c : ℕ) → deck.replans ≡ [] → edition deck c ≡ 0 }
 {}

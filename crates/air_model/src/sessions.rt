@@ -41,12 +41,13 @@ pub fn sound_law()
         All (IsSoundLine values air.scheme.policy H) (session (by_history air.scheme values H) air reader heard).lines }
 {}
 
-/// Every verdict of the history under F-Matrix is exact, over every heard list: a query is accepted exactly if its reads
-/// are whole and consistent, and aborted exactly if they are not consistent.
+/// Every verdict of the history under F-Matrix is exact, over every heard list: an attempt is aged exactly if its reads lie
+/// too far apart for the air's version; else a query is accepted exactly if its reads are whole and consistent, and aborted
+/// exactly if they are not consistent.
 pub fn exact_law()
     ensures { (values : List ℕ) (air : Air) (H : List Event) (reader : Reader) (heard : List (Option Bucket)) →
         air.scheme.policy ≡ FMatrix → QueriesFilled reader → CyclesFromOne air heard →
-        All (IsExactLine H reader) (session (by_history air.scheme values H) air reader heard).lines }
+        All (IsExactLine air.version H reader) (session (by_history air.scheme values H) air reader heard).lines }
 {}
 
 /// Both judges name a held read where a new one clashes.

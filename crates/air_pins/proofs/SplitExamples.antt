@@ -14,11 +14,12 @@ abbrev of_one_rate : ℕ → List DiskSpec → Deck
 of_one_rate items disks = record {
   items = map (λ rate. record { value = 0; rate = rate }) (replicate items 1);
   disks = disks;
+  replans = [];
   updates = [];
   readers = [];
   queries = [];
   script = [];
-  settings = record { policy = FMatrix; cycles = 10; seed = 0; loss = 0; again = 0; late = 0; monitors = 0; hears = 1000000 };
+  settings = record { policy = FMatrix; version = 1; cycles = 10; seed = 0; loss = 0; again = 0; late = 0; monitors = 0; hears = 1000000 };
 }
 
 -- Four items in each of 4096 minor cycles, which are 16,384 slots, and five in each of 3277, which are 16,385.

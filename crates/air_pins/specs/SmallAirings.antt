@@ -13,14 +13,15 @@ pair = record {
   vector = 1 ∷ 1 ∷ [];
 }
 
--- A bucket of cycle 2.
-abbrev pub bucket : ℕ → Body → Bucket
-bucket slot body = record { edition = 0; cycle = 2; slot = slot; body = body }
+-- A bucket of this version and cycle 2.
+abbrev pub bucket : ℕ → ℕ → Body → Bucket
+bucket version slot body = record { version = version; edition = 0; cycle = 2; slot = slot; body = body }
 
--- The buckets of its cycle where item 0 comes twice, item 1 once, and one slot is idle.
-abbrev pub four_buckets : List (List ℕ)
-four_buckets = map spelling
-    (bucket 0 (Column 0 11 (1 ∷ 0 ∷ [])) ∷ bucket 1 (Column 1 12 (1 ∷ 1 ∷ [])) ∷ bucket 2 (Column 0 11 (1 ∷ 0 ∷ [])) ∷ bucket 3 (Idle 2) ∷ [])
+-- The buckets of this version of its cycle where item 0 comes twice, item 1 once, and one slot is idle.
+abbrev pub four_buckets : ℕ → List (List ℕ)
+four_buckets version = map spelling (
+    bucket version 0 (Column 0 11 (1 ∷ 0 ∷ [])) ∷ bucket version 1 (Column 1 12 (1 ∷ 1 ∷ [])) ∷ bucket version 2 (Column 0 11 (1 ∷ 0 ∷ []))
+    ∷ bucket version 3 (Idle 2) ∷ [])
 
 -- These were sent, and no end.
 abbrev pub sent : List (List ℕ) → SentBuckets

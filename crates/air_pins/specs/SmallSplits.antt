@@ -10,11 +10,12 @@ abbrev pub rated : List ℕ → List DiskSpec → Deck
 rated rates disks = record {
   items = map (λ rate. record { value = 0; rate = rate }) rates;
   disks = disks;
+  replans = [];
   updates = [];
   readers = [];
   queries = [];
   script = [];
-  settings = record { policy = FMatrix; cycles = 10; seed = 0; loss = 0; again = 0; late = 0; monitors = 0; hears = 1000000 };
+  settings = record { policy = FMatrix; version = 1; cycles = 10; seed = 0; loss = 0; again = 0; late = 0; monitors = 0; hears = 1000000 };
 }
 
 -- Five items. The splits 1 4, 2 3, 3 2 and 4 1 cost 81, 92, 80 and 95.

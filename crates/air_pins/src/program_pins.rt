@@ -19,8 +19,8 @@ use std::alloc::Global;
 pub fn another_deck_planned(alloc: Global, deck: Deck, cut: &Cut) -> Result<Planned, PlanFault>
     requires rates { rates_in deck ≡ 5 ∷ 5 ∷ 9 ∷ [] }
     requires disks { deck.disks ≡ spec 1 2 ∷ spec 2 1 ∷ [] }
-    requires cut { cut.now ≡ disks_in deck }
-    ensures { IfOk result (λ p. disks_in p ≡ disk (2 ∷ []) 2 ∷ disk (0 ∷ 1 ∷ []) 1 ∷ []) }
+    requires cut { cut.now ≡ disks_in deck 0 }
+    ensures { IfOk result (λ p. disks_in p 0 ≡ disk (2 ∷ []) 2 ∷ disk (0 ∷ 1 ∷ []) 1 ∷ []) }
 {
     Planned::new(alloc, deck, cut)
 }
@@ -71,8 +71,8 @@ pub fn planned_too_long_from_the_limit_on(
     deck: Deck,
     cut: &Cut,
 ) -> Result<Planned, PlanFault>
-    requires cut { cut.now ≡ disks_in deck }
-    requires slots { length (program (disks_in deck)) ≡ MOST_SLOTS }
+    requires cut { cut.now ≡ disks_in deck 0 }
+    requires slots { length (program (disks_in deck 0)) ≡ MOST_SLOTS }
     ensures { IfErr result (λ e. e ≡ fault.NoMemory) }
 {
     Planned::new(alloc, deck, cut)
@@ -111,8 +111,8 @@ pub fn too_long_from_the_limit_on(
     deck: &Deck,
     cut: &Cut,
 ) -> Result<Program, PlanFault>
-    requires cut { cut.now ≡ disks_in deck.now }
-    requires slots { length (program (disks_in deck.now)) ≡ MOST_SLOTS }
+    requires cut { cut.now ≡ disks_in deck.now 0 }
+    requires slots { length (program (disks_in deck.now 0)) ≡ MOST_SLOTS }
     ensures { IfErr result (λ e. e ≡ fault.NoMemory) }
 {
     Program::plan(alloc, deck, cut)

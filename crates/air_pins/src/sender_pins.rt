@@ -1,7 +1,7 @@
 //! These pins of `air_sender` say what a cycle of four slots sends, to any mast and to one that gathers a tape.
 //!
 //! The program's slots carry the items 0, 1, 0 and none; the board is in cycle 2.
-#![tactic(auto, unfolding(air_model::specs::Disks::all_items, air_model::specs::Programs::least_common_multiple, air_model::specs::Programs::num_minors, air_model::specs::Programs::num_chunks, air_model::specs::Programs::chunk_len, air_model::specs::Programs::chunk, air_model::specs::Programs::minor_cycle, air_model::specs::Programs::program, air_model::specs::Tapes::record_bytes, air_model::specs::Tapes::tape_of, air_sender::specs::BoardBuckets::body_on, air_sender::specs::BoardBuckets::bucket_on))]
+#![tactic(auto, unfolding(air_model::specs::Disks::all_items, air_model::specs::Programs::least_common_multiple, air_model::specs::Programs::num_minors, air_model::specs::Programs::num_chunks, air_model::specs::Programs::chunk_len, air_model::specs::Programs::chunk, air_model::specs::Programs::minor_cycle, air_model::specs::Programs::program, air_model::specs::Tapes::record_bytes, air_model::specs::Tapes::tape_of, air_sender::specs::BoardBuckets::body_on, air_sender::specs::BoardBuckets::bucket_on, air_model::specs::Buckets::capped_body, air_model::specs::Buckets::capped_entries, air_history::specs::Ages::capped))]
 
 ghost use Rattle.std.specs.Prelude.{◌≡◌, ◌<◌, ◌≤◌, [], ◌∷◌, codes, length, take, Some, None, IsErr, IfErr, OnOk};
 ghost use Rattle.air_devices.specs.Masts.{fresh_mast};
@@ -10,11 +10,23 @@ ghost use Rattle.air_sender.specs.TapeMasts.{tape_mast_state};
 ghost use Rattle.air_pins.specs.SmallPrograms.{idle_slot};
 ghost use Rattle.air_pins.specs.SmallAirings.{pair, four_buckets, sent};
 
-use air_base::Policy;
+use air_base::{Form, Policy};
 use air_devices::{Failed, Mast};
 use air_sender::{AirFault, TapeMast, air_cycle, tape_bytes};
 use chunk_program::Program;
 use control_matrix::Board;
+
+/// Control columns, with their entries in full.
+const COLUMNS: Form = Form {
+    policy: Policy::FMatrix,
+    version: 1,
+};
+
+/// Control columns, with the ages of their entries.
+const AGES: Form = Form {
+    policy: Policy::FMatrix,
+    version: 2,
+};
 
 /// Where no send failed the mast got the bucket of each slot, idle ones too, once and with its number; each has the board's cycle, and
 /// its item's own value and column. It also refuses idle slots that are skipped, a slot that is sent twice, slots that are counted from one, the
@@ -29,9 +41,25 @@ pub fn column_of_another_item(
     requires board { board.now ≡ pair }
     requires mast { tape_mast_state mast.old ≡ fresh_mast }
     requires room { 32 ≤ length buf.old }
-    ensures { OnOk result (tape_mast_state mast.new ≡ record { told = Some (sent four_buckets); faults = 0; port = None }) }
+    ensures { OnOk result (tape_mast_state mast.new ≡ record { told = Some (sent (four_buckets 1)); faults = 0; port = None }) }
 {
-    air_cycle(program, board, Policy::FMatrix, mast, buf)
+    air_cycle(program, board, COLUMNS, mast, buf)
+}
+
+/// In the form of version 2 the buckets are of version 2, also from a buffer that has no room for the others.
+pub fn version_1_whatever_the_form(
+    program: &Program,
+    board: &Board,
+    mast: &mut TapeMast,
+    buf: &mut [u8],
+) -> Result<(), AirFault>
+    requires program { program.now ≡ idle_slot }
+    requires board { board.now ≡ pair }
+    requires mast { tape_mast_state mast.old ≡ fresh_mast }
+    requires room { 26 ≤ length buf.old }
+    ensures { OnOk result (tape_mast_state mast.new ≡ record { told = Some (sent (four_buckets 2)); faults = 0; port = None }) }
+{
+    air_cycle(program, board, AGES, mast, buf)
 }
 
 /// At a fault there was a mast, just before the send of the slot that is named, by which the buckets of the slots before had been
@@ -47,10 +75,10 @@ pub fn next_slot_blamed_after_a_second_try<M: Mast>(
     requires mast { M.state mast.old ≡ fresh_mast }
     requires room { 32 ≤ length buf.old }
     ensures within { IfErr result (λ fault. failed_slot fault < 4) }
-    ensures fault { IfErr result (λ fault. (just_before : M) × (M.state just_before ≡ record { told = Some (sent (take (failed_slot fault) four_buckets)); faults = 0; port = None }) ×
+    ensures fault { IfErr result (λ fault. (just_before : M) × (M.state just_before ≡ record { told = Some (sent (take (failed_slot fault) (four_buckets 1))); faults = 0; port = None }) ×
         (0 < (M.state mast.new).faults) × ((M.state mast.new).told ≡ (M.state just_before).told)) }
 {
-    air_cycle(program, board, Policy::FMatrix, mast, buf)
+    air_cycle(program, board, COLUMNS, mast, buf)
 }
 
 /// A record takes the bytes of its length too: 36 with an item, 28 without one.
@@ -58,7 +86,15 @@ pub fn record_size_without_its_length(program: &Program) -> u64
     requires { program.now ≡ idle_slot }
     ensures { result ≡ 408 }
 {
-    tape_bytes(program, 2, 3)
+    tape_bytes(program, 2, 3, COLUMNS)
+}
+
+/// In version 2 an entry takes one byte: a record has 30 with an item.
+pub fn four_bytes_for_an_age(program: &Program) -> u64
+    requires { program.now ≡ idle_slot }
+    ensures { result ≡ 354 }
+{
+    tape_bytes(program, 2, 3, AGES)
 }
 
 /// A bucket whose record has no room is refused.

@@ -44,6 +44,7 @@ all_events (e.Commit by seq update ∷ H) = ap (λ l. event_row (e.Commit by seq
 no_verdict : (k : VerdictKind) (x : VerdictLine) → is_event_row (kind_row k x) ≡ false
 no_verdict kind.Accept x = refl
 no_verdict (kind.Abort item cycle clash) x = refl
+no_verdict (kind.Aged item cycle) x = refl
 no_verdict kind.Unfinished x = refl
 
 report_events : (r : Report) → event_rows (report_rows r) ≡ map event_row r.history

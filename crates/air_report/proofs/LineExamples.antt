@@ -62,6 +62,9 @@ pub record Spelled : Type 0 where
   by_look : spelled_line_by (Some t.Look) (codes "0" ∷ codes "1" ∷ codes "30" ∷ []) ≡ Ok (l.Look (look 0 1))
   by_nothing : spelled_line_by None (codes "0" ∷ []) ≡ Err fault.Tag
   of_row : spelled_line (codes "commit" ∷ codes "3" ∷ codes "4" ∷ []) ≡ Ok (l.Event (Commit 3 4))
+  -- No deck's attempts end aged so far, so it is no tag, whatever its fields.
+  aged : spelled_line (codes "aged" ∷ codes "0" ∷ codes "0" ∷ codes "1" ∷ codes "0@1=10" ∷ codes "1@256" ∷ []) ≡ Err fault.Tag
+  aged_alone : spelled_line (codes "aged" ∷ []) ≡ Err fault.Tag
   row_of_look : row_in its_look 7 (Ok (l.Look (look 0 1))) ≡ Some 7
   row_of_other : row_in its_look 7 (Ok (l.Glance (look 0 1))) ≡ None
   row_of_fault : row_in its_look 7 (Err fault.Form) ≡ None
@@ -97,6 +100,8 @@ spelled = record {
   by_look = refl;
   by_nothing = refl;
   of_row = refl;
+  aged = refl;
+  aged_alone = refl;
   row_of_look = refl;
   row_of_other = refl;
   row_of_fault = refl;
@@ -145,6 +150,9 @@ pub record Lines : Type 0 where
   part_read : follow (0 ∷ 1 ∷ []) (0 ∷ []) kind.Accept ≡ false
   next_refused : follow (0 ∷ 1 ∷ []) (0 ∷ []) (kind.Abort 1 2 0) ≡ true
   clash_unread : follow (0 ∷ 1 ∷ []) (0 ∷ []) (kind.Abort 1 2 1) ≡ false
+  next_too_far : follow (0 ∷ 1 ∷ []) (0 ∷ []) (kind.Aged 1 256) ≡ true
+  not_next : follow (0 ∷ 1 ∷ []) (0 ∷ []) (kind.Aged 0 256) ≡ false
+  all_but_none : follow (0 ∷ 1 ∷ []) (0 ∷ 1 ∷ []) (kind.Aged 1 256) ≡ false
   nothing_left : follow (0 ∷ 1 ∷ []) (0 ∷ 1 ∷ []) kind.Unfinished ≡ false
   -- The reader tries twice.
   last_try : is_tried deck (verdict 0 2 kind.Unfinished []) ≡ true
@@ -159,6 +167,8 @@ pub record Lines : Type 0 where
   no_cycle : has_begun 2 3 ≡ false
   catalog : has_begun 2 0 ≡ false
   refused_later : end_begun 2 (kind.Abort 1 3 0) ≡ false
+  aged_later : end_begun 2 (kind.Aged 1 3) ≡ false
+  aged_begun : end_begun 3 (kind.Aged 1 3) ≡ true
   accepted : end_begun 0 kind.Accept ≡ true
   read_of_catalog : is_begun 2 (l.Verdict (verdict 0 1 kind.Unfinished (r 0 0 10 ∷ []))) ≡ false
   look_at_catalog : is_begun 2 (l.Look (look 0 0)) ≡ true
@@ -199,6 +209,9 @@ lines = record {
   part_read = refl;
   next_refused = refl;
   clash_unread = refl;
+  next_too_far = refl;
+  not_next = refl;
+  all_but_none = refl;
   nothing_left = refl;
   last_try = refl;
   no_try = refl;
@@ -211,6 +224,8 @@ lines = record {
   no_cycle = refl;
   catalog = refl;
   refused_later = refl;
+  aged_later = refl;
+  aged_begun = refl;
   accepted = refl;
   read_of_catalog = refl;
   look_at_catalog = refl;

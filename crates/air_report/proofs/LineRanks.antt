@@ -1,5 +1,5 @@
 -- A line that stands behind all lines of a report, though it is put into its section, comes after no later section.
-use Rattle.std.proofs.Common.{◌≡◌, ◌++◌, ◌∷◌, [], ℕ, List, Bool, false, refl, sym, ap, ◌∙◌, map, arith}
+use Rattle.std.proofs.Common.{◌≡◌, ◌++◌, ◌∷◌, [], ℕ, List, false, refl, sym, ap, ◌∙◌, map, arith}
 use Rattle.air_report.specs.LineFaults.{comes_after_later_section, is_filled}
 use Rattle.air_report.specs.ReportLines.{ReportLines}
 use Rattle.air_report.specs.Private.RecordAnswers.{with_one_line}

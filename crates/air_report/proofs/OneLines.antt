@@ -1,12 +1,11 @@
 -- What a line alone is asked, as a report of its row.
-use Rattle.std.proofs.Common.{◌≡◌, ◌<◌, ◌≤◌, ◌∷◌, [], ℕ, List, All, Bool, true, refl, sym, ap, ◌∙◌, subst, length}
+use Rattle.std.proofs.Common.{◌≡◌, ◌<◌, ◌≤◌, ◌∷◌, [], ℕ, List, All, true, refl, ap, subst, length}
 use Rattle.std.proofs.lemmas.Bool.{le-leb, leb-true, lt-ltb, ltb-true}
 use Rattle.std.proofs.lemmas.List.Elements.{All-cons, All-head, All-nil}
 use Rattle.air_model.specs.Decks.{Deck}
 use Rattle.air_model.specs.Reports.{Report}
 use Rattle.air_model.specs.declared.reports.CountsLine.{CountsLine}
 use Rattle.air_model.specs.declared.reports.LookLine.{LookLine}
-use Rattle.air_model.specs.declared.reports.VerdictLine.{VerdictLine}
 use Rattle.air_report.specs.LineFaults.{is_begun, is_known}
 use Rattle.air_report.specs.ReportLines.{ReportLines, lines_in, sections_of}
 use Rattle.air_report.specs.ReportRules.{CyclesBegun, IsKnown, IsTried}

@@ -5,15 +5,14 @@ use Rattle.std.proofs.lemmas.List.Elements.{All-cons, All-head, All-nil}
 use Rattle.air_base.specs.Numbers.{number_text}
 use Rattle.air_base.specs.declared.verdicts.ReadOf.{ReadOf}
 use Rattle.air_base.specs.declared.verdicts.VerdictKind.{VerdictKind}
-use Rattle.air_base.specs.declared.verdicts.VerdictKind.TheVariants.{Abort, Unfinished}
-use Rattle.air_history.specs.declared.histories.Event.TheVariants as e
+use Rattle.air_base.specs.declared.verdicts.VerdictKind.TheVariants.{Abort, Aged, Unfinished}
 use Rattle.air_model.specs.Reports.{Report, report_rows}
 use Rattle.air_model.specs.SessionLaws.{follows_query}
 use Rattle.air_model.specs.declared.reports.CountsLine.{CountsLine}
 use Rattle.air_model.specs.declared.reports.LookLine.{LookLine}
 use Rattle.air_model.specs.declared.reports.VerdictLine.{VerdictLine}
 use Rattle.air_report.specs.ReportGrammar.{Applies, IsLineOf, NoLine, due_length, joined, row_lengths}
-use Rattle.air_report.specs.ReportRules.{CountsWide, EndWide, EventWide, CyclesBegun, HasWidths, IsKnown, IsReport, IsTried, LookWide, VerdictWide, its_attempt}
+use Rattle.air_report.specs.ReportRules.{CountsWide, EndWide, EventWide, CyclesBegun, IsKnown, IsReport, IsTried, LookWide, VerdictWide, its_attempt}
 use Rattle.air_report.specs.declared.reading.kinds.FaultKind.TheVariants as fault
 use Rattle.air_report.proofs.PrintedReports.{line_is}
 use Rattle.air_report.proofs.PrintedFields.{Row}
@@ -110,6 +109,9 @@ wide_end = (omega arith, omega arith, omega arith)
 
 not_wide_end : EndWide (Abort 65536 1 0) → ⊥
 not_wide_end h = let low : 65536 < 2 ^ 16 = h.0 in omega arith
+
+no_aged_end : EndWide (Aged 1 256) → ⊥
+no_aged_end h = h
 
 of_the_deck : IsReport deck report
 of_the_deck = spells_report.report

@@ -11,7 +11,7 @@ use Rattle.air_model.specs.Reports.{attempt_row, counts_row, kind_row, look_row,
 use Rattle.air_model.specs.declared.reports.LookLine.{LookLine}
 use Rattle.air_model.specs.declared.reports.VerdictLine.{VerdictLine}
 use Rattle.item_catalog.specs.RecordFields.{◌is◌, four_of, seven_of, six_of}
-use Rattle.item_catalog.specs.Spelled.{◌>>=◌, or_fault}
+use Rattle.item_catalog.specs.Spelled.{or_fault, spelled_then}
 use Rattle.air_report.specs.LineRules.{LineWide}
 use Rattle.air_report.specs.LineTexts.{abort_by, abort_of, as_line, commit_by, counts_by, ended_by, seen_by, short_of, spelled_item, spelled_line, spelled_place, spelled_read, start_by}
 use Rattle.air_report.specs.ReportRules.{CountsWide, EndWide, LookWide, VerdictWide}
@@ -76,7 +76,7 @@ commit_told (a ∷ []) = λ h. omega (arith, h)
 commit_told (a ∷ b ∷ c ∷ more) = λ h. omega (arith, h)
 commit_told (a ∷ b ∷ []) = by (short_of a) (short_of b) refl refl
   where
-    by : (p q : Option ℕ) → short_of a ≡ p → short_of b ≡ q → Told (codes "commit" ∷ a ∷ b ∷ []) 3 (or_fault fault.Form (p >>= λ by. q >>= λ seq. Some (l.Event (Commit by seq))))
+    by : (p q : Option ℕ) → short_of a ≡ p → short_of b ≡ q → Told (codes "commit" ∷ a ∷ b ∷ []) 3 (or_fault fault.Form (spelled_then p λ by. spelled_then q λ seq. Some (l.Event (Commit by seq))))
     by None q ep eq = refl
     by (Some m) None ep eq = refl
     by (Some m) (Some n) ep eq =
@@ -96,7 +96,7 @@ ended_told end tag own fits (f ∷ g ∷ i ∷ j ∷ k ∷ more) = λ h. omega (
 ended_told end tag own fits (f ∷ g ∷ i ∷ j ∷ []) = by (short_of f) (short_of g) (short_of i) (list_of spelled_read j) refl refl refl refl
   where
     by : (r q a : Option ℕ) (rs : Option (List ReadOf)) → short_of f ≡ r → short_of g ≡ q → short_of i ≡ a → list_of spelled_read j ≡ rs
-        → Told (tag ∷ f ∷ g ∷ i ∷ j ∷ []) 5 (or_fault fault.Form (r >>= λ r. q >>= λ q. a >>= λ a. rs >>= λ rs. Some end >>= λ end. Some (l.Verdict (record { reader = r; verdict = record { query = q; attempt = a; kind = end }; reads = rs }))))
+        → Told (tag ∷ f ∷ g ∷ i ∷ j ∷ []) 5 (or_fault fault.Form (spelled_then r λ r. spelled_then q λ q. spelled_then a λ a. spelled_then rs λ rs. spelled_then (Some end) λ end. Some (l.Verdict (record { reader = r; verdict = record { query = q; attempt = a; kind = end }; reads = rs }))))
     by None q a rs er eq ea ers = refl
     by (Some r) None a rs er eq ea ers = refl
     by (Some r) (Some q) None rs er eq ea ers = refl
@@ -124,7 +124,7 @@ record AbortText (place clash : List ℕ) (end : VerdictKind) : Type 0 where
 abort_is : (place clash : List ℕ) (end : VerdictKind) → abort_of place clash ≡ Some end → AbortText place clash end
 abort_is place clash end h = by (spelled_place place) (spelled_item clash) refl refl h
   where
-    by : (p : Option (ℕ × ℕ)) (c : Option ℕ) → spelled_place place ≡ p → spelled_item clash ≡ c → (p >>= λ p. c >>= λ c. Some (kind.Abort p.0 p.1 c)) ≡ Some end → AbortText place clash end
+    by : (p : Option (ℕ × ℕ)) (c : Option ℕ) → spelled_place place ≡ p → spelled_item clash ≡ c → (spelled_then p λ p. spelled_then c λ c. Some (kind.Abort p.0 p.1 c)) ≡ Some end → AbortText place clash end
     by None c ep ec h = cc h
     by (Some p) None ep ec h = cc h
     by (Some p) (Some c) ep ec h =
@@ -142,7 +142,7 @@ abort_told (f ∷ g ∷ i ∷ j ∷ k ∷ m ∷ n ∷ more) = λ h. omega (arith
 abort_told (f ∷ g ∷ i ∷ j ∷ k ∷ m ∷ []) = by (short_of f) (short_of g) (short_of i) (list_of spelled_read j) (abort_of k m) refl refl refl refl refl
   where
     by : (r q a : Option ℕ) (rs : Option (List ReadOf)) (e : Option VerdictKind) → short_of f ≡ r → short_of g ≡ q → short_of i ≡ a → list_of spelled_read j ≡ rs → abort_of k m ≡ e
-        → Told (codes "abort" ∷ f ∷ g ∷ i ∷ j ∷ k ∷ m ∷ []) 7 (or_fault fault.Form (r >>= λ r. q >>= λ q. a >>= λ a. rs >>= λ rs. e >>= λ end. Some (l.Verdict (record { reader = r; verdict = record { query = q; attempt = a; kind = end }; reads = rs }))))
+        → Told (codes "abort" ∷ f ∷ g ∷ i ∷ j ∷ k ∷ m ∷ []) 7 (or_fault fault.Form (spelled_then r λ r. spelled_then q λ q. spelled_then a λ a. spelled_then rs λ rs. spelled_then e λ end. Some (l.Verdict (record { reader = r; verdict = record { query = q; attempt = a; kind = end }; reads = rs }))))
     by None q a rs e er eq ea ers ee = refl
     by (Some r) None a rs e er eq ea ers ee = refl
     by (Some r) (Some q) None rs e er eq ea ers ee = refl
@@ -172,7 +172,7 @@ counts_told (f ∷ g ∷ i ∷ j ∷ k ∷ m ∷ n ∷ o ∷ more) = λ h. omega
 counts_told (f ∷ g ∷ i ∷ j ∷ k ∷ m ∷ n ∷ []) = by (short_of f) (number_of g) (number_of i) (number_of j) (number_of k) (number_of m) (number_of n) refl refl refl refl refl refl refl
   where
     by : (r o d a e g' c : Option ℕ) → short_of f ≡ r → number_of g ≡ o → number_of i ≡ d → number_of j ≡ a → number_of k ≡ e → number_of m ≡ g' → number_of n ≡ c
-        → Told (codes "counts" ∷ f ∷ g ∷ i ∷ j ∷ k ∷ m ∷ n ∷ []) 8 (or_fault fault.Form (r >>= λ reader. o >>= λ opened. d >>= λ dozed. a >>= λ late. e >>= λ refused. g' >>= λ foreign. c >>= λ copied. Some (l.Counts (record { reader = reader; counts = record { opened = opened; dozed = dozed; late = late; refused = refused; foreign = foreign; copied = copied } }))))
+        → Told (codes "counts" ∷ f ∷ g ∷ i ∷ j ∷ k ∷ m ∷ n ∷ []) 8 (or_fault fault.Form (spelled_then r λ reader. spelled_then o λ opened. spelled_then d λ dozed. spelled_then a λ late. spelled_then e λ refused. spelled_then g' λ foreign. spelled_then c λ copied. Some (l.Counts (record { reader = reader; counts = record { opened = opened; dozed = dozed; late = late; refused = refused; foreign = foreign; copied = copied } }))))
     by None o d a e g' c h1 h2 h3 h4 h5 h6 h7 = refl
     by (Some r) None d a e g' c h1 h2 h3 h4 h5 h6 h7 = refl
     by (Some r) (Some o) None a e g' c h1 h2 h3 h4 h5 h6 h7 = refl
@@ -198,7 +198,7 @@ seen_told tag wrap own fits (f ∷ g ∷ i ∷ j ∷ more) = λ h. omega (arith,
 seen_told tag wrap own fits (f ∷ g ∷ i ∷ []) = by (short_of f) (short_of g) (number_of i) refl refl refl
   where
     by : (m c n : Option ℕ) → short_of f ≡ m → short_of g ≡ c → number_of i ≡ n
-        → Told (tag ∷ f ∷ g ∷ i ∷ []) 4 (as_line wrap (or_fault fault.Form (m >>= λ monitor. c >>= λ cycle. n >>= λ total. Some (record { monitor = monitor; cycle = cycle; total = total }))))
+        → Told (tag ∷ f ∷ g ∷ i ∷ []) 4 (as_line wrap (or_fault fault.Form (spelled_then m λ monitor. spelled_then c λ cycle. spelled_then n λ total. Some (record { monitor = monitor; cycle = cycle; total = total }))))
     by None c n em ec en = refl
     by (Some m) None n em ec en = refl
     by (Some m) (Some c) None em ec en = refl

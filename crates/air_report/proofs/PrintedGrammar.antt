@@ -1,5 +1,5 @@
 -- The rules of a report's lines, as the reader asks them, are those of the report: tries of a query, what the deck has, and cycles that began.
-use Rattle.std.proofs.Common.{◌≡◌, ◌<◌, ◌≤◌, ◌+◌, ◌++◌, ◌∷◌, [], ℕ, zero, suc, List, All, Option, Some, None, Bool, true, false, cond, ◌==◌, ◌&&◌, refl, sym, ap, ◌∙◌, subst, length, get_or, map, nat_eq, nat_le, nat_lt, take, slice_get, inl, inr, arith}
+use Rattle.std.proofs.Common.{◌≡◌, ◌≤◌, ◌+◌, ◌++◌, ◌∷◌, [], ℕ, suc, List, All, Option, Some, None, Bool, true, false, cond, ◌==◌, ◌&&◌, refl, sym, ap, ◌∙◌, subst, length, get_or, map, nat_eq, nat_le, nat_lt, take, slice_get, inl, inr, arith}
 use Rattle.std.specs.Cmp.Lexicographic.{pointwise}
 use Rattle.std.specs.List.{list_all, list_any}
 use Rattle.std.specs.Option.{option_map_or}
@@ -9,7 +9,7 @@ use Rattle.std.proofs.lemmas.List.Sums.{sum_by-cons}
 use Rattle.std.proofs.lemmas.Option.{get_or_from_slice_get, slice_get-get_or, slice_get_within}
 use Rattle.air_base.specs.declared.verdicts.ReadOf.{ReadOf}
 use Rattle.air_base.specs.declared.verdicts.VerdictKind.{VerdictKind}
-use Rattle.air_base.specs.declared.verdicts.VerdictKind.TheVariants.{Accept, Abort, Unfinished}
+use Rattle.air_base.specs.declared.verdicts.VerdictKind.TheVariants.{Accept, Abort, Aged, Unfinished}
 use Rattle.air_history.specs.Histories.{is_start, starts}
 use Rattle.air_history.specs.Reads.{ReadAt}
 use Rattle.air_history.specs.declared.histories.Event.{Event}
@@ -19,13 +19,11 @@ use Rattle.air_model.specs.Reports.{Report}
 use Rattle.air_model.specs.SessionLaws.{decided_on, follows_query}
 use Rattle.air_model.specs.Sessions.{is_wanted}
 use Rattle.air_model.specs.declared.deck.ReaderPlan.{ReaderPlan}
-use Rattle.air_model.specs.declared.reports.CountsLine.{CountsLine}
-use Rattle.air_model.specs.declared.reports.LookLine.{LookLine}
 use Rattle.air_model.specs.declared.reports.VerdictLine.{VerdictLine}
-use Rattle.air_report.specs.LineFaults.{end_begun, follow, has_begun, is_begun, is_known, is_tried, leads, read_item}
-use Rattle.air_report.specs.LineRules.{InGrammar, IsRight}
+use Rattle.air_report.specs.LineFaults.{end_begun, follow, has_begun, is_begun, is_tried, leads, read_item}
+use Rattle.air_report.specs.LineRules.{InGrammar}
 use Rattle.air_report.specs.ReportLines.{ReportLines, event_in, its_line, lines_in, report_in, starts_cycle, starts_in}
-use Rattle.air_report.specs.ReportRules.{CyclesBegun, HasWidths, IsKnown, IsReport, IsTried, its_attempt}
+use Rattle.air_report.specs.ReportRules.{CyclesBegun, HasWidths, IsKnown, IsReport, IsTried}
 use Rattle.air_report.specs.declared.reading.lines.EventLine.TheVariants as line
 use Rattle.air_report.specs.declared.reading.lines.Line.TheVariants as l
 use Rattle.air_report.proofs.LegalLines.{legal}
@@ -74,6 +72,9 @@ same_follow query items (Abort item cycle clash) =
     let test = list_any (λ other. other == clash) items in let next = option_map_or (λ next. next == item) (slice_get query (length items)) false in
     and_again (leads items query) next test ∙ ap (λ b. b && (next && test)) (front_same items query)
     ∙ ap (λ b. pointwise nat_eq items (take (length items) query) && (b && test)) (wanted_same (slice_get query (length items)) item)
+same_follow query items (Aged item cycle) =
+    let next = option_map_or (λ next. next == item) (slice_get query (length items)) false in
+    ap (λ b. b && next) (front_same items query) ∙ ap (λ b. pointwise nat_eq items (take (length items) query) && b) (wanted_same (slice_get query (length items)) item)
 same_follow query items Unfinished = ap (λ b. b && nat_lt (length items) (length query)) (front_same items query)
 
 -- ---- attempts
@@ -158,12 +159,16 @@ module _ (starts : ℕ) where
       and_from (has_begun starts r.cycle) (all_begun reads) (is_cycle_begun starts r.cycle (All-head (Begun starts) (at r) (map at reads) h))
       (are_reads_begun reads (All-tail (Begun starts) (at r) (map at reads) h))
 
+  refused_begun : (item cycle : ℕ) (reads : List ReadOf) → (all_begun reads && has_begun starts cycle) ≡ true → All (Begun starts) (map at reads ++ record { item = item; cycle = cycle } ∷ [])
+  refused_begun item cycle reads h =
+      let both = and_parts (all_begun reads) (has_begun starts cycle) h in let last : ReadAt = record { item = item; cycle = cycle } in
+      All-append (Begun starts) (map at reads) (last ∷ []) (reads_begun reads both.0) (All-cons (Begun starts) last [] (cycle_begun starts cycle both.1) (All-nil (Begun starts)))
+
   ended_begun : (end : VerdictKind) (reads : List ReadOf) → (all_begun reads && end_begun starts end) ≡ true → All (Begun starts) (decided_on end (map at reads))
   ended_begun Accept reads h = reads_begun reads (and_parts (all_begun reads) true h).0
   ended_begun Unfinished reads h = reads_begun reads (and_parts (all_begun reads) true h).0
-  ended_begun (Abort item cycle clash) reads h =
-      let both = and_parts (all_begun reads) (has_begun starts cycle) h in let last : ReadAt = record { item = item; cycle = cycle } in
-      All-append (Begun starts) (map at reads) (last ∷ []) (reads_begun reads both.0) (All-cons (Begun starts) last [] (cycle_begun starts cycle both.1) (All-nil (Begun starts)))
+  ended_begun (Abort item cycle clash) reads h = refused_begun item cycle reads h
+  ended_begun (Aged item cycle) reads h = refused_begun item cycle reads h
 
   left : (xs ys : List ReadAt) → All (Begun starts) (xs ++ ys) → All (Begun starts) xs
   left [] ys h = All-nil (Begun starts)
@@ -173,13 +178,17 @@ module _ (starts : ℕ) where
   right [] ys h = h
   right (x ∷ xs) ys h = right xs ys (All-tail (Begun starts) x (xs ++ ys) h)
 
-  is_ended_begun : (end : VerdictKind) (reads : List ReadOf) → All (Begun starts) (decided_on end (map at reads)) → (all_begun reads && end_begun starts end) ≡ true
-  is_ended_begun Accept reads h = and_from (all_begun reads) true (are_reads_begun reads h) refl
-  is_ended_begun Unfinished reads h = and_from (all_begun reads) true (are_reads_begun reads h) refl
-  is_ended_begun (Abort item cycle clash) reads h =
+  is_refused_begun : (item cycle : ℕ) (reads : List ReadOf) → All (Begun starts) (map at reads ++ record { item = item; cycle = cycle } ∷ []) → (all_begun reads && has_begun starts cycle) ≡ true
+  is_refused_begun item cycle reads h =
       let last : ReadAt = record { item = item; cycle = cycle } in
       and_from (all_begun reads) (has_begun starts cycle) (are_reads_begun reads (left (map at reads) (last ∷ []) h))
       (is_cycle_begun starts cycle (All-head (Begun starts) last [] (right (map at reads) (last ∷ []) h)))
+
+  is_ended_begun : (end : VerdictKind) (reads : List ReadOf) → All (Begun starts) (decided_on end (map at reads)) → (all_begun reads && end_begun starts end) ≡ true
+  is_ended_begun Accept reads h = and_from (all_begun reads) true (are_reads_begun reads h) refl
+  is_ended_begun Unfinished reads h = and_from (all_begun reads) true (are_reads_begun reads h) refl
+  is_ended_begun (Abort item cycle clash) reads h = is_refused_begun item cycle reads h
+  is_ended_begun (Aged item cycle) reads h = is_refused_begun item cycle reads h
 
   -- The cycles of a verdict.
   abbrev pub VerdictBegun : VerdictLine → Type 0

@@ -1,5 +1,5 @@
 -- The rows of a report are those that are printed of its lines, section by section; and its lines are told by these rows.
-use Rattle.std.proofs.Common.{◌≡◌, ◌++◌, ◌∷◌, [], ℕ, List, All, Option, Some, None, Result, Ok, refl, sym, ap, ◌∙◌, codes, map}
+use Rattle.std.proofs.Common.{◌≡◌, ◌++◌, ◌∷◌, [], List, All, Option, Some, None, Ok, refl, sym, ap, ◌∙◌, codes, map}
 use Rattle.std.specs.List.{filter_map}
 use Rattle.std.proofs.lemmas.List.{append-nil, map-append}
 use Rattle.std.proofs.lemmas.List.Elements.{All-append, All-cons, All-head, All-nil, All-tail, filter_map-append}

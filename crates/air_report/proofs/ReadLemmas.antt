@@ -16,7 +16,7 @@ use Rattle.air_base.specs.declared.verdicts.ReadOf.{ReadOf}
 use Rattle.air_base.proofs.Cuts.{Two, cut_none, cut_then, is_not, two_pieces}
 use Rattle.air_base.proofs.LeadingPartLemmas.{behind_past, front_behind, front_past}
 use Rattle.air_base.proofs.NumberFronts.{after_byte, all_such, part_with, spelled_digits}
-use Rattle.item_catalog.specs.Spelled.{◌>>=◌}
+use Rattle.item_catalog.specs.Spelled.{spelled_then}
 use Rattle.air_report.specs.LineTexts.{below, short_of, spelled_item, spelled_place, spelled_read}
 use Rattle.air_report.specs.Private.ReadFronts.{leading_place, leading_read}
 
@@ -63,7 +63,7 @@ unfolding spelled_place
 place_is text p h = by (two_of (cut_at 64 text)) (two_pieces 64 text) h
   where
     both : (s : List ℕ × List ℕ) → Two 64 text (Some s) → (i c : Option ℕ) → spelled_item s.0 ≡ i → short_of s.1 ≡ c
-        → ◌≡◌ {A = Option (ℕ × ℕ)} (i >>= λ item. c >>= λ cycle. Some (item, cycle)) (Some p) → PlaceText text p.0 p.1
+        → ◌≡◌ {A = Option (ℕ × ℕ)} (spelled_then i λ item. spelled_then c λ cycle. Some (item, cycle)) (Some p) → PlaceText text p.0 p.1
     both s t None c ei ec h = cc h
     both s t (Some i) None ei ec h = cc h
     both s t (Some i) (Some c) ei ec h =
@@ -71,7 +71,7 @@ place_is text p h = by (two_of (cut_at 64 text)) (two_pieces 64 text) h
         record { first = s.0; second = s.1; text_is = t; item_is = ei ∙ ap (λ (q : ℕ × ℕ). Some q.0) same; cycle_is = ec ∙ ap (λ (q : ℕ × ℕ). Some q.1) same }
 
     by : (sides : Option (List ℕ × List ℕ)) → Two 64 text sides
-        → ◌≡◌ {A = Option (ℕ × ℕ)} (sides >>= λ s. spelled_item s.0 >>= λ item. short_of s.1 >>= λ cycle. Some (item, cycle)) (Some p) → PlaceText text p.0 p.1
+        → ◌≡◌ {A = Option (ℕ × ℕ)} (spelled_then sides λ s. spelled_then (spelled_item s.0) λ item. spelled_then (short_of s.1) λ cycle. Some (item, cycle)) (Some p) → PlaceText text p.0 p.1
     by None t h = cc h
     by (Some s) t h = both s t (spelled_item s.0) (short_of s.1) refl refl h
 
@@ -98,7 +98,7 @@ unfolding spelled_read
 read_is text r h = by (two_of (cut_at 61 text)) (two_pieces 61 text) h
   where
     both : (s : List ℕ × List ℕ) → Two 61 text (Some s) → (p : Option (ℕ × ℕ)) (v : Option ℕ) → spelled_place s.0 ≡ p → number_of s.1 ≡ v
-        → (p >>= λ place. v >>= λ value. Some (read_by place value)) ≡ Some r → ReadText text r
+        → (spelled_then p λ place. spelled_then v λ value. Some (read_by place value)) ≡ Some r → ReadText text r
     both s t None v ep ev h = cc h
     both s t (Some p) None ep ev h = cc h
     both s t (Some p) (Some v) ep ev h =
@@ -114,7 +114,7 @@ read_is text r h = by (two_of (cut_at 61 text)) (two_pieces 61 text) h
         }
 
     by : (sides : Option (List ℕ × List ℕ)) → Two 61 text sides
-        → (sides >>= λ s. spelled_place s.0 >>= λ place. number_of s.1 >>= λ value. Some (read_by place value)) ≡ Some r → ReadText text r
+        → (spelled_then sides λ s. spelled_then (spelled_place s.0) λ place. spelled_then (number_of s.1) λ value. Some (read_by place value)) ≡ Some r → ReadText text r
     by None t h = cc h
     by (Some s) t h = both s t (spelled_place s.0) (number_of s.1) refl refl h
 
@@ -176,7 +176,7 @@ unfolding leading_place
 led text item cycle rest h = by (spelled_item (digits_of text)) (behind_byte 64 (after_digits text)) refl refl h
   where
     end : (i : ℕ) (more : List ℕ) (c : Option ℕ) → spelled_item (digits_of text) ≡ Some i → behind_byte 64 (after_digits text) ≡ Some more → short_of (digits_of more) ≡ c
-        → ◌≡◌ {A = Option (ℕ × ℕ × List ℕ)} (c >>= λ cycle. Some (i, cycle, after_digits more)) (Some (item, cycle, rest)) → Led text item cycle rest
+        → ◌≡◌ {A = Option (ℕ × ℕ × List ℕ)} (spelled_then c λ cycle. Some (i, cycle, after_digits more)) (Some (item, cycle, rest)) → Led text item cycle rest
     end i more None ei em ec h = cc h
     end i more (Some c) ei em ec h =
         let same : ◌≡◌ {A = ℕ × ℕ × List ℕ} (i, c, after_digits more) (item, cycle, rest) = cc h in
@@ -189,7 +189,7 @@ led text item cycle rest h = by (spelled_item (digits_of text)) (behind_byte 64 
         }
 
     by : (i : Option ℕ) (m : Option (List ℕ)) → spelled_item (digits_of text) ≡ i → behind_byte 64 (after_digits text) ≡ m
-        → ◌≡◌ {A = Option (ℕ × ℕ × List ℕ)} (i >>= λ item. m >>= λ more. short_of (digits_of more) >>= λ cycle. Some (item, cycle, after_digits more)) (Some (item, cycle, rest)) → Led text item cycle rest
+        → ◌≡◌ {A = Option (ℕ × ℕ × List ℕ)} (spelled_then i λ item. spelled_then m λ more. spelled_then (short_of (digits_of more)) λ cycle. Some (item, cycle, after_digits more)) (Some (item, cycle, rest)) → Led text item cycle rest
     by None m ei em h = cc h
     by (Some i) None ei em h = cc h
     by (Some i) (Some more) ei em h = end i more (short_of (digits_of more)) ei em refl h
@@ -268,7 +268,7 @@ unfolding leading_read
 read_led text r rest h = by (leading_place text) refl h
   where
     made : (item cycle : ℕ) (back more : List ℕ) (v : Option ℕ) → Led text item cycle back → back ≡ 61 ∷ more → number_of (first_part more) ≡ v
-        → ◌≡◌ {A = Option (ReadOf × List ℕ)} (v >>= λ value. Some (read_by (item, cycle) value, after_part more)) (Some (r, rest)) → (spelled_read (first_part text) ≡ Some r) × (rest ≡ after_part text)
+        → ◌≡◌ {A = Option (ReadOf × List ℕ)} (spelled_then v λ value. Some (read_by (item, cycle) value, after_part more)) (Some (r, rest)) → (spelled_read (first_part text) ≡ Some r) × (rest ≡ after_part text)
     made item cycle back more None l eb ev h = cc h
     made item cycle back more (Some v) l eb ev h =
         let same : ◌≡◌ {A = ReadOf × List ℕ} (read_by (item, cycle) v, after_part more) (r, rest) = cc h in
@@ -280,12 +280,12 @@ read_led text r rest h = by (leading_place text) refl h
         )
 
     in_part : (p : ℕ × ℕ × List ℕ) (m : Option (List ℕ)) → leading_place text ≡ Some p → behind_byte 61 p.2 ≡ m
-        → ◌≡◌ {A = Option (ReadOf × List ℕ)} (m >>= λ more. number_of (first_part more) >>= λ value. Some (read_by (p.0, p.1) value, after_part more)) (Some (r, rest)) → (spelled_read (first_part text) ≡ Some r) × (rest ≡ after_part text)
+        → ◌≡◌ {A = Option (ReadOf × List ℕ)} (spelled_then m λ more. spelled_then (number_of (first_part more)) λ value. Some (read_by (p.0, p.1) value, after_part more)) (Some (r, rest)) → (spelled_read (first_part text) ≡ Some r) × (rest ≡ after_part text)
     in_part p None ep em h = cc h
     in_part p (Some more) ep em h = made p.0 p.1 p.2 more (number_of (first_part more)) (led text p.0 p.1 p.2 ep) (behind_is 61 p.2 more em) refl h
 
     by : (p : Option (ℕ × ℕ × List ℕ)) → leading_place text ≡ p
-        → ◌≡◌ {A = Option (ReadOf × List ℕ)} (p >>= λ place. behind_byte 61 place.2 >>= λ more. number_of (first_part more) >>= λ value. Some (read_by (place.0, place.1) value, after_part more)) (Some (r, rest)) → (spelled_read (first_part text) ≡ Some r) × (rest ≡ after_part text)
+        → ◌≡◌ {A = Option (ReadOf × List ℕ)} (spelled_then p λ place. spelled_then (behind_byte 61 place.2) λ more. spelled_then (number_of (first_part more)) λ value. Some (read_by (place.0, place.1) value, after_part more)) (Some (r, rest)) → (spelled_read (first_part text) ≡ Some r) × (rest ≡ after_part text)
     by None ep h = cc h
     by (Some p) ep h = in_part p (behind_byte 61 p.2) ep refl h
 

@@ -1,5 +1,5 @@
 -- Which kinds of fault apply to a row behind a report: the least of them is the one that the reader tells, and where it tells none, none does.
-use Rattle.std.proofs.Common.{◌≡◌, ◌<◌, ◌≤◌, ◌++◌, ◌∷◌, ◌∙◌, [], ℕ, List, Option, Some, None, Result, Ok, Err, Bool, true, false, not, refl, sym, ap, subst, append_assoc, inl, inr, length, map, arith}
+use Rattle.std.proofs.Common.{◌≡◌, ◌<◌, ◌≤◌, ◌++◌, ◌∷◌, ◌∙◌, [], List, Some, None, Result, Ok, Err, Bool, true, false, not, refl, sym, ap, subst, append_assoc, inl, inr, map, arith}
 use Rattle.std.specs.Prelude.{⊤}
 use Rattle.std.proofs.lemmas.Bool.{cases_lt, true≢false}
 use Rattle.std.proofs.lemmas.List.{append-nil, map-append}
@@ -13,9 +13,9 @@ use Rattle.air_report.specs.Kinds.{report_kind_number}
 use Rattle.air_report.specs.LineFaults.{comes_after_later_section, comes_next, is_begun, is_known, is_next, line_tests}
 use Rattle.air_report.specs.LineRules.{EachNext}
 use Rattle.air_report.specs.LineTexts.{spelled_line}
-use Rattle.air_report.specs.ReportGrammar.{Applies, IsLineOf, NoLine, due_length, joined}
+use Rattle.air_report.specs.ReportGrammar.{Applies, IsLineOf, NoLine, joined}
 use Rattle.air_report.specs.ReportLines.{ReportLines, event_in, its_line, lines_in, sections_of, starts_in}
-use Rattle.air_report.specs.ReportRules.{CyclesBegun, IsKnown, IsReport}
+use Rattle.air_report.specs.ReportRules.{IsReport}
 use Rattle.air_report.specs.Private.RecordAnswers.{line_record_kind, with_one_line}
 use Rattle.air_report.specs.declared.reading.kinds.FaultKind.{FaultKind}
 use Rattle.air_report.specs.declared.reading.kinds.FaultKind.TheVariants as fault

@@ -20,7 +20,7 @@ use Rattle.air_report.specs.ReportGrammar.{HasReportFault, SpellsReport}
 use Rattle.air_report.specs.ReportRules.{CountsWide, EventWide, HasWidths, LookWide, ReadWide, VerdictWide}
 use Rattle.air_report.specs.LineFaults.{line_kinds_at}
 use Rattle.air_report.specs.LineGrammar.{HasLineFault, RowsSpellLines, SpellsLines}
-use Rattle.air_report.specs.ReportLines.{ReportLines, lines_in}
+use Rattle.air_report.specs.ReportLines.{lines_in}
 use Rattle.air_report.specs.declared.reading.ReadReport.{ReadReport}
 use Rattle.air_report.proofs.HistoryRows.{one_history}
 use Rattle.air_report.proofs.TextExamples.{deck}
@@ -121,7 +121,7 @@ has_fault = told_fault deck (codes "start\nlook,0,2,30\n") 2 7 by_bytes
 
 -- Rows count from 1, so no fault is in row 0; and there is no other kind.
 not_row_0 : HasReportFault deck (codes "start\nlook,0,2,30\n") 0 7 → ⊥
-not_row_0 h = omega (arith, h.place)
+not_row_0 h = omega (arith, h.row_number_is)
 
 not_kind_6 : HasReportFault deck (codes "start\nlook,0,2,30\n") 2 6 → ⊥
 not_kind_6 h = let same = one_fault deck (codes "start\nlook,0,2,30\n") 2 6 2 7 h has_fault in omega (arith, same.1)

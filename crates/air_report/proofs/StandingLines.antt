@@ -125,6 +125,7 @@ plain_event e.Start = λ rest. refl
 plain_kind : (k : VerdictKind) (x : VerdictLine) → Plain (kind_row k x)
 plain_kind kind.Accept x = λ rest. refl
 plain_kind (kind.Abort item cycle clash) x = λ rest. refl
+plain_kind (kind.Aged item cycle) x = λ rest. refl
 plain_kind kind.Unfinished x = λ rest. refl
 
 pub plain_report : (report : Report) → EachPlain (report_rows report)

@@ -20,11 +20,12 @@ abbrev pub deck : Deck
 deck = record {
   items = record { value = 10; rate = 1 } ∷ record { value = 20; rate = 1 } ∷ [];
   disks = record { size = 2; freq = 1 } ∷ [];
+  replans = [];
   updates = (record { reads = []; writes = record { item = 0; base = None; minus = false; amount = 5 } ∷ [] } ∷ []) ∷ [];
   readers = record { room = 0; age = 0; tries = 2 } ∷ [];
   queries = ((0 ∷ 1 ∷ []) ∷ []) ∷ [];
   script = [];
-  settings = record { policy = FMatrix; cycles = 1; seed = 0; loss = 0; again = 0; late = 0; monitors = 1; hears = 1 };
+  settings = record { policy = FMatrix; version = 1; cycles = 1; seed = 0; loss = 0; again = 0; late = 0; monitors = 1; hears = 1 };
 }
 
 a_read : spelled_read (codes "3@2=15") ≡ Some (record { item = 3; cycle = 2; value = 15 })

@@ -108,6 +108,7 @@ ended_spelled kind.Accept line w same =
     rw (same, short_text line.reader w.reader, short_text line.verdict.query w.query, short_text line.verdict.attempt w.attempt, reads_spelled line.reads w.reads) refl
 ended_spelled kind.Unfinished line w same =
     rw (same, short_text line.reader w.reader, short_text line.verdict.query w.query, short_text line.verdict.attempt w.attempt, reads_spelled line.reads w.reads) refl
+ended_spelled (kind.Aged item cycle) line w same = let none : EndWide (kind.Aged item cycle) = rw same at w.end in absurd none
 ended_spelled (kind.Abort item cycle clash) line w same =
     let wide : EndWide (kind.Abort item cycle clash) = rw same at w.end in
     rw (same, short_text line.reader w.reader, short_text line.verdict.query w.query, short_text line.verdict.attempt w.attempt, reads_spelled line.reads w.reads, place_spelled item cycle wide.0 wide.1, item_text clash wide.2)

@@ -1,7 +1,7 @@
 -- A text spells a report exactly if its records spell the report's lines, and has the fault that the reader tells.
 --
 -- `spelled_report` and `report_lines` are the two ways for reports, `told_fault` and `fault_told` for faults.
-use Rattle.std.proofs.Common.{◌≡◌, ◌≤◌, ◌+◌, ◌++◌, ◌∷◌, ◌∙◌, ◌⊎◌, [], ℕ, List, Option, Some, None, inl, inr, refl, sym, ap, subst, append_assoc, length, map, arith}
+use Rattle.std.proofs.Common.{◌≡◌, ◌+◌, ◌++◌, ◌∷◌, ◌∙◌, ◌⊎◌, [], ℕ, List, Option, Some, None, inl, inr, refl, sym, ap, subst, append_assoc, length, map, arith}
 use Rattle.air_model.specs.Decks.{Deck}
 use Rattle.air_model.specs.Reports.{Report, report_rows, report_text}
 use Rattle.item_catalog.specs.FirstFaults.{NoneBefore}
@@ -12,7 +12,7 @@ use Rattle.air_report.specs.Kinds.{report_kind_number}
 use Rattle.air_report.specs.LineFaults.{line_kinds_at, spelled_lines}
 use Rattle.air_report.specs.LineGrammar.{HasLineFault, RowsSpellLines, SpellsLines}
 use Rattle.air_report.specs.LineTexts.{spelled_line}
-use Rattle.air_report.specs.ReportGrammar.{Applies, HasReportFault, SpellsReport}
+use Rattle.air_report.specs.ReportGrammar.{HasReportFault, SpellsReport}
 use Rattle.air_report.specs.ReportLines.{ReportLines, lines_in, report_in, sections_of}
 use Rattle.air_report.specs.LineRules.{InGrammar}
 use Rattle.air_report.specs.ReportRules.{HasWidths, IsReport}
@@ -91,8 +91,8 @@ module _ (deck : Deck) where
         which = kind;
         records = all ∙ ap (λ rs. rs ++ row ∷ left) new.0;
         report = new.1;
-        place = ap (λ (rs : List Row). length rs + 1) new.0;
-        number = refl;
+        row_number_is = ap (λ (rs : List Row). length rs + 1) new.0;
+        kind_number_is = refl;
         applies = least.applies;
         least = least.least;
       }
@@ -106,10 +106,10 @@ module _ (deck : Deck) where
       by (Some told) e =
           let least = least_kind_is deck f.before f.report f.faulty told e in
           let most = f.least told least.applies in let first = least.least f.which f.applies in
-          let same : report_kind_number told ≡ kind = omega (arith, most, first, f.number) in
+          let same : report_kind_number told ≡ kind = omega (arith, most, first, f.kind_number_is) in
           let s = rows_stand f.before f.report in
           let read = read_fault deck text (report_rows f.before) s.faultless f.faulty f.behind told f.records (ap (λ r. line_record_kind deck r (spelled_line f.faulty)) s.sections ∙ e) in
-          subst (λ k. HasLineFault deck text row k) same (subst (λ r. HasLineFault deck text r (report_kind_number told)) (sym f.place) read)
+          subst (λ k. HasLineFault deck text row k) same (subst (λ r. HasLineFault deck text r (report_kind_number told)) (sym f.row_number_is) read)
 
   -- What the reader comes to: the lines of all records, or the first fault.
   abbrev pub Found : List ℕ → Type 0

@@ -8,7 +8,7 @@ use Rattle.std.specs.Option.{option_map_or}
 use Rattle.std.specs.Result.{result_ok}
 use Rattle.air_base.specs.declared.verdicts.ReadOf.{ReadOf}
 use Rattle.air_base.specs.declared.verdicts.VerdictKind.{VerdictKind}
-use Rattle.air_base.specs.declared.verdicts.VerdictKind.TheVariants.{Accept, Abort, Unfinished}
+use Rattle.air_base.specs.declared.verdicts.VerdictKind.TheVariants.{Accept, Abort, Aged, Unfinished}
 use Rattle.air_model.specs.Decks.{Deck, updates_by}
 use Rattle.air_model.specs.declared.reports.VerdictLine.{VerdictLine}
 use Rattle.item_catalog.specs.RecordKinds.{spelled_kinds}
@@ -60,12 +60,13 @@ leads (x ∷ xs) (y ∷ ys) = (x == y) && leads xs ys
 abbrev pub read_item : ReadOf → ℕ
 read_item read = read.item
 
--- The items of reads follow a query. For an accept they are all its items in order; else some of them are left: of an abort, the
--- refused read is of the next one, and the clash is with an item that was read.
+-- The items of reads follow a query. For an accept they are all its items in order; else some of them are left: of an abort or an aged
+-- attempt, the refused read is of the next one, and an abort's clash is with an item that was read.
 abbrev pub follow : List ℕ → List ℕ → VerdictKind → Bool
 follow query items Accept = leads items query && (length items == length query)
 follow query items (Abort item cycle clash) =
     leads items query && option_map_or (λ next. next == item) (slice_get query (length items)) false && list_any (λ other. other == clash) items
+follow query items (Aged item cycle) = leads items query && option_map_or (λ next. next == item) (slice_get query (length items)) false
 follow query items Unfinished = leads items query && nat_lt (length items) (length query)
 
 -- The verdict is on an attempt of the deck: its reader tries so often, and its reads follow a query of the reader.
@@ -92,6 +93,7 @@ has_begun starts cycle = nat_le 1 cycle && nat_le cycle starts
 abbrev pub end_begun : ℕ → VerdictKind → Bool
 end_begun starts Accept = true
 end_begun starts (Abort item cycle clash) = has_begun starts cycle
+end_begun starts (Aged item cycle) = has_begun starts cycle
 end_begun starts Unfinished = true
 
 -- Each cycle that a line names began among so many starts before it; a monitor may also have seen the catalog, as cycle 0.

@@ -1,8 +1,9 @@
 -- Which lines a report's text spells, and which fault it has: by what each record spells, as the reader goes. Reports are said by the rows
--- that are printed of them, in `ReportGrammar`; the laws of `laws` tie the two.
+-- that are printed of them, in `ReportGrammar`.
 --
 -- A text spells lines where no kind of fault applies to any of its records. Else its fault is that of the first record to which
--- some kind applies, with the least of them. The laws of `laws` say that every text has just one of both.
+-- some kind applies, with the least of them. By the laws of `laws/texts` a text spells lines exactly if it spells the report for which they
+-- stand, and its fault is the one that it has as a report.
 use Rattle.std.specs.Prelude.{◌≡◌, ◌+◌, ℕ, List, length}
 use Rattle.air_model.specs.Decks.{Deck}
 use Rattle.item_catalog.specs.FirstFaults.{IsFirstFault, NoneBefore}
@@ -19,6 +20,7 @@ pub record RowsSpellLines (deck : Deck) (rows : List (List (List ℕ))) (lines :
 unfoldable pub SpellsLines : Deck → List ℕ → ReportLines → Type 0
 SpellsLines deck text lines = RowsSpellLines deck (records_of text) lines
 
--- The first faulty record of the text, counted from 1, is this row, and this the least kind that applies there.
+-- The first faulty record of the text has this row number, and this is the number of the least kind that applies there.
 unfoldable pub HasLineFault : Deck → List ℕ → ℕ → ℕ → Type 0
-HasLineFault deck text row kind = (place : ℕ) × (row ≡ place + 1) × IsFirstFault (length (records_of text)) (line_kinds_at deck (records_of text)) place kind
+HasLineFault deck text row_number kind_number =
+    (place : ℕ) × (row_number ≡ place + 1) × IsFirstFault (length (records_of text)) (line_kinds_at deck (records_of text)) place kind_number

@@ -11,7 +11,7 @@ use Rattle.air_base.specs.declared.verdicts.VerdictKind.{VerdictKind}
 use Rattle.air_base.specs.declared.verdicts.VerdictKind.TheVariants as kind
 use Rattle.air_model.specs.declared.reports.LookLine.{LookLine}
 use Rattle.item_catalog.specs.RecordFields.{◌is◌, four_of, seven_of, six_of}
-use Rattle.item_catalog.specs.Spelled.{◌>>=◌, or_fault}
+use Rattle.item_catalog.specs.Spelled.{spelled_then as ◌>>=◌, or_fault}
 use Rattle.item_catalog.specs.Tags.{by_tag}
 use Rattle.air_report.specs.declared.reading.tags.Tag.{Tag}
 use Rattle.air_report.specs.declared.reading.tags.Tag.TheVariants as t

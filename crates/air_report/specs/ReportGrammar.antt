@@ -1,8 +1,8 @@
 -- Which report a text spells, and which fault it has: by the rows that are printed of reports.
 --
 -- A text spells a report of a deck where its records are the rows of the report. Else its first rows are those of a report of the deck,
--- and behind them stands a row to which some kind of fault applies. The least of these kinds is told. The laws of `laws` say that every
--- text has just one of both.
+-- and behind them stands a row to which some kind of fault applies. The least of these kinds is told. By the laws of `laws/reading` a text
+-- either spells one report of a deck or has one fault.
 use Rattle.std.specs.Prelude.{◌≡◌, ◌≢◌, ◌+◌, ◌≤◌, ◌++◌, ℕ, List, [], ◌∷◌, Option, None, Some, codes, get_or, length, option_map, ⊤}
 use Rattle.std.specs.List.{find}
 use Rattle.air_history.specs.Histories.{starts}
@@ -31,7 +31,7 @@ row_lengths = (codes "commit", 3) ∷ (codes "start", 1) ∷ (codes "accept", 5)
 
 -- How many fields a row is to have: its first field is its tag.
 abbrev pub due_length : List (List ℕ) → Option ℕ
-due_length row = option_map (λ (entry : List ℕ × ℕ). entry.1) (find (λ (entry : List ℕ × ℕ). get_or row 0 [] is entry.0) row_lengths)
+due_length row = option_map (λ (pair : List ℕ × ℕ). pair.1) (find (λ (pair : List ℕ × ℕ). get_or row 0 [] is pair.0) row_lengths)
 
 -- A line of a row is a report that has this row alone, and whose numbers fit their types.
 pub record IsLineOf (row : List (List ℕ)) (line : Report) : Type 0 where
@@ -64,19 +64,19 @@ Applies deck before row fault.Update = NoLine row (λ line. IsLegal deck (before
 Applies deck before row fault.Deck = NoLine row (IsKnown deck)
 Applies deck before row fault.Cycle = NoLine row (CyclesBegun (starts before.history))
 
--- The records of the text before this row, counted from 1, are the rows of a report of the deck, and this is the least kind that applies to
--- the record of this row.
-pub record HasReportFault (deck : Deck) (text : List ℕ) (row kind : ℕ) : Type 0 where
+-- The records of the text before the one of this row number are the rows of a report of the deck, and this is the number of the least kind
+-- that applies to that one.
+pub record HasReportFault (deck : Deck) (text : List ℕ) (row_number kind_number : ℕ) : Type 0 where
   pub before : Report
   pub faulty : List (List ℕ)
   pub behind : List (List (List ℕ))
   pub which : FaultKind
   pub records : records_of text ≡ report_rows before ++ faulty ∷ behind
   pub report : IsReport deck before
-  pub place : row ≡ length (report_rows before) + 1
-  pub number : kind ≡ report_kind_number which
+  pub row_number_is : row_number ≡ length (report_rows before) + 1
+  pub kind_number_is : kind_number ≡ report_kind_number which
   pub applies : Applies deck before faulty which
-  pub least : (other : FaultKind) → Applies deck before faulty other → kind ≤ report_kind_number other
+  pub least : (other : FaultKind) → Applies deck before faulty other → kind_number ≤ report_kind_number other
 
 -- A fault that is answered is the text's; no memory has no cause.
 abbrev pub IsReportAnswer : Deck → List ℕ → ReportError → Type 0

@@ -1,9 +1,9 @@
 -- What a report of a deck may say: numbers that fit their types, a legal history, and lines that name what the deck has and cycles
 -- that began.
-use Rattle.std.specs.Prelude.{◌<◌, ◌≤◌, ◌^◌, ℕ, List, All, length, ⊤}
+use Rattle.std.specs.Prelude.{◌<◌, ◌≤◌, ◌^◌, ℕ, All, length, ⊤}
 use Rattle.air_base.specs.declared.verdicts.ReadOf.{ReadOf}
 use Rattle.air_base.specs.declared.verdicts.VerdictKind.{VerdictKind}
-use Rattle.air_base.specs.declared.verdicts.VerdictKind.TheVariants.{Accept, Abort, Unfinished}
+use Rattle.air_base.specs.declared.verdicts.VerdictKind.TheVariants.{Accept, Abort, Aged, Unfinished}
 use Rattle.air_history.specs.Histories.{starts}
 use Rattle.air_history.specs.declared.histories.Event.{Event}
 use Rattle.air_history.specs.declared.histories.Event.TheVariants.{Commit, Start}
@@ -28,10 +28,11 @@ pub record ReadWide (r : ReadOf) : Type 0 where
   pub cycle : r.cycle < 2 ^ 32
   pub value : r.value < 2 ^ 64
 
--- The same of a read that was refused, and of the item with which it clashed.
+-- The same of a read that was refused, and of the item with which it clashed. So far no deck's attempts end aged, and no line says so.
 abbrev pub EndWide : VerdictKind → Type 0
 EndWide Accept = ⊤
 EndWide (Abort item cycle clash) = (item < 2 ^ 16) × (cycle < 2 ^ 32) × (clash < 2 ^ 16)
+EndWide (Aged item cycle) = ⊥
 EndWide Unfinished = ⊤
 
 -- The numbers of a verdict line have 32 bits.

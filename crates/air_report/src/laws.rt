@@ -17,6 +17,6 @@ pub mod texts;
 /// What is read of the text of a report of a deck is this very report, its updates too.
 pub fn read_back_law()
     ensures faultless { (deck : Deck) (report : Report) → HasWidths report → InGrammar deck (lines_in report) →
-        (row kind : ℕ) → HasReportFault deck (report_text report) row kind → ⊥ }
+        (row_number kind_number : ℕ) → HasReportFault deck (report_text report) row_number kind_number → ⊥ }
     ensures same { (deck : Deck) (report : Report) → IsReport deck report → (read : ReadReport) → IsReportOf deck (report_text report) read → read.report ≡ report }
 {}

@@ -2,7 +2,7 @@
 --
 -- What comes later changes no bucket of a started cycle, so the buckets that were sent stay those of the history. The board of
 -- a deck has as many values as the deck has items. The steps of a run cite these.
-use Rattle.std.proofs.Common.{◌≡◌, ℕ, zero, suc, ◌+◌, ◌≤◌, true, false, cond, List, [], ◌∷◌, ◌++◌, Some, length, map, refl, sym, ◌∙◌, ap, inl, inr, arith}
+use Rattle.std.proofs.Common.{◌≡◌, ℕ, zero, suc, ◌+◌, ◌≤◌, true, false, cond, List, [], ◌∷◌, ◌++◌, Some, length, map, refl, sym, ◌∙◌, ap, subst, inl, inr, arith}
 use Rattle.std.specs.Prelude.{sum_by}
 use Rattle.std.specs.List.{flat_map, range_with_len}
 use Rattle.std.proofs.lemmas.Grind.{flat_map-append}
@@ -15,17 +15,18 @@ use Rattle.air_history.specs.declared.histories.Event.TheVariants.{Commit, Start
 use Rattle.air_history.specs.Histories.{is_start, starts}
 use Rattle.air_history.specs.Boards.{Board, board_of}
 use Rattle.air_history.specs.Tables.{table, values_of}
-use Rattle.air_base.specs.declared.verdicts.Policy.{Policy}
-use Rattle.air_model.specs.Buckets.{Bucket, spelling}
-use Rattle.air_model.specs.Aired.{Air, air_of, bucket_of, buckets_of}
+use Rattle.air_base.specs.declared.verdicts.Form.{Form}
+use Rattle.air_model.specs.Buckets.{Bucket, most_count, spelling}
+use Rattle.air_model.specs.Aired.{Air, air_of, bucket_of, buckets_of, edition_at, slots_at}
 use Rattle.air_model.specs.Decks.{Deck, IsDeck, disks_in, values_in}
 use Rattle.air_model.specs.Disks.{Disk}
 use Rattle.air_model.specs.Programs.{program}
-use Rattle.air_sender.specs.BoardBuckets.{cycle_buckets, cycle_bytes}
+use Rattle.air_sender.specs.BoardBuckets.{cycle_buckets, cycle_bytes, form_of}
 use Rattle.air_sender.proofs.StartedBoards.{OwnCycleLaw}
 use Rattle.air_devices.specs.Masts.{SentBuckets}
 use Rattle.air_sender.specs.AiredBytes.{aired_bytes}
 use Rattle.air_model.proofs.DeckLemmas.{air}
+use Rattle.air_model.proofs.EditionLemmas.{edition_is, one_edition, plain_slots}
 use Rattle.air_model.proofs.LaterLemmas.{later}
 
 -- ---- histories
@@ -62,13 +63,13 @@ map_same f g (x ∷ xs) same = ap (λ y. y ∷ map f xs) (same x) ∙ ap (λ l. 
 module _ (values : List ℕ) (air : Air) where
   -- the buckets of a cycle, slot by slot
   abbrev pub buckets_in : List Event → ℕ → List Bucket
-  buckets_in H c = map (bucket_of values air H c) (range_with_len 0 (length air.slots))
+  buckets_in H c = map (bucket_of values air H air.version c) (range_with_len 0 (length (slots_at air c)))
 
   cycles_later : (H more : List Event) (a n : ℕ) → a + n ≤ starts H + 1 → flat_map (buckets_in (H ++ more)) (range_with_len a n) ≡ flat_map (buckets_in H) (range_with_len a n)
   cycles_later H more a zero within = refl
   cycles_later H more a (suc n) within =
       let started : a ≤ starts H = omega arith in
-      ap (λ l. l ++ flat_map (buckets_in (H ++ more)) (range_with_len (a + 1) n)) (map_same (bucket_of values air (H ++ more) a) (bucket_of values air H a) (range_with_len 0 (length air.slots)) (λ s. later values air H more a s started))
+      ap (λ l. l ++ flat_map (buckets_in (H ++ more)) (range_with_len (a + 1) n)) (map_same (bucket_of values air (H ++ more) air.version a) (bucket_of values air H air.version a) (range_with_len 0 (length (slots_at air a))) (λ s. later values air H more air.version a s started))
       ∙ ap (λ l. buckets_in H a ++ l) (cycles_later H more (a + 1) n (omega arith))
 
   -- a history without events airs nothing
@@ -107,6 +108,10 @@ values_kept deck board H is =
     let values = values_in deck in
     ap (λ (b : Board). length b.values) is ∙ length-map-range_with_len (table (values_of values) H) 0 (length values) ∙ length-map deck.items (λ i. i.value)
 
+-- A deck of version 1 has no more items than a bucket in full tells.
+pub few_full : (deck : Deck) → IsDeck deck → (v : ℕ) → v ≡ deck.settings.version → v ≡ 1 → length deck.items ≤ 256
+few_full deck made v own one = subst (λ v. length deck.items ≤ most_count v) (sym own ∙ one) made.most
+
 module _ (deck : Deck) (G : List Event) (e : Event) (board : Board) (is : board ≡ board_of (values_in deck) (G ++ e ∷ [])) where
   -- after a start the board is that of the history with the start
   pub started_board : is_start e ≡ true → board ≡ board_of (values_in deck) (G ++ Start ∷ [])
@@ -115,17 +120,27 @@ module _ (deck : Deck) (G : List Event) (e : Event) (board : Board) (is : board 
   pub board_started : is_start e ≡ true → 1 ≤ board.cycle
   board_started start = let cycle : board.cycle ≡ starts G + 1 = ap (λ (b : Board). b.cycle) (started_board start) ∙ starts_start G in omega arith
 
+  -- a deck without replans airs in edition 0
+  own_edition : IsDeck deck → (c : ℕ) → 0 ≡ edition_at (air_of deck) c
+  own_edition made c = sym (edition_is deck c ∙ one_edition deck c made.plain.1)
+
+  own_slots : IsDeck deck → (disks : List Disk) (c : ℕ) → disks ≡ disks_in deck 0 → program disks ≡ slots_at (air_of deck) c
+  own_slots made disks c d = ap program d ∙ sym (plain_slots deck c made.plain.1)
+
   -- what the board airs is the new cycle of the history
-  pub start_aired : OwnCycleLaw → IsDeck deck → is_start e ≡ true → (policy : Policy) (disks : List Disk) (before after : List (List ℕ)) → policy ≡ deck.settings.policy → disks ≡ disks_in deck
-      → before ≡ aired_bytes deck G → after ≡ before ++ cycle_bytes policy (program disks) board → after ≡ aired_bytes deck (G ++ e ∷ [])
-  start_aired own made start policy disks before after p d so_far grew =
+  pub start_aired : OwnCycleLaw → IsDeck deck → is_start e ≡ true → (form : Form) (disks : List Disk) (before after : List (List ℕ)) → form ≡ form_of (air_of deck) → disks ≡ disks_in deck 0
+      → before ≡ aired_bytes deck G → after ≡ before ++ cycle_bytes form 0 (program disks) board → after ≡ aired_bytes deck (G ++ e ∷ [])
+  start_aired own made start form disks before after p d so_far grew =
       let values = values_in deck in
       let a = air_of deck in
       let new = G ++ Start ∷ [] in
-      let cycle : cycle_buckets policy (program disks) board ≡ buckets_in values a new (starts new) =
-      ap (λ p. cycle_buckets p (program disks) board) p ∙ ap (λ d. cycle_buckets a.scheme.policy (program d) board) d ∙ ap (cycle_buckets a.scheme.policy a.slots) (started_board start)
+      let c = starts new in
+      let slots = program disks in
+      let cycle : cycle_buckets form 0 slots board ≡ buckets_in values a new c =
+      ap (λ form. cycle_buckets form 0 slots board) p ∙ ap (λ e. cycle_buckets (form_of a) e slots board) (own_edition made c)
+      ∙ ap (λ xs. cycle_buckets (form_of a) (edition_at a c) xs board) (own_slots made disks c d) ∙ ap (cycle_buckets (form_of a) (edition_at a c) (slots_at a c)) (started_board start)
       ∙ own values a G (sym (length-map deck.items (λ i. i.value))) ((air deck made).0) in
-      grew ∙ ap (λ l. l ++ cycle_bytes policy (program disks) board) so_far ∙ ap (λ l. aired_bytes deck G ++ map spelling l) cycle
+      grew ∙ ap (λ l. l ++ cycle_bytes form 0 slots board) so_far ∙ ap (λ l. aired_bytes deck G ++ map spelling l) cycle
       ∙ sym (map-append spelling (buckets_of values a G) (buckets_in values a new (starts new))) ∙ ap (map spelling) (sym (buckets_start values a G))
       ∙ ap (λ e. aired_bytes deck (G ++ e ∷ [])) (sym (start_event e start))
 

@@ -10,7 +10,7 @@ use Rattle.std.proofs.lemmas.List.Sums.{sum_by-append, sum_by-cons}
 use Rattle.air_history.specs.declared.histories.Event.{Event}
 use Rattle.air_history.specs.Histories.{is_start, starts}
 use Rattle.air_model.specs.Buckets.{Bucket}
-use Rattle.air_model.specs.Aired.{Air, bucket_of, buckets_of}
+use Rattle.air_model.specs.Aired.{Air, bucket_of, buckets_of, slots_at}
 use Rattle.air_model.proofs.LaterLemmas.{later}
 use Rattle.air_sender.specs.BoardBuckets.{last_cycle_buckets}
 
@@ -42,14 +42,16 @@ starts_more G e = omega (arith, sum_by-append (λ e. cond (is_start e) 1 0) G (e
 
 -- The buckets of a cycle.
 abbrev buckets_in : List ℕ → Air → List Event → ℕ → List Bucket
-buckets_in values air H c = map (bucket_of values air H c) (range_with_len 0 (length air.slots))
+buckets_in values air H c = map (bucket_of values air H air.version c) (range_with_len 0 (length (slots_at air c)))
 
 -- A cycle that was started has the buckets that it had.
 cycle_kept : (values : List ℕ) (air : Air) (G : List Event) (e : Event) (c : ℕ) → c ≤ starts G → buckets_in values air (G ++ e ∷ []) c ≡ buckets_in values air G c
 cycle_kept values air G e c l =
-    fill_by_all (bucket_of values air G c) (buckets_in values air (G ++ e ∷ []) c) (length air.slots) (bucket_of values air G c 0)
-    (length-map-range_with_len (bucket_of values air (G ++ e ∷ []) c) 0 (length air.slots))
-    (λ s below. get_or-map-range_with_len (bucket_of values air (G ++ e ∷ []) c) 0 (length air.slots) s s _ below (omega arith) ∙ later values air G (e ∷ []) c s l)
+    let v = air.version in
+    let n = length (slots_at air c) in
+    fill_by_all (bucket_of values air G v c) (buckets_in values air (G ++ e ∷ []) c) n (bucket_of values air G v c 0)
+    (length-map-range_with_len (bucket_of values air (G ++ e ∷ []) v c) 0 n)
+    (λ s below. get_or-map-range_with_len (bucket_of values air (G ++ e ∷ []) v c) 0 n s s _ below (omega arith) ∙ later values air G (e ∷ []) v c s l)
 
 cycles_kept : (values : List ℕ) (air : Air) (G : List Event) (e : Event) →
     flat_map (buckets_in values air (G ++ e ∷ [])) (range_with_len 1 (starts G)) ≡ flat_map (buckets_in values air G) (range_with_len 1 (starts G))

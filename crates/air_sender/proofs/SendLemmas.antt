@@ -8,29 +8,33 @@ use Rattle.std.proofs.lemmas.Bool.{false≢true}
 use Rattle.std.specs.Prelude.{All, IfSome}
 use Rattle.std.proofs.lemmas.List.{append-nil, get_or-map, length-map, take_all, take_at, take_more}
 use Rattle.std.proofs.lemmas.List.FromFn.{get_or-map-range_with_len, length-map-range_with_len}
-use Rattle.air_base.specs.declared.verdicts.Policy.{Policy}
+use Rattle.air_base.specs.declared.verdicts.Form.{Form}
 use Rattle.air_history.specs.declared.histories.Event.{Event}
 use Rattle.air_history.specs.declared.histories.Event.TheVariants.{Start}
 use Rattle.air_history.specs.Boards.{Board, board_of}
 use Rattle.air_history.specs.Tables.{table, values_of}
-use Rattle.air_model.specs.Buckets.{Bucket, spelling}
-use Rattle.air_model.specs.Aired.{Air, SlotsFit}
+use Rattle.air_history.specs.Histories.{starts}
+use Rattle.air_model.specs.Buckets.{Bucket, capped_bucket, spelling}
+use Rattle.air_model.specs.Aired.{Air, edition_at, slots_at}
 use Rattle.air_devices.specs.Masts.{Changes, MastState, SentBuckets, with_buckets}
 use Rattle.air_sender.specs.AirFaults.{IsAirAnswer, failed_slot}
 use Rattle.air_sender.specs.declared.airing.AirFault.{AirFault}
 use Rattle.air_sender.specs.declared.airing.AirFault.TheVariants as fault
-use Rattle.air_sender.specs.BoardBuckets.{IsLastBoard, body_on, bucket_on, cycle_buckets, cycle_bytes, last_bytes}
-use Rattle.air_sender.proofs.StartedBoards.{own_cycle}
+use Rattle.air_sender.specs.BoardBuckets.{IsLastBoard, body_on, bucket_on, cycle_buckets, cycle_bytes, form_of, last_bytes}
+use Rattle.air_sender.proofs.RangeLemmas.{told_spelling}
+use Rattle.air_sender.proofs.StartedBoards.{last_cycle}
 
 -- ---- the buckets of a cycle
 
-pub length_cycle : (by : Policy) (slots : List (Option ℕ)) (board : Board) → length (cycle_bytes by slots board) ≡ length slots
-length_cycle by slots board = length-map (cycle_buckets by slots board) spelling ∙ length-map-range_with_len (bucket_on by slots board) 0 (length slots)
+pub length_cycle : (form : Form) (e : ℕ) (slots : List (Option ℕ)) (board : Board) → length (cycle_bytes form e slots board) ≡ length slots
+length_cycle form e slots board = length-map (cycle_buckets form e slots board) spelling ∙ length-map-range_with_len (bucket_on form e slots board) 0 (length slots)
 
-pub slot_bytes : (by : Policy) (slots : List (Option ℕ)) (board : Board) (s : ℕ) → s < length slots → get_or (cycle_bytes by slots board) s (spelling (bucket_on by slots board s)) ≡ spelling (bucket_on by slots board s)
-slot_bytes by slots board s l =
-    get_or-map spelling (cycle_buckets by slots board) s (bucket_on by slots board s) (spelling (bucket_on by slots board s)) (omega (arith, length-map-range_with_len (bucket_on by slots board) 0 (length slots)))
-    ∙ ap spelling (get_or-map-range_with_len (bucket_on by slots board) 0 (length slots) s s (bucket_on by slots board s) l (omega arith))
+pub slot_bytes : (form : Form) (e : ℕ) (slots : List (Option ℕ)) (board : Board) (s : ℕ) → s < length slots
+    → get_or (cycle_bytes form e slots board) s (spelling (bucket_on form e slots board s)) ≡ spelling (bucket_on form e slots board s)
+slot_bytes form e slots board s l =
+    let on : ℕ → Bucket = bucket_on form e slots board in
+    get_or-map spelling (cycle_buckets form e slots board) s (on s) (spelling (on s)) (omega (arith, length-map-range_with_len on 0 (length slots)))
+    ∙ ap spelling (get_or-map-range_with_len on 0 (length slots) s s (on s) l (omega arith))
 
 -- ---- what the mast tells
 
@@ -55,14 +59,15 @@ sent_all bs n o p e h = subst (λ xs. Changes (with_buckets xs) o p) (take_all n
 -- ---- one bucket
 
 -- What a slot's bucket says, by the item that the slot has.
-pub bucket_is : (by : Policy) (slots : List (Option ℕ)) (board : Board) (s : ℕ) (o : Option ℕ) (b : Bucket) → o ≡ get_or slots s None
-    → b ≡ record { edition = 0; cycle = board.cycle; slot = s; body = body_on by board o } → b ≡ bucket_on by slots board s
+pub bucket_is : (form : Form) (e : ℕ) (slots : List (Option ℕ)) (board : Board) (s : ℕ) (o : Option ℕ) (b : Bucket) → o ≡ get_or slots s None
+    → b ≡ record { version = form.version; edition = e; cycle = board.cycle; slot = s; body = body_on form.policy board o } → capped_bucket b ≡ bucket_on form e slots board s
 unfolding bucket_on
-bucket_is by slots board s o b at is = is ∙ ap (λ (o : Option ℕ). let b : Bucket = record { edition = 0; cycle = board.cycle; slot = s; body = body_on by board o } in b) at
+bucket_is form e slots board s o b at is =
+    ap capped_bucket (is ∙ ap (λ (o : Option ℕ). let b : Bucket = record { version = form.version; edition = e; cycle = board.cycle; slot = s; body = body_on form.policy board o } in b) at)
 
 -- The bytes that were written at the front of the buffer.
-pub front_is : (b : Bucket) (n : ℕ) (out rest : List ℕ) → n ≡ length (spelling b) → out ≡ spelling b ++ rest → take n out ≡ spelling b
-front_is b n out rest size wrote = ap (take n) wrote ∙ take_at (spelling b) rest n (sym size)
+pub front_is : (b : Bucket) (n : ℕ) (out rest : List ℕ) → n ≡ length (spelling b) → out ≡ spelling (capped_bucket b) ++ rest → take n out ≡ spelling (capped_bucket b)
+front_is b n out rest size wrote = ap (take n) wrote ∙ take_at (spelling (capped_bucket b)) rest n (told_spelling b ∙ sym size)
 
 -- What holds of a call that was answered well, or failed.
 pub well : {T E P : Type 0} (r : Result T E) (failed : Bool) → failed ≡ is_err r → failed ≡ false → OnOk r P → P
@@ -75,19 +80,22 @@ refused (Ok x) failed told is h = absurd (false≢true (sym told ∙ is))
 
 -- ---- of which history they are
 
-last_is : (values : List ℕ) (air : Air) (G : List Event) (by : Policy) (slots : List (Option ℕ)) (board : Board) → IsLastBoard values air G by slots board
-    → All (λ o. IfSome o (λ i. i < length board.values)) slots → cycle_bytes by slots board ≡ last_bytes values air G
-last_is values air G by slots board is fit =
+last_is : (values : List ℕ) (air : Air) (G : List Event) (form : Form) (e : ℕ) (slots : List (Option ℕ)) (board : Board) → IsLastBoard values air G form e slots board
+    → All (λ o. IfSome o (λ i. i < length board.values)) slots → cycle_bytes form e slots board ≡ last_bytes values air G
+last_is values air G form e slots board is fit =
+    let now = board_of values (G ++ Start ∷ []) in
     let sized : length board.values ≡ air.items = ap (λ (b : Board). length b.values) is.board ∙ length-map-range_with_len (table (values_of values) (G ++ Start ∷ [])) 0 (length values) ∙ sym is.items in
-    let fits : SlotsFit air = subst (λ xs. All (λ o. IfSome o (λ i. i < air.items)) xs) (sym is.slots) (subst (λ n. All (λ o. IfSome o (λ i. i < n)) slots) sized fit) in
-    ap (λ (b : Board). cycle_bytes by slots b) is.board
-    ∙ ap (λ (p : Policy). cycle_bytes p slots (board_of values (G ++ Start ∷ []))) (sym is.policy)
-    ∙ ap (λ (xs : List (Option ℕ)). cycle_bytes air.scheme.policy xs (board_of values (G ++ Start ∷ []))) (sym is.slots)
-    ∙ ap (map spelling) (own_cycle values air G is.items fits)
+    let fits : All (λ o. IfSome o (λ i. i < air.items)) (slots_at air (starts (G ++ Start ∷ []))) =
+    subst (λ xs. All (λ o. IfSome o (λ i. i < air.items)) xs) (sym is.slots) (subst (λ n. All (λ o. IfSome o (λ i. i < n)) slots) sized fit) in
+    ap (λ (b : Board). cycle_bytes form e slots b) is.board
+    ∙ ap (λ (f : Form). cycle_bytes f e slots now) (sym (ap (λ p. let f : Form = record { policy = p; version = air.version } in f) is.policy ∙ ap (λ v. let f : Form = record { policy = form.policy; version = v } in f) is.version))
+    ∙ ap (λ (k : ℕ). cycle_bytes (form_of air) k slots now) (sym is.edition)
+    ∙ ap (λ (xs : List (Option ℕ)). cycle_bytes (form_of air) (edition_at air (starts (G ++ Start ∷ []))) xs now) (sym is.slots)
+    ∙ ap (map spelling) (last_cycle values air G is.items fits)
 
-pub last_bytes_are : (values : List ℕ) (air : Air) (G : List Event) (by : Policy) (slots : List (Option ℕ)) (board : Board) (n : ℕ) → IsLastBoard values air G by slots board
-    → n ≡ length board.values → All (λ o. IfSome o (λ i. i < n)) slots → cycle_bytes by slots board ≡ last_bytes values air G
-last_bytes_are values air G by slots board n is e fit = last_is values air G by slots board is (subst (λ n. All (λ (o : Option ℕ). IfSome o (λ i. i < n)) slots) e fit)
+pub last_bytes_are : (values : List ℕ) (air : Air) (G : List Event) (form : Form) (e : ℕ) (slots : List (Option ℕ)) (board : Board) (n : ℕ) → IsLastBoard values air G form e slots board
+    → n ≡ length board.values → All (λ o. IfSome o (λ i. i < n)) slots → cycle_bytes form e slots board ≡ last_bytes values air G
+last_bytes_are values air G form e slots board n is same fit = last_is values air G form e slots board is (subst (λ n. All (λ (o : Option ℕ). IfSome o (λ i. i < n)) slots) same fit)
 
 -- ---- a fault
 

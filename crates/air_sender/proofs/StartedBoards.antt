@@ -4,6 +4,7 @@ use Rattle.std.proofs.Common.{◌≡◌, ℕ, zero, suc, ◌+◌, ◌<◌, cond,
 use Rattle.std.specs.Prelude.{All, IfSome}
 use Rattle.std.specs.List.{range_with_len}
 use Rattle.std.specs.Option.{option_map_or}
+use Rattle.std.proofs.lemmas.List.Elements.{All-nil}
 use Rattle.std.proofs.lemmas.List.Sums.{sum_by-cons}
 use Rattle.std.proofs.lemmas.List.FromFn.{fill_by_all, get_or-map-range_with_len, length-map-range_with_len}
 use Rattle.air_base.specs.declared.verdicts.Policy.{Policy}
@@ -19,9 +20,10 @@ use Rattle.air_history.specs.Boards.{Board, board_of, columns}
 use Rattle.air_history.proofs.PlaceLemmas.{greatest_below}
 use Rattle.air_history.proofs.HistoryLemmas.{front_cycle, front_cycle_same, writer_before_some}
 use Rattle.control_matrix.proofs.BoardLemmas.{board_push, start_board}
-use Rattle.air_model.specs.Buckets.{Body, Bucket}
-use Rattle.air_model.specs.Aired.{Air, SlotsFit, aired_as, body_of, bucket_of}
-use Rattle.air_sender.specs.BoardBuckets.{EntriesBelow, body_on, bucket_on, cycle_buckets, entries_on}
+use Rattle.air_model.specs.Buckets.{Body, Bucket, capped_bucket}
+use Rattle.air_model.specs.Aired.{Air, SlotsFit, aired_as, body_of, bucket_of, edition_at, slots_at}
+use Rattle.air_model.proofs.CapLemmas.{at_or_none}
+use Rattle.air_sender.specs.BoardBuckets.{EntriesBelow, body_on, bucket_on, cycle_buckets, entries_on, form_of}
 
 -- ---- the front of the last cycle
 
@@ -103,27 +105,45 @@ slot_body values air G (Some item) n h =
     ∙ ap (λ F. body_by air.scheme.policy values air.items F item) (sym (front_started G))
     ∙ sym (history_body air.scheme.policy values air.items (G ++ Start ∷ []) (starts G + 1) item)
 
-slot_bucket : (values : List ℕ) (air : Air) (G : List Event) (s : ℕ) → air.items ≡ length values → IfSome (get_or air.slots s None) (λ i. i < air.items) →
-    bucket_on air.scheme.policy air.slots (next_cycle values G) s ≡ bucket_of values air (G ++ Start ∷ []) (starts G + 1) s
+slot_bucket : (values : List ℕ) (air : Air) (G : List Event) (e s : ℕ) (slots : List (Option ℕ)) → air.items ≡ length values → e ≡ edition_at air (starts G + 1) → slots ≡ slots_at air (starts G + 1)
+    → IfSome (get_or slots s None) (λ i. i < air.items) → bucket_on (form_of air) e slots (next_cycle values G) s ≡ bucket_of values air (G ++ Start ∷ []) air.version (starts G + 1) s
 unfolding bucket_on bucket_of
-slot_bucket values air G s n h =
-    ap (λ y. let b : Bucket = record { edition = 0; cycle = starts G + 1; slot = s; body = y } in b) (slot_body values air G (get_or air.slots s None) n h)
+slot_bucket values air G e s slots n edition own h =
+    let c = starts G + 1 in
+    ap (λ y. capped_bucket (record { version = air.version; edition = e; cycle = c; slot = s; body = y })) (slot_body values air G (get_or slots s None) n h
+    ∙ ap (λ xs. body_of values air (G ++ Start ∷ []) c (get_or xs s None)) own)
+    ∙ ap (λ k. capped_bucket (record { version = air.version; edition = k; cycle = c; slot = s; body = body_of values air (G ++ Start ∷ []) c (get_or (slots_at air c) s None) })) edition
 
 -- The law that `own_cycle_law` has, for those who take it from there.
 abbrev pub OwnCycleLaw : Type 0
 OwnCycleLaw = (values : List ℕ) (air : Air) (G : List Event) → air.items ≡ length values → SlotsFit air →
-    cycle_buckets air.scheme.policy air.slots (board_of values (G ++ Start ∷ []))
-    ≡ map (bucket_of values air (G ++ Start ∷ []) (starts (G ++ Start ∷ []))) (range_with_len 0 (length air.slots))
+    cycle_buckets (form_of air) (edition_at air (starts (G ++ Start ∷ []))) (slots_at air (starts (G ++ Start ∷ []))) (board_of values (G ++ Start ∷ []))
+    ≡ map (bucket_of values air (G ++ Start ∷ []) air.version (starts (G ++ Start ∷ []))) (range_with_len 0 (length (slots_at air (starts (G ++ Start ∷ [])))))
+
+-- A cycle's slots have items of the catalog.
+slots_fit : (air : Air) (c : ℕ) → SlotsFit air → All (λ o. IfSome o (λ i. i < air.items)) (slots_at air c)
+slots_fit air c fit = at_or_none (All (λ o. IfSome o (λ i. i < air.items))) air.slots (edition_at air c) fit (All-nil _)
+
+-- So it is where the slots of this one cycle have items of the catalog.
+pub last_cycle : (values : List ℕ) (air : Air) (G : List Event) → air.items ≡ length values → All (λ o. IfSome o (λ i. i < air.items)) (slots_at air (starts (G ++ Start ∷ []))) →
+    cycle_buckets (form_of air) (edition_at air (starts (G ++ Start ∷ []))) (slots_at air (starts (G ++ Start ∷ []))) (board_of values (G ++ Start ∷ []))
+    ≡ map (bucket_of values air (G ++ Start ∷ []) air.version (starts (G ++ Start ∷ []))) (range_with_len 0 (length (slots_at air (starts (G ++ Start ∷ [])))))
+last_cycle values air G n fit =
+    let H = G ++ Start ∷ [] in
+    let c = starts H in
+    let e = edition_at air c in
+    let slots = slots_at air c in
+    let on : ℕ → Bucket = bucket_on (form_of air) e slots (next_cycle values G) in
+    let push : c ≡ starts G + 1 = starts_push values G in
+    ap (cycle_buckets (form_of air) e slots) (started values G)
+    ∙ fill_by_all (bucket_of values air H air.version (starts G + 1)) (map on (range_with_len 0 (length slots))) (length slots) (on 0)
+    (length-map-range_with_len on 0 (length slots))
+    (λ s l. get_or-map-range_with_len on 0 (length slots) s s _ l (omega arith)
+    ∙ slot_bucket values air G e s slots n (ap (edition_at air) push) (ap (slots_at air) push) (fit s None l))
+    ∙ ap (λ c. map (bucket_of values air H air.version c) (range_with_len 0 (length slots))) (sym push)
 
 pub own_cycle : OwnCycleLaw
-own_cycle values air G n fit =
-    let H = G ++ Start ∷ [] in
-    let buckets = map (bucket_on air.scheme.policy air.slots (next_cycle values G)) (range_with_len 0 (length air.slots)) in
-    ap (cycle_buckets air.scheme.policy air.slots) (started values G)
-    ∙ fill_by_all (bucket_of values air H (starts G + 1)) buckets (length air.slots) (bucket_on air.scheme.policy air.slots (next_cycle values G) 0)
-    (length-map-range_with_len (bucket_on air.scheme.policy air.slots (next_cycle values G)) 0 (length air.slots))
-    (λ s l. get_or-map-range_with_len (bucket_on air.scheme.policy air.slots (next_cycle values G)) 0 (length air.slots) s s _ l (omega arith) ∙ slot_bucket values air G s n (fit s None l))
-    ∙ ap (λ c. map (bucket_of values air H c) (range_with_len 0 (length air.slots))) (sym (starts_push values G))
+own_cycle values air G n fit = last_cycle values air G n (slots_fit air (starts (G ++ Start ∷ [])) fit)
 
 -- ---- its entries are below the cycle
 

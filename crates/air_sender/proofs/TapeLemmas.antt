@@ -12,15 +12,17 @@ use Rattle.air_history.specs.Columns.{aired_entries}
 use Rattle.air_history.specs.Reads.{read_value}
 use Rattle.air_history.specs.Tables.{values_of}
 use Rattle.air_history.proofs.ScanLemmas.{starts_within}
-use Rattle.air_model.specs.Aired.{Air, aired_as, air_of, body_of, bucket_of, buckets_of, history_tape}
+use Rattle.air_model.specs.Aired.{Air, aired_as, air_of, body_of, bucket_of, buckets_of, cycle_buckets, edition_at, history_tape, slots_at}
 use Rattle.air_model.specs.AiredLaws.{CanAir}
-use Rattle.air_model.specs.Buckets.{entries_of, spelling}
-use Rattle.air_model.specs.Decks.{Deck, IsDeck, script_history, values_in}
+use Rattle.air_model.specs.Buckets.{Bucket, capped_bucket, entries_of, entry_len, spelling}
+use Rattle.air_model.specs.Decks.{Deck, IsDeck, disks_in, script_history, values_in}
+use Rattle.air_model.specs.Programs.{program}
 use Rattle.air_model.specs.Tapes.{tape_of, tape_read}
 use Rattle.air_model.proofs.AiredLemmas.{entries_long}
+use Rattle.air_model.proofs.EditionLemmas.{plain_air}
 use Rattle.air_model.proofs.ScriptLemmas.{script}
 use Rattle.air_model.proofs.TapeLemmas.{length_record, whole_read}
-use Rattle.air_sender.proofs.RangeLemmas.{spelling_within}
+use Rattle.air_sender.proofs.RangeLemmas.{spelling_within, told_length}
 use Rattle.air_sender.specs.AiredBytes.{aired_bytes}
 use Rattle.air_sender.proofs.RunLoops.{script_length}
 
@@ -41,13 +43,19 @@ tape_back deck H tape same few =
     let long = ap length same in
     ap tape_read same ∙ whole_read rs (length (tape_of rs)) 0 (short_records rs (omega arith)) (omega arith)
 
+-- A plain deck has one program, so where that isn't too long no edition's is.
+pub slots_short : (deck : Deck) → IsDeck deck → length (program (disks_in deck 0)) ≤ 16384 → All (λ slots. length slots ≤ 2 ^ 16) ((air_of deck).slots)
+slots_short deck made few =
+    subst (λ (air : Air). All (λ (slots : List (Option ℕ)). length slots ≤ 2 ^ 16) air.slots) (sym (plain_air deck made.plain))
+    (All-cons (λ (slots : List (Option ℕ)). length slots ≤ 2 ^ 16) (program (disks_in deck 0)) [] (omega arith) (All-nil _))
+
 -- A deck's script can be aired with it.
-pub script_airs : (deck : Deck) → IsDeck deck → length deck.script ≤ 200000 → length ((air_of deck).slots) ≤ 16384 → CanAir deck (script_history deck)
+pub script_airs : (deck : Deck) → IsDeck deck → length deck.script ≤ 200000 → length (program (disks_in deck 0)) ≤ 16384 → CanAir deck (script_history deck)
 script_airs deck made few slots = record {
   made = made;
   legal = script deck made.script;
   cycles = (let most = starts_within (script_history deck) in let long = script_length deck in omega arith);
-  slots = omega arith;
+  slots = slots_short deck made slots;
 }
 
 -- ---- the records
@@ -67,26 +75,29 @@ entries_few values air H c (Some item) =
     omega arith
 
 -- A bucket of a history has a head, and an entry for each item at most.
-bucket_short : (values : List ℕ) (air : Air) (H : List Event) (c s : ℕ) → length (spelling (bucket_of values air H c s)) ≤ 24 + 4 * air.items
+bucket_short : (values : List ℕ) (air : Air) (H : List Event) (v c s : ℕ) → length (spelling (bucket_of values air H v c s)) ≤ 24 + entry_len v * air.items
 unfolding bucket_of
-bucket_short values air H c s =
-    let b = bucket_of values air H c s in
-    spelling_within b (entries_of b.body) air.items refl (entries_few values air H c (get_or air.slots s None))
+bucket_short values air H v c s =
+    let o = get_or (slots_at air c) s None in
+    let b : Bucket = record { version = v; edition = edition_at air c; cycle = c; slot = s; body = body_of values air H c o } in
+    let few : length (entries_of (capped_bucket b).body) ≤ air.items = let same = told_length b in let many = entries_few values air H c o in omega (arith, same, many) in
+    spelling_within (capped_bucket b) (entries_of (capped_bucket b).body) air.items refl few
 
-abbrev IsShort : ℕ → List ℕ → Type 0
-IsShort n r = length r ≤ 24 + 4 * n
+abbrev IsShort : Air → List ℕ → Type 0
+IsShort air r = length r ≤ 24 + entry_len air.version * air.items
 
-cycles_short : (values : List ℕ) (air : Air) (H : List Event) (cs : List ℕ) → All (IsShort air.items) (map spelling (flat_map (λ c. map (bucket_of values air H c) (range_with_len 0 (length air.slots))) cs))
-cycles_short values air H [] = All-nil (IsShort air.items)
+cycles_short : (values : List ℕ) (air : Air) (H : List Event) (cs : List ℕ) → All (IsShort air) (map spelling (flat_map (cycle_buckets values air H) cs))
+cycles_short values air H [] = All-nil (IsShort air)
 cycles_short values air H (c ∷ cs) =
-    let ks = range_with_len 0 (length air.slots) in
-    let here = map (bucket_of values air H c) ks in
-    let rest = flat_map (λ c. map (bucket_of values air H c) ks) cs in
-    subst (All (IsShort air.items)) (sym (map-append spelling here rest)) (All-append (IsShort air.items) (map spelling here) (map spelling rest)
-    (subst (All (IsShort air.items)) (sym (map-map spelling (bucket_of values air H c) ks)) (All-map (IsShort air.items) (λ s. spelling (bucket_of values air H c s)) ks (λ k d below. bucket_short values air H c (get_or ks k d))))
+    let v = air.version in
+    let ks = range_with_len 0 (length (slots_at air c)) in
+    let here = cycle_buckets values air H c in
+    let rest = flat_map (cycle_buckets values air H) cs in
+    subst (All (IsShort air)) (sym (map-append spelling here rest)) (All-append (IsShort air) (map spelling here) (map spelling rest)
+    (subst (All (IsShort air)) (sym (map-map spelling (bucket_of values air H v c) ks)) (All-map (IsShort air) (λ s. spelling (bucket_of values air H v c s)) ks (λ k d below. bucket_short values air H v c (get_or ks k d))))
     (cycles_short values air H cs))
 
 -- So none of the records is longer than that.
-pub records_short : (deck : Deck) (H : List Event) → All (λ r. length r ≤ 24 + 4 * length deck.items) (aired_bytes deck H)
+pub records_short : (deck : Deck) (H : List Event) → All (λ r. length r ≤ 24 + entry_len deck.settings.version * length deck.items) (aired_bytes deck H)
 unfolding buckets_of
 records_short deck H = cycles_short (values_in deck) (air_of deck) H (range_with_len 1 (starts H))

@@ -1,14 +1,15 @@
 -- What a board airs: the bucket of each slot, and the last cycle of a history.
 use Rattle.std.specs.Prelude.{◌≡◌, ℕ, ◌<◌, List, [], ◌∷◌, ◌++◌, All, length, map, get_or, Option, Some, None}
 use Rattle.std.specs.List.{range_with_len}
+use Rattle.air_base.specs.declared.verdicts.Form.{Form}
 use Rattle.air_base.specs.declared.verdicts.Policy.{Policy}
 use Rattle.air_base.specs.declared.verdicts.Policy.TheVariants.{FMatrix, Datacycle, RMatrix}
 use Rattle.air_history.specs.declared.histories.Event.{Event}
 use Rattle.air_history.specs.declared.histories.Event.TheVariants.{Start}
 use Rattle.air_history.specs.Histories.{starts}
 use Rattle.air_history.specs.Boards.{Board, board_of}
-use Rattle.air_model.specs.Buckets.{Bucket, Body, Idle, spelling}
-use Rattle.air_model.specs.Aired.{Air, aired_as, bucket_of}
+use Rattle.air_model.specs.Buckets.{Bucket, Body, Idle, capped_bucket, spelling}
+use Rattle.air_model.specs.Aired.{Air, aired_as, bucket_of, edition_at, slots_at}
 
 -- The entries that a policy airs with an item: its control column, or the write vector.
 abbrev pub entries_on : Policy → Board → ℕ → List ℕ
@@ -21,17 +22,22 @@ unfoldable pub body_on : Policy → Board → Option ℕ → Body
 body_on policy board None = Idle (length board.values)
 body_on policy board (Some item) = aired_as policy item (get_or board.values item 0) (entries_on policy board item)
 
--- The bucket of slot s in the board's cycle.
-unfoldable pub bucket_on : Policy → List (Option ℕ) → Board → ℕ → Bucket
-bucket_on policy slots board s = record { edition = 0; cycle = board.cycle; slot = s; body = body_on policy board (get_or slots s None) }
+-- The form of what is on an air.
+abbrev pub form_of : Air → Form
+form_of air = record { policy = air.scheme.policy; version = air.version }
+
+-- The bucket of slot s in the board's cycle, in this edition: its entries are as the form's version tells them.
+unfoldable pub bucket_on : Form → ℕ → List (Option ℕ) → Board → ℕ → Bucket
+bucket_on form e slots board s =
+    capped_bucket (record { version = form.version; edition = e; cycle = board.cycle; slot = s; body = body_on form.policy board (get_or slots s None) })
 
 -- The buckets of the board's cycle, slot by slot.
-abbrev pub cycle_buckets : Policy → List (Option ℕ) → Board → List Bucket
-cycle_buckets policy slots board = map (bucket_on policy slots board) (range_with_len 0 (length slots))
+abbrev pub cycle_buckets : Form → ℕ → List (Option ℕ) → Board → List Bucket
+cycle_buckets form e slots board = map (bucket_on form e slots board) (range_with_len 0 (length slots))
 
 -- Their bytes.
-abbrev pub cycle_bytes : Policy → List (Option ℕ) → Board → List (List ℕ)
-cycle_bytes policy slots board = map spelling (cycle_buckets policy slots board)
+abbrev pub cycle_bytes : Form → ℕ → List (Option ℕ) → Board → List (List ℕ)
+cycle_bytes form e slots board = map spelling (cycle_buckets form e slots board)
 
 -- A board can air its cycle: all its entries are below it.
 pub record EntriesBelow (board : Board) : Type 0 where
@@ -40,15 +46,17 @@ pub record EntriesBelow (board : Board) : Type 0 where
 
 -- The buckets of the last cycle that a history starts, slot by slot.
 abbrev pub last_cycle_buckets : List ℕ → Air → List Event → List Bucket
-last_cycle_buckets values air H = map (bucket_of values air H (starts H)) (range_with_len 0 (length air.slots))
+last_cycle_buckets values air H = map (bucket_of values air H air.version (starts H)) (range_with_len 0 (length (slots_at air (starts H))))
 
 -- Their bytes, where the history ends with a start.
 abbrev pub last_bytes : List ℕ → Air → List Event → List (List ℕ)
 last_bytes values air G = map spelling (last_cycle_buckets values air (G ++ Start ∷ []))
 
--- The board is that of a history which ends with a start, from these values, and airs with this policy and these slots.
-pub record IsLastBoard (values : List ℕ) (air : Air) (G : List Event) (by : Policy) (program : List (Option ℕ)) (b : Board) : Type 0 where
+-- The board is that of a history which ends with a start, from these values, and airs in this form and edition with these slots.
+pub record IsLastBoard (values : List ℕ) (air : Air) (G : List Event) (form : Form) (e : ℕ) (program : List (Option ℕ)) (b : Board) : Type 0 where
   pub board : b ≡ board_of values (G ++ Start ∷ [])
   pub items : air.items ≡ length values
-  pub policy : air.scheme.policy ≡ by
-  pub slots : air.slots ≡ program
+  pub policy : air.scheme.policy ≡ form.policy
+  pub version : air.version ≡ form.version
+  pub edition : edition_at air (starts (G ++ Start ∷ [])) ≡ e
+  pub slots : slots_at air (starts (G ++ Start ∷ [])) ≡ program

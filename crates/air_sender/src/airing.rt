@@ -3,12 +3,12 @@
 //! Each slot's bucket is written into the buffer and sent through the mast; no call takes memory. What was sent are the
 //! board's buckets, and so those of the history of which the board is.
 
-ghost use Rattle.std.specs.Prelude.{◌≡◌, ℕ, ◌<◌, ◌≤◌, ◌+◌, ◌*◌, List, [], ◌∷◌, length, IfErr, OnErr, OnOk};
-ghost use Rattle.air_base.specs.declared.limits.TheConstants.{MOST_ITEMS, MOST_SLOTS};
+ghost use Rattle.std.specs.Prelude.{◌≡◌, ◌⊎◌, ℕ, ◌<◌, ◌≤◌, ◌+◌, ◌*◌, List, [], ◌∷◌, length, IfErr, OnErr, OnOk};
+ghost use Rattle.air_base.specs.declared.limits.TheConstants.{MOST_FULL_ITEMS, MOST_ITEMS, MOST_SLOTS};
 ghost use Rattle.air_history.specs.declared.histories.Event.{Event};
 ghost use Rattle.air_model.specs.Disks.{all_items};
 ghost use Rattle.air_model.specs.Programs.{program as slots_of};
-ghost use Rattle.air_model.specs.Buckets.{spelling};
+ghost use Rattle.air_model.specs.Buckets.{entry_len, most_count, spelling};
 ghost use Rattle.air_model.specs.Aired.{Air};
 ghost use Rattle.air_devices.specs.Counts.{HasCause};
 ghost use Rattle.air_devices.specs.Masts.{Changes, with_buckets};
@@ -17,10 +17,10 @@ ghost use Rattle.air_sender.specs.AirFaults.{IsAirAnswer, SendsUpToFault};
 ghost use Rattle.air_sender.specs.TapeSizes.{cycle_size};
 
 use crate::buckets::slot_bucket;
-use air_base::Policy;
+use air_base::Form;
 use air_devices::{Failed, Mast};
-use bucket_codec::encode;
 use bucket_codec::offsets::{ENTRY_BYTES, HEAD_BYTES, LENGTH_BYTES};
+use bucket_codec::{encode, entry_size};
 use chunk_program::Program;
 use control_matrix::Board;
 
@@ -37,29 +37,31 @@ pub enum AirFault {
 
 /// Sends the bucket of each slot in order for the board's cycle. `Board::new` and `Board::apply` tell whose board it is: where the last
 /// event was a start its cycle has started, and by `below_law` of `board_laws` its entries are below it. `Program::plan` tells that the program has
-/// the deck's items, as many as `Board::new` got values, and `Board::n` how many entries the buffer is for.
+/// the deck's items, as many as `Board::new` got values, and `Board::n` how many entries the buffer is for; `entry_size` tells the bytes of each.
 pub fn air_cycle<M: Mast>(
     program: &Program,
     board: &Board,
-    policy: Policy,
+    form: Form,
     mast: &mut M,
     buf: &mut [u8],
 ) -> Result<(), AirFault>
     requires started { 1 ≤ board.now.cycle }
     requires below { EntriesBelow board.now }
     requires items { length (all_items program.now) ≡ length board.now.values }
-    requires room { HEAD_BYTES + ENTRY_BYTES * length board.now.values ≤ length buf.old }
-    ensures aired { OnOk result (Changes (with_buckets (cycle_bytes policy (slots_of program.now) board.now)) (M.state mast.old).told (M.state mast.new).told) }
-    ensures history { (values : List ℕ) (air : Air) (G : List Event) → IsLastBoard values air G policy (slots_of program.now) board.now →
+    requires version { (form.version ≡ 1) ⊎ (form.version ≡ 2) }
+    requires few { form.version ≡ 1 → length board.now.values ≤ MOST_FULL_ITEMS }
+    requires room { HEAD_BYTES + entry_len form.version * length board.now.values ≤ length buf.old }
+    ensures aired { OnOk result (Changes (with_buckets (cycle_bytes form 0 (slots_of program.now) board.now)) (M.state mast.old).told (M.state mast.new).told) }
+    ensures history { (values : List ℕ) (air : Air) (G : List Event) → IsLastBoard values air G form 0 (slots_of program.now) board.now →
         SendsUpToFault (last_bytes values air G) result (M.state mast.old).told (M.state mast.new).told }
     ensures calm { OnOk result ((M.state mast.new).faults ≡ (M.state mast.old).faults) }
-    ensures fault { IfErr result (IsAirAnswer M.state (cycle_bytes policy (slots_of program.now) board.now) mast.old mast.new) }
+    ensures fault { IfErr result (IsAirAnswer M.state (cycle_bytes form 0 (slots_of program.now) board.now) mast.old mast.new) }
     ensures port { (M.state mast.new).port ≡ (M.state mast.old).port }
     ensures buffer { length buf.new ≡ length buf.old }
 {
     program.shows_well_made();
     for slot in 0..program.slots() {
-        if air_slot(program, board, policy, slot, mast, buf).is_err() {
+        if air_slot(program, board, form, slot, mast, buf).is_err() {
             return Err(AirFault::Mast { slot });
         }
     }
@@ -70,48 +72,51 @@ pub fn air_cycle<M: Mast>(
 fn air_slot<M: Mast>(
     program: &Program,
     board: &Board,
-    policy: Policy,
+    form: Form,
     slot: u32,
     mast: &mut M,
     buf: &mut [u8],
 ) -> Result<(), Failed>
     requires slot { slot < length (slots_of program.now) }
     requires short { slot < MOST_SLOTS }
-    requires few { length board.now.values ≤ MOST_ITEMS }
+    requires version { (form.version ≡ 1) ⊎ (form.version ≡ 2) }
+    requires few { length board.now.values ≤ most_count form.version }
     requires started { 1 ≤ board.now.cycle }
     requires below { EntriesBelow board.now }
     requires items { length (all_items program.now) ≡ length board.now.values }
-    requires room { HEAD_BYTES + ENTRY_BYTES * length board.now.values ≤ length buf.old }
-    ensures sent { OnOk result (Changes (with_buckets (spelling (bucket_on policy (slots_of program.now) board.now slot) ∷ [])) (M.state mast.old).told (M.state mast.new).told) }
+    requires room { HEAD_BYTES + entry_len form.version * length board.now.values ≤ length buf.old }
+    ensures sent { OnOk result (Changes (with_buckets (spelling (bucket_on form 0 (slots_of program.now) board.now slot) ∷ [])) (M.state mast.old).told (M.state mast.new).told) }
     ensures refused { OnErr result ((M.state mast.new).told ≡ (M.state mast.old).told) }
     ensures port { (M.state mast.new).port ≡ (M.state mast.old).port }
     ensures cause { HasCause (M.state mast.old).faults (M.state mast.new).faults result }
 {
-    let bucket = slot_bucket(board, policy, slot, program.slot_item(slot));
+    let bucket = slot_bucket(board, form, slot, program.slot_item(slot));
     let len = encode(&bucket, buf);
     mast.send(&buf[..len])
 }
 
-/// The exact length of the tape of so many cycles of the program, where the deck has n items.
-pub fn tape_bytes(program: &Program, n: u16, cycles: u32) -> u64
-    requires { n ≡ length (all_items program.now) }
-    ensures { result ≡ cycles * cycle_size n (slots_of program.now) }
+/// The exact length of the tape of so many cycles of the program in this form, where the deck has n items.
+pub fn tape_bytes(program: &Program, n: u16, cycles: u32, form: Form) -> u64
+    requires items { n ≡ length (all_items program.now) }
+    requires version { (form.version ≡ 1) ⊎ (form.version ≡ 2) }
+    ensures { result ≡ cycles * cycle_size form.version n (slots_of program.now) }
 {
     program.shows_well_made();
-    u64::from(cycles) * cycle_len(program, n)
+    u64::from(cycles) * cycle_len(program, n, form.version)
 }
 
 /// The length of the records of one cycle.
-fn cycle_len(program: &Program, n: u16) -> u64
+fn cycle_len(program: &Program, n: u16, version: u8) -> u64
     requires { n ≤ MOST_ITEMS }
-    ensures len { result ≡ cycle_size n (slots_of program.now) }
+    ensures len { result ≡ cycle_size version n (slots_of program.now) }
     ensures few { result ≤ (LENGTH_BYTES + HEAD_BYTES + ENTRY_BYTES * MOST_ITEMS) * MOST_SLOTS }
 {
+    let entries = (entry_size(version) * usize::from(n)) as u64;
     let mut len = 0;
     for slot in 0..program.slots() {
         len += match program.slot_item(slot) {
             None => RECORD_HEAD,
-            Some(_) => RECORD_HEAD + ENTRY_BYTES as u64 * u64::from(n),
+            Some(_) => RECORD_HEAD + entries,
         };
     }
     len

@@ -2,21 +2,21 @@
 //!
 //! They stand apart so that they are checked once: no test and no edit has them proved again.
 
-ghost use Rattle.std.specs.Prelude.{◌≡◌, ◌*◌, ℕ, cond, List, [], ◌∷◌, ◌++◌, length, map};
+ghost use Rattle.std.specs.Prelude.{◌≡◌, ℕ, cond, List, [], ◌∷◌, ◌++◌, length, map};
 ghost use Rattle.std.specs.List.{range_with_len};
 ghost use Rattle.air_history.specs.declared.histories.Event.{Event};
 ghost use Rattle.air_history.specs.declared.histories.Event.TheVariants.{Start};
 ghost use Rattle.air_history.specs.Histories.{is_start, starts};
 ghost use Rattle.air_history.specs.Boards.{board_of};
-ghost use Rattle.air_model.specs.Aired.{Air, SlotsFit, bucket_of, buckets_of, history_tape};
-ghost use Rattle.air_sender.specs.BoardBuckets.{EntriesBelow, cycle_buckets, last_cycle_buckets};
-ghost use Rattle.air_sender.specs.TapeSizes.{cycle_size};
+ghost use Rattle.air_model.specs.Aired.{Air, SlotsFit, bucket_of, buckets_of, edition_at, history_tape, slots_at};
+ghost use Rattle.air_sender.specs.BoardBuckets.{EntriesBelow, cycle_buckets, form_of, last_cycle_buckets};
+ghost use Rattle.air_sender.specs.TapeSizes.{tape_size};
 
 /// The board of a history that ends with a start airs the history's buckets of that cycle.
 pub fn own_cycle_law()
     ensures { (values : List ℕ) (air : Air) (G : List Event) → air.items ≡ length values → SlotsFit air →
-        cycle_buckets air.scheme.policy air.slots (board_of values (G ++ Start ∷ []))
-        ≡ map (bucket_of values air (G ++ Start ∷ []) (starts (G ++ Start ∷ []))) (range_with_len 0 (length air.slots)) }
+        cycle_buckets (form_of air) (edition_at air (starts (G ++ Start ∷ []))) (slots_at air (starts (G ++ Start ∷ []))) (board_of values (G ++ Start ∷ []))
+        ≡ map (bucket_of values air (G ++ Start ∷ []) air.version (starts (G ++ Start ∷ []))) (range_with_len 0 (length (slots_at air (starts (G ++ Start ∷ []))))) }
 {}
 
 /// The entries of the board of a history that ends with a start are below its cycle.
@@ -30,8 +30,8 @@ pub fn grow_law()
         buckets_of values air (G ++ e ∷ []) ≡ buckets_of values air G ++ cond (is_start e) (last_cycle_buckets values air (G ++ e ∷ [])) [] }
 {}
 
-/// The tape of a history has the bytes of a cycle's records for each cycle.
+/// The tape of a history has the bytes of its records, cycle by cycle.
 pub fn tape_size_law()
     ensures { (values : List ℕ) (air : Air) (H : List Event) →
-        length (history_tape values air H) ≡ starts H * cycle_size air.items air.slots }
+        length (history_tape values air H) ≡ tape_size air.version air.items (slots_at air) (starts H) }
 {}

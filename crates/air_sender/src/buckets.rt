@@ -1,36 +1,38 @@
 //! The bucket of a slot in the board's cycle: its entries are lent from the board, and nothing is copied.
 
-ghost use Rattle.std.specs.Prelude.{◌≡◌, ◌<◌, ◌≤◌, ◌+◌, ◌*◌, ◌^◌, length, IfSome};
-ghost use Rattle.air_base.specs.declared.limits.TheConstants.{MOST_ITEMS};
+ghost use Rattle.std.specs.Prelude.{◌≡◌, ◌⊎◌, ◌<◌, ◌≤◌, ◌+◌, ◌*◌, ◌^◌, length, IfSome};
 ghost use Rattle.air_model.specs.Aired.{aired_as};
-ghost use Rattle.bucket_codec.specs.declared.offsets.TheConstants.{ENTRY_BYTES, HEAD_BYTES};
-ghost use Rattle.air_model.specs.Buckets.{IsInRange, spelling};
+ghost use Rattle.bucket_codec.specs.declared.offsets.TheConstants.{HEAD_BYTES};
+ghost use Rattle.air_model.specs.Buckets.{IsInRange, capped_bucket, entry_len, most_count, spelling};
 ghost use Rattle.bucket_codec.specs.BucketsToAir.{body_to_air, bucket_to_air};
 ghost use Rattle.air_sender.specs.BoardBuckets.{EntriesBelow, body_on, entries_on};
 
-use air_base::Policy;
+use air_base::{Form, Policy};
 use bucket_codec::{Body, Bucket};
 use control_matrix::Board;
 
 /// The bucket of a slot that has this item, or is idle.
 #[tactic(auto, using(crate::proofs::RangeLemmas::spelling_long), unfolding(crate::specs::BoardBuckets::body_on, bucket_codec::specs::BucketsToAir::body_to_air))]
-pub fn slot_bucket<'a>(board: &'a Board, policy: Policy, slot: u32, item: Option<u16>) -> Bucket<'a>
+pub fn slot_bucket<'a>(board: &'a Board, form: Form, slot: u32, item: Option<u16>) -> Bucket<'a>
     requires within { IfSome item (λ i. i < length board.now.values) }
     requires slot { slot < 2 ^ 16 }
-    requires few { length board.now.values ≤ MOST_ITEMS }
+    requires version { (form.version ≡ 1) ⊎ (form.version ≡ 2) }
+    requires few { length board.now.values ≤ most_count form.version }
     requires started { 1 ≤ board.now.cycle }
     requires below { EntriesBelow board.now }
-    ensures bucket { bucket_to_air result ≡ record { edition = 0; cycle = board.now.cycle; slot = slot; body = body_on policy board.now item } }
-    ensures range { IsInRange (bucket_to_air result) }
+    ensures bucket { bucket_to_air result ≡ record { version = form.version; edition = 0; cycle = board.now.cycle; slot = slot; body = body_on form.policy board.now item } }
+    ensures range { IsInRange (capped_bucket (bucket_to_air result)) }
     ensures long { HEAD_BYTES ≤ length (spelling (bucket_to_air result)) }
-    ensures sized { length (spelling (bucket_to_air result)) ≤ HEAD_BYTES + ENTRY_BYTES * length board.now.values }
+    ensures sized { length (spelling (bucket_to_air result)) ≤ HEAD_BYTES + entry_len form.version * length board.now.values }
 {
+    let version = form.version;
     let cycle = board.cycle();
     let slot = slot as u16;
     let edition = 0;
     let Some(item) = item else {
         let body = Body::Idle { count: board.n() };
         return Bucket {
+            version,
             edition,
             cycle,
             slot,
@@ -38,8 +40,9 @@ pub fn slot_bucket<'a>(board: &'a Board, policy: Policy, slot: u32, item: Option
         };
     };
     let value = board.value(item);
-    let body = item_body(board, policy, item, value);
+    let body = item_body(board, form.policy, item, value);
     Bucket {
+        version,
         edition,
         cycle,
         slot,

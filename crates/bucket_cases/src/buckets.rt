@@ -1,7 +1,7 @@
 //! Buckets read from their bytes, and written again.
 //!
 //! `bucket` has the bytes in hexadecimal digits, and `edited` reads the last ones again: the length to which they are cut or filled up with
-//! zeros, and then the place and the byte of each that is replaced.
+//! zeros, and then the place and the byte of each that is replaced. `encoded`, in `columns`, writes a bucket and reads it here.
 
 ghost use Rattle.std.specs.Prelude.{◌≡◌, IfOk, IsTrue};
 ghost use Rattle.air_model.specs.Buckets.{IsInRange, entries_of, kind_of};
@@ -13,7 +13,7 @@ use case_lines::{BadCase, Parts, add_line};
 use std::alloc::Global;
 
 /// What a slice has at each place before anything is written.
-const UNWRITTEN: u8 = 0xee;
+pub const UNWRITTEN: u8 = 0xee;
 
 /// What the bucket carries, with these entries.
 fn body_of<'a>(view: &BucketView<'_>, entries: &'a [u32]) -> Body<'a>
@@ -66,6 +66,7 @@ fn is_written(
     requires entries { entries.now ≡ entries_of view.now.body }
 {
     let bucket = Bucket {
+        version: view.version(),
         edition: view.edition(),
         cycle: view.cycle(),
         slot: view.slot(),
@@ -93,7 +94,8 @@ fn add_view(view: &BucketView<'_>, came: &mut Vec<u8>) -> Result<(), NoMemory> {
         ViewKind::Vector => "vector",
     };
     came.extend_from_slice(kind.as_bytes())?;
-    add_line(b" of edition", &[u64::from(view.edition())], came)?;
+    add_line(b" of version", &[u64::from(view.version())], came)?;
+    add_line(b"edition", &[u64::from(view.edition())], came)?;
     add_line(b"items", &[u64::from(view.count())], came)?;
     add_line(b"cycle", &[u64::from(view.cycle())], came)?;
     add_line(b"slot", &[u64::from(view.slot())], came)?;

@@ -5,6 +5,7 @@
 #![tactic(auto)]
 
 mod buckets;
+mod columns;
 mod copies;
 mod ethers;
 mod lanes;

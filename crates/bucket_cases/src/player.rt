@@ -1,10 +1,11 @@
 //! The words of the cases.
 //!
-//! `bucket` and `tape` set the bytes that `edited` and `fronts` read again, and `record` adds one to a tape; `cache` makes the copies that
-//! `keep`, `drop`, `reorder` and `kept` are about; `row` and `other` set the rows of `greater`, `stamped`, `find` and `find_all`;
-//! `ether` and `words` draw from a seed.
+//! `bucket`, `encoded` and `tape` set the bytes that `edited` and `fronts` read again, and `record` adds one to a tape; `cache` makes the
+//! copies that `keep`, `drop`, `reorder` and `kept` are about; `row` and `other` set the rows of `encoded`, `greater`, `stamped`, `find` and
+//! `find_all`; `ether` and `words` draw from a seed.
 
 use crate::buckets::{edited, read_bucket};
+use crate::columns::encoded;
 use crate::copies::{Copies, new_copies};
 use crate::ethers::{ether, words};
 use crate::lanes::{find, find_all, greater, stamped};
@@ -37,6 +38,7 @@ impl Player for Cases {
                 read_bucket(alloc, &self.bytes, came)?;
             }
             b"edited" => edited(alloc, &self.bytes, parts, came)?,
+            b"encoded" => encoded(alloc, &self.row, parts, &mut self.bytes, came)?,
             b"record" => write_record(alloc, parts, &mut self.bytes, came)?,
             b"tape" => {
                 self.bytes = parts.bytes(alloc)?;

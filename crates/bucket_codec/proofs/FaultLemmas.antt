@@ -1,12 +1,12 @@
 -- Each fault, and the bucket, from what the tests before it said.
 -- Each return of `first_fault` is one lemma of this file; the last four say what `decode` answers by it.
-use Rattle.std.proofs.Common.{◌≡◌, ◌≢◌, ◌≤◌, ◌<◌, ◌⊎◌, inl, inr, ◌+◌, ◌*◌, ◌&&◌, ◌==◌, nat_le, nat_lt, ℕ, Bool, true, false, Option, Some, None, Result, Ok, Err, List, length, slice_index, refl, sym, ◌∙◌, ap, arith}
+use Rattle.std.proofs.Common.{◌≡◌, ◌≢◌, ◌≤◌, ◌<◌, ◌⊎◌, inl, inr, ◌+◌, ◌*◌, ◌&&◌, ◌||◌, ◌==◌, nat_le, ℕ, Bool, true, false, Option, Some, None, Result, Ok, Err, List, length, slice_index, refl, sym, ◌∙◌, ap, arith}
 use Rattle.std.specs.List.{list_all}
 use Rattle.std.specs.Result.{result_err}
-use Rattle.std.proofs.lemmas.Bool.{le-ltb, le-leb, lt-ltb}
+use Rattle.std.proofs.lemmas.Bool.{eqb-true, le-ltb, le-leb, lt-ltb}
 use Rattle.air_model.specs.declared.bucket.BucketFault.{BucketFault}
 use Rattle.air_model.specs.declared.bucket.BucketFault.TheVariants.{Short, Magic, Version, Kind, Length, Shape}
-use Rattle.air_model.specs.Buckets.{Bucket, IsBucket, bucket_at, entries_at, entry_count, fault_of, is_placed, is_shaped, number_at, reading}
+use Rattle.air_model.specs.Buckets.{Bucket, IsBucket, bucket_at, entry_count, entry_len, fault_of, is_entry, is_placed, is_shaped, most_count, number_at, raw_entries, reading}
 use Rattle.air_model.proofs.ByteLemmas.{AllBytes, are_bytes}
 use Rattle.air_model.proofs.BucketLemmas.{fault_exactly, ok_from_whole, reading_agrees, whole_from_ok}
 use Rattle.bucket_codec.specs.DatagramKinds.{IsNoBucket}
@@ -30,40 +30,62 @@ fault_magic bytes long (inr b) = rw (le-ltb (length bytes) 24 long, other (slice
     and_false true = refl
     and_false false = refl
 
-module _ (bytes : List ℕ) (long : 24 ≤ length bytes) (m0 : slice_index bytes 0 ≡ 65) (m1 : slice_index bytes 1 ≡ 68) where
-  pub fault_version : slice_index bytes 2 ≢ 1 → fault_of bytes ≡ Some Version
-  unfolding reading
-  fault_version ne = rw (le-ltb (length bytes) 24 long, same (slice_index bytes 0) 65 m0, same (slice_index bytes 1) 68 m1, other (slice_index bytes 2) 1 ne) refl
+-- Whether a byte is a version.
+abbrev known : ℕ → Bool
+known v = (v == 1) || (v == 2)
 
-  module _ (v : slice_index bytes 2 ≡ 1) where
+version_from : (v : ℕ) → known v ≡ true → (v ≡ 1) ⊎ (v ≡ 2)
+version_from v e = by (v == 1) (v == 2) refl refl e
+  where
+    by : (a b : Bool) → (v == 1) ≡ a → (v == 2) ≡ b → (a || b) ≡ true → (v ≡ 1) ⊎ (v ≡ 2)
+    by true b one two e = inl (eqb-true v 1 one)
+    by false true one two e = inr (eqb-true v 2 two)
+    by false false one two e = cc
+
+module _ (bytes : List ℕ) (long : 24 ≤ length bytes) (m0 : slice_index bytes 0 ≡ 65) (m1 : slice_index bytes 1 ≡ 68) where
+  pub fault_version : known (slice_index bytes 2) ≡ false → fault_of bytes ≡ Some Version
+  unfolding reading
+  fault_version none = rw (le-ltb (length bytes) 24 long, same (slice_index bytes 0) 65 m0, same (slice_index bytes 1) 68 m1, none) refl
+
+  module _ (v : known (slice_index bytes 2) ≡ true) where
     pub fault_kind : 2 < slice_index bytes 3 → fault_of bytes ≡ Some Kind
     unfolding reading
-    fault_kind big = rw (le-ltb (length bytes) 24 long, same (slice_index bytes 0) 65 m0, same (slice_index bytes 1) 68 m1, same (slice_index bytes 2) 1 v, lt-leb big) refl
+    fault_kind big = rw (le-ltb (length bytes) 24 long, same (slice_index bytes 0) 65 m0, same (slice_index bytes 1) 68 m1, v, lt-leb big) refl
       where
         lt-leb : {k : ℕ} → 2 < k → nat_le k 2 ≡ false
         lt-leb {k} big = grind arith
 
-    module _ (k : slice_index bytes 3 ≤ 2) where
-      pub fault_length : (n : ℕ) → n ≡ entry_count (slice_index bytes 3) (number_at 6 2 bytes) → length bytes ≢ 24 + 4 * n → fault_of bytes ≡ Some Length
+    module _ (k : slice_index bytes 3 ≤ 2) (w n : ℕ) (width : w ≡ entry_len (slice_index bytes 2)) (many : n ≡ entry_count (slice_index bytes 3) (number_at 6 2 bytes)) where
+      pub fault_length : length bytes ≢ 24 + w * n → fault_of bytes ≡ Some Length
       unfolding reading
-      fault_length n e ne =
-          rw (le-ltb (length bytes) 24 long, same (slice_index bytes 0) 65 m0, same (slice_index bytes 1) 68 m1, same (slice_index bytes 2) 1 v, le-leb (slice_index bytes 3) 2 k, sym e, other (length bytes) (24 + 4 * n) ne) refl
+      fault_length ne =
+          rw (le-ltb (length bytes) 24 long, same (slice_index bytes 0) 65 m0, same (slice_index bytes 1) 68 m1, v, le-leb (slice_index bytes 3) 2 k, sym width, sym many, other (length bytes) (24 + w * n) ne) refl
 
-      pub fault_shape : (n : ℕ) → n ≡ entry_count (slice_index bytes 3) (number_at 6 2 bytes) → length bytes ≡ 24 + 4 * n → is_shaped bytes ≡ false → fault_of bytes ≡ Some Shape
+      pub fault_shape : length bytes ≡ 24 + w * n → is_shaped bytes ≡ false → fault_of bytes ≡ Some Shape
       unfolding reading
-      fault_shape n e exact bad =
-          rw (le-ltb (length bytes) 24 long, same (slice_index bytes 0) 65 m0, same (slice_index bytes 1) 68 m1, same (slice_index bytes 2) 1 v, le-leb (slice_index bytes 3) 2 k, sym e, same (length bytes) (24 + 4 * n) exact, bad) refl
+      fault_shape exact bad =
+          rw (le-ltb (length bytes) 24 long, same (slice_index bytes 0) 65 m0, same (slice_index bytes 1) 68 m1, v, le-leb (slice_index bytes 3) 2 k, sym width, sym many, same (length bytes) (24 + w * n) exact, bad) refl
 
-      pub no_fault : (n : ℕ) → n ≡ entry_count (slice_index bytes 3) (number_at 6 2 bytes) → length bytes ≡ 24 + 4 * n → is_shaped bytes ≡ true → fault_of bytes ≡ None
-      no_fault n e exact good =
-          ap result_err (ok_from_whole bytes (record { long = long; magic0 = m0; magic1 = m1; version = v; kind = k; exact = exact ∙ ap (λ n. 24 + 4 * n) e; shaped = good }))
+      pub no_fault : length bytes ≡ 24 + w * n → is_shaped bytes ≡ true → fault_of bytes ≡ None
+      no_fault exact good =
+          ap result_err
+          (ok_from_whole bytes
+          (record {
+            long = long;
+            magic0 = m0;
+            magic1 = m1;
+            version = version_from (slice_index bytes 2) v;
+            kind = k;
+            exact = exact ∙ ap (λ w. 24 + w * n) width ∙ ap (λ n. 24 + entry_len (slice_index bytes 2) * n) many;
+            shaped = good;
+          }))
 
 -- The shape, from what the readers give.
-pub shape_is : (bytes : List ℕ) (kind count n cycle item value : ℕ) → kind ≡ slice_index bytes 3 → count ≡ number_at 6 2 bytes → n ≡ entry_count kind count
+pub shape_is : (bytes : List ℕ) (version kind count n cycle item value : ℕ) → version ≡ slice_index bytes 2 → kind ≡ slice_index bytes 3 → count ≡ number_at 6 2 bytes → n ≡ entry_count kind count
     → cycle ≡ number_at 8 4 bytes → item ≡ number_at 14 2 bytes → value ≡ number_at 16 8 bytes
-    → (nat_le 1 count && nat_le count 256 && nat_le 1 cycle && is_placed kind item value count && list_all (λ e. nat_lt e cycle) (entries_at n bytes)) ≡ is_shaped bytes
+    → (nat_le 1 count && nat_le count (most_count version) && nat_le 1 cycle && is_placed kind item value count && list_all (is_entry version cycle) (raw_entries version n bytes)) ≡ is_shaped bytes
 unfolding is_shaped
-shape_is bytes kind count n cycle item value a b c d e f = rw (c, a, b, d, e, f) refl
+shape_is bytes version kind count n cycle item value v a b c d e f = rw (c, v, a, b, d, e, f) refl
 
 -- ---- the answer of `decode`
 pub ok_from_none : (bytes : List ℕ) → fault_of bytes ≡ None → reading bytes ≡ Ok (bucket_at bytes)

@@ -1,14 +1,17 @@
 -- What stands at the places of bytes without a fault, said of their bucket.
 -- Each reader of a view is one lemma of this file.
-use Rattle.std.proofs.Common.{◌≡◌, ◌≢◌, ◌≤◌, ◌<◌, ◌+◌, ◌*◌, ℕ, Ok, List, length, drop, get_or, slice_index, if◌then◌else◌, refl, sym, ◌∙◌, ap, arith}
-use Rattle.std.specs.List.{flat_map}
-use Rattle.std.proofs.lemmas.Bool.{ne_eqb}
-use Rattle.byteorder.specs.Endian.{big_bytes}
-use Rattle.air_model.specs.Buckets.{bucket_at, count_of, entries_at, entries_of, entry_count, item_of, kind_of, number_at, reading, spelling, value_of}
+use Rattle.std.proofs.Common.{◌≡◌, ◌≢◌, ◌≤◌, ◌<◌, ◌⊎◌, inl, inr, ◌+◌, ◌*◌, ℕ, Ok, true, List, length, drop, get_or, slice_index, if◌then◌else◌, refl, sym, ◌∙◌, ap, subst, arith}
+use Rattle.std.specs.List.{flat_map, list_all}
+use Rattle.std.proofs.lemmas.Bool.{and_parts, ne_eqb}
+use Rattle.air_model.specs.Buckets.{bucket_at, count_of, entries_at, entries_of, entry_bytes, entry_count, entry_len, entry_told, is_entry, is_shaped, item_of, kind_of, number_at, raw_entries, raw_entry, reading, spelling, value_of}
 use Rattle.air_model.proofs.ByteLemmas.{AllBytes}
-use Rattle.air_model.proofs.FieldLemmas.{Fields, IsWhole, bounds, fields_of, shaped_is}
-use Rattle.air_model.proofs.BucketLemmas.{bucket_from_whole, fields_back, whole_from_ok}
-use Rattle.bucket_codec.proofs.EntryLemmas.{entry_is, length_entries}
+use Rattle.air_model.proofs.FieldLemmas.{Fields, IsWhole, fields_of}
+use Rattle.air_model.proofs.BucketLemmas.{bucket_from_whole, entries_read, fields_back, whole_from_ok}
+use Rattle.bucket_codec.proofs.EntryLemmas.{entry_is, length_entries, test_is}
+
+pub version_is : (bytes : List ℕ) → slice_index bytes 2 ≡ (bucket_at bytes).version
+unfolding bucket_at
+version_is bytes = refl
 
 pub edition_is : (bytes : List ℕ) → number_at 4 2 bytes ≡ (bucket_at bytes).edition
 unfolding bucket_at
@@ -49,20 +52,16 @@ module _ (bytes : List ℕ) (e : reading bytes ≡ Ok (bucket_at bytes)) where
   value_is = sym (ap (λ (f : Fields). f.value) (fields_back bytes whole))
 
   -- the entries stand behind the head
-  pub rest_is : AllBytes bytes → drop 24 bytes ≡ flat_map (big_bytes 4) (entries_of (bucket_at bytes).body)
+  pub rest_is : AllBytes bytes → drop 24 bytes ≡ flat_map (entry_bytes (bucket_at bytes).version (bucket_at bytes).cycle) (entries_of (bucket_at bytes).body)
   unfolding spelling
   rest_is all = ap (drop 24) (bucket_from_whole bytes all whole).1
 
-  entries_are : entries_of (bucket_at bytes).body ≡ entries_at (entry_count (slice_index bytes 3) (number_at 6 2 bytes)) bytes
-  unfolding fields_of
-  entries_are = ap (λ (f : Fields). f.entries) (fields_back bytes whole)
+  -- how many entries there are
+  abbrev many : ℕ
+  many = entry_count (slice_index bytes 3) (number_at 6 2 bytes)
 
-  long_entries : length (entries_of (bucket_at bytes).body) ≡ entry_count (slice_index bytes 3) (number_at 6 2 bytes)
-  long_entries = ap length entries_are ∙ length_entries (entry_count (slice_index bytes 3) (number_at 6 2 bytes)) bytes
-
-  -- the bytes reach to the end of the entries
-  pub view_room : length bytes ≡ 24 + 4 * length (entries_of (bucket_at bytes).body)
-  view_room = whole.exact ∙ ap (λ n. 24 + 4 * n) (sym long_entries)
+  long_entries : length (entries_of (bucket_at bytes).body) ≡ many
+  long_entries = ap length (entries_read bytes whole) ∙ length_entries (slice_index bytes 2) (number_at 8 4 bytes) many bytes
 
   -- but for an idle slot there is an entry for each item
   pub as_many : kind_of (bucket_at bytes).body ≢ 0 → length (entries_of (bucket_at bytes).body) ≡ count_of (bucket_at bytes).body
@@ -71,11 +70,38 @@ module _ (bytes : List ℕ) (e : reading bytes ≡ Ok (bucket_at bytes)) where
       let k = kind_is in
       long_entries ∙ ap (λ b. if b then 0 else number_at 6 2 bytes) (ne_eqb (slice_index bytes 3) 0 (λ z. busy (sym k ∙ z))) ∙ count_is
 
-  pub view_few : count_of (bucket_at bytes).body ≤ 256
-  unfolding fields_of
-  view_few = let top = (bounds (fields_of bytes) (sym (shaped_is bytes) ∙ whole.shaped)).count in let is = count_is in omega arith
+  all_pass : list_all (is_entry (slice_index bytes 2) (number_at 8 4 bytes)) (raw_entries (slice_index bytes 2) many bytes) ≡ true
+  unfolding is_shaped
+  all_pass = (and_parts _ (list_all (is_entry (slice_index bytes 2) (number_at 8 4 bytes)) (raw_entries (slice_index bytes 2) many bytes)) whole.shaped).1
 
-  pub view_entry : (i : ℕ) → i < length (entries_of (bucket_at bytes).body) → number_at (24 + 4 * i) 4 bytes ≡ get_or (entries_of (bucket_at bytes).body) i 0
-  view_entry i under =
-      let long = long_entries in
-      sym (ap (λ l. get_or l i 0) entries_are ∙ entry_is (entry_count (slice_index bytes 3) (number_at 6 2 bytes)) i bytes (omega arith))
+  -- What a reader of entries knows, by the version and the cycle that it read.
+  module _ (v c n : ℕ) (version : v ≡ (bucket_at bytes).version) (cycle : c ≡ (bucket_at bytes).cycle) (all : n ≡ length (entries_of (bucket_at bytes).body)) where
+    at_version : v ≡ slice_index bytes 2
+    at_version = version ∙ sym (version_is bytes)
+
+    at_cycle : c ≡ number_at 8 4 bytes
+    at_cycle = cycle ∙ sym (cycle_is bytes)
+
+    -- the bytes reach to the end of the entries
+    pub view_room : length bytes ≡ 24 + entry_len v * n
+    view_room = whole.exact ∙ ap (λ w. 24 + entry_len w * many) (sym at_version) ∙ ap (λ m. 24 + entry_len v * m) (sym (all ∙ long_entries))
+
+    pub view_told : list_all (is_entry v c) (raw_entries v n bytes) ≡ true
+    view_told = (rw (at_version, at_cycle, all, long_entries) refl) ∙ all_pass
+
+    pub view_entries : entries_at v c n bytes ≡ entries_of (bucket_at bytes).body
+    view_entries = (rw (at_version, at_cycle, all, long_entries) refl) ∙ sym (entries_read bytes whole)
+
+    -- and to that of each
+    pub entry_room : (i : ℕ) → i < n → 24 + entry_len v * i + entry_len v ≤ length bytes
+    entry_room i under = by whole.version
+      where
+        by : (slice_index bytes 2 ≡ 1) ⊎ (slice_index bytes 2 ≡ 2) → 24 + entry_len v * i + entry_len v ≤ length bytes
+        by (inl one) = let is = at_version ∙ one in subst (λ w. 24 + entry_len w * i + entry_len w ≤ length bytes) (sym is) (let room = view_room ∙ ap (λ w. 24 + entry_len w * n) is in omega arith)
+        by (inr two) = let is = at_version ∙ two in subst (λ w. 24 + entry_len w * i + entry_len w ≤ length bytes) (sym is) (let room = view_room ∙ ap (λ w. 24 + entry_len w * n) is in omega arith)
+
+    pub entry_tested : (i : ℕ) → i < n → is_entry v c (raw_entry v i bytes) ≡ true
+    entry_tested i under = test_is v c n i bytes view_told under
+
+    pub view_entry : (i : ℕ) → i < n → entry_told v c (raw_entry v i bytes) ≡ get_or (entries_of (bucket_at bytes).body) i 0
+    view_entry i under = sym (entry_is v c n i bytes under) ∙ ap (λ l. get_or l i 0) view_entries

@@ -2,10 +2,11 @@
 -- `put_next` is the one step; the entries and the head are chains of it.
 use Rattle.std.proofs.Common.{◌≡◌, ◌≤◌, ◌<◌, ◌+◌, ◌-◌, ◌*◌, ◌++◌, ℕ, List, [], ◌∷◌, length, take, drop, set, get_or, refl, sym, ◌∙◌, ap, arith, append_assoc, length-append}
 use Rattle.std.specs.List.{flat_map}
-use Rattle.std.proofs.lemmas.List.{append-nil, drop-drop, drop_all, drop_at, flat_map_more, length-drop, take_all, take-append-drop, take_at, take_more, length-take}
+use Rattle.std.proofs.lemmas.List.{append-nil, drop-drop, drop-set, drop_all, drop_at, flat_map_more, length-drop, take_all, take-append-drop, take_at, take_more, take-set, length-take}
 use Rattle.byteorder.specs.Endian.{big_bytes}
 use Rattle.std.proofs.lemmas.Slice.{put_mid-paste}
 use borrow.Rule.Slice.PartMut.{put_mid}
+use Rattle.bucket_codec.specs.Private.Heads.{aged_bytes}
 
 -- Bytes written through the rest of a slice.
 pub written_at : (out bytes : List ℕ) (at k : ℕ) → at + k ≤ length out → length bytes ≡ k
@@ -42,26 +43,37 @@ pub length_numbers : (es : List ℕ) → length (flat_map (big_bytes 4) es) ≡ 
 length_numbers [] = refl
 length_numbers (e ∷ es) = omega (arith, length_numbers es)
 
--- The entries, one more.
-pub entries_next : (old out new : List ℕ) (es : List ℕ) (i : ℕ) → i < length es → 24 + 4 * length es ≤ length old
-    → out ≡ (take 24 old ++ flat_map (big_bytes 4) (take i es)) ++ drop (24 + 4 * i) old
-    → new ≡ take (24 + 4 * i) out ++ (big_bytes 4 (get_or es i 0) ++ drop (24 + 4 * i + 4) out)
-    → new ≡ (take 24 old ++ flat_map (big_bytes 4) (take (i + 1) es)) ++ drop (24 + 4 * (i + 1)) old
-entries_next old out new es i below room told wrote =
-    let p = take 24 old ++ flat_map (big_bytes 4) (take i es) in
-    let size : length p ≡ 24 + 4 * i = omega (arith, length-append (take 24 old) (flat_map (big_bytes 4) (take i es)), length-take 24 old, length_numbers (take i es), length-take i es) in
-    let next : 24 + 4 * i + 4 ≡ 24 + 4 * (i + 1) = omega arith in
-    put_next old out new p (big_bytes 4 (get_or es i 0)) (24 + 4 * i) 4 size refl told wrote
-    ∙ ap (λ k. (p ++ big_bytes 4 (get_or es i 0)) ++ drop k old) next
-    ∙ ap (λ l. l ++ drop (24 + 4 * (i + 1)) old) (flat_map_more (big_bytes 4) (take 24 old) (take i es) (get_or es i 0) ∙ ap (λ l. take 24 old ++ flat_map (big_bytes 4) l) (sym (take_more es i 0 below)))
+pub length_ages : (c : ℕ) (es : List ℕ) → length (flat_map (aged_bytes c) es) ≡ length es
+length_ages c [] = refl
+length_ages c (e ∷ es) = omega (arith, length_ages c es)
 
-pub entries_end : (old out : List ℕ) (es : List ℕ) (i : ℕ) → length es ≤ i → i ≤ length es → out ≡ (take 24 old ++ flat_map (big_bytes 4) (take i es)) ++ drop (24 + 4 * i) old
-    → out ≡ take 24 old ++ (flat_map (big_bytes 4) es ++ drop (24 + 4 * length es) old)
-entries_end old out es i over under told =
-    let same : i ≡ length es = omega arith in
-    told ∙ ap (λ k. (take 24 old ++ flat_map (big_bytes 4) (take k es)) ++ drop (24 + 4 * k) old) same
-    ∙ ap (λ l. (take 24 old ++ flat_map (big_bytes 4) l) ++ drop (24 + 4 * length es) old) (take_all (length es) es (omega arith))
-    ∙ append_assoc (take 24 old) (flat_map (big_bytes 4) es) (drop (24 + 4 * length es) old)
+-- A byte stored is a write of one byte.
+pub stored : (out : List ℕ) (at x : ℕ) → at < length out → set out at x ≡ take at out ++ (x ∷ [] ++ drop (at + 1) out)
+stored out at x under = sym (take-append-drop at (set out at x)) ∙ (rw (take-set out at x, drop-set out at x under) refl)
 
-pub entries_start : (old : List ℕ) → old ≡ (take 24 old ++ flat_map (big_bytes 4) []) ++ drop (24 + 4 * 0) old
+-- The entries, one more: what is written so far ends at a place, and the bytes of one more stand there.
+pub entries_next : (f : ℕ → List ℕ) (old out new es : List ℕ) (i at k next : ℕ) → length (take 24 old ++ flat_map f (take i es)) ≡ at → length (f (get_or es i 0)) ≡ k → at + k ≡ next
+    → i < length es → out ≡ (take 24 old ++ flat_map f (take i es)) ++ drop at old → new ≡ take at out ++ (f (get_or es i 0) ++ drop (at + k) out)
+    → new ≡ (take 24 old ++ flat_map f (take (i + 1) es)) ++ drop next old
+entries_next f old out new es i at k next size long there below told wrote =
+    let p = take 24 old ++ flat_map f (take i es) in
+    put_next old out new p (f (get_or es i 0)) at k size long told wrote
+    ∙ ap (λ n. (p ++ f (get_or es i 0)) ++ drop n old) there
+    ∙ ap (λ l. l ++ drop next old) (flat_map_more f (take 24 old) (take i es) (get_or es i 0) ∙ ap (λ l. take 24 old ++ flat_map f l) (sym (take_more es i 0 below)))
+
+pub entries_end : (f : ℕ → List ℕ) (old out es : List ℕ) (i at end : ℕ) → length es ≤ i → at ≡ end → out ≡ (take 24 old ++ flat_map f (take i es)) ++ drop at old
+    → out ≡ take 24 old ++ (flat_map f es ++ drop end old)
+entries_end f old out es i at end over there told =
+    told ∙ ap (λ n. (take 24 old ++ flat_map f (take i es)) ++ drop n old) there
+    ∙ ap (λ l. (take 24 old ++ flat_map f l) ++ drop end old) (take_all i es over)
+    ∙ append_assoc (take 24 old) (flat_map f es) (drop end old)
+
+pub entries_start : (old : List ℕ) → old ≡ (take 24 old ++ []) ++ drop 24 old
 entries_start old = sym (ap (λ l. l ++ drop 24 old) (append-nil (take 24 old)) ∙ take-append-drop 24 old)
+
+-- As many entries in full end at a place, and as many ages.
+pub place_in_full : (old es : List ℕ) (i : ℕ) → i ≤ length es → 24 ≤ length old → length (take 24 old ++ flat_map (big_bytes 4) (take i es)) ≡ 24 + 4 * i
+place_in_full old es i few long = omega (arith, length-append (take 24 old) (flat_map (big_bytes 4) (take i es)), length-take 24 old, length_numbers (take i es), length-take i es)
+
+pub place_by_ages : (c : ℕ) (old es : List ℕ) (i : ℕ) → i ≤ length es → 24 ≤ length old → length (take 24 old ++ flat_map (aged_bytes c) (take i es)) ≡ 24 + i
+place_by_ages c old es i few long = omega (arith, length-append (take 24 old) (flat_map (aged_bytes c) (take i es)), length-take 24 old, length_ages c (take i es), length-take i es)

@@ -13,4 +13,4 @@ body_to_air (Given.Vector item value entries) = Vector item value entries.now
 
 -- What a bucket to be aired says.
 abbrev pub bucket_to_air : BucketToAir → Bucket
-bucket_to_air b = record { edition = b.edition; cycle = b.cycle; slot = b.slot; body = body_to_air b.body }
+bucket_to_air b = record { version = b.version; edition = b.edition; cycle = b.cycle; slot = b.slot; body = body_to_air b.body }

@@ -3,19 +3,25 @@
 //! The head is written from front to back and the entries behind it, each byte once. What stands behind
 //! the bucket isn't touched. The sender and the station air what is written here.
 
-ghost use Rattle.std.specs.Prelude.{◌≡◌, ◌≤◌, ◌<◌, ◌+◌, ◌*◌, ◌++◌, drop, length, take, Ok};
+ghost use Rattle.std.specs.Prelude.{◌≡◌, ◌≤◌, ◌<◌, ◌+◌, ◌*◌, ◌++◌, All, drop, length, take, Ok};
 ghost use Rattle.std.specs.List.{flat_map};
 ghost use Rattle.byteorder.specs.Endian.{big_bytes};
-ghost use Rattle.air_model.specs.Buckets.{IsInRange, entries_of, reading, spelling};
-ghost use Rattle.bucket_codec.specs.Private.Heads.{head_bytes, head_of};
+ghost use Rattle.air_base.specs.declared.limits.TheConstants.{MOST_ITEMS};
+ghost use Rattle.air_model.specs.Buckets.{IsInRange, capped_bucket, capped_entries, count_of, entries_of, entry_bytes, entry_len, reading, spelling};
+ghost use Rattle.bucket_codec.specs.Private.Heads.{aged_bytes, head_bytes, head_of};
 ghost use Rattle.bucket_codec.specs.BucketsToAir.{bucket_to_air};
 
-use crate::offsets::{COUNT, CYCLE, EDITION, ENTRY_BYTES, HEAD_BYTES, ITEM, KIND, SLOT, VALUE};
+use crate::entries::{age_in, entry_size, tells_ages};
+use crate::offsets::{
+    COUNT, CYCLE, EDITION, ENTRY_BYTES, HEAD_BYTES, ITEM, KIND, SLOT, VALUE, VERSION,
+};
 use byteorder::{BigEndian, ByteOrder};
 
-/// A bucket to be aired: its place on the air, and what it carries.
+/// A bucket to be aired: its version, its place on the air, and what it carries.
 #[derive(Clone, Copy, Debug)]
 pub struct Bucket<'a> {
+    /// How its entries are told: 1 in full, 2 by their ages.
+    pub version: u8,
     /// The edition of the program.
     pub edition: u16,
     /// The cycle, from 1.
@@ -26,7 +32,7 @@ pub struct Bucket<'a> {
     pub body: Body<'a>,
 }
 
-/// What a bucket carries.
+/// What a bucket carries. Its entries are the history's, in each version.
 #[derive(Clone, Copy, Debug)]
 pub enum Body<'a> {
     /// No item, for so many items in all.
@@ -50,6 +56,7 @@ pub enum Body<'a> {
 /// The numbers of a head that differ from bucket to bucket.
 #[derive(Drop)]
 struct Head {
+    version: u8,
     kind: u8,
     edition: u16,
     count: u16,
@@ -74,7 +81,7 @@ fn entries<'a>(bucket: &Bucket<'a>) -> &'a [u32]
 /// The head of a bucket.
 #[tactic(auto, unfolding(crate::specs::Private::Heads::head_of, crate::specs::BucketsToAir::body_to_air, air_model::specs::Buckets::kind_of, air_model::specs::Buckets::count_of, air_model::specs::Buckets::item_of, air_model::specs::Buckets::value_of))]
 fn head_numbers(bucket: &Bucket<'_>) -> Head
-    requires { IsInRange (bucket_to_air bucket.now) }
+    requires { count_of (bucket_to_air bucket.now).body ≤ MOST_ITEMS }
     ensures { result ≡ head_of (bucket_to_air bucket.now) }
 {
     let (kind, count, item, value) = match bucket.body {
@@ -91,6 +98,7 @@ fn head_numbers(bucket: &Bucket<'_>) -> Head
         } => (2, entries.len() as u16, item, value),
     };
     Head {
+        version: bucket.version,
         kind,
         edition: bucket.edition,
         count,
@@ -132,7 +140,7 @@ fn put_head(out: &mut [u8], head: &Head)
 {
     out[0] = 0x41;
     out[1] = 0x44;
-    out[2] = 1;
+    out[VERSION] = head.version;
     out[KIND] = head.kind;
     put_two(out, EDITION, head.edition);
     put_two(out, COUNT, head.count);
@@ -142,7 +150,7 @@ fn put_head(out: &mut [u8], head: &Head)
     put_eight(out, VALUE, head.value);
 }
 
-/// Writes the entries behind the head.
+/// Writes the entries behind the head, in full.
 fn put_entries(out: &mut [u8], entries: &[u32])
     requires { HEAD_BYTES + ENTRY_BYTES * length entries.now ≤ length out.old }
     ensures { out.new ≡ take HEAD_BYTES out.old ++ (flat_map (big_bytes 4) entries.now ++ drop (HEAD_BYTES + ENTRY_BYTES * length entries.now) out.old) }
@@ -152,24 +160,49 @@ fn put_entries(out: &mut [u8], entries: &[u32])
     }
 }
 
+/// Writes the ages of the entries behind the head.
+fn put_ages(out: &mut [u8], cycle: u32, entries: &[u32])
+    requires room { HEAD_BYTES + length entries.now ≤ length out.old }
+    requires below { All (λ e. e < cycle) entries.now }
+    ensures { out.new ≡ take HEAD_BYTES out.old ++ (flat_map (aged_bytes cycle) entries.now ++ drop (HEAD_BYTES + length entries.now) out.old) }
+{
+    for (i, entry) in entries.iter().enumerate() {
+        out[HEAD_BYTES + i] = age_in(cycle, *entry);
+    }
+}
+
+/// Writes the entries behind the head as the version tells them.
+fn put_told(out: &mut [u8], version: u8, cycle: u32, entries: &[u32])
+    requires room { HEAD_BYTES + entry_len version * length entries.now ≤ length out.old }
+    requires below { All (λ e. e < cycle) entries.now }
+    ensures { out.new ≡ take HEAD_BYTES out.old
+        ++ (flat_map (entry_bytes version cycle) (capped_entries version cycle entries.now) ++ drop (HEAD_BYTES + entry_len version * length entries.now) out.old) }
+{
+    if tells_ages(version) {
+        put_ages(out, cycle, entries)
+    } else {
+        put_entries(out, entries)
+    }
+}
+
 /// How many bytes a bucket has: those of the head and of each entry.
 pub fn size_of(bucket: &Bucket<'_>) -> usize
     ensures { result ≡ length (spelling (bucket_to_air bucket.now)) }
 {
-    HEAD_BYTES + ENTRY_BYTES * entries(bucket).len()
+    HEAD_BYTES + entry_size(bucket.version) * entries(bucket).len()
 }
 
-/// Writes a bucket's bytes to the front of `out` and answers how many there are. That a bucket is in range who makes it has to know:
-/// the law `range_law` of `air_model` says it of every bucket of a history that can be aired. `size_of` tells how much room it takes.
+/// Writes a bucket's bytes to the front of `out` and answers how many there are. From version 2 on an entry that is too old for
+/// an age is told as 0. That a bucket told so is in range who makes it has to know: the law `range_law` of `air_model` says it of
+/// every bucket of a history that can be aired. `size_of` tells how much room it takes.
 pub fn encode(bucket: &Bucket<'_>, out: &mut [u8]) -> usize
-    requires range { IsInRange (bucket_to_air bucket.now) }
+    requires range { IsInRange (capped_bucket (bucket_to_air bucket.now)) }
     requires room { length (spelling (bucket_to_air bucket.now)) ≤ length out.old }
     ensures len { result ≡ length (spelling (bucket_to_air bucket.now)) }
-    ensures bytes { out.new ≡ spelling (bucket_to_air bucket.now) ++ drop result out.old }
-    ensures decodes { reading (take result out.new) ≡ Ok (bucket_to_air bucket.now) }
+    ensures bytes { out.new ≡ spelling (capped_bucket (bucket_to_air bucket.now)) ++ drop result out.old }
+    ensures decodes { reading (take result out.new) ≡ Ok (capped_bucket (bucket_to_air bucket.now)) }
 {
-    let entries = entries(bucket);
     put_head(out, &head_numbers(bucket));
-    put_entries(out, entries);
-    HEAD_BYTES + ENTRY_BYTES * entries.len()
+    put_told(out, bucket.version, bucket.cycle, entries(bucket));
+    size_of(bucket)
 }

@@ -1,4 +1,7 @@
-//! Where the fields of a bucket stand, and how many bytes the head, an entry and the length of a record have.
+//! Where the fields of a bucket stand, and how many bytes the head, an entry, an age and the length of a record have.
+
+/// The version's byte.
+pub const VERSION: usize = 2;
 
 /// The kind's byte.
 pub const KIND: usize = 3;
@@ -24,8 +27,11 @@ pub const VALUE: usize = 16;
 /// The bytes of the head. The entries begin behind it.
 pub const HEAD_BYTES: usize = 24;
 
-/// The bytes of an entry.
+/// The bytes of an entry in full. No entry has more.
 pub const ENTRY_BYTES: usize = 4;
+
+/// The bytes of an entry that is told by its age.
+pub const AGE_BYTES: usize = 1;
 
 /// The bytes of the length that stands before a bucket on a tape.
 pub const LENGTH_BYTES: usize = 4;

@@ -3,14 +3,13 @@
 //! A view is seen as the bucket that its bytes spell, and exists for such bytes alone. `decode` looks at each byte at
 //! most once; the readers look at theirs again. The receiver stands on this file.
 
-ghost use Rattle.std.specs.Prelude.{◌≡◌, ◌≢◌, ◌≤◌, ◌<◌, ◌+◌, ◌*◌, ◌&&◌, nat_le, nat_lt, MatchResult, Ok, length, slice_index};
-ghost use Rattle.std.specs.List.{flat_map, list_all};
-ghost use Rattle.byteorder.specs.Endian.{big_bytes};
-ghost use Rattle.air_model.specs.Buckets.{IsBucket, bucket_at, count_of, entries_at, entries_of, entry_count, fault_of, is_placed, is_shaped, item_of, kind_of, number_at, reading, value_of};
+ghost use Rattle.std.specs.Prelude.{◌≡◌, ◌≢◌, ◌≤◌, ◌<◌, ◌+◌, ◌*◌, ◌&&◌, ◌||◌, ◌==◌, nat_le, MatchResult, Ok, length, slice_index};
+ghost use Rattle.std.specs.List.{flat_map};
+ghost use Rattle.air_model.specs.Buckets.{IsBucket, bucket_at, count_of, entries_of, entry_bytes, entry_count, entry_len, fault_of, is_placed, is_shaped, item_of, kind_of, most_count, number_at, reading, value_of};
 ghost use Rattle.bucket_codec.specs.DatagramKinds.{IsNoBucket, kind_number};
 
-use crate::offsets::{COUNT, CYCLE, EDITION, ENTRY_BYTES, HEAD_BYTES, ITEM, KIND, SLOT, VALUE};
-use air_base::limits::MOST_ITEMS;
+use crate::entries::{are_entries, entry_size, fill_entries, most_items, told_at};
+use crate::offsets::{COUNT, CYCLE, EDITION, HEAD_BYTES, ITEM, KIND, SLOT, VALUE, VERSION};
 use air_model::bucket::BucketFault;
 use byteorder::{BigEndian, ByteOrder};
 use std::marker::Model;
@@ -67,26 +66,6 @@ fn eight_at(bytes: &[u8], at: usize) -> u64
     BigEndian::read_u64(&bytes[at..])
 }
 
-/// The entry of an item.
-fn entry_at(bytes: &[u8], i: u16) -> u32
-    requires { HEAD_BYTES + ENTRY_BYTES * i + ENTRY_BYTES ≤ length bytes.now }
-    ensures { result ≡ number_at (HEAD_BYTES + ENTRY_BYTES * i) ENTRY_BYTES bytes.now }
-{
-    four_at(bytes, HEAD_BYTES + ENTRY_BYTES * i as usize)
-}
-
-/// Whether each of the first `n` entries is below the cycle. It looks at all of them, several at a time.
-fn entries_below(bytes: &[u8], n: u16, cycle: u32) -> bool
-    requires { HEAD_BYTES + ENTRY_BYTES * n ≤ length bytes.now }
-    ensures { result ≡ list_all (λ e. nat_lt e cycle) (entries_at n bytes.now) }
-{
-    let mut below = true;
-    for i in 0..n {
-        below &= entry_at(bytes, i) < cycle;
-    }
-    below
-}
-
 /// Whether item and value are those of the kind.
 #[tactic(auto, unfolding(air_model::specs::Buckets::is_placed))]
 fn has_place(kind: u8, item: u16, value: u64, count: u16) -> bool
@@ -99,11 +78,18 @@ fn has_place(kind: u8, item: u16, value: u64, count: u16) -> bool
     }
 }
 
-/// Whether count and cycle are in their limits.
-fn in_limits(count: u16, cycle: u32) -> bool
-    ensures { result ≡ (nat_le 1 count && nat_le count MOST_ITEMS && nat_le 1 cycle) }
+/// Whether there is this version.
+fn is_version(version: u8) -> bool
+    ensures { result ≡ ((version == 1) || (version == 2)) }
 {
-    count >= 1 && count as usize <= MOST_ITEMS && cycle >= 1
+    version == 1 || version == 2
+}
+
+/// Whether count and cycle are in their limits.
+fn in_limits(version: u8, count: u16, cycle: u32) -> bool
+    ensures { result ≡ (nat_le 1 count && nat_le count (most_count version) && nat_le 1 cycle) }
+{
+    (count >= 1) & (count as usize <= most_items(version)) & (cycle >= 1)
 }
 
 /// How many entries there are.
@@ -115,8 +101,9 @@ fn entries(kind: u8, count: u16) -> u16
 }
 
 /// Whether each number is in its range.
-fn has_shape(bytes: &[u8], kind: u8, count: u16, n: u16) -> bool
-    requires long { HEAD_BYTES + ENTRY_BYTES * n ≤ length bytes.now }
+fn has_shape(bytes: &[u8], version: u8, kind: u8, count: u16, n: u16) -> bool
+    requires long { HEAD_BYTES + entry_len version * n ≤ length bytes.now }
+    requires version { version ≡ slice_index bytes.now VERSION }
     requires kind { kind ≡ slice_index bytes.now KIND }
     requires count { count ≡ number_at COUNT 2 bytes.now }
     requires entries { n ≡ entry_count kind count }
@@ -125,7 +112,9 @@ fn has_shape(bytes: &[u8], kind: u8, count: u16, n: u16) -> bool
     let cycle = four_at(bytes, CYCLE);
     let item = two_at(bytes, ITEM);
     let value = eight_at(bytes, VALUE);
-    in_limits(count, cycle) & has_place(kind, item, value, count) & entries_below(bytes, n, cycle)
+    in_limits(version, count, cycle)
+        & has_place(kind, item, value, count)
+        & are_entries(bytes, version, n, cycle)
 }
 
 /// The first fault of the bytes, if they have one.
@@ -140,7 +129,8 @@ fn first_fault(bytes: &[u8]) -> Option<BucketFault>
     if bytes[0] != 0x41 || bytes[1] != 0x44 {
         return Some(BucketFault::Magic);
     }
-    if bytes[2] != 1 {
+    let version = bytes[VERSION];
+    if !is_version(version) {
         return Some(BucketFault::Version);
     }
     let kind = bytes[KIND];
@@ -149,10 +139,10 @@ fn first_fault(bytes: &[u8]) -> Option<BucketFault>
     }
     let count = two_at(bytes, COUNT);
     let n = entries(kind, count);
-    if bytes.len() != HEAD_BYTES + ENTRY_BYTES * n as usize {
+    if bytes.len() != HEAD_BYTES + entry_size(version) * n as usize {
         return Some(BucketFault::Length);
     }
-    if !has_shape(bytes, kind, count, n) {
+    if !has_shape(bytes, version, kind, count, n) {
         return Some(BucketFault::Shape);
     }
     None
@@ -173,12 +163,19 @@ pub fn decode<'a>(bytes: &'a [u8]) -> Result<BucketView<'a>, BucketFault>
 fn entry_part<'a>(bytes: &'a [u8]) -> &'a [u8]
     requires long { HEAD_BYTES ≤ length bytes.now }
     requires whole { reading bytes.now ≡ Ok (bucket_at bytes.now) }
-    ensures { result.now ≡ flat_map (big_bytes 4) (entries_of (bucket_at bytes.now).body) }
+    ensures { let b = bucket_at bytes.now in result.now ≡ flat_map (entry_bytes b.version b.cycle) (entries_of b.body) }
 {
     &bytes[HEAD_BYTES..]
 }
 
 impl<'a> BucketView<'a> {
+    /// How the entries are told: 1 in full, 2 by their ages.
+    pub fn version(&self) -> u8
+        ensures { result ≡ self.now.version }
+    {
+        self.bytes[VERSION]
+    }
+
     /// The edition of the program.
     pub fn edition(&self) -> u16
         ensures { result ≡ self.now.edition }
@@ -232,30 +229,28 @@ impl<'a> BucketView<'a> {
         eight_at(self.bytes, VALUE)
     }
 
-    /// The entry of an item, where the slot isn't idle.
+    /// The entry of an item, where the slot isn't idle: the cycle of a write, in each version.
     pub fn entry(&self, i: u16) -> u32
         requires busy { kind_of self.now.body ≢ 0 }
         requires below { i < count_of self.now.body }
         ensures { result ≡ slice_index (entries_of self.now.body) i }
     {
-        entry_at(self.bytes, i)
+        told_at(self.bytes, self.version(), self.cycle(), i)
     }
 
-    /// The bytes of the entries, lent from the datagram.
+    /// The bytes of the entries as they stand, lent from the datagram.
     pub fn entry_bytes(&self) -> &'a [u8]
-        ensures { result.now ≡ flat_map (big_bytes 4) (entries_of self.now.body) }
+        ensures { result.now ≡ flat_map (entry_bytes self.now.version self.now.cycle) (entries_of self.now.body) }
     {
         entry_part(self.bytes)
     }
 
-    /// Fills a slice with the entries, where the slot isn't idle.
+    /// Fills a slice with the entries, where the slot isn't idle. Each is the cycle of a write, in each version.
     pub fn fill(&self, out: &mut [u32])
         requires busy { kind_of self.now.body ≢ 0 }
         requires room { length out.old ≡ count_of self.now.body }
         ensures { out.new ≡ entries_of self.now.body }
     {
-        for (i, entry) in out.iter_mut().enumerate() {
-            *entry = entry_at(self.bytes, i as u16);
-        }
+        fill_entries(self.bytes, self.version(), self.cycle(), out)
     }
 }

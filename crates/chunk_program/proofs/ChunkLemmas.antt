@@ -41,7 +41,7 @@ module _ (disks : List Disk) (limits : AreDeckDisks disks) (n : ℕ) (d : Disk) 
   unfolding num_chunks
   chunks_few = div-le_self (num_minors disks) d.freq
 
-  pub chunk_len_few : chunk_len (num_minors disks) d ≤ 256
+  pub chunk_len_few : chunk_len (num_minors disks) d ≤ 1024
   unfolding chunk_len
   chunk_len_few =
       let below = ceiling_below (length d.items) (num_chunks (num_minors disks) d) chunks_some in
@@ -49,16 +49,16 @@ module _ (disks : List Disk) (limits : AreDeckDisks disks) (n : ℕ) (d : Disk) 
 
 -- Where the chunk that a minor cycle airs ends on its disk, in a program that isn't too long.
 pub chunk_ends : (disks : List Disk) (n : ℕ) (d : Disk) (minors k chunk len : ℕ) → AreDeckDisks disks → slice_get disks n ≡ Some d → minors ≡ num_minors disks → minors ≤ MOST_SLOTS
-    → chunk ≡ k % num_chunks minors d → len ≡ chunk_len minors d → chunk * len + len ≤ 256 * MOST_SLOTS
+    → chunk ≡ k % num_chunks minors d → len ≡ chunk_len minors d → chunk * len + len ≤ 1024 * MOST_SLOTS
 chunk_ends disks n d minors k chunk len limits at is few aired long =
     let chunks = num_chunks minors d in
     let some : 0 < chunks = rw is (chunks_some disks limits n d at) in
     let fewer : chunks ≤ minors = (let own = chunks_few disks limits n d at in let same = ap (λ m. num_chunks m d) is in omega arith) in
-    let short : len ≤ 256 = (let own = chunk_len_few disks limits n d at in let same = long ∙ ap (λ m. chunk_len m d) is in omega arith) in
+    let short : len ≤ 1024 = (let own = chunk_len_few disks limits n d at in let same = long ∙ ap (λ m. chunk_len m d) is in omega arith) in
     let whole : k % chunks * len + len ≤ chunks * len = row_fits (k % chunks) len chunks len (mod_below k chunks some) (omega arith) in
     let same = ap (λ c. c * len + len) aired in
     let wide = mul-le-mul_left chunks short in
-    let turned : chunks * 256 ≡ 256 * chunks = omega arith in omega arith
+    let turned : chunks * 1024 ≡ 1024 * chunks = omega arith in omega arith
 
 -- A disk of the first n is that disk of all.
 pub record IsFrontDisk (disks : List Disk) (n k : ℕ) (d : Disk) : Type 0 where

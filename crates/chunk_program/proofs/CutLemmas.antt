@@ -1,8 +1,11 @@
 -- The cut of a deck has the deck's limits.
-use Rattle.std.proofs.Common.{◌≡◌, ◌≤◌, ◌<◌, ◌↔◌, ℕ, suc, List, [], ◌∷◌, length, drop, refl, sym, subst, ap, ◌∙◌, arith}
+use Rattle.std.proofs.Common.{◌≡◌, ◌≤◌, ◌<◌, ◌↔◌, ℕ, suc, Bool, true, false, List, [], ◌∷◌, length, drop, refl, sym, subst, ap, ◌∙◌, arith}
+use Rattle.std.specs.Prelude.{if◌then◌else◌}
 use Rattle.std.specs.List.{All, Contains}
 use Rattle.std.proofs.lemmas.List.Elements.{All-cons, All-head, All-tail, All-weaker}
 use Rattle.std.proofs.lemmas.List.{length-map}
+use Rattle.air_base.specs.declared.limits.TheConstants.{MOST_FULL_ITEMS, MOST_ITEMS}
+use Rattle.air_model.specs.Buckets.{has_ages}
 use Rattle.air_model.specs.Disks.{Disk, DiskSpec, all_items, cut, order}
 use Rattle.air_model.specs.Decks.{Deck, IsDeck, Item, disks_in, rates_in}
 use Rattle.air_model.proofs.ItemOrder.{cut_airable, cut_items, length-order, order_only}
@@ -15,7 +18,7 @@ length-cut items [] = refl
 length-cut items (s ∷ specs) = ap suc (length-cut (drop s.size items) specs)
 
 -- The cut of a deck has as many disks as the deck.
-pub length_disks_in : (deck : Deck) → length (disks_in deck) ≡ length deck.disks
+pub length_disks_in : (deck : Deck) → length (disks_in deck 0) ≡ length deck.disks
 length_disks_in deck = length-cut (order (rates_in deck)) deck.disks
 
 cut_freqs : (items : List ℕ) (specs : List DiskSpec) → All (λ (s : DiskSpec). s.freq ≤ 64) specs → All (λ (d : Disk). d.freq ≤ 64) (cut items specs)
@@ -48,20 +51,28 @@ module _ (rates : List ℕ) (specs : List DiskSpec) (fits : IsCuttable rates spe
     freqs = cut_freqs (order rates) specs fits.freqs;
   }
 
+-- A deck has no more items than any version takes.
+few_items : (deck : Deck) → IsDeck deck → length deck.items ≤ MOST_ITEMS
+few_items deck made = by (has_ages deck.settings.version) made.most
+  where
+    by : (b : Bool) → length deck.items ≤ (if b then MOST_ITEMS else MOST_FULL_ITEMS) → length deck.items ≤ MOST_ITEMS
+    by true most = most
+    by false most = omega arith
+
 -- What a well-made deck within the limits gives.
 pub deck_cuttable : (deck : Deck) → IsDeck deck → WithinLimits deck → IsCuttable (rates_in deck) deck.disks
 deck_cuttable deck made within = record {
   some = (let some = made.some in omega (arith, length-map {A = Item} {B = ℕ}));
-  few = (let most = made.most in omega (arith, length-map {A = Item} {B = ℕ}));
+  few = (let most = few_items deck made in omega (arith, length-map {A = Item} {B = ℕ}));
   disks = within.disks;
-  sizes = made.sizes ∙ sym (length-map deck.items (λ (i : Item). i.rate));
-  aired = All-weaker (λ (d : DiskSpec). (0 < d.size) × (0 < d.freq)) (λ (d : DiskSpec). 0 < d.freq) (λ d both. both.1) deck.disks made.aired;
+  sizes = made.sizes 0 (omega arith) ∙ sym (length-map deck.items (λ (i : Item). i.rate));
+  aired = All-weaker (λ (d : DiskSpec). (0 < d.size) × (0 < d.freq)) (λ (d : DiskSpec). 0 < d.freq) (λ d both. both.1) deck.disks (made.aired 0 (omega arith));
   freqs = All-weaker DiskWithin (λ (d : DiskSpec). d.freq ≤ 64) (λ d both. both.freq) deck.disks within.disk;
 }
 
-pub deck_limits : (deck : Deck) → IsDeck deck → WithinLimits deck → AreDeckDisks (disks_in deck)
+pub deck_limits : (deck : Deck) → IsDeck deck → WithinLimits deck → AreDeckDisks (disks_in deck 0)
 deck_limits deck made within = cut_limits (rates_in deck) deck.disks (deck_cuttable deck made within)
 
 -- The program of a deck has the deck's items.
-pub deck_items : (deck : Deck) → IsDeck deck → WithinLimits deck → length (all_items (disks_in deck)) ≡ length deck.items
+pub deck_items : (deck : Deck) → IsDeck deck → WithinLimits deck → length (all_items (disks_in deck 0)) ≡ length deck.items
 deck_items deck made within = cut_length (rates_in deck) deck.disks (deck_cuttable deck made within) ∙ length-map deck.items (λ (i : Item). i.rate)

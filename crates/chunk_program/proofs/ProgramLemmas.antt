@@ -121,7 +121,7 @@ pub record IsDiskOf (disks : List Disk) (m n : ℕ) (d : Disk) : Type 0 where
   pub aired : 0 < d.freq
   pub some : 0 < num_chunks m d
   pub chunks : num_chunks m d ≤ MOST_SLOTS
-  pub len : chunk_len m d ≤ 256
+  pub len : chunk_len m d ≤ 1024
 
 pub read_disk : (disks : List Disk) (m n : ℕ) (d : Disk) → AreDeckDisks disks → length (program disks) ≤ MOST_SLOTS → m ≡ num_minors disks → n < length disks → d ≡ get_or disks n d → IsDiskOf disks m n d
 read_disk disks m n d limits short minors below is =

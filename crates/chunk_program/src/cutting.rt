@@ -35,7 +35,7 @@ fn specs(alloc: Global, deck: &Deck) -> Result<Vec<DiskSpec>, AllocError>
 
 /// The cut of a deck: its items by greater rate, then by smaller number, and disks that take consecutive ranges.
 pub fn cut(alloc: Global, deck: &Deck) -> Result<Cut, NoMemory>
-    ensures { IfOk result (λ c. c ≡ disks_in deck.now) }
+    ensures { IfOk result (λ c. c ≡ disks_in deck.now 0) }
 {
     deck.shows_well_made();
     let rates = rates(alloc, deck)?;

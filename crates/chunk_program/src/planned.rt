@@ -32,16 +32,16 @@ impl Model for Planned {
 
     ghost view = { λ p. p.deck };
 
-    ghost invariant = { λ p. p.program ≡ disks_in p.deck };
+    ghost invariant = { λ p. p.program ≡ disks_in p.deck 0 };
 }
 
 impl Planned {
     /// A deck with its program. `cut` makes the deck's cut.
     pub fn new(alloc: Global, deck: Deck, cut: &Cut) -> Result<Planned, PlanFault>
-        requires { cut.now ≡ disks_in deck }
+        requires { cut.now ≡ disks_in deck 0 }
         ensures deck { IfOk result (λ p. p ≡ deck) }
-        ensures short { IfOk result (λ p. length (program (disks_in p)) ≤ MOST_SLOTS) }
-        ensures too_long { IfErr result (IsPlanAnswer (disks_in deck)) }
+        ensures short { IfOk result (λ p. length (program (disks_in p 0)) ≤ MOST_SLOTS) }
+        ensures too_long { IfErr result (IsPlanAnswer (disks_in deck 0)) }
     {
         let program = Program::plan(alloc, &deck, cut)?;
         Ok(Planned { deck, program })
@@ -68,10 +68,10 @@ impl Planned {
 
     /// The program. It has the deck's items, at least one slot, and no more than a program may have.
     pub fn program(&self) -> &Program
-        ensures told { result.now ≡ disks_in self.now }
-        ensures items { length (all_items (disks_in self.now)) ≡ length self.now.items }
-        ensures some { 1 ≤ length (program (disks_in self.now)) }
-        ensures short { length (program (disks_in self.now)) ≤ MOST_SLOTS }
+        ensures told { result.now ≡ disks_in self.now 0 }
+        ensures items { length (all_items (disks_in self.now 0)) ≡ length self.now.items }
+        ensures some { 1 ≤ length (program (disks_in self.now 0)) }
+        ensures short { length (program (disks_in self.now 0)) ≤ MOST_SLOTS }
     {
         self.lend().program()
     }
@@ -80,7 +80,7 @@ impl Planned {
     pub fn shows_planned(&self)
         ensures made { IsDeck self.now }
         ensures limits { WithinLimits self.now }
-        ensures short { length (program (disks_in self.now)) ≤ MOST_SLOTS }
+        ensures short { length (program (disks_in self.now 0)) ≤ MOST_SLOTS }
     {
         let _deck = self.deck();
         let _program = self.program();
@@ -102,13 +102,13 @@ impl<'a> Model for PlannedRef<'a> {
 
     ghost view = { λ p. p.deck.now };
 
-    ghost invariant = { λ p. p.program.now ≡ disks_in p.deck.now };
+    ghost invariant = { λ p. p.program.now ≡ disks_in p.deck.now 0 };
 }
 
 impl<'a> PlannedRef<'a> {
     /// A deck and its program. `Program::plan` makes the deck's program.
     pub fn of(deck: &'a Deck, program: &'a Program) -> PlannedRef<'a>
-        requires { program.now ≡ disks_in deck.now }
+        requires { program.now ≡ disks_in deck.now 0 }
         ensures { result ≡ deck.now }
     {
         PlannedRef { deck, program }
@@ -126,10 +126,10 @@ impl<'a> PlannedRef<'a> {
 
     /// The program. It has the deck's items, at least one slot, and no more than a program may have.
     pub fn program(&self) -> &'a Program
-        ensures told { result.now ≡ disks_in self.now }
-        ensures items { length (all_items (disks_in self.now)) ≡ length self.now.items }
-        ensures some { 1 ≤ length (program (disks_in self.now)) }
-        ensures short { length (program (disks_in self.now)) ≤ MOST_SLOTS }
+        ensures told { result.now ≡ disks_in self.now 0 }
+        ensures items { length (all_items (disks_in self.now 0)) ≡ length self.now.items }
+        ensures some { 1 ≤ length (program (disks_in self.now 0)) }
+        ensures short { length (program (disks_in self.now 0)) ≤ MOST_SLOTS }
     {
         self.deck.shows_well_made();
         let _slots = self.program.slots();

@@ -85,10 +85,10 @@ impl Model for Program {
 impl Program {
     /// The program of a deck's disks. Its slots are counted before one is laid out, so no deck makes it slow.
     pub fn plan(alloc: Global, deck: &Deck, cut: &Cut) -> Result<Program, PlanFault>
-        requires { cut.now ≡ disks_in deck.now }
-        ensures planned { IfOk result (λ p. p ≡ disks_in deck.now) }
+        requires { cut.now ≡ disks_in deck.now 0 }
+        ensures planned { IfOk result (λ p. p ≡ disks_in deck.now 0) }
         ensures short { IfOk result (λ p. length (program p) ≤ MOST_SLOTS) }
-        ensures too_long { IfErr result (IsPlanAnswer (disks_in deck.now)) }
+        ensures too_long { IfErr result (IsPlanAnswer (disks_in deck.now 0)) }
     {
         deck.shows_well_made();
         Program::of_cut(alloc, cut)

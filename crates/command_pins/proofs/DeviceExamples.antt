@@ -1,5 +1,5 @@
 -- Counts of a shelf of which one alone rose, and a file that is told before it is read and not behind that.
-use Rattle.std.proofs.Common.{◌≡◌, ◌<◌, ◌≤◌, ℕ, List, ◌∷◌, [], Some, None, arith}
+use Rattle.std.proofs.Common.{◌≡◌, ◌<◌, ◌≤◌, [], Some, arith}
 use Rattle.std.specs.Prelude.{codes}
 use Rattle.air_devices.specs.Contents.{Contents, nothing_told}
 use Rattle.air_devices.specs.Counts.{Faults, KeepsCounts, NoCountFalls, one_count}

@@ -12,7 +12,7 @@ use Rattle.air_history.specs.Clashes.{clash_by_entries, is_late, least}
 use Rattle.air_history.specs.Consistency.{IsConsistent}
 use Rattle.air_model.specs.Aired.{body_fits, fits}
 use Rattle.air_model.specs.Airings.{chunks_of, disk_number, pix_number}
-use Rattle.air_model.specs.Buckets.{body_at, bucket_at, count_of, entries_at, entry_count, is_placed, is_shaped, reading}
+use Rattle.air_model.specs.Buckets.{body_at, bucket_at, count_of, entries_at, entry_count, entry_told, is_entry, is_placed, is_shaped, raw_entries, reading}
 use Rattle.air_model.specs.Copies.{keep, with_copy, without_item}
 use Rattle.air_model.specs.Decks.{Deck, IsWhole}
 use Rattle.air_model.specs.Disks.{cut, order, order_with}
@@ -21,7 +21,7 @@ use Rattle.air_model.specs.Outputs.{run_tape, tune_output}
 use Rattle.air_model.specs.Programs.{chunk, chunk_len, least_common_multiple, minor_cycle, num_chunks, num_minors, program}
 use Rattle.air_model.specs.Reports.{Report, report_text}
 use Rattle.air_model.specs.Rows.{rows_text}
-use Rattle.air_model.specs.Sessions.{abort, accept_if_whole, copy_of, count_copied, count_dozed, count_foreign, count_late, count_opened, count_refused, decide, drop_copy, end, end_query, hear, hear_all, hear_read, hold, is_unusable, line_of, next_attempt, next_query, offer, open_bucket, query_of, session, settle, turn, turn_with, wanted, with_line}
+use Rattle.air_model.specs.Sessions.{abort, accept_if_whole, copy_of, count_copied, count_dozed, count_foreign, count_late, count_opened, count_refused, decide, drop_copy, end, end_aged, end_query, hear, hear_all, hear_read, hold, is_unusable, judge_read, line_of, next_attempt, next_query, offer, open_bucket, query_of, session, settle, turn, turn_with, wanted, with_line}
 use Rattle.air_model.specs.Tapes.{TapeRead, read_from, tape_read}
 use Rattle.deck_runs.specs.Casts.{all_sent}
 use Rattle.deck_runs.specs.DeckBytes.{deck_bytes}
@@ -83,7 +83,7 @@ pub record Heard : Type 0 where
   noise : tune_output small_deck ((1 ∷ []) ∷ (2 ∷ []) ∷ []) ≡ codes "unfinished,0,0,1,\ncounts,0,0,0,0,2,0,0\n"
 
 heard_computed : Heard
-unfolding number_text escaped fields_text is_blank clash_by_entries is_late least body_at bucket_at count_of entries_at entry_count is_placed is_shaped reading keep without_item with_copy order order_with cut program least_common_multiple num_minors num_chunks chunk_len chunk minor_cycle disk_number chunks_of pix_number body_fits fits by_entries session query_of wanted line_of with_line count_copied count_opened count_dozed count_late count_refused count_foreign next_query next_attempt accept_if_whole hold abort is_unusable drop_copy copy_of turn_with turn settle decide offer open_bucket hear_read hear hear_all end_query end rows_text report_text
+unfolding number_text escaped fields_text is_blank clash_by_entries is_late least body_at bucket_at count_of entries_at entry_told raw_entries entry_count is_placed is_shaped is_entry reading keep without_item with_copy order order_with cut program least_common_multiple num_minors num_chunks chunk_len chunk minor_cycle disk_number chunks_of pix_number body_fits fits by_entries session query_of wanted line_of with_line count_copied count_opened count_dozed count_late count_refused count_foreign next_query next_attempt accept_if_whole hold abort is_unusable drop_copy copy_of turn_with turn settle decide offer open_bucket end_aged judge_read hear_read hear hear_all end_query end rows_text report_text
 heard_computed = record { nothing = refl; noise = refl }
 
 -- The records of no bytes.

@@ -8,11 +8,12 @@ abbrev pub small_deck : Deck
 small_deck = record {
   items = record { value = 10; rate = 1 } ∷ record { value = 20; rate = 1 } ∷ [];
   disks = record { size = 2; freq = 1 } ∷ [];
+  replans = [];
   updates = [];
   readers = record { room = 0; age = 0; tries = 1 } ∷ [];
   queries = ((0 ∷ 1 ∷ []) ∷ []) ∷ [];
   script = None ∷ [];
-  settings = record { policy = FMatrix; cycles = 10; seed = 0; loss = 0; again = 0; late = 0; monitors = 0; hears = 1000000 };
+  settings = record { policy = FMatrix; version = 1; cycles = 10; seed = 0; loss = 0; again = 0; late = 0; monitors = 0; hears = 1000000 };
 }
 
 -- 91 items of one rate on three disks of the frequencies 63, 56 and 44: so there are 5,544 minor cycles, and the disks have 88, 99 and 126 chunks. A

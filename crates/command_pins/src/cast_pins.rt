@@ -1,7 +1,7 @@
 //! These pins say what `cast_run` sends to a mast in memory, and what `ear_sessions` leaves of three datagrams that wait at an ear in memory.
 //! They tell the port, the end of what was sent, and the cause of each failure of a device.
 
-ghost use Rattle.std.specs.Prelude.{◌≡◌, ◌≤◌, ◌+◌, ℕ, [], ◌∷◌, length, Err, None, Some, IsSome, OnErr, OnOk};
+ghost use Rattle.std.specs.Prelude.{◌≡◌, ◌≤◌, ◌+◌, ℕ, [], ◌∷◌, length, Err, None, Some, OnErr, OnOk};
 ghost use Rattle.air_devices.specs.Masts.{nothing_sent};
 ghost use Rattle.air_devices.specs.MemoryMasts.{told_by_mast};
 

@@ -103,7 +103,7 @@ pub fn short_program_told_as_too_long(
 
 /// A program that is too long is refused with its own number of slots.
 pub fn too_long_by_another_number(alloc: Global, deck: Deck) -> Result<(Cut, Planned), Status>
-    requires { length (program (disks_in deck)) ≡ 20_160 }
+    requires { length (program (disks_in deck 0)) ≡ 20_160 }
     ensures { (slots : ℕ) → result ≡ Err (Status.PlanTooLong slots) → slots ≡ 20_160 }
 {
     plan_deck(alloc, deck)

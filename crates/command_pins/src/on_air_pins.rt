@@ -49,7 +49,8 @@ pub fn longest_run_refused(planned: &Planned) -> Option<u64>
 /// A tape that is too long has the bytes of each of the deck's three cycles.
 pub fn monitors_for_cycles(planned: &Planned) -> Option<u64>
     requires { planned.now.settings.cycles ≡ 3 }
-    ensures { IfSome result (λ bytes. bytes ≡ 3 * cycle_size (length planned.now.items) (slots_of (disks_in planned.now))) }
+    ensures { IfSome result (λ bytes. bytes ≡ 3 * cycle_size planned.now.settings.version (length planned.now.items) (slots_of (disks_in planned.now 0))) }
 {
+    planned.shows_planned();
     long_run(planned)
 }

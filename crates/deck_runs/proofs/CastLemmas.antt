@@ -1,13 +1,12 @@
 -- What a cast has sent, step by step: it had sent nothing before.
-use Rattle.std.proofs.Common.{◌≡◌, ℕ, zero, suc, ◌+◌, ◌*◌, Option, Some, None, List, length, map, take, sym, ◌∙◌, ap, subst, arith}
-use Rattle.std.specs.List.{flat_map, range_with_len}
-use Rattle.std.proofs.lemmas.List.{append-nil, length-append, length-map, take_all}
-use Rattle.std.proofs.lemmas.List.FromFn.{length-map-range_with_len}
+use Rattle.std.proofs.Common.{◌≡◌, ℕ, ◌*◌, Option, Some, None, List, [], length, take, sym, ◌∙◌, ap, subst, arith}
+use Rattle.std.proofs.Math.Nat.{mul_comm}
+use Rattle.std.proofs.lemmas.List.{append-nil, take_all}
 use Rattle.air_history.specs.declared.histories.Event.{Event}
-use Rattle.air_history.specs.Histories.{starts}
-use Rattle.air_model.specs.Aired.{air_of, bucket_of, buckets_of}
-use Rattle.air_model.specs.Buckets.{spelling}
-use Rattle.air_model.specs.Decks.{Deck, IsWhole, values_in}
+use Rattle.air_model.specs.Aired.{air_of}
+use Rattle.air_model.specs.Decks.{Deck, IsWhole, disks_in, values_in}
+use Rattle.air_model.specs.Programs.{program}
+use Rattle.air_model.proofs.EditionLemmas.{plain_slots}
 use Rattle.air_devices.specs.Counts.{Rose}
 use Rattle.air_devices.specs.Masts.{Changes, MastState, SentBuckets, nothing_sent, with_buckets, with_end}
 use Rattle.air_devices.specs.Told.{WhereTold}
@@ -15,6 +14,7 @@ use Rattle.deck_runs.specs.DeckBytes.{deck_bytes}
 use Rattle.deck_runs.specs.RunAnswers.{IsRunAnswer}
 use Rattle.deck_runs.specs.declared.threads.RunFault.{RunFault}
 use Rattle.deck_runs.specs.declared.threads.RunFault.TheVariants as fault
+use Rattle.deck_runs.proofs.SendLemmas.{even_bytes}
 use Rattle.deck_runs.proofs.SentLemmas.{sends_nothing}
 use Rattle.deck_runs.specs.Casts.{IsCastAnswer, IsCastPart, all_sent, first_sent}
 use Rattle.deck_runs.specs.Private.CastSteps.{bucket_count}
@@ -56,24 +56,11 @@ end_behind B (Some s) mid now last unsent same h ended =
 
 -- ---- how many buckets there are
 
-count_flat : {X : Type 0} (f : ℕ → List X) (n : ℕ) → ((c : ℕ) → length (f c) ≡ n) → (a k : ℕ) → length (flat_map f (range_with_len a k)) ≡ n * k
-count_flat f n h a zero = omega arith
-count_flat f n h a (suc k) =
-    let rest = count_flat f n h (a + 1) k in
-    let both = length-append (f a) (flat_map f (range_with_len (a + 1) k)) in
-    let one = h a in
-    let more : n * suc k ≡ n + n * k = omega arith in
-    omega arith
-
--- A whole history airs so many buckets.
-bytes_count : (deck : Deck) (H : List Event) → IsWhole deck H → length (deck_bytes deck H) ≡ bucket_count deck
-unfolding buckets_of
-bytes_count deck H whole =
-    let air = air_of deck in
-    length-map (buckets_of (values_in deck) air H) spelling
-    ∙ count_flat (λ c. map (bucket_of (values_in deck) air H c) (range_with_len 0 (length air.slots))) (length air.slots)
-    (λ c. length-map-range_with_len (bucket_of (values_in deck) air H c) 0 (length air.slots)) 1 (starts H)
-    ∙ ap (λ k. length air.slots * k) whole.cycles
+-- A whole history of a deck without replans airs so many buckets.
+bytes_count : (deck : Deck) (H : List Event) → deck.replans ≡ [] → IsWhole deck H → length (deck_bytes deck H) ≡ bucket_count deck
+bytes_count deck H none whole =
+    let n = length (program (disks_in deck 0)) in
+    even_bytes (values_in deck) (air_of deck) n (λ c. ap length (plain_slots deck c none)) H ∙ ap (λ k. k * n) whole.cycles ∙ mul_comm deck.settings.cycles n
 
 -- ---- what a fault says
 
@@ -113,8 +100,8 @@ run_cast state deck before mid now fault.NoMemory unsent same calm h = (
 )
 
 -- After all buckets.
-pub all_cast : (deck : Deck) (H : List Event) (n : ℕ) (before mid now last : Option SentBuckets) → IsWhole deck H → n ≡ bucket_count deck → Unsent before → mid ≡ before
+pub all_cast : (deck : Deck) (H : List Event) (n : ℕ) (before mid now last : Option SentBuckets) → deck.replans ≡ [] → IsWhole deck H → n ≡ bucket_count deck → Unsent before → mid ≡ before
     → Changes (with_buckets (deck_bytes deck H)) mid now → last ≡ now → IsCastPart deck n before last
-all_cast deck H n before mid now last whole is unsent same sent kept =
-    let count : n ≡ length (deck_bytes deck H) = is ∙ sym (bytes_count deck H whole) in
+all_cast deck H n before mid now last none whole is unsent same sent kept =
+    let count : n ≡ length (deck_bytes deck H) = is ∙ sym (bytes_count deck H none whole) in
     record { history = H; whole = whole; within = omega arith; sent = all_behind n (deck_bytes deck H) before mid now last count unsent same sent kept }

@@ -17,7 +17,7 @@ use Rattle.cycle_snapshot.specs.SnapshotStates.{PublisherState, with_batch}
 use Rattle.cycle_snapshot.proofs.BatchLemmas.{starts_append, events_more, board_all, board_values}
 use Rattle.cycle_snapshot.proofs.PrefixLemmas.{prefix_self, prefix_trans}
 use Rattle.air_model.specs.MonitorSights.{EndsAtStart}
-use Rattle.deck_runs.specs.PublishedBatches.{AreInStep, GoesOn, IsUpTo, PublishesOn}
+use Rattle.deck_runs.specs.PublishedBatches.{AreInStep, GoesOn, IsBoardOf, IsUpTo, PublishesOn}
 
 -- ---- after the last start
 
@@ -161,6 +161,32 @@ in_step p q f g b new fresh step on adds stepped is bases up =
       published = subst (IsUpTo 0 q.seen) (sym batches) up;
       board = board_batch p.values b new f.batches fresh step.board stepped is.fits bases ∙ (λ i. board_of (sym values i) (batch_events (sym batches i)));
     }
+
+-- ---- the board of what was seen
+
+up_to_board : (p : PassState) (bs : List (List Event)) (b : Board) → IsUpTo 0 p.seen bs → b ≡ board_of p.values (batch_events bs) → IsBoardOf p b
+up_to_board p bs b up is = record { front = batch_events bs; later = up.later; begins = up.begins; ends = up.ends; rest = up.rest; board = is }
+
+pub board_seen : (p : PassState) (f : PublisherState) (b : Board) → AreInStep p f b → IsBoardOf p b
+board_seen p f b step = up_to_board p f.batches b step.published step.board
+
+-- Where no cycle was started the board is that of the list as before.
+pub board_kept : (p q : PassState) (f : PublisherState) (b : Board) → AreInStep p f b → GoesOn p q → IsUpTo 0 q.seen f.batches → IsBoardOf q b
+board_kept p q f b step on up = up_to_board q f.batches b up (step.board ∙ ap (λ v. board_of v (batch_events f.batches)) (sym (on_values p q on)))
+
+-- Where its events weren't published the board has them.
+pub board_ahead : (p q : PassState) (f : PublisherState) (b new : Board) (fresh : List Event) → AreInStep p f b → GoesOn p q → new ≡ step_all b fresh → IsBatch (length p.values) fresh → All BasesRead fresh
+    → IsUpTo 0 q.seen (f.batches ++ fresh ∷ []) → IsBoardOf q new
+board_ahead p q f b new fresh step on stepped is bases up =
+    let bs = f.batches ++ fresh ∷ [] in
+    up_to_board q bs new up (board_batch p.values b new f.batches fresh step.board stepped is.fits bases ∙ ap (λ v. board_of v (batch_events bs)) (sym (on_values p q on)))
+
+-- It is at the last start.
+pub board_at : (p : PassState) (b : Board) → IsBoardOf p b → b.cycle ≡ starts p.seen
+board_at p b is =
+    let both = ap starts is.begins ∙ starts_append is.front is.later in
+    let none = is.rest in
+    ap (λ x. x.cycle) is.board ∙ omega arith
 
 -- So many batches, and one start more or none.
 pub few_starts : (n : ℕ) (seen : List Event) (bs : List (List Event)) → length bs + 1 ≤ n → IsUpTo 0 seen bs ⊎ IsUpTo 1 seen bs → starts seen ≤ n

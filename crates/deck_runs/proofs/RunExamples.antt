@@ -1,17 +1,18 @@
 -- A run of a small deck, what is true of it, what is cast of one, and what jobs leave: where each relation holds, and where it doesn't.
-use Rattle.std.proofs.Common.{◌≡◌, ◌<◌, ◌≤◌, ℕ, zero, suc, false, Option, Some, None, List, [], ◌∷◌, ◌++◌, length, map, All, Contains, refl, sym, ap, ◌∙◌, arith}
+use Rattle.std.proofs.Common.{◌≡◌, ◌<◌, ◌≤◌, ℕ, zero, suc, false, Option, Some, None, List, [], ◌∷◌, ◌++◌, length, map, All, Contains, inr, refl, sym, ap, ◌∙◌, arith}
 use Rattle.std.specs.Prelude.{slice_get}
 use Rattle.std.specs.List.{flat_map, range_with_len}
 use mathlib.Core.List.{IsPrefix}
 use Rattle.std.proofs.lemmas.List.Elements.{All-from_recursion, All-nil}
 use Rattle.air_base.specs.declared.limits.TheConstants.{MOST_ASKED, MOST_RATE}
+use Rattle.air_history.specs.Boards.{board_of}
 use Rattle.air_history.specs.Histories.{is_start, starts}
 use Rattle.air_history.specs.Tables.{BasesRead}
 use Rattle.air_history.specs.UpdateLists.{UpdateLists}
 use Rattle.air_history.specs.declared.histories.Event.{Event}
 use Rattle.air_history.specs.declared.histories.Event.TheVariants.{Commit, Start}
 use Rattle.air_history.specs.declared.updates.Write.{Write}
-use Rattle.air_model.specs.Aired.{air_of, bucket_of, buckets_of}
+use Rattle.air_model.specs.Aired.{air_of, buckets_of, cycle_buckets}
 use Rattle.air_model.specs.Buckets.{spelling}
 use Rattle.air_model.specs.Decks.{Deck, IsDeck, IsWhole, disks_in, is_by, updates_by, values_in}
 use Rattle.air_model.specs.Disks.{cut, order, order_with}
@@ -21,6 +22,7 @@ use Rattle.air_model.specs.Reports.{Report, report_text}
 use Rattle.air_model.specs.Runs.{IsRun, Run}
 use Rattle.air_model.proofs.RelationExamples.{pair_is_deck}
 use Rattle.air_model.proofs.SessionExamples.{pair}
+use Rattle.update_commit.proofs.EventLemmas.{starts_none}
 use Rattle.air_devices.specs.Masts.{MastState, SentBuckets, nothing_sent}
 use Rattle.cycle_snapshot.specs.SnapshotStates.{MonitorState, PublisherState}
 use Rattle.item_catalog.specs.DeckLimits.{DiskWithin, ReaderWithin, WithinLimits}
@@ -28,10 +30,12 @@ use Rattle.station.specs.PassStates.{PassState}
 use Rattle.deck_runs.specs.Casts.{IsCastPart, all_sent, first_sent}
 use Rattle.deck_runs.specs.DeckBytes.{deck_bytes}
 use Rattle.deck_runs.specs.Looks.{LookedTimes}
+use Rattle.deck_runs.specs.PublishedBatches.{IsBoardOf}
 use Rattle.deck_runs.specs.RunTapes.{IsLongRun, run_tape_len}
 use Rattle.deck_runs.specs.RunTruths.{IsTrueRun, TellsHistory}
 use Rattle.deck_runs.specs.Sendings.{SendsUpTo}
 use Rattle.deck_runs.specs.declared.jobs.conductors.ConductFault.TheVariants as fault
+use Rattle.deck_runs.proofs.CycleLemmas.{board_at, starts_one}
 use Rattle.deck_runs.proofs.HeardRunLemmas.{OneHistoryLaw, run_size, true_run}
 
 -- Two items, a reader of one query, no updates; so many cycles.
@@ -43,13 +47,18 @@ is_deck cycles = record {
   some = pair_is_deck.some;
   most = pair_is_deck.most;
   values = pair_is_deck.values;
-  sizes = refl;
+  version = pair_is_deck.version;
+  sizes = pair_is_deck.sizes;
   aired = pair_is_deck.aired;
+  few = pair_is_deck.few;
+  from_two = pair_is_deck.from_two;
+  rising = pair_is_deck.rising;
   updates = pair_is_deck.updates;
   readers = refl;
   tries = pair_is_deck.tries;
   queries = pair_is_deck.queries;
   script = pair_is_deck.script;
+  plain = pair_is_deck.plain;
 }
 
 is_within : WithinLimits (of_cycles 1)
@@ -114,7 +123,7 @@ one_run_is = record {
   looks = record { numbers = refl; each = All-nil (IsSeen (values_in pair) one_start); last = All-nil (λ l. l.cycle ≡ 1) };
 }
 
-slots : length (program (disks_in pair)) ≡ 2
+slots : length (program (disks_in pair 0)) ≡ 2
 unfolding order order_with cut program least_common_multiple num_minors num_chunks chunk_len chunk minor_cycle
 slots = refl
 
@@ -163,7 +172,7 @@ aired_bytes = refl
 -- A run of one cycle has 72 bytes; a tape is too long from one byte above the most on.
 not_long : (bytes : ℕ) → IsLongRun (of_cycles 1) bytes → ⊥
 unfolding order order_with cut program least_common_multiple num_minors num_chunks chunk_len chunk minor_cycle
-not_long bytes h = let few : bytes ≡ 72 = h.counted ∙ run_size (of_cycles 1) in omega (arith, few, h.above)
+not_long bytes h = let few : bytes ≡ 72 = h.counted ∙ run_size (of_cycles 1) refl in omega (arith, few, h.above)
 
 long : (deck : Deck) → run_tape_len deck ≡ 1073741825 → IsLongRun deck 1073741825
 long deck counted = record { counted = sym counted; above = omega arith }
@@ -182,7 +191,7 @@ sent_first = refl
 -- A history without a cycle airs no bucket.
 no_bucket : (deck : Deck) (H : List Event) → starts H ≡ 0 → length (deck_bytes deck H) ≡ 0
 unfolding buckets_of
-no_bucket deck H none = ap (λ n. length (map spelling (flat_map (λ c. map (bucket_of (values_in deck) (air_of deck) H c) (range_with_len 0 (length ((air_of deck).slots)))) (range_with_len 1 n)))) none
+no_bucket deck H none = ap (λ n. length (map spelling (flat_map (cycle_buckets (values_in deck) (air_of deck) H) (range_with_len 1 n)))) none
 
 none_whole : IsWhole (of_cycles 0) []
 unfolding starts
@@ -207,6 +216,17 @@ not_cast_part = (
 )
 
 -- ---- jobs
+
+-- The board of one start is that of a pass that has seen it; that of before it isn't.
+board_kept_up : (p : PassState) → p.seen ≡ one_start → IsBoardOf p (board_of p.values one_start)
+board_kept_up p seen = record { front = one_start; later = []; begins = seen; ends = inr ([], refl); rest = starts_none; board = refl }
+
+not_board : (p : PassState) → p.seen ≡ one_start → IsBoardOf p (board_of p.values []) → ⊥
+not_board p seen h =
+    let at : starts [] ≡ starts p.seen = board_at p (board_of p.values []) h in
+    let one = ap starts seen ∙ starts_one in
+    let none = starts_none in
+    omega arith
 
 -- A monitor that was told of a batch and looked once has seen it.
 not_looked : (m n : MonitorState) (batch : List Event) → m.told ≡ batch ∷ [] → n.seen ≡ [] → LookedTimes 1 m n → ⊥

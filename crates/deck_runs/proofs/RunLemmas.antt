@@ -1,25 +1,30 @@
 -- A deck's run, from the beginning.
-use Rattle.std.proofs.Common.{◌≡◌, ℕ, ◌+◌, ◌≤◌, Option, List, [], ◌++◌, length, All, inl, refl, sym, ◌∙◌, ap, subst, arith}
+use Rattle.std.proofs.Common.{◌≡◌, ◌⊎◌, ℕ, ◌+◌, ◌*◌, ◌≤◌, Option, List, [], ◌++◌, length, All, inl, inr, refl, sym, ◌∙◌, ap, subst, arith}
 use Rattle.std.proofs.lemmas.List.{length-map}
 use Rattle.std.specs.Prelude.{Result, Ok, Err, MatchResult, OnErr, OnOk}
-use Rattle.air_base.specs.declared.verdicts.Policy.{Policy}
+use Rattle.air_base.specs.declared.verdicts.Form.{Form}
 use Rattle.air_history.specs.declared.histories.Event.{Event}
 use Rattle.air_history.specs.Histories.{starts}
 use Rattle.air_history.specs.Boards.{Board, board_of}
-use Rattle.air_model.specs.Disks.{Disk}
+use Rattle.air_model.specs.Disks.{Disk, all_items}
 use Rattle.air_model.specs.Programs.{program as slots_of}
-use Rattle.air_model.specs.Decks.{Deck, disks_in, values_in}
+use Rattle.air_model.specs.Buckets.{entry_len, most_count}
+use Rattle.air_model.specs.Decks.{Deck, IsDeck, disks_in, values_in}
 use Rattle.air_model.specs.Aired.{Air, air_of, buckets_of}
+use Rattle.bucket_codec.specs.declared.offsets.TheConstants.{HEAD_BYTES}
 use Rattle.air_devices.specs.Masts.{Changes, MastState, SentBuckets, with_buckets}
 use Rattle.air_sender.specs.AirFaults.{FailedAt}
+use Rattle.air_sender.specs.BoardBuckets.{form_of}
+use Rattle.air_sender.proofs.AiredLemmas.{few_full}
 use Rattle.station.specs.PassStates.{PassState}
 use Rattle.cycle_snapshot.specs.Batches.{IsBatch, batch_events}
 use Rattle.cycle_snapshot.specs.SnapshotStates.{PublisherState}
 use Rattle.update_commit.proofs.EventLemmas.{starts_none}
 use Rattle.air_model.specs.Batches.{AirsByBatches, EndsWithStart}
 use Rattle.air_model.proofs.BatchLemmas.{airs_by_batches}
+use Rattle.air_model.proofs.EditionLemmas.{edition_is, one_edition, plain_slots}
 use Rattle.deck_runs.specs.PublishedBatches.{AreInStep, IsUpTo, PublishesOn}
-use Rattle.deck_runs.specs.Sendings.{FailsAfter, IsAirOf, SendsCycles, SendsPart, SendsUpTo, bytes_aired}
+use Rattle.deck_runs.specs.Sendings.{CanAirIn, FailsAfter, IsAirOf, SendsCycles, SendsPart, SendsUpTo, bytes_aired}
 use Rattle.deck_runs.specs.declared.jobs.conductors.ConductFault.{ConductFault}
 use Rattle.deck_runs.specs.declared.jobs.conductors.ConductFault.TheVariants as fault
 
@@ -41,13 +46,41 @@ new_in_step p f b values pv ps fv fb is = record {
   board = is ∙ (λ i. board_of (sym pv i) (batch_events (sym fb i)));
 }
 
--- The deck's air is of its values, its policy and its slots.
-pub own_air : (deck : Deck) (disks : List Disk) (values : List ℕ) (policy : Policy) → disks ≡ disks_in deck → values ≡ values_in deck → policy ≡ deck.settings.policy → IsAirOf values policy (slots_of disks) (air_of deck)
-own_air deck disks values policy same first is = record {
+-- A deck has no replans.
+pub no_replans : (deck : Deck) → IsDeck deck → deck.replans ≡ []
+no_replans deck made = made.plain.1
+
+-- So its air is of its values, its form and its slots.
+pub own_air : (deck : Deck) (disks : List Disk) (values : List ℕ) (form : Form) → deck.replans ≡ [] → disks ≡ disks_in deck 0 → values ≡ values_in deck → form ≡ form_of (air_of deck)
+    → IsAirOf values form (slots_of disks) (air_of deck)
+own_air deck disks values form none same first own = record {
   items = sym (ap length first ∙ values_sized deck);
-  policy_is = sym is;
-  slots_are = ap slots_of (sym same);
+  policy_is = ap (λ (f : Form). f.policy) (sym own);
+  version_is = ap (λ (f : Form). f.version) (sym own);
+  edition_is = λ c. edition_is deck c ∙ one_edition deck c none;
+  slots_are = λ c. plain_slots deck c none ∙ ap slots_of (sym same);
 }
+
+-- It has no more items than a bucket of its version, and so no more than any bucket.
+pub few_items : (deck : Deck) → IsDeck deck → length deck.items ≤ 1024
+few_items deck made = elim made.version as (λ _. length deck.items ≤ 1024) [
+  | inl one ↦ (let few : length deck.items ≤ 256 = subst (λ v. length deck.items ≤ most_count v) one made.most in omega arith)
+  | inr two ↦ subst (λ v. length deck.items ≤ most_count v) two made.most
+]
+
+-- And its buckets can be made in its form.
+pub can_air : (deck : Deck) (form : Form) (values : List ℕ) (disks : List Disk) (room : ℕ) → IsDeck deck → form ≡ form_of (air_of deck) → length values ≡ length deck.items → length (all_items disks) ≡ length deck.items
+    → HEAD_BYTES + entry_len deck.settings.version * length deck.items ≤ room → CanAirIn form values disks room
+can_air deck form values disks room made own sized items space =
+    let version : form.version ≡ deck.settings.version = ap (λ (f : Form). f.version) own in
+    record {
+      version = subst (λ v. (v ≡ 1) ⊎ (v ≡ 2)) (sym version) made.version;
+      items = items ∙ sym sized;
+      few = λ one.
+          let few = few_full deck made form.version version one in
+          omega arith;
+      buffer = subst (λ v. HEAD_BYTES + entry_len v * length values ≤ room) (sym version) (subst (λ n. HEAD_BYTES + entry_len deck.settings.version * n ≤ room) (sym sized) space);
+    }
 
 -- Nothing is aired before any event.
 pub none_aired : (values : List ℕ) (air : Air) → bytes_aired values air [] ≡ []

@@ -1,12 +1,14 @@
 -- What was sent of what a history airs.
-use Rattle.std.proofs.Common.{◌≡◌, ℕ, zero, suc, ◌+◌, ◌*◌, ◌<◌, ◌≤◌, Option, Some, None, List, [], ◌∷◌, ◌++◌, length, map, take, sym, ◌∙◌, ap, subst, arith, append_assoc, length-append, add-mul, zero-mul, one-mul, mul-le-mul_right}
+use Rattle.std.proofs.Common.{◌≡◌, ℕ, zero, suc, ◌+◌, ◌*◌, ◌<◌, ◌≤◌, Option, Some, None, List, [], ◌∷◌, ◌++◌, length, map, take, sym, ◌∙◌, ap, subst, arith, append_assoc, length-append, add-mul, zero-mul, mul-le-mul_right}
+use Rattle.std.specs.List.{flat_map, range_with_len}
+use Rattle.std.proofs.Math.Nat.{suc-mul}
 use Rattle.std.proofs.lemmas.List.{append-nil, length-map, map-append}
 use Rattle.std.proofs.lemmas.List.FromFn.{length-map-range_with_len}
 use Rattle.air_history.specs.declared.histories.Event.{Event}
 use Rattle.air_history.specs.declared.histories.Event.TheVariants.{Commit, Start}
 use Rattle.air_history.specs.Histories.{is_start, starts}
 use Rattle.air_model.specs.Buckets.{spelling}
-use Rattle.air_model.specs.Aired.{Air, bucket_of, buckets_of}
+use Rattle.air_model.specs.Aired.{Air, bucket_of, buckets_of, cycle_buckets, slots_at}
 use Rattle.air_devices.specs.Counts.{Rose}
 use Rattle.air_devices.specs.Masts.{Changes, MastState, SentBuckets, with_buckets}
 use Rattle.air_sender.specs.AirFaults.{FailedAt, IsAirAnswer, failed_slot}
@@ -17,7 +19,7 @@ use Rattle.air_sender.proofs.GrowLemmas.{grow}
 use Rattle.air_sender.proofs.SendLemmas.{sent_none}
 use Rattle.cycle_snapshot.specs.Batches.{IsBatch, batch_events}
 use Rattle.cycle_snapshot.proofs.BatchLemmas.{events_more}
-use Rattle.air_base.specs.declared.verdicts.Policy.{Policy}
+use Rattle.air_base.specs.declared.verdicts.Form.{Form}
 use Rattle.air_history.specs.Boards.{Board, board_of}
 use Rattle.air_sender.specs.BoardBuckets.{IsLastBoard, cycle_bytes}
 use Rattle.air_sender.proofs.SendLemmas.{length_cycle}
@@ -60,13 +62,46 @@ batch_bytes values air n bs batch is =
     ap (bytes_aired values air) (front_starts n bs batch is) ∙ ap (map spelling) (start_buckets values air G ∙ ap (λ l. l ++ last_cycle_buckets values air (G ++ Start ∷ [])) (quiet_buckets values air (batch_events bs) is.ends.0 is.ends.2))
     ∙ map-append spelling (buckets_of values air (batch_events bs)) (last_cycle_buckets values air (G ++ Start ∷ []))
 
-pub length_last : (values : List ℕ) (air : Air) (G : List Event) → length (last_bytes values air G) ≡ length air.slots
+pub length_last : (values : List ℕ) (air : Air) (G : List Event) → length (last_bytes values air G) ≡ length (slots_at air (starts (G ++ Start ∷ [])))
 length_last values air G =
-    length-map (last_cycle_buckets values air (G ++ Start ∷ [])) spelling ∙ length-map-range_with_len (bucket_of values air (G ++ Start ∷ []) (starts (G ++ Start ∷ []))) 0 (length air.slots)
+    let c = starts (G ++ Start ∷ []) in
+    length-map (last_cycle_buckets values air (G ++ Start ∷ [])) spelling ∙ length-map-range_with_len (bucket_of values air (G ++ Start ∷ []) air.version c) 0 (length (slots_at air c))
 
 -- What is published airs all that was seen, where no start is behind.
 pub seen_bytes : (values : List ℕ) (air : Air) (seen : List Event) (bs : List (List Event)) → IsUpTo 0 seen bs → bytes_aired values air seen ≡ bytes_aired values air (batch_events bs)
 seen_bytes values air seen bs up = ap (bytes_aired values air) up.begins ∙ ap (map spelling) (quiet_buckets values air (batch_events bs) up.later up.rest)
+
+-- And it starts as many cycles.
+pub seen_starts : (seen : List Event) (bs : List (List Event)) → IsUpTo 0 seen bs → starts seen ≡ starts (batch_events bs)
+seen_starts seen bs up = let none = up.rest in let both = ap starts up.begins ∙ starts_append (batch_events bs) up.later in omega arith
+
+-- ---- how many
+
+flat_count : {X : Type 0} (f : ℕ → List X) (n : ℕ) → ((c : ℕ) → length (f c) ≡ n) → (a k : ℕ) → length (flat_map f (range_with_len a k)) ≡ k * n
+flat_count f n h a zero = sym (zero-mul n)
+flat_count f n h a (suc k) =
+    let rest = flat_count f n h (a + 1) k in
+    let both = length-append (f a) (flat_map f (range_with_len (a + 1) k)) in
+    let one = h a in
+    let more : suc k * n ≡ n + k * n = omega (arith, suc-mul k n) in
+    omega arith
+
+-- Where each cycle has as many slots a history airs so many buckets a cycle.
+pub even_bytes : (values : List ℕ) (air : Air) (n : ℕ) → ((c : ℕ) → length (slots_at air c) ≡ n) → (H : List Event) → length (bytes_aired values air H) ≡ starts H * n
+unfolding buckets_of
+even_bytes values air n even H =
+    length-map (buckets_of values air H) spelling
+    ∙ flat_count (cycle_buckets values air H) n (λ c. length-map-range_with_len (bucket_of values air H air.version c) 0 (length (slots_at air c)) ∙ even c) 1 (starts H)
+
+-- And so beyond another.
+even_more : (values : List ℕ) (air : Air) (n k : ℕ) → ((c : ℕ) → length (slots_at air c) ≡ n) → (G H : List Event) (more : List (List ℕ)) → bytes_aired values air H ≡ bytes_aired values air G ++ more → starts H ≡ starts G + k
+    → length more ≡ k * n
+even_more values air n k even G H more aired started =
+    let both = ap length aired ∙ length-append (bytes_aired values air G) more in
+    let short = even_bytes values air n even G in
+    let long = even_bytes values air n even H in
+    let split : starts H * n ≡ starts G * n + k * n = ap (λ m. m * n) started ∙ add-mul (starts G) k n in
+    omega arith
 
 -- ---- what a mast tells
 
@@ -76,7 +111,7 @@ changes_more xs ys (Some s) p q a b =
     let both : q ≡ Some (record { buckets = (s.buckets ++ xs) ++ ys; ended = s.ended }) = subst (λ p. Changes (with_buckets ys) p q) a b in
     both ∙ ap (λ (l : List (List ℕ)). let t : SentBuckets = record { buckets = l; ended = s.ended } in Some t) (append_assoc s.buckets xs ys)
 
--- ---- how many
+-- ---- a count
 
 pub few_sent : (k s n : ℕ) → k < 4294967296 → s ≤ 16384 → n < s → k * s + n < 18446744073709551616
 few_sent k s n a b c = let p : k * s ≤ 4294967296 * s = mul-le-mul_right s (omega arith) in omega arith
@@ -88,7 +123,7 @@ module _ (values : List ℕ) (air : Air) where
   sends_none G H o q same is = record {
     more = [];
     aired = ap (bytes_aired values air) same ∙ sym (append-nil (bytes_aired values air G));
-    count = sym (zero-mul (length air.slots));
+    started = ap starts same ∙ omega arith;
     sent = subst (λ q. Changes (with_buckets []) o q) (sym is) (sent_none o);
   }
 
@@ -96,31 +131,33 @@ module _ (values : List ℕ) (air : Air) where
   sends_further m n G H K o p q a b = record {
     more = a.more ++ b.more;
     aired = b.aired ∙ ap (λ l. l ++ b.more) a.aired ∙ append_assoc (bytes_aired values air G) a.more b.more;
-    count = length-append a.more b.more ∙ (λ i. a.count i + b.count i) ∙ sym (add-mul m n (length air.slots));
+    started = let first = a.started in let next = b.started in omega arith;
     sent = changes_more a.more b.more o p q a.sent b.sent;
   }
 
-  -- The lists may be told otherwise, where they air the same.
-  pub sends_as : (n : ℕ) (G H K L : List Event) (o q : Option SentBuckets) → bytes_aired values air K ≡ bytes_aired values air G → bytes_aired values air L ≡ bytes_aired values air H → SendsCycles values air n G H o q → SendsCycles values air n K L o q
-  sends_as n G H K L o q same too s = record { more = s.more; aired = too ∙ s.aired ∙ ap (λ l. l ++ s.more) (sym same); count = s.count; sent = s.sent }
+  -- The lists may be told otherwise, where they start and air the same.
+  pub sends_as : (n : ℕ) (G H K L : List Event) (o q : Option SentBuckets) → bytes_aired values air K ≡ bytes_aired values air G → bytes_aired values air L ≡ bytes_aired values air H → starts K ≡ starts G → starts L ≡ starts H
+      → SendsCycles values air n G H o q → SendsCycles values air n K L o q
+  sends_as n G H K L o q same too early late s = record { more = s.more; aired = too ∙ s.aired ∙ ap (λ l. l ++ s.more) (sym same); started = late ∙ s.started ∙ ap (λ m. m + n) (sym early); sent = s.sent }
 
   pub fails_as : {M : Type 0} (state : M → MastState) (n : ℕ) (G H K L : List Event) (o q : M) → bytes_aired values air K ≡ bytes_aired values air G → bytes_aired values air L ≡ bytes_aired values air H
       → FailsAfter state values air n G H o q → FailsAfter state values air n K L o q
   fails_as state n G H K L o q same too s = record { more = s.more; aired = too ∙ s.aired ∙ ap (λ l. l ++ s.more) (sym same); failed = s.failed }
 
   -- After so many cycles the mast failed.
-  pub fails_further : {M : Type 0} (state : M → MastState) (k s : ℕ) (G H K : List Event) (o p q : M) → SendsCycles values air k G H (state o).told (state p).told → (state p).faults ≡ (state o).faults → (state p).port ≡ (state o).port
-      → FailsAfter state values air s H K p q → FailsAfter state values air (k * length air.slots + s) G K o q
-  fails_further state k s G H K o p q a calm port b =
+  pub fails_further : {M : Type 0} (state : M → MastState) (k s n : ℕ) → ((c : ℕ) → length (slots_at air c) ≡ n) → (G H K : List Event) (o p q : M) → SendsCycles values air k G H (state o).told (state p).told → (state p).faults ≡ (state o).faults → (state p).port ≡ (state o).port
+      → FailsAfter state values air s H K p q → FailsAfter state values air (k * n + s) G K o q
+  fails_further state k s n even G H K o p q a calm port b =
+      let count = even_more values air n k even G H a.more a.aired a.started in
       let f = b.failed in
       let j = f.just_before in
       record {
         more = a.more ++ b.more;
         aired = b.aired ∙ ap (λ l. l ++ b.more) a.aired ∙ append_assoc (bytes_aired values air G) a.more b.more;
         failed = record {
-          within = let l = length-append a.more b.more in let c = a.count in let w = f.within in omega arith;
+          within = let l = length-append a.more b.more in let w = f.within in omega arith;
           just_before = j;
-          sent = subst (λ l. Changes (with_buckets l) (state o).told (state j).told) (front a.more b.more (k * length air.slots) s a.count) (changes_more a.more (take s b.more) (state o).told (state p).told (state j).told a.sent f.sent);
+          sent = subst (λ l. Changes (with_buckets l) (state o).told (state j).told) (front a.more b.more (k * n) s count) (changes_more a.more (take s b.more) (state o).told (state p).told (state j).told a.sent f.sent);
           calm = f.calm ∙ calm;
           port = f.port ∙ port;
           rose = f.rose;
@@ -152,25 +189,37 @@ module _ (p q : PassState) (f g : PublisherState) (b : Board) (on : GoesOn p q) 
   pub started : 1 ≤ b.cycle
   started = let c = ap (λ x. x.cycle) last in let a = starts_append front (Start ∷ []) in let one = starts_one in omega arith
 
-  module _ (air : Air) (policy : Policy) (slots : List (Option ℕ)) (is : IsAirOf p.values policy slots air) where
-    pub last_board : IsLastBoard p.values air front policy slots b
-    last_board = record { board = last; items = is.items; policy = is.policy_is; slots = is.slots_are }
+  module _ (air : Air) (form : Form) (slots : List (Option ℕ)) (is : IsAirOf p.values form slots air) where
+    pub last_board : IsLastBoard p.values air front form 0 slots b
+    last_board = record {
+      board = last;
+      items = is.items;
+      policy = is.policy_is;
+      version = is.version_is;
+      edition = is.edition_is (starts (front ++ Start ∷ []));
+      slots = is.slots_are (starts (front ++ Start ∷ []));
+    }
 
     bytes : bytes_aired p.values air (batch_events g.batches) ≡ bytes_aired p.values air (batch_events f.batches) ++ last_bytes p.values air front
     bytes = ap (λ bs. bytes_aired p.values air (batch_events bs)) batches ∙ batch_bytes p.values air (length f.values) f.batches adds.0 adds.2
 
     -- all of its buckets were sent
     pub cycle_sent : (o q : Option SentBuckets) → Changes (with_buckets (last_bytes p.values air front)) o q → SendsCycles p.values air 1 (batch_events f.batches) (batch_events g.batches) o q
-    cycle_sent o q sent = record { more = last_bytes p.values air front; aired = bytes; count = length_last p.values air front ∙ sym (one-mul (length air.slots)); sent = sent }
+    cycle_sent o q sent = record {
+      more = last_bytes p.values air front;
+      aired = bytes;
+      started = (let all = ap starts ends ∙ starts_append front (Start ∷ []) in let before = starts_append (batch_events f.batches) adds.2.ends.0 in let none = adds.2.ends.2 in let one = starts_one in omega arith);
+      sent = sent;
+    }
 
     -- or those before the one at which the mast failed
     pub cycle_failed : {M : Type 0} (state : M → MastState) (slot : ℕ) (before now : M) → Changes (with_buckets (take slot (last_bytes p.values air front))) (state before).told (state now).told
-        → FailedAt state slot (cycle_bytes policy slots b) before now → FailsAfter state p.values air slot (batch_events f.batches) (batch_events g.batches) before now
+        → FailedAt state slot (cycle_bytes form 0 slots b) before now → FailsAfter state p.values air slot (batch_events f.batches) (batch_events g.batches) before now
     cycle_failed state slot before now sent failed = record {
       more = last_bytes p.values air front;
       aired = bytes;
       failed = record {
-        within = let w = failed.within in let n = length_cycle policy slots b in let m = length_last p.values air front in let s = ap length is.slots_are in omega arith;
+        within = let w = failed.within in let n = length_cycle form 0 slots b in let m = length_last p.values air front in let s = ap length (is.slots_are (starts (front ++ Start ∷ []))) in omega arith;
         just_before = failed.just_before;
         sent = subst (Changes (with_buckets (take slot (last_bytes p.values air front))) (state before).told) failed.kept sent;
         calm = failed.calm;
@@ -181,12 +230,12 @@ module _ (p q : PassState) (f g : PublisherState) (b : Board) (on : GoesOn p q) 
     }
 
     pub cycle_failed_by : {M : Type 0} (state : M → MastState) (e : AirFault) (n : ℕ) (before now : M) → n ≡ failed_slot e → Changes (with_buckets (take (failed_slot e) (last_bytes p.values air front))) (state before).told (state now).told
-        → IsAirAnswer state (cycle_bytes policy slots b) before now e → FailsAfter state p.values air n (batch_events f.batches) (batch_events g.batches) before now
+        → IsAirAnswer state (cycle_bytes form 0 slots b) before now e → FailsAfter state p.values air n (batch_events f.batches) (batch_events g.batches) before now
     cycle_failed_by state (fault.Mast slot) n before now is sent failed =
         subst (λ m. FailsAfter state p.values air m (batch_events f.batches) (batch_events g.batches) before now) (sym is) (cycle_failed state slot before now sent failed)
 
-pub within_cycle : {M : Type 0} (state : M → MastState) (by : Policy) (slots : List (Option ℕ)) (b : Board) (e : AirFault) (n : ℕ) (before now : M) → n ≡ failed_slot e → IsAirAnswer state (cycle_bytes by slots b) before now e → n < length slots
-within_cycle state by slots b (fault.Mast slot) n before now is failed = let w = failed.within in let l = length_cycle by slots b in omega arith
+pub within_cycle : {M : Type 0} (state : M → MastState) (form : Form) (slots : List (Option ℕ)) (b : Board) (e : AirFault) (n : ℕ) (before now : M) → n ≡ failed_slot e → IsAirAnswer state (cycle_bytes form 0 slots b) before now e → n < length slots
+within_cycle state form slots b (fault.Mast slot) n before now is failed = let w = failed.within in let l = length_cycle form 0 slots b in omega arith
 
 pub rose_by : {M : Type 0} (state : M → MastState) (bs : List (List ℕ)) (e : AirFault) (before now : M) → IsAirAnswer state bs before now e → Rose (state before).faults (state now).faults
 rose_by state bs (fault.Mast slot) before now failed = subst (λ n. Rose n (state now).faults) failed.calm failed.rose

@@ -8,15 +8,16 @@ use Rattle.turnstile.specs.Passes.{TurnstileId}
 use Rattle.air_history.specs.declared.histories.Event.{Event}
 use Rattle.air_history.specs.Boards.{board_of}
 use Rattle.air_history.specs.Histories.{starts}
+use Rattle.air_model.specs.Buckets.{entry_len}
 use Rattle.air_model.specs.Decks.{Deck, updates_by, values_in}
 use Rattle.air_model.specs.DeckLaws.{commits_from, made_by}
-use Rattle.bucket_codec.specs.declared.offsets.TheConstants.{ENTRY_BYTES, HEAD_BYTES}
+use Rattle.bucket_codec.specs.declared.offsets.TheConstants.{HEAD_BYTES}
 use Rattle.station.specs.PassStates.{PassState, new_pass, numbers_of, with_seen}
 use Rattle.deck_runs.specs.declared.jobs.crews.ConductorRun.{ConductorRun}
 use Rattle.deck_runs.specs.declared.jobs.crews.UpdaterRun.{UpdaterRun}
 use Rattle.deck_runs.specs.Crews.{CanConduct, EachDone, HasMadeUpdates, HasNewPass, passes_of}
 use Rattle.deck_runs.specs.PublishedBatches.{GoesOn}
-use Rattle.deck_runs.specs.Private.StageSteps.{AreNewUpdaters, HasEndedUpdates, HaveEnded, IsPlayed}
+use Rattle.deck_runs.specs.Private.StageSteps.{AreNewUpdaters, HasEndedUpdates, HaveEnded, IsOpen, IsPlayed}
 use Rattle.deck_runs.specs.declared.threads.stages.Stage.{Stage}
 
 pub all_ready : (station : TurnstileId) (deck : Deck) (runs : List UpdaterRun) → AreNewUpdaters station deck runs → All (HasNewPass station deck) runs
@@ -88,20 +89,19 @@ new_updaters station deck runs ps same count each = record {
 
 -- The conductor of such parts.
 pub can_conduct : (deck : Deck) (at : TurnstileId) (run : ConductorRun) (station : TurnstileId) (pass : PassState) → at ≡ station → run.pass ≡ pass → pass ≡ new_pass station deck (length deck.updates)
-    → run.board ≡ board_of (values_in deck) [] → HEAD_BYTES + ENTRY_BYTES * length deck.items ≤ length run.buf.items → CanConduct at deck run
+    → run.board ≡ board_of (values_in deck) [] → HEAD_BYTES + entry_len deck.settings.version * length deck.items ≤ length run.buf.items → CanConduct at deck run
 can_conduct deck at run station pass same is new board buffer = record { pass = is ∙ new ∙ ap (λ t. new_pass t deck (length deck.updates)) (sym same); board = board; buffer = buffer }
 
 -- A stage after the jobs.
-pub is_played : (s t : Stage) → CanConduct s.station s.planned.now s.conductor → AreNewUpdaters s.station s.planned.now s.updaters.items → s.passes.items ≡ [] → length s.updaters.items ≤ vec_capacity s.passes
-    → GoesOn s.conductor.pass t.conductor.pass → starts t.conductor.pass.seen ≤ s.planned.now.settings.cycles → EachDone s.planned.now s.updaters.items t.updaters.items → t.planned ≡ s.planned → t.station ≡ s.station → t.passes ≡ s.passes → IsPlayed t
-is_played s t can new empty room on few done planned station passes =
+pub is_played : (s t : Stage) → IsOpen s → GoesOn s.conductor.pass t.conductor.pass → starts t.conductor.pass.seen ≤ s.planned.now.settings.cycles → EachDone s.planned.now s.updaters.items t.updaters.items → t.planned ≡ s.planned → t.station ≡ s.station → t.passes ≡ s.passes → IsPlayed t
+is_played s t opened on few done planned station passes =
     let same : t.planned.now ≡ s.planned.now = ap (λ p. p.now) planned in
     let at_first : (s.conductor.pass ≡ new_pass t.station t.planned.now (length t.planned.now.updates)) =
-    can.pass ∙ ap (λ d. new_pass s.station d (length d.updates)) (sym same) ∙ ap (λ at. new_pass at t.planned.now (length t.planned.now.updates)) (sym station) in
+    opened.conductor.pass ∙ ap (λ d. new_pass s.station d (length d.updates)) (sym same) ∙ ap (λ at. new_pass at t.planned.now (length t.planned.now.updates)) (sym station) in
     record {
       pass = on.same ∙ ap (λ p. with_seen p t.conductor.pass.seen) at_first;
       few = subst (λ d. starts t.conductor.pass.seen ≤ d.settings.cycles) (sym same) few;
       updaters = subst (λ d. HaveEnded t.station d t.updaters.items) (sym same)
-          (subst (λ at. HaveEnded at s.planned.now t.updaters.items) (sym station) (have_ended s.station s.planned.now s.updaters.items t.updaters.items new done));
-      room = (ap (λ p. p.items) passes ∙ empty, let size = ap vec_capacity passes in let count = done.0 in omega arith);
+          (subst (λ at. HaveEnded at s.planned.now t.updaters.items) (sym station) (have_ended s.station s.planned.now s.updaters.items t.updaters.items opened.updaters done));
+      room = (ap (λ p. p.items) passes ∙ opened.room.0, let most = opened.room.1 in let size = ap vec_capacity passes in let count = done.0 in omega arith);
     }

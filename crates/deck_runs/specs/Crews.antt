@@ -2,10 +2,11 @@
 use Rattle.std.specs.Prelude.{◌≡◌, ℕ, ◌+◌, ◌*◌, ◌<◌, ◌≤◌, List, [], length, map, take, get_or, MatchBool, Option, Some, None}
 use Rattle.turnstile.specs.Passes.{TurnstileId}
 use Rattle.air_history.specs.Boards.{board_of}
+use Rattle.air_model.specs.Buckets.{entry_len}
 use Rattle.air_model.specs.Decks.{Deck, updates_by, values_in}
 use Rattle.air_model.specs.DeckLaws.{commits_from, made_by}
 use Rattle.air_model.specs.declared.reports.LookLine.{LookLine}
-use Rattle.bucket_codec.specs.declared.offsets.TheConstants.{ENTRY_BYTES, HEAD_BYTES}
+use Rattle.bucket_codec.specs.declared.offsets.TheConstants.{HEAD_BYTES}
 use Rattle.station.specs.PassStates.{PassState, new_pass, with_seen}
 use Rattle.cycle_snapshot.specs.SnapshotStates.{MonitorState}
 use Rattle.deck_runs.specs.declared.jobs.crews.ConductorRun.{ConductorRun}
@@ -25,7 +26,7 @@ monitors_of watchers = map (λ run. run.monitor) watchers
 pub record CanConduct (station : TurnstileId) (deck : Deck) (run : ConductorRun) : Type 0 where
   pub pass : run.pass ≡ new_pass station deck (length deck.updates)
   pub board : run.board ≡ board_of (values_in deck) []
-  pub buffer : HEAD_BYTES + ENTRY_BYTES * length deck.items ≤ length run.buf.items
+  pub buffer : HEAD_BYTES + entry_len deck.settings.version * length deck.items ≤ length run.buf.items
 
 -- The pass is a new one of the station and the deck.
 unfoldable pub HasNewPass : TurnstileId → Deck → UpdaterRun → Type 0

@@ -26,6 +26,15 @@ pub record AreInStep (p : PassState) (f : PublisherState) (b : Board) : Type 0 w
   pub published : IsUpTo 0 p.seen f.batches
   pub board : b ≡ board_of p.values (batch_events f.batches)
 
+-- The board is that of what the pass has seen up to and with its last start, or of nothing.
+pub record IsBoardOf (p : PassState) (b : Board) : Type 0 where
+  pub front : List Event
+  pub later : List Event
+  pub begins : p.seen ≡ front ++ later
+  pub ends : EndsAtStart front
+  pub rest : starts later ≡ 0
+  pub board : b ≡ board_of p.values front
+
 -- The pass p went on to q: it has seen more, and nothing else of it changed.
 pub record GoesOn (p q : PassState) : Type 0 where
   pub same : q ≡ with_seen p q.seen

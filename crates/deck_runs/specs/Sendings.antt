@@ -1,10 +1,14 @@
 -- What a conductor sends: the buckets of the history that its pass has seen.
-use Rattle.std.specs.Prelude.{◌≡◌, ℕ, ◌*◌, ◌<◌, List, ◌++◌, length, map, Option}
-use Rattle.air_base.specs.declared.verdicts.Policy.{Policy}
+use Rattle.std.specs.Prelude.{◌≡◌, ◌⊎◌, ℕ, ◌+◌, ◌*◌, ◌<◌, ◌≤◌, List, ◌++◌, length, map, Option}
+use Rattle.air_base.specs.declared.limits.TheConstants.{MOST_FULL_ITEMS}
+use Rattle.air_base.specs.declared.verdicts.Form.{Form}
 use Rattle.air_history.specs.declared.histories.Event.{Event}
-use Rattle.air_model.specs.Buckets.{spelling}
-use Rattle.air_model.specs.Aired.{Air, air_of, buckets_of}
+use Rattle.air_history.specs.Histories.{starts}
+use Rattle.air_model.specs.Buckets.{entry_len, spelling}
+use Rattle.air_model.specs.Aired.{Air, air_of, buckets_of, edition_at, slots_at}
 use Rattle.air_model.specs.Decks.{Deck, values_in}
+use Rattle.air_model.specs.Disks.{Disk, all_items}
+use Rattle.bucket_codec.specs.declared.offsets.TheConstants.{HEAD_BYTES}
 use Rattle.air_devices.specs.Counts.{Rose}
 use Rattle.air_devices.specs.Masts.{Changes, MastState, SentBuckets, with_buckets}
 use Rattle.air_sender.specs.AirFaults.{FailedAt}
@@ -18,17 +22,27 @@ use Rattle.deck_runs.specs.declared.jobs.conductors.ConductFault.TheVariants as 
 abbrev pub bytes_aired : List ℕ → Air → List Event → List (List ℕ)
 bytes_aired values air H = map spelling (buckets_of values air H)
 
--- What is aired of these values, by this policy and in these slots.
-pub record IsAirOf (values : List ℕ) (policy : Policy) (slots : List (Option ℕ)) (air : Air) : Type 0 where
-  pub items : air.items ≡ length values
-  pub policy_is : air.scheme.policy ≡ policy
-  pub slots_are : air.slots ≡ slots
+-- A bucket of these values can be made in this form: the disks have as many items as there are values, in version 1 no more than a bucket
+-- with entries in full has, and for its bytes there is this room.
+pub record CanAirIn (form : Form) (values : List ℕ) (disks : List Disk) (room : ℕ) : Type 0 where
+  pub version : (form.version ≡ 1) ⊎ (form.version ≡ 2)
+  pub items : length (all_items disks) ≡ length values
+  pub few : form.version ≡ 1 → length values ≤ MOST_FULL_ITEMS
+  pub buffer : HEAD_BYTES + entry_len form.version * length values ≤ room
 
--- What the longer list airs beyond the shorter was sent, and nothing else: the buckets of so many cycles.
+-- What is aired of these values in this form: each cycle is of edition 0 and has these slots.
+pub record IsAirOf (values : List ℕ) (form : Form) (slots : List (Option ℕ)) (air : Air) : Type 0 where
+  pub items : air.items ≡ length values
+  pub policy_is : air.scheme.policy ≡ form.policy
+  pub version_is : air.version ≡ form.version
+  pub edition_is : (c : ℕ) → edition_at air c ≡ 0
+  pub slots_are : (c : ℕ) → slots_at air c ≡ slots
+
+-- The longer list starts so many cycles more, and what it airs beyond the shorter was sent, and nothing else.
 pub record SendsCycles (values : List ℕ) (air : Air) (cycles : ℕ) (G H : List Event) (before now : Option SentBuckets) : Type 0 where
   pub more : List (List ℕ)
   pub aired : bytes_aired values air H ≡ bytes_aired values air G ++ more
-  pub count : length more ≡ cycles * length air.slots
+  pub started : starts H ≡ starts G + cycles
   pub sent : Changes (with_buckets more) before now
 
 -- Of what the longer list airs beyond the shorter so many buckets were sent, and then the mast failed.

@@ -59,6 +59,7 @@ pub fn cast_run<R: Threads + Wait + Sync, M: Mast + Send, G: Gate + Sync>(
     ensures fault { IfErr result (IsCastAnswer planned.now (M.state mast.old) (M.state mast.new)) }
     ensures port { (M.state mast.new).port ≡ Some port }
 {
+    planned.shows_planned();
     if mast.aim(port).is_err() {
         return Err(RunFault::Mast { sent: 0 });
     }

@@ -14,7 +14,7 @@ use air_report::one_history_law;
 
 /// What is true of every run of a deck of the grammar whose program is short enough.
 pub fn true_run_law()
-    ensures { (deck : Deck) (run : Run) → IsDeck deck → WithinLimits deck → length (program (disks_in deck)) ≤ MOST_SLOTS →
+    ensures { (deck : Deck) (run : Run) → IsDeck deck → WithinLimits deck → length (program (disks_in deck 0)) ≤ MOST_SLOTS →
         IsRun deck run → IsTrueRun deck run }
 {
     one_history_law();

@@ -5,7 +5,7 @@ ghost use Rattle.air_base.specs.declared.limits.TheConstants.{MOST_TAPE_BYTES};
 ghost use Rattle.deck_runs.specs.RunTapes.{IsLongRun, run_tape_len};
 
 use air_base::limits::MOST_TAPE_BYTES;
-use air_sender::tape_bytes;
+use air_sender::{own_form, tape_bytes};
 use chunk_program::Planned;
 
 /// The number of bytes of the tape of each run of a deck.
@@ -13,7 +13,8 @@ pub(crate) fn run_bytes(planned: &Planned) -> u64
     ensures { result ≡ run_tape_len planned.now }
 {
     let deck = planned.deck();
-    tape_bytes(planned.program(), deck.items(), deck.settings().cycles)
+    let cycles = deck.settings().cycles;
+    tape_bytes(planned.program(), deck.items(), cycles, own_form(planned))
 }
 
 /// How many bytes the tape of each run of a deck would have, where that is more than a tape may have.

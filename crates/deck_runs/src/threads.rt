@@ -24,12 +24,12 @@ use std::marker::Model;
 use std::sync::Wait;
 use std::thread::Threads;
 
-/// A run's history; the note of its publisher, which tells all batches that the conductor published; and what the monitors saw: each
-/// one's last look beside the run, and its look at the end.
+/// A run's history; the last note of its publisher, which tells all batches that the conductor published; and what the monitors saw:
+/// each one's last look beside the run, and its look at the end.
 #[derive(Drop)]
 pub struct Run {
     pub history: History,
-    pub told: Told,
+    pub last_note: Told,
     pub glances: Vec<LookLine>,
     pub looks: Vec<LookLine>,
 }
@@ -39,18 +39,18 @@ impl Model for Run {
 
     ghost Value = { Run };
 
-    ghost view = { λ r. record { history = r.history; batches = r.told.batches; glances = r.glances.items; looks = r.looks.items } };
+    ghost view = { λ r. record { history = r.history; batches = r.last_note.batches; glances = r.glances.items; looks = r.looks.items } };
 }
 
 impl Run {
-    /// The run with this history, this note that its publisher told, and what its monitors saw.
-    fn new(history: History, told: Told, sights: Sights) -> Run
-        ensures { result ≡ record { history = history; batches = told.batches; glances = sights.glances.items; looks = sights.looks.items } }
+    /// The run with this history, this last note of its publisher, and what its monitors saw.
+    fn new(history: History, last_note: Told, sights: Sights) -> Run
+        ensures { result ≡ record { history = history; batches = last_note.batches; glances = sights.glances.items; looks = sights.looks.items } }
     {
         let Sights { glances, looks } = sights;
         Run {
             history,
-            told,
+            last_note,
             glances,
             looks,
         }
@@ -92,7 +92,7 @@ impl From<ConductFault> for RunFault {
 }
 
 /// Runs the deck on threads: its conductor beside all its updaters and its monitors. The history is whole, the batches that the
-/// publisher's note tells air it, the mast got exactly its buckets, and each monitor saw it. Where the mast failed, it got so many
+/// publisher's last note tells air it, the mast got exactly its buckets, and each monitor saw it. Where the mast failed, it got so many
 /// buckets of a whole history; after `NoMemory` the first of one, maybe none.
 pub fn run_threads<R: Threads + Wait + Sync, M: Mast + Send, G: Gate + Sync>(
     rt: &R,
@@ -112,11 +112,11 @@ pub fn run_threads<R: Threads + Wait + Sync, M: Mast + Send, G: Gate + Sync>(
     let (mut source, mut watchers) = open_publisher(rt, alloc, stage.planned)?;
     let conducted = stage.play(rt, alloc, &mut source, &mut watchers, mast, gate);
     let sights = all_sights(alloc, &source, watchers);
-    let told = source.tell();
+    let last_note = source.tell();
     source.close(rt);
     let history = stage.end();
     conducted?;
     let history = history?;
     let sights = sights?;
-    Ok(Run::new(history, told, sights))
+    Ok(Run::new(history, last_note, sights))
 }

@@ -1,6 +1,7 @@
 //! The three jobs of a run, each called once, one after the other on one thread: what each answers, and what it leaves.
 //!
-//! The updater commits before the conductor begins, so that each cycle airs what it left; the monitor looks before and after.
+//! The updater commits before the conductor begins, so that each cycle airs what it left; the monitor looks before and after. Where the
+//! mast fails in a cycle, that cycle was started and published, and the board is that of all events which the pass has seen.
 
 ghost use Rattle.std.specs.Prelude.{◌≡◌, ◌<◌, ◌≤◌, ◌+◌, ◌*◌, [], length, IfOk};
 ghost use Rattle.air_base.specs.declared.limits.TheConstants.{MOST_DECK_BYTES};
@@ -10,8 +11,9 @@ ghost use Rattle.bucket_codec.specs.declared.offsets.TheConstants.{ENTRY_BYTES, 
 ghost use Rattle.cycle_snapshot.specs.SnapshotStates.{new_publisher};
 ghost use Rattle.station.specs.PassStates.{new_pass};
 
+use crate::boards::{BoardEnd, end_of, written_early};
 use crate::decks::{BucketRow, MEETING, tape_of};
-use air_base::NoMemory;
+use air_base::{Form, NoMemory};
 use air_devices::{MemMast, OpenGate};
 use air_model::reports::LookLine;
 use bucket_codec::offsets::{ENTRY_BYTES, HEAD_BYTES};
@@ -25,13 +27,16 @@ use std::alloc::Global;
 use std::sync::Wait;
 use std::test::Fail;
 
-/// What the jobs left: how many commits and starts their passes made, the lines of the monitor, and the tape of what was sent.
+/// What the conductor answered, and what the jobs left: how many commits and starts their passes made, the lines of the monitor, the
+/// board, and the tape of what was sent.
 #[derive(Debug, Drop, PartialEq, Eq)]
 struct JobsEnd {
+    conducted: Result<(), ConductFault>,
     made: u32,
     started: u32,
     first: LookLine,
     last: LookLine,
+    board: BoardEnd,
     tape: Vec<u8>,
 }
 
@@ -82,15 +87,19 @@ fn conduct<R: Wait>(
     program: &Program,
     source: &mut Publisher,
     conductor: &mut Conductor,
-) -> Result<u32, ConductFault>
+) -> Result<(), ConductFault>
     requires pass { conductor.old.pass ≡ new_pass station.now deck.now (length deck.now.updates) }
     requires board { conductor.old.board ≡ board_of (values_in deck.now) [] }
     requires buffer { HEAD_BYTES + ENTRY_BYTES * length deck.now.items ≤ length conductor.old.buf.items }
     requires publisher { source.old ≡ new_publisher source.old.id (values_in deck.now) deck.now.settings.cycles }
-    requires program { program.now ≡ disks_in deck.now }
+    requires program { program.now ≡ disks_in deck.now 0 }
 {
     deck.shows_well_made();
     let settings = deck.settings();
+    let form = Form {
+        policy: settings.policy,
+        version: settings.version,
+    };
     conductor_job(
         wait,
         alloc,
@@ -99,16 +108,15 @@ fn conduct<R: Wait>(
         source,
         &mut conductor.board,
         program,
-        settings.policy,
+        form,
         settings.cycles,
         &mut conductor.mast,
         &mut conductor.buf,
         &OpenGate,
-    )?;
-    Ok(conductor.pass.started())
+    )
 }
 
-/// Does the jobs one after the other.
+/// Does the jobs one after the other; none where there is no monitor.
 fn work<R: Wait>(
     wait: &R,
     alloc: Global,
@@ -116,32 +124,34 @@ fn work<R: Wait>(
     deck: &Deck,
     program: &Program,
     source: &mut Publisher,
-    monitor: &mut Monitor,
+    monitors: &mut Vec<Monitor>,
     updater: &mut UpdaterPass,
     conductor: &mut Conductor,
-) -> Result<JobsEnd, ConductFault>
+) -> Result<Option<JobsEnd>, NoMemory>
     requires new { updater.old ≡ new_pass station.now deck.now updater.old.number }
     requires number { updater.old.number < length deck.now.updates }
     requires pass { conductor.old.pass ≡ new_pass station.now deck.now (length deck.now.updates) }
     requires board { conductor.old.board ≡ board_of (values_in deck.now) [] }
     requires buffer { HEAD_BYTES + ENTRY_BYTES * length deck.now.items ≤ length conductor.old.buf.items }
     requires publisher { source.old ≡ new_publisher source.old.id (values_in deck.now) deck.now.settings.cycles }
-    requires program { program.now ≡ disks_in deck.now }
+    requires program { program.now ≡ disks_in deck.now 0 }
 {
-    let first = monitor_job(monitor, 2, &OpenGate)?;
-    let made = update(wait, alloc, station, deck, updater)?;
-    let started = conduct(wait, alloc, station, deck, program, source, conductor)?;
-    let last = monitor_job(monitor, 100, &OpenGate)?;
-    let Ok(tape) = Vec::from_slice(alloc, conductor.mast.sent()) else {
-        return Err(ConductFault::NoMemory);
+    let Some(mut monitor) = monitors.pop() else {
+        return Ok(None);
     };
-    Ok(JobsEnd {
+    let first = monitor_job(&mut monitor, 2, &OpenGate)?;
+    let made = update(wait, alloc, station, deck, updater)?;
+    let conducted = conduct(wait, alloc, station, deck, program, source, conductor);
+    let last = monitor_job(&mut monitor, 100, &OpenGate)?;
+    Ok(Some(JobsEnd {
+        conducted,
         made,
-        started,
+        started: conductor.pass.started(),
         first,
         last,
-        tape,
-    })
+        board: end_of(alloc, &conductor.board)?,
+        tape: Vec::from_slice(alloc, conductor.mast.sent())?,
+    }))
 }
 
 /// A conductor of the pass, with the board of the first values, and a mast with room for so many bytes.
@@ -172,7 +182,7 @@ fn left_by_jobs<R: Wait>(
     alloc: Global,
     text: &[u8],
     room: usize,
-) -> Result<Option<Result<JobsEnd, ConductFault>>, Fail>
+) -> Result<Option<JobsEnd>, Fail>
     requires { length text.now ≤ MOST_DECK_BYTES }
 {
     let deck = read_deck(alloc, text)?;
@@ -187,22 +197,19 @@ fn left_by_jobs<R: Wait>(
     deck.shows_well_made();
     let settings = deck.settings();
     let (mut source, mut monitors) = publisher(wait, alloc, &values, 1, settings.cycles)?;
-    let left = match monitors.pop() {
-        Some(mut monitor) => Some(work(
-            wait,
-            alloc,
-            &station,
-            &deck,
-            &program,
-            &mut source,
-            &mut monitor,
-            &mut updater,
-            &mut conductor,
-        )),
-        None => None,
-    };
+    let left = work(
+        wait,
+        alloc,
+        &station,
+        &deck,
+        &program,
+        &mut source,
+        &mut monitors,
+        &mut updater,
+        &mut conductor,
+    );
     source.close(wait);
-    Ok(left)
+    Ok(left?)
 }
 
 /// Both commits stand before all cycles: item 0 has 11, and item 1 has 16 by way of item 0.
@@ -228,13 +235,15 @@ fn line(cycle: u32, total: u64) -> LookLine {
 fn each_job_is_done_where_memory_is_ample(rt: HostRuntime) -> Result<(), Fail> {
     let left = left_by_jobs(&rt, rt.alloc(), MEETING, 216)?;
     let wanted = JobsEnd {
+        conducted: Ok(()),
         made: 2,
         started: 3,
         first: line(0, 30),
         last: line(3, 27),
+        board: written_early(rt.alloc(), 3, [11, 16])?,
         tape: tape_of(rt.alloc(), &JOBS_TAPE)?,
     };
-    assert_eq!(rt; left, Some(Ok(wanted)));
+    assert_eq!(rt; left, Some(wanted));
     Ok(())
 }
 
@@ -243,6 +252,15 @@ fn where_the_mast_has_no_room_the_conductor_tells_what_was_sent(
     rt: HostRuntime,
 ) -> Result<(), Fail> {
     let left = left_by_jobs(&rt, rt.alloc(), MEETING, 108)?;
-    assert_eq!(rt; left, Some(Err(ConductFault::Mast { sent: 3 })));
+    let wanted = JobsEnd {
+        conducted: Err(ConductFault::Mast { sent: 3 }),
+        made: 2,
+        started: 2,
+        first: line(0, 30),
+        last: line(2, 27),
+        board: written_early(rt.alloc(), 2, [11, 16])?,
+        tape: tape_of(rt.alloc(), &JOBS_TAPE[..3])?,
+    };
+    assert_eq!(rt; left, Some(wanted));
     Ok(())
 }

@@ -1,9 +1,11 @@
 //! Tests of runs: small decks on threads, whatever the schedule, one in which a gate lets three threads meet, a monitor's last look, and
-//! each job by itself (`jobs`).
+//! each job by itself (`jobs`, with its board in `boards`).
 //!
 //! `decks` has what is run, `plays` runs it, `cases` tells in what a run left something else (`runs`, `meetings`).
 #![tactic(auto)]
 
+#[cfg(test)]
+mod boards;
 #[cfg(test)]
 mod cases;
 #[cfg(test)]

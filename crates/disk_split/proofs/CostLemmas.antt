@@ -53,7 +53,7 @@ resized_aired (spec ∷ specs) (s ∷ ss) aired =
 
 module _ (deck : Deck) (sizes : List ℕ) (made : IsDeck deck) (split : IsSplit deck sizes) where
   aired : All (λ (d : DiskSpec). 0 < d.freq) deck.disks
-  aired = All-weaker (λ (d : DiskSpec). (0 < d.size) × (0 < d.freq)) (λ (d : DiskSpec). 0 < d.freq) (λ d both. both.1) deck.disks made.aired
+  aired = All-weaker (λ (d : DiskSpec). (0 < d.size) × (0 < d.freq)) (λ (d : DiskSpec). 0 < d.freq) (λ d both. both.1) deck.disks (made.aired 0 (omega arith))
 
   pub airable : IsAirable (split_disks deck sizes)
   airable = cut_airable (rates_in deck) (resized deck.disks sizes) (resized_aired deck.disks sizes aired)
@@ -94,6 +94,6 @@ module _ (deck : Deck) (sizes : List ℕ) (made : IsDeck deck) (split : IsSplit 
 pub own_split : (deck : Deck) → IsDeck deck → IsSplit deck (sizes_in deck)
 own_split deck made = record {
   disks = length-map deck.disks (λ (d : DiskSpec). d.size);
-  filled = All-map (λ size. 1 ≤ size) (λ (d : DiskSpec). d.size) deck.disks (All-weaker (λ (d : DiskSpec). (0 < d.size) × (0 < d.freq)) (λ (d : DiskSpec). 1 ≤ d.size) (λ d both. both.0) deck.disks made.aired);
-  all = sum-map (λ (d : DiskSpec). d.size) deck.disks ∙ made.sizes;
+  filled = All-map (λ size. 1 ≤ size) (λ (d : DiskSpec). d.size) deck.disks (All-weaker (λ (d : DiskSpec). (0 < d.size) × (0 < d.freq)) (λ (d : DiskSpec). 1 ≤ d.size) (λ d both. both.0) deck.disks (made.aired 0 (omega arith)));
+  all = sum-map (λ (d : DiskSpec). d.size) deck.disks ∙ made.sizes 0 (omega arith);
 }

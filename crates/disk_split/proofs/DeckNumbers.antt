@@ -1,12 +1,14 @@
 -- The numbers of a deck within the limits: its sums are small, and each disk has a chunk.
-use Rattle.std.proofs.Common.{◌≡◌, ◌≤◌, ◌<◌, ◌⊎◌, inl, inr, ◌*◌, ◌/◌, ◌%◌, ◌^◌, ℕ, zero, suc, List, [], ◌∷◌, length, get_or, slice_index, sum, ap, ◌∙◌, arith}
+use Rattle.std.proofs.Common.{◌≡◌, ◌≤◌, ◌<◌, ◌⊎◌, inl, inr, ◌*◌, ◌/◌, ◌%◌, ◌^◌, ℕ, zero, suc, Bool, true, false, List, [], ◌∷◌, length, get_or, slice_index, sum, ap, ◌∙◌, arith}
+use Rattle.std.specs.Prelude.{if◌then◌else◌}
 use Rattle.std.specs.List.{All, fold, sum_by}
 use Rattle.std.proofs.Math.Nat.{div-add-mod', div-le_self}
 use Rattle.std.proofs.lemmas.Bool.{cases_lt}
 use Rattle.std.proofs.lemmas.List.{get_or_past, length-map}
 use Rattle.std.proofs.lemmas.List.Elements.{All-cons, All-get_or, All-head, All-map, All-nil, All-tail, All-weaker}
 use Rattle.std.proofs.lemmas.List.Sums.{sum-map, sum_by-cons, sum_by-le}
-use Rattle.air_base.specs.declared.limits.TheConstants.{MOST_RATE, MOST_SLOTS}
+use Rattle.air_base.specs.declared.limits.TheConstants.{MOST_FULL_ITEMS, MOST_ITEMS, MOST_RATE, MOST_SLOTS}
+use Rattle.air_model.specs.Buckets.{has_ages}
 use Rattle.air_model.specs.Decks.{Deck, IsDeck, Item, rates_in}
 use Rattle.air_model.specs.Disks.{DiskSpec, order}
 use Rattle.air_model.specs.Programs.{least_common_multiple}
@@ -36,12 +38,20 @@ sum_small deck few =
     let long : length (order (rates_in deck)) ≡ length deck.items = length-order (rates_in deck) ∙ length-map deck.items (λ (i : Item). i.rate) in
     let grows = ap (λ n. n * MOST_RATE) long in omega arith
 
+-- A deck has no more items than any version takes.
+pub few_items : (deck : Deck) → IsDeck deck → length deck.items ≤ MOST_ITEMS
+few_items deck made = by (has_ages deck.settings.version) made.most
+  where
+    by : (b : Bool) → length deck.items ≤ (if b then MOST_ITEMS else MOST_FULL_ITEMS) → length deck.items ≤ MOST_ITEMS
+    by true most = most
+    by false most = omega arith
+
 pub hot_small : (deck : Deck) → IsDeck deck → WithinLimits deck → sum (hot_rates deck) < 2 ^ 32
-hot_small deck made within = let small = sum_small deck within.rates in let most = made.most in omega arith
+hot_small deck made within = let small = sum_small deck within.rates in let most = few_items deck made in omega arith
 
 pub are_deck_sums : (deck : Deck) → IsDeck deck → WithinLimits deck → AreSums (deck_sums deck)
 are_deck_sums deck made within =
-    are_sums (hot_rates deck) (let most = made.most in let long = length-hot_rates deck in omega arith) (hot_small deck made within)
+    are_sums (hot_rates deck) (let most = few_items deck made in let long = length-hot_rates deck in omega arith) (hot_small deck made within)
 
 -- ---- the chunks
 at_least : (n m : ℕ) → 0 < n → n % m ≡ 0 → m ≤ n
@@ -73,7 +83,7 @@ freqs_below a (d ∷ ds) some aired =
     All-cons (λ (x : DiskSpec). x.freq ≤ common_after (least_common_multiple a d.freq) ds) d ds (omega arith) (freqs_below (least_common_multiple a d.freq) ds pos tail)
 
 aired_disks : (deck : Deck) → IsDeck deck → All (λ (d : DiskSpec). 0 < d.freq) deck.disks
-aired_disks deck made = All-weaker (λ (d : DiskSpec). (0 < d.size) × (0 < d.freq)) (λ (d : DiskSpec). 0 < d.freq) (λ d both. both.1) deck.disks made.aired
+aired_disks deck made = All-weaker (λ (d : DiskSpec). (0 < d.size) × (0 < d.freq)) (λ (d : DiskSpec). 0 < d.freq) (λ d both. both.1) deck.disks (made.aired 0 (omega arith))
 
 some_chunk : (n f : ℕ) → 0 < f → f ≤ n → 1 ≤ n / f
 some_chunk n f some within = fits_quotient n f 1 some (omega arith)
@@ -104,11 +114,11 @@ filled_disks (d ∷ ds) aired =
 
 -- There are no more disks than items.
 pub few_disks : (deck : Deck) → IsDeck deck → length deck.disks ≤ length deck.items
-few_disks deck made = let few = filled_disks deck.disks made.aired in let all = made.sizes in omega arith
+few_disks deck made = let few = filled_disks deck.disks (made.aired 0 (omega arith)) in let all = made.sizes 0 (omega arith) in omega arith
 
 -- There is a disk.
 pub some_disks : (deck : Deck) → IsDeck deck → 1 ≤ length deck.disks
-some_disks deck made = by deck.disks (let all = made.sizes in let some = made.some in omega arith)
+some_disks deck made = by deck.disks (let all = made.sizes 0 (omega arith) in let some = made.some in omega arith)
   where
     by : (disks : List DiskSpec) → 0 < sum_by (λ (d : DiskSpec). d.size) disks → 1 ≤ length disks
     by [] some = absurd (omega arith)

@@ -22,11 +22,12 @@ abbrev deck_of : List ℕ → List DiskSpec → Deck
 deck_of rates disks = record {
   items = map (λ rate. record { value = 0; rate = rate }) rates;
   disks = disks;
+  replans = [];
   updates = [];
   readers = [];
   queries = [];
   script = [];
-  settings = record { policy = FMatrix; cycles = 10; seed = 0; loss = 0; again = 0; late = 0; monitors = 0; hears = 1000000 };
+  settings = record { policy = FMatrix; version = 1; cycles = 10; seed = 0; loss = 0; again = 0; late = 0; monitors = 0; hears = 1000000 };
 }
 
 -- A disk of this size and this frequency.

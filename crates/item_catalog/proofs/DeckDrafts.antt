@@ -9,10 +9,11 @@ use Rattle.air_history.specs.UpdateLists.{UpdateLists}
 use Rattle.air_model.specs.declared.deck.ReaderPlan.{ReaderPlan}
 use Rattle.air_model.specs.declared.deck.Settings.{Settings}
 use Rattle.air_model.specs.Disks.{DiskSpec}
-use Rattle.air_model.specs.Decks.{Deck, Item}
+use Rattle.air_model.specs.Decks.{Deck, IsPlain, Item, Replan}
 use Rattle.item_catalog.specs.Declarations.{Declaration}
 use Rattle.item_catalog.specs.Declarations as e
 use Rattle.item_catalog.specs.Decks.{plain_item, with_freqs}
+use Rattle.item_catalog.specs.Settings.{settings_in}
 use Rattle.item_catalog.specs.Private.Drafts.{DraftValue, deck_from, draft_of, push_at, with_declaration}
 use Rattle.item_catalog.specs.declared.parts.ItemPart.{ItemPart}
 use Rattle.item_catalog.specs.declared.parts.DiskPart.{DiskPart}
@@ -271,11 +272,15 @@ disks_same delta (d ∷ disks) = ap (λ l. d ∷ l) (disks_same delta disks)
 front_taken : {A : Type 0} (xs pad : List A) (k : ℕ) → k ≡ length xs → take k (xs ++ pad) ≡ xs
 front_taken xs pad k e = take-append-le k xs pad (omega arith) ∙ take_all k xs (omega arith)
 
-deck_same : {i j : List Item} {d c : List DiskSpec} {u v : List (List UpdateLists)} {r : List ReaderPlan} {q p : List (List (List ℕ))} {x : List (Option ℕ)} {t : Settings}
-    → i ≡ j → d ≡ c → u ≡ v → q ≡ p
-    → ◌≡◌ {A = Deck} (record { items = i; disks = d; updates = u; readers = r; queries = q; script = x; settings = t }) (record { items = j; disks = c; updates = v; readers = r; queries = p; script = x; settings = t })
-deck_same h1 h2 h3 h4 = cc
+deck_same : {i j : List Item} {d c : List DiskSpec} {u v : List (List UpdateLists)} {r : List ReaderPlan} {q p : List (List (List ℕ))} {x : List (Option ℕ)} {t s : Settings} {f g : List Replan}
+    → i ≡ j → d ≡ c → f ≡ g → u ≡ v → q ≡ p → t ≡ s
+    → ◌≡◌ {A = Deck} (record { items = i; disks = d; replans = f; updates = u; readers = r; queries = q; script = x; settings = t }) (record { items = j; disks = c; replans = g; updates = v; readers = r; queries = p; script = x; settings = s })
+deck_same h1 h2 h3 h4 h5 h6 = cc
 
-pub deck_back : (deck : Deck) → all_named 0 deck.updates ≡ length deck.updates → length deck.queries ≡ length deck.readers → deck_from (whole_draft deck) ≡ deck
-deck_back deck updaters_named asked =
-    deck_same (items_same 0 deck.items) (disks_same 0 deck.disks) (front_taken deck.updates (more_updaters deck) (max 0 (all_named 0 deck.updates)) (omega arith)) (front_taken deck.queries (more_readers deck) (length deck.readers) (sym asked))
+-- Settings of version 1 are those that are all set.
+plain_settings : (s : Settings) → s.version ≡ 1 → settings_in (all_set s) ≡ s
+plain_settings s one = rw (← one) refl
+
+pub deck_back : (deck : Deck) → all_named 0 deck.updates ≡ length deck.updates → length deck.queries ≡ length deck.readers → IsPlain deck → deck_from (whole_draft deck) ≡ deck
+deck_back deck updaters_named asked plain =
+    deck_same (items_same 0 deck.items) (disks_same 0 deck.disks) (sym plain.1) (front_taken deck.updates (more_updaters deck) (max 0 (all_named 0 deck.updates)) (omega arith)) (front_taken deck.queries (more_readers deck) (length deck.readers) (sym asked)) (plain_settings deck.settings plain.0)

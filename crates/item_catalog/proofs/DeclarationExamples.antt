@@ -9,7 +9,7 @@ use Rattle.item_catalog.specs.Declarations.{Declaration, disk_by, declaration_by
 use Rattle.item_catalog.specs.Fields.{freq_of, spelled_event}
 use Rattle.item_catalog.specs.RecordFields.{◌is◌, four_of, seven_of, six_of}
 use Rattle.item_catalog.specs.Settings.{NumberSetting, default_of, name_of, number_in, number_said, number_set, number_setting, policy_in, range_of, same_name, same_setting, setting_of, settings_in, spelled_policy}
-use Rattle.item_catalog.specs.Spelled.{◌>>=◌, or_fault}
+use Rattle.item_catalog.specs.Spelled.{spelled_then as ◌>>=◌, or_fault}
 use Rattle.item_catalog.specs.Tags.{by_tag}
 use Rattle.item_catalog.specs.Writes.{constant, spelled_value_write, spelled_write, write_by, write_from, write_on_base}
 use Rattle.item_catalog.specs.declared.deck.draft.settings.Name.TheVariants.{Cycles, Delta, Hears, Loss, Monitors}
@@ -161,7 +161,7 @@ pub record SettingsSet : Type 0 where
   policy : policy_in (setting.Number Loss 3 ∷ setting.Policy RMatrix ∷ []) ≡ RMatrix
   no_policy : policy_in [] ≡ FMatrix
   all_set : settings_in (setting.Policy Datacycle ∷ setting.Number Loss 3 ∷ setting.Number Cycles 2 ∷ [])
-      ≡ record { policy = Datacycle; cycles = 2; seed = 0; loss = 3; again = 0; late = 0; monitors = 0; hears = 1000000 }
+      ≡ record { policy = Datacycle; version = 1; cycles = 2; seed = 0; loss = 3; again = 0; late = 0; monitors = 0; hears = 1000000 }
 
 settings : SettingsSet
 unfolding number_of

@@ -1,6 +1,6 @@
 -- The deck of a drill is well made, and within the limits: for sizes from 1 to 100.
-use Rattle.std.proofs.Common.{◌≡◌, ◌<◌, ◌≤◌, ◌-◌, ◌*◌, ◌/◌, ◌^◌, ◌∷◌, [], ℕ, List, Option, length, map, sym, ap, subst, ◌∙◌, arith}
-use Rattle.std.specs.Prelude.{All}
+use Rattle.std.proofs.Common.{◌≡◌, ◌<◌, ◌≤◌, ◌-◌, ◌*◌, ◌/◌, ◌^◌, ◌∷◌, [], ℕ, List, Option, length, map, sym, ap, subst, ◌∙◌, arith, inl, refl}
+use Rattle.std.specs.Prelude.{All, sum_by}
 use Rattle.std.specs.List.{range_with_len}
 use Rattle.std.proofs.lemmas.List.Elements.{All-cons, All-map, All-nil, All-replicate, All-weaker}
 use Rattle.std.proofs.lemmas.List.FromFn.{length-map-range_with_len}
@@ -14,6 +14,7 @@ use Rattle.air_model.specs.Decks.{Deck, IsDeck, IsQuery, IsUpdate, Item}
 use Rattle.air_model.specs.Draws.{Draw, ◌>>=◌, draw, draw_each, generator, gives, go_on}
 use Rattle.air_model.specs.Drills.{dealt_to, draw_item, draw_query, draw_update, drill_deck, drill_disks, drill_items, drill_of, drill_script}
 use Rattle.item_catalog.specs.DeckLimits.{DiskWithin, ReaderWithin, WithinLimits, is_start_part}
+use Rattle.air_model.proofs.DeckLemmas.{each_edition}
 use Rattle.item_catalog.proofs.AroundLemmas.{range_all}
 use Rattle.item_catalog.proofs.DealLemmas.{dealt_all, dealt_few, script_fits, script_short}
 use Rattle.item_catalog.proofs.DrawLemmas.{draw_below, drawn_all, length-draw_each}
@@ -21,7 +22,7 @@ use Rattle.item_catalog.proofs.DrawnLemmas.{query_drawn, query_short, update_dra
 
 -- A deck of its parts.
 abbrev pub deck_by : List Item → List DiskSpec → List (List UpdateLists) → List ReaderPlan → List (List (List ℕ)) → List (Option ℕ) → Settings → Deck
-deck_by items disks updates readers queries script settings = record { items = items; disks = disks; updates = updates; readers = readers; queries = queries; script = script; settings = settings }
+deck_by items disks updates readers queries script settings = record { items = items; disks = disks; replans = []; updates = updates; readers = readers; queries = queries; script = script; settings = settings }
 
 -- The items, updates and queries of a drill are as many as they are to be, and each is within its limits.
 pub record AreDrawn (size : ℕ) (items : List Item) (updates : List UpdateLists) (queries : List (List (List ℕ))) : Type 0 where
@@ -44,19 +45,24 @@ disks_all P n a b c = three_all P (record { size = n / 8; freq = 4 }) (record { 
 pub made : (seed size : ℕ) (items : List Item) (updates : List UpdateLists) (queries : List (List (List ℕ))) →
     1 ≤ size → size ≤ 100 → AreDrawn size items updates queries → IsDeck (drill_of seed size items updates queries)
 made seed size items updates queries some few d =
-    let n = drill_items size in
+    let n = drill_items size in let deck = drill_of seed size items updates queries in
     let each = λ (P : UpdateLists → Type 0) (all : All P updates). All-map (All P) (dealt_to updates) (range_with_len 0 4) (range_all (λ by. All P (dealt_to updates by)) 0 4 (λ by low high. dealt_all P updates by all)) in
     record {
       some = omega (arith, d.count);
       most = omega (arith, d.count);
       values = d.values;
-      sizes = omega (arith, d.count);
-      aired = disks_all (λ d. (0 < d.size) × (0 < d.freq)) n (omega arith, omega arith) (omega arith, omega arith) (omega arith, omega arith);
+      version = inl refl;
+      sizes = each_edition (λ specs. sum_by (λ d. d.size) specs ≡ length items) deck refl (omega (arith, d.count));
+      aired = each_edition (All (λ d. (0 < d.size) × (0 < d.freq))) deck refl (disks_all (λ d. (0 < d.size) × (0 < d.freq)) n (omega arith, omega arith) (omega arith, omega arith) (omega arith, omega arith));
+      few = omega arith;
+      from_two = All-nil (λ r. 2 ≤ r.cycle);
+      rising = λ i j x less within. absurd (omega arith);
       updates = each (IsUpdate (length items)) (subst (λ m. All (IsUpdate m) updates) (sym d.count) d.updates_made);
       readers = d.query_count;
       tries = All-replicate (λ (r : ReaderPlan). 1 ≤ r.tries) 8 (record { room = 4; age = 8; tries = 3 }) (omega arith);
       queries = subst (λ m. All (All (IsQuery m)) queries) (sym d.count) d.queries_made;
       script = λ by. script_fits updates (10 * size) by d.update_count;
+      plain = (refl, refl);
     }
 
 pub within : (seed size : ℕ) (items : List Item) (updates : List UpdateLists) (queries : List (List (List ℕ))) →

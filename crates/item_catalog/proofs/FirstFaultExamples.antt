@@ -64,11 +64,12 @@ abbrev small : Deck
 small = record {
   items = record { value = 10; rate = 1 } ∷ [];
   disks = record { size = 1; freq = 1 } ∷ [];
+  replans = [];
   updates = [];
   readers = [];
   queries = [];
   script = [];
-  settings = record { policy = FMatrix; cycles = 10; seed = 0; loss = 0; again = 0; late = 0; monitors = 0; hears = 1000000 };
+  settings = record { policy = FMatrix; version = 1; cycles = 10; seed = 0; loss = 0; again = 0; late = 0; monitors = 0; hears = 1000000 };
 }
 
 spell : RowsSpell (item0 ∷ disk1 ∷ []) small

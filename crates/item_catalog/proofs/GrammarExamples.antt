@@ -59,11 +59,12 @@ whole = item0 ∷ item1 ∷ disk2 ∷ update0 ∷ reader0 ∷ query0 ∷ script0
 whole_deck : deck_of (declarations_in whole) ≡ record {
   items = record { value = 10; rate = 1 } ∷ record { value = 20; rate = 1 } ∷ [];
   disks = record { size = 2; freq = 1 } ∷ [];
+  replans = [];
   updates = (record { reads = 0 ∷ []; writes = record { item = 1; base = Some 0; minus = false; amount = 5 } ∷ [] } ∷ []) ∷ [];
   readers = record { room = 0; age = 0; tries = 3 } ∷ [];
   queries = ((1 ∷ 0 ∷ []) ∷ []) ∷ [];
   script = None ∷ Some 0 ∷ None ∷ [];
-  settings = record { policy = FMatrix; cycles = 10; seed = 0; loss = 0; again = 0; late = 0; monitors = 0; hears = 1000000 };
+  settings = record { policy = FMatrix; version = 1; cycles = 10; seed = 0; loss = 0; again = 0; late = 0; monitors = 0; hears = 1000000 };
 }
 unfolding number_of spelled_value_write spelled_write spelled_event freq_of all_some
 whole_deck = refl

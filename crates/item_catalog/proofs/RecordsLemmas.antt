@@ -4,7 +4,7 @@ use Rattle.std.specs.Prelude.{IsSome}
 use Rattle.csv.specs.Reading.{ReadRecord, Reached, default_config}
 use Rattle.csv.specs.declared.reader.Reader.{Reader}
 use Rattle.csv.proofs.ReadFacts.{rows-end, rows-more}
-use Rattle.item_catalog.specs.RecordsView.{IsPlain, bytes_left, records_left}
+use Rattle.item_catalog.specs.RecordsView.{ReadsPlainRows, bytes_left, records_left}
 use Rattle.item_catalog.proofs.RowLemmas.{none_left, rows_left}
 
 -- The bytes under a reader.
@@ -15,7 +15,7 @@ known_left : (o : Option (List ℕ)) → IsSome o → (xs : List ℕ) × (o ≡ 
 known_left None h = cc h
 known_left (Some xs) h = (xs, refl)
 
-module _ (old new : Reader (Bor (List ℕ))) (row : List (List ℕ)) (plain : IsPlain old) where
+module _ (old new : Reader (Bor (List ℕ))) (row : List (List ℕ)) (plain : ReadsPlainRows old) where
   given : ReadRecord under old new true row → records_left old.state (bytes_left old) ≡ row ∷ records_left new.state (bytes_left new)
   unfolding Reached
   given read =

@@ -32,7 +32,7 @@ unfolding deck_text
 deck_spelled deck made within last =
     let text = rows_text (map declaration_row (deck_declarations deck)) in
     let drafted = deck_drafted deck within.updaters (few_queries deck made within) in
-    subst (λ d. Spells text d) (deck_back deck (every_named deck.updates last) made.readers)
+    subst (λ d. Spells text d) (deck_back deck (every_named deck.updates last) made.readers made.plain)
     (declarations_spell (deck_declarations deck) (whole_draft deck) drafted (deck_passes deck made within) (end_none deck made within))
 
 -- ---- what a text spells

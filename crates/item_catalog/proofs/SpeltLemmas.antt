@@ -7,7 +7,7 @@ use Rattle.air_base.specs.NumberLists.{list_of, parts_of}
 use Rattle.air_base.specs.declared.verdicts.Policy.{Policy}
 use Rattle.air_history.specs.declared.updates.Write.{Write}
 use Rattle.item_catalog.specs.declared.faults.FaultKind.TheVariants as fault
-use Rattle.item_catalog.specs.Spelled.{◌>>=◌, or_fault}
+use Rattle.item_catalog.specs.Spelled.{or_fault, spelled_then}
 use Rattle.item_catalog.specs.Declarations.{Declaration, disk_by, declaration_by, item_by, query_by, reader_by, script_by, set_by, spelled_declaration, tag_of, update_by}
 use Rattle.item_catalog.specs.Declarations as e
 use Rattle.item_catalog.specs.RecordFields.{◌is◌}
@@ -54,7 +54,7 @@ item_spelt : (f : Option (List ℕ × List ℕ × List ℕ)) (x : Declaration) �
 item_spelt None x h = cc h
 item_spelt (Some f) x h = by (number_of f.0) (number_of f.1) (number_of f.2) refl h
   where
-    by : (a b c : Option ℕ) → number_of f.1 ≡ b → or_fault fault.Form (a >>= λ id. b >>= λ value. c >>= λ rate. Some (e.Item id value rate)) ≡ Ok x → Spelt x
+    by : (a b c : Option ℕ) → number_of f.1 ≡ b → or_fault fault.Form (spelled_then a λ id. spelled_then b λ value. spelled_then c λ rate. Some (e.Item id value rate)) ≡ Ok x → Spelt x
     by None b c e1 h = cc h
     by (Some id) None c e1 h = cc h
     by (Some id) (Some value) None e1 h = cc h
@@ -64,7 +64,7 @@ disk_spelt : (f : Option (List ℕ × List ℕ)) (x : Declaration) → disk_by f
 disk_spelt None x h = cc h
 disk_spelt (Some f) x h = by (number_of f.0) (freq_of f.1) h
   where
-    by : (a : Option ℕ) (b : Option (Option ℕ)) → or_fault fault.Form (a >>= λ size. b >>= λ freq. Some (e.Disk size freq)) ≡ Ok x → Spelt x
+    by : (a : Option ℕ) (b : Option (Option ℕ)) → or_fault fault.Form (spelled_then a λ size. spelled_then b λ freq. Some (e.Disk size freq)) ≡ Ok x → Spelt x
     by None b h = cc h
     by (Some size) None h = cc h
     by (Some size) (Some freq) h = let same : e.Disk size freq ≡ x = cc h in rw (← same) tt
@@ -78,7 +78,7 @@ update_spelt : (f : Option (List ℕ × List ℕ × List ℕ)) (x : Declaration)
 update_spelt None x h = cc h
 update_spelt (Some f) x h = by (number_of f.0) (list_of number_of f.1) (list_of spelled_write f.2) refl h
   where
-    by : (a : Option ℕ) (b : Option (List ℕ)) (c : Option (List Write)) → list_of spelled_write f.2 ≡ c → or_fault fault.Form (a >>= λ by. b >>= λ reads. c >>= λ writes. Some (e.Update by reads writes)) ≡ Ok x → Spelt x
+    by : (a : Option ℕ) (b : Option (List ℕ)) (c : Option (List Write)) → list_of spelled_write f.2 ≡ c → or_fault fault.Form (spelled_then a λ by. spelled_then b λ reads. spelled_then c λ writes. Some (e.Update by reads writes)) ≡ Ok x → Spelt x
     by None b c e1 h = cc h
     by (Some a) None c e1 h = cc h
     by (Some a) (Some rs) None e1 h = cc h
@@ -88,7 +88,7 @@ reader_spelt : (f : Option (List ℕ × List ℕ × List ℕ)) (x : Declaration)
 reader_spelt None x h = cc h
 reader_spelt (Some f) x h = by (number_of f.0) (number_of f.1) (number_of f.2) h
   where
-    by : (a b c : Option ℕ) → or_fault fault.Form (a >>= λ room. b >>= λ age. c >>= λ tries. Some (e.Reader room age tries)) ≡ Ok x → Spelt x
+    by : (a b c : Option ℕ) → or_fault fault.Form (spelled_then a λ room. spelled_then b λ age. spelled_then c λ tries. Some (e.Reader room age tries)) ≡ Ok x → Spelt x
     by None b c h = cc h
     by (Some a) None c h = cc h
     by (Some a) (Some b) None h = cc h
@@ -98,7 +98,7 @@ query_spelt : (f : Option (List ℕ × List ℕ)) (x : Declaration) → query_by
 query_spelt None x h = cc h
 query_spelt (Some f) x h = by (number_of f.0) (list_of number_of f.1) h
   where
-    by : (a : Option ℕ) (b : Option (List ℕ)) → or_fault fault.Form (a >>= λ reader. b >>= λ items. Some (e.Query reader items)) ≡ Ok x → Spelt x
+    by : (a : Option ℕ) (b : Option (List ℕ)) → or_fault fault.Form (spelled_then a λ reader. spelled_then b λ items. Some (e.Query reader items)) ≡ Ok x → Spelt x
     by None b h = cc h
     by (Some a) None h = cc h
     by (Some a) (Some b) h = let same : e.Query a b ≡ x = cc h in rw (← same) tt
@@ -107,7 +107,7 @@ script_spelt : (f : Option (List ℕ)) (x : Declaration) → script_by f ≡ Ok 
 script_spelt None x h = cc h
 script_spelt (Some f) x h = by (list_of spelled_event f) h
   where
-    by : (a : Option (List (Option ℕ))) → or_fault fault.Form (a >>= λ events. Some (e.Script events)) ≡ Ok x → Spelt x
+    by : (a : Option (List (Option ℕ))) → or_fault fault.Form (spelled_then a λ events. Some (e.Script events)) ≡ Ok x → Spelt x
     by None h = cc h
     by (Some a) h = let same : e.Script a ≡ x = cc h in rw (← same) tt
 
@@ -115,7 +115,7 @@ set_spelt : (f : Option (List ℕ × List ℕ)) (x : Declaration) → set_by f �
 set_spelt None x h = cc h
 set_spelt (Some f) x h = by (setting_of f.0 f.1) refl h
   where
-    by : (a : Option Setting) → setting_of f.0 f.1 ≡ a → or_fault fault.Setting (a >>= λ s. Some (e.Set s)) ≡ Ok x → Spelt x
+    by : (a : Option Setting) → setting_of f.0 f.1 ≡ a → or_fault fault.Setting (spelled_then a λ s. Some (e.Set s)) ≡ Ok x → Spelt x
     by None e1 h = cc h
     by (Some s) e1 h = let same : e.Set s ≡ x = cc h in rw (← same) (setting_in_range f.0 f.1 s e1)
 

@@ -12,11 +12,12 @@ deck : Deck
 deck = record {
   items = record { value = 10; rate = 1 } ∷ record { value = 20; rate = 1 } ∷ [];
   disks = record { size = 2; freq = 1 } ∷ [];
+  replans = [];
   updates = (record { reads = 1 ∷ []; writes = record { item = 0; base = Some 1; minus = false; amount = 5 } ∷ [] } ∷ []) ∷ [];
   readers = record { room = 0; age = 0; tries = 1 } ∷ [];
   queries = ((0 ∷ 1 ∷ []) ∷ []) ∷ [];
   script = None ∷ Some 0 ∷ [];
-  settings = record { policy = FMatrix; cycles = 10; seed = 0; loss = 0; again = 0; late = 0; monitors = 0; hears = 1000000 };
+  settings = record { policy = FMatrix; version = 1; cycles = 10; seed = 0; loss = 0; again = 0; late = 0; monitors = 0; hears = 1000000 };
 }
 
 -- A line of the text.

@@ -5,10 +5,10 @@ use Rattle.std.specs.List.{range_with_len}
 use Rattle.std.proofs.lemmas.Bool.{cases_lt}
 use Rattle.std.proofs.lemmas.Bool.Decides.{nat_tests}
 use Rattle.std.proofs.lemmas.List.{get_or-take, length-map, length-take-le}
-use Rattle.std.proofs.lemmas.List.Elements.{All-map}
+use Rattle.std.proofs.lemmas.List.Elements.{All-map, All-nil}
 use Rattle.std.proofs.lemmas.List.Sums.{sum_by-cons}
 use Rattle.std.proofs.lemmas.Nat.{mul-le}
-use Rattle.air_base.specs.declared.limits.TheConstants.{MOST_ASKED, MOST_DELTA, MOST_DISKS, MOST_FREQ, MOST_RATE, MOST_SIZE, MOST_UPDATERS}
+use Rattle.air_base.specs.declared.limits.TheConstants.{MOST_ASKED, MOST_DELTA, MOST_DISKS, MOST_FREQ, MOST_FULL_ITEMS, MOST_RATE, MOST_UPDATERS}
 use Rattle.air_model.specs.Decks.{Deck, IsDeck, IsQuery, IsUpdate, Item, count_parts}
 use Rattle.air_history.specs.UpdateLists.{UpdateLists}
 use Rattle.air_model.specs.declared.deck.ReaderPlan.{ReaderPlan}
@@ -30,6 +30,7 @@ use Rattle.item_catalog.specs.declared.deck.draft.settings.Name.{Name}
 use Rattle.item_catalog.specs.declared.deck.draft.settings.Name.TheVariants as n
 use Rattle.item_catalog.specs.declared.deck.draft.settings.Setting.{Setting}
 use Rattle.item_catalog.specs.declared.deck.draft.settings.Setting.TheVariants as setting
+use Rattle.air_model.proofs.DeckLemmas.{each_edition}
 use Rattle.item_catalog.proofs.DiskLemmas.{freqs_len}
 use Rattle.item_catalog.proofs.DeclarationLemmas.{none_of_two, or_none}
 use Rattle.item_catalog.proofs.KeptLemmas.{DiskKept, InRange, Kept}
@@ -89,7 +90,7 @@ settings_fit set all =
 
 record SpecKept (d : DiskSpec) : Type 0 where
   some : 0 < d.size
-  few : d.size ≤ MOST_SIZE
+  few : d.size ≤ MOST_FULL_ITEMS
   often : 0 < d.freq
   seldom : d.freq ≤ MOST_FREQ
 
@@ -170,13 +171,18 @@ module _ (d : DraftValue) (k : Kept d) (end : first_of (end_tests (length d.item
         some = let some = e.some in omega (arith, items_len);
         most = let few = k.items.few in omega (arith, items_len);
         values = All-map (λ (i : Item). i.value < 2 ^ 64) plain_item d.items (λ i x below. (k.items.each i x below).0);
-        sizes = sizes_same (number_in n.Delta d.set) d.disks ∙ e.sizes ∙ sym items_len;
-        aired = λ i x below. let s = specs i x below in (s.some, s.often);
+        version = inl refl;
+        sizes = each_edition (λ specs. sum_by (λ d. d.size) specs ≡ length (map plain_item d.items)) (deck_from d) refl (sizes_same (number_in n.Delta d.set) d.disks ∙ e.sizes ∙ sym items_len);
+        aired = each_edition (All (λ d. (0 < d.size) × (0 < d.freq))) (deck_from d) refl (λ i x below. let s = specs i x below in (s.some, s.often));
+        few = omega arith;
+        from_two = All-nil (λ r. 2 ≤ r.cycle);
+        rising = λ i j d less within. absurd (omega arith);
         updates = rw items_len (all_take (All (IsUpdate (length d.items))) d.updaters d.updates k.updates.each);
         readers = queries_len;
         tries = λ i x below. (k.readers.each i x below).some;
         queries = rw items_len (all_take (All (IsQuery (length d.items))) (length d.readers) d.queries (λ i x below. λ j y inside. (k.queries.each i x below j y inside).query));
         script = fits;
+        plain = (refl, refl);
       }
 
   pub within : WithinLimits (deck_from d)
@@ -198,7 +204,7 @@ module _ (d : DraftValue) (k : Kept d) (end : first_of (end_tests (length d.item
 -- The deck of the parts is the deck of the declarations.
 same_deck : {i j : List Item} {d e : List DiskSpec} {u v : List (List UpdateLists)} {r s : List ReaderPlan} {q p : List (List (List ℕ))} {x y : List (Option ℕ)} {t w : Settings}
     → i ≡ j → d ≡ e → u ≡ v → r ≡ s → q ≡ p → x ≡ y → t ≡ w
-    → ◌≡◌ {A = Deck} (record { items = i; disks = d; updates = u; readers = r; queries = q; script = x; settings = t }) (record { items = j; disks = e; updates = v; readers = s; queries = p; script = y; settings = w })
+    → ◌≡◌ {A = Deck} (record { items = i; disks = d; replans = []; updates = u; readers = r; queries = q; script = x; settings = t }) (record { items = j; disks = e; replans = []; updates = v; readers = s; queries = p; script = y; settings = w })
 same_deck h1 h2 h3 h4 h5 h6 h7 = cc
 
 pub deck_same : (es : List Declaration) → Kept (draft_of es) → deck_from (draft_of es) ≡ deck_of es

@@ -1,5 +1,5 @@
 -- What contracts see of the fields of a deck, and what these keep.
-use Rattle.std.specs.Prelude.{◌≡◌, ◌≤◌, map}
+use Rattle.std.specs.Prelude.{◌≡◌, ◌≤◌, [], map}
 use Rattle.air_base.specs.declared.limits.TheConstants.{MOST_DELTA}
 use Rattle.air_model.specs.Decks.{Deck, IsDeck}
 use Rattle.item_catalog.specs.DeckLimits.{WithinLimits, script_starts}
@@ -11,6 +11,7 @@ abbrev pub deck_seen : Inside → Deck
 deck_seen d = record {
   items = map plain_item d.items.items;
   disks = with_freqs d.delta d.disks.items;
+  replans = [];
   updates = d.updates.items;
   readers = d.readers.items;
   queries = d.queries.items;

@@ -30,6 +30,7 @@ abbrev pub deck_of : List Declaration → Deck
 deck_of declarations = record {
   items = map plain_item (items_in declarations);
   disks = with_freqs (number_in Delta (set_in declarations)) (disk_parts_in declarations);
+  replans = [];
   updates = for_each (updaters_in declarations) (updates_in declarations);
   readers = readers_in declarations;
   queries = for_each (length (readers_in declarations)) (queries_in declarations);

@@ -9,7 +9,7 @@ use Rattle.air_base.specs.Pieces.{one_of, two_of, three_of}
 use Rattle.air_history.specs.declared.updates.Write.{Write}
 use Rattle.item_catalog.specs.Writes.{spelled_write}
 use Rattle.item_catalog.specs.RecordFields.{◌is◌}
-use Rattle.item_catalog.specs.Spelled.{◌>>=◌, or_fault}
+use Rattle.item_catalog.specs.Spelled.{spelled_then as ◌>>=◌, or_fault}
 use Rattle.item_catalog.specs.Tags.{by_tag}
 use Rattle.item_catalog.specs.Fields.{freq_of, spelled_event}
 use Rattle.item_catalog.specs.Settings.{setting_of}

@@ -6,7 +6,7 @@
 use Rattle.std.specs.Prelude.{◌+◌, ◌==◌, ◌||◌, ◌++◌, ℕ, zero, suc, List, [], ◌∷◌, Bool, false, not, Option, Some, None, Result, length, take, nat_lt, nat_le, map, count_by, slice_get}
 use Rattle.std.specs.List.{list_any, filter_map, sum_by}
 use Rattle.std.specs.Result.{result_ok}
-use Rattle.air_base.specs.declared.limits.TheConstants.{MOST_AGE, MOST_ASKED, MOST_DISKS, MOST_EVENTS, MOST_FREQ, MOST_ITEMS, MOST_QUERIES, MOST_RATE, MOST_READERS, MOST_READS, MOST_ROOM, MOST_SIZE, MOST_STARTS, MOST_TRIES, MOST_UPDATERS, MOST_UPDATES, MOST_WRITES}
+use Rattle.air_base.specs.declared.limits.TheConstants.{MOST_AGE, MOST_ASKED, MOST_DISKS, MOST_EVENTS, MOST_FREQ, MOST_FULL_ITEMS, MOST_QUERIES, MOST_RATE, MOST_READERS, MOST_READS, MOST_ROOM, MOST_STARTS, MOST_TRIES, MOST_UPDATERS, MOST_UPDATES, MOST_WRITES}
 use Rattle.air_history.specs.declared.updates.Write.{Write}
 use Rattle.air_history.specs.UpdateRules.{has_repeat, written_item}
 use Rattle.air_model.specs.Decks.{count_parts}
@@ -37,12 +37,12 @@ count_starts events = count_by is_start_part events
 abbrev pub item_tests : ℕ → ℕ → ℕ → List (FaultKind × Bool)
 item_tests items id rate =
     (fault.Id, not (id == items)) ∷
-    (fault.Limit, nat_lt MOST_RATE rate || nat_le MOST_ITEMS items) ∷ []
+    (fault.Limit, nat_lt MOST_RATE rate || nat_le MOST_FULL_ITEMS items) ∷ []
 
 -- The tests of a disk after so many disks.
 abbrev pub disk_tests : ℕ → ℕ → Option ℕ → List (FaultKind × Bool)
 disk_tests disks size freq =
-    (fault.Limit, outside 1 MOST_SIZE size || option_any (outside 1 MOST_FREQ) freq || nat_le MOST_DISKS disks) ∷ []
+    (fault.Limit, outside 1 MOST_FULL_ITEMS size || option_any (outside 1 MOST_FREQ) freq || nat_le MOST_DISKS disks) ∷ []
 
 -- The tests of an update after so many items and updates.
 abbrev pub update_tests : ℕ → ℕ → ℕ → List ℕ → List Write → List (FaultKind × Bool)

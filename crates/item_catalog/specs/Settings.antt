@@ -89,6 +89,7 @@ policy_in (setting.Number name n ∷ settings) = policy_in settings
 abbrev pub settings_in : List Setting → Settings
 settings_in set = record {
   policy = policy_in set;
+  version = 1;
   cycles = number_in Cycles set;
   seed = number_in Seed set;
   loss = number_in Loss set;

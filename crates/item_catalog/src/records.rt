@@ -46,19 +46,18 @@ impl<'a> Records<'a> {
         }
     }
 
-    /// Takes the next record, and answers whether there is one.
+    /// Takes the next record, and answers whether there is one. Out of memory the row has no field.
     pub fn next(&mut self, row: &mut ByteRecord) -> Result<bool, NoMemory>
-        ensures { MatchResult result (λ found. self.old ≡ (if found then fields_of row.new ∷ self.new else [])) (λ _. self.new ≡ []) }
+        ensures { MatchResult result (λ found. self.old ≡ (if found then fields_of row.new ∷ self.new else [])) (λ _. (self.new ≡ []) × (fields_of row.new ≡ [])) }
     {
         if self.has_ended {
             return Ok(false);
         }
-        match self.reader.read_byte_record(row) {
-            Ok(found) => Ok(found),
-            Err(_) => {
-                self.has_ended = true;
-                Err(NoMemory)
-            }
-        }
+        let Ok(found) = self.reader.read_byte_record(row) else {
+            self.has_ended = true;
+            row.clear();
+            return Err(NoMemory);
+        };
+        Ok(found)
     }
 }

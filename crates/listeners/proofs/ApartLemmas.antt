@@ -5,11 +5,11 @@ use Rattle.std.specs.List.{range_with_len}
 use Rattle.std.proofs.lemmas.Bool.{cases_lt}
 use Rattle.std.proofs.lemmas.List.{get_or-map, get_or_append_left, get_or_push, length-map, same_lists}
 use Rattle.std.proofs.lemmas.List.FromFn.{get_or-map-range_with_len, length-map-range_with_len}
-use Rattle.air_model.specs.Buckets.{bucket_in}
+use Rattle.air_model.specs.Buckets.{bucket_in, entry_len}
 use Rattle.air_model.specs.Decks.{Deck}
 use Rattle.air_model.specs.Ethers.{heard_by}
 use Rattle.air_model.specs.Tapes.{tape_read}
-use Rattle.bucket_codec.specs.declared.offsets.TheConstants.{ENTRY_BYTES, HEAD_BYTES}
+use Rattle.bucket_codec.specs.declared.offsets.TheConstants.{HEAD_BYTES}
 use Rattle.listeners.specs.declared.ethers.TheConstants.{MOST_TAPE_RECORDS}
 use Rattle.listeners.specs.declared.apart.PieceReader.{PieceReader}
 use Rattle.listeners.specs.EtherListeners.{IsEtherListener}
@@ -29,7 +29,7 @@ one_more_hearing deck r pushed runs after run long so_far own grew k d below = e
 
 -- Each is ready for a piece whose records aren't longer than the deck's buckets.
 pub are_ready : (deck : Deck) (pushed : List (List ℕ)) (piece : List ℕ) (readers : List PieceReader) → AreApart deck pushed readers → (tape_read piece).cut ≡ None
-    → All (λ r. length r ≤ HEAD_BYTES + ENTRY_BYTES * length deck.items) (tape_read piece).records → length pushed + length (tape_read piece).records ≤ MOST_TAPE_RECORDS → All (HasRoomForPiece piece) readers
+    → All (λ r. length r ≤ HEAD_BYTES + entry_len deck.settings.version * length deck.items) (tape_read piece).records → length pushed + length (tape_read piece).records ≤ MOST_TAPE_RECORDS → All (HasRoomForPiece piece) readers
 unfolding HasRoomForPiece
 are_ready deck pushed piece readers h whole room few = λ k d below.
     let own = h.each k d (omega (arith, below, h.long)) in

@@ -5,12 +5,12 @@ use Rattle.std.specs.Prelude.{sum_by, length}
 use Rattle.std.specs.Option.{is_some}
 use Rattle.std.specs.Fn.{iterate}
 use Rattle.air_base.specs.declared.verdicts.Clash.{Clash}
-use Rattle.air_base.specs.declared.verdicts.VerdictKind.TheVariants.{Abort, Accept}
+use Rattle.air_base.specs.declared.verdicts.VerdictKind.TheVariants.{Abort, Accept, Aged}
 use Rattle.air_model.specs.Buckets.{Bucket}
 use Rattle.air_model.specs.Reads.{Read}
 use Rattle.air_model.specs.Aired.{Air, fits}
 use Rattle.air_model.specs.Judges.{Judge}
-use Rattle.air_model.specs.Sessions.{Reader, State, abort, accept_if_whole, comes_late, copy_of, count_copied, count_dozed, count_foreign, count_late, count_opened, count_refused, decide, drop_copy, hear, hear_read, hold, is_unusable, is_wanted, next_attempt, next_query, offer, open_bucket, read_in, settle, turn, turn_with, wanted, with_line}
+use Rattle.air_model.specs.Sessions.{Reader, State, abort, accept_if_whole, comes_aged, comes_late, copy_of, count_copied, count_dozed, count_foreign, count_late, count_opened, count_refused, decide, drop_copy, end_aged, hear, hear_read, hold, is_unusable, is_wanted, judge_read, next_attempt, next_query, offer, open_bucket, read_in, settle, turn, turn_with, wanted, with_line}
 use Rattle.receiver_core.specs.Receivers.{heard_count}
 
 -- How many members a state counts.
@@ -54,9 +54,21 @@ module _ (judge : Judge) (air : Air) (reader : Reader) where
   decide_counts x None s = hold_counts x s
   decide_counts x (Some c) s = abort_counts x c.item s
 
+  aged_counts : (x : Read) (s : State) → heard_by (end_aged judge air reader x s) ≡ heard_by s
+  unfolding end_aged next_attempt next_query with_line
+  aged_counts x s =
+      let t = with_line judge (Aged x.item x.cycle) s in
+      either (nat_lt t.attempt reader.plan.tries) (record t { attempt = t.attempt + 1; held = [] }) (next_query t) (heard_by s) refl refl
+
+  judge_counts : (x : Read) (s : State) → heard_by (judge_read judge air reader x s) ≡ heard_by s
+  unfolding judge_read
+  judge_counts x s =
+      either (comes_aged air s x) (end_aged judge air reader x s) (decide judge air reader x (judge.clash s.held x) s) (heard_by s) (aged_counts x s)
+      (decide_counts x (judge.clash s.held x) s)
+
   open_counts : (x : Read) (s : State) → heard_by (open_bucket judge air reader x s) ≡ heard_by s + 1
   unfolding open_bucket offer count_opened
-  open_counts x s = let one : heard_by (count_opened s) ≡ heard_by s + 1 = omega arith in decide_counts x (judge.clash s.held x) (count_opened s) ∙ one
+  open_counts x s = let one : heard_by (count_opened s) ≡ heard_by s + 1 = omega arith in judge_counts x (count_opened s) ∙ one
 
   hear_read_counts : (o : Option Read) (s : State) → heard_by (hear_read judge air reader o s) ≡ heard_by s + 1
   unfolding hear_read count_dozed count_late

@@ -1,15 +1,25 @@
 -- A listener hears what its ether gives: member by member of what is due, push by push, and after the end the rest.
 -- The calls of `ethers` cite these.
-use Rattle.std.proofs.Common.{◌≡◌, ℕ, ◌+◌, Bool, true, false, Option, Some, List, [], ◌++◌, length, map, take, slice_get, refl, sym, ◌∙◌, ap, subst, arith}
+use Rattle.std.proofs.Common.{◌≡◌, ℕ, ◌+◌, ◌*◌, ◌≤◌, if◌then◌else◌, Bool, true, false, Option, Some, List, [], ◌++◌, length, map, take, slice_get, refl, sym, ◌∙◌, ap, subst, arith}
 use Rattle.std.proofs.lemmas.List.{take-append-le, take_all}
 use Rattle.std.proofs.lemmas.Option.{get_or_from_slice_get, slice_get_within}
 use Rattle.air_ether.specs.HeardSoFar.{Ether, IsEtherAfter, due_of}
 use Rattle.air_ether.proofs.EtherLemmas.{front_is, heard_is}
-use Rattle.air_model.specs.Buckets.{Bucket, bucket_in}
+use Rattle.air_model.specs.Buckets.{Bucket, bucket_in, entry_len, has_ages, most_count}
 use Rattle.air_model.specs.Ethers.{Odds, heard_by, places_due}
 use Rattle.listeners.specs.Listeners.{Listener, hears, hears_one}
 use Rattle.listeners.specs.EtherListeners.{HeardDue, HeardFrom}
 use Rattle.listeners.proofs.HearLemmas.{hears_more}
+
+-- ---- the room of an ether
+
+few_bytes : (ages : Bool) (n : ℕ) → n ≤ (if ages then 1024 else 256) → 24 + (if ages then 1 else 4) * n ≤ 1048
+few_bytes true n few = omega arith
+few_bytes false n few = omega arith
+
+-- A bucket with no more items than its version takes is short.
+pub room_few : (version n : ℕ) → n ≤ most_count version → 24 + entry_len version * n ≤ 1048
+room_few version n few = few_bytes (has_ages version) n few
 
 -- ---- what is due
 

@@ -3,6 +3,7 @@
 use Rattle.std.proofs.Common.{◌≡◌, ℕ, ◌+◌, ◌*◌, ◌≤◌, List, length, All, sym, ◌∙◌, ap, subst}
 use Rattle.air_history.specs.declared.histories.Event.{Event}
 use Rattle.air_model.specs.Aired.{scheme_in}
+use Rattle.air_model.specs.Buckets.{entry_len}
 use Rattle.air_model.specs.Decks.{Deck}
 use Rattle.air_model.specs.Ethers.{heard_by}
 use Rattle.air_model.specs.Judges.{by_entries}
@@ -20,5 +21,5 @@ tape_heard deck H tape has few =
     ∙ true_sessions_are deck H has.aired
 
 -- None of the tape's records is longer than a bucket.
-pub tape_short : (deck : Deck) (H : List Event) (tape : List ℕ) → HasTape deck H tape → length tape ≤ 1073741824 → All (λ r. length r ≤ 24 + 4 * length deck.items) (tape_read tape).records
-tape_short deck H tape has few = subst (All (λ r. length r ≤ 24 + 4 * length deck.items)) (sym (ap (λ t. t.records) (tape_back deck H tape has.same few))) (records_short deck H)
+pub tape_short : (deck : Deck) (H : List Event) (tape : List ℕ) → HasTape deck H tape → length tape ≤ 1073741824 → All (λ r. length r ≤ 24 + entry_len deck.settings.version * length deck.items) (tape_read tape).records
+tape_short deck H tape has few = subst (All (λ r. length r ≤ 24 + entry_len deck.settings.version * length deck.items)) (sym (ap (λ t. t.records) (tape_back deck H tape has.same few))) (records_short deck H)

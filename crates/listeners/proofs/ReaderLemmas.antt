@@ -4,7 +4,7 @@ use Rattle.std.proofs.Common.{◌≡◌, ℕ, zero, suc, ◌+◌, ◌<◌, ◌�
 use native.Mathlib.Numerals.{unary_clauses}
 use Rattle.std.specs.Prelude.{◌==◌, if◌then◌else◌}
 use Rattle.std.specs.List.{enumerate_from, flat_map, range_with_len}
-use Rattle.std.proofs.lemmas.List.{drop-drop, drop-set-lt, get_or-drop, length-map, length-set, map-append, take-append-le, take_all, take_more, take_more_set}
+use Rattle.std.proofs.lemmas.List.{drop-drop, drop-set-lt, get_or-drop, length-map, length-set, map-append, take_all, take_more, take_more_set}
 use Rattle.std.proofs.lemmas.List.Elements.{All-map}
 use Rattle.std.proofs.lemmas.List.FromFn.{length-range_with_len, map-range_with_len_more}
 use Rattle.air_model.specs.declared.reports.CountsLine.{CountsLine}
@@ -148,9 +148,3 @@ sessions_are deck records = same (range_with_len 0 (length deck.readers))
     same [] = refl
     same (r ∷ readers) = ap (λ s. s ∷ map end_state (map (hears (map bucket_in records)) (map (listener_of deck) readers))) (session_is deck r (map bucket_in records))
         ∙ ap (λ l. session_of (by_entries (scheme_in deck)) deck r (map bucket_in records) ∷ l) (same readers)
-
--- What was heard through a slice of all of them stands in their vector.
-pub heard_whole : (deck : Deck) (members : List (Option Bucket)) (n : ℕ) (items first now : List Listener) → length now ≡ n → first ≡ map (listener_of deck) (range_with_len 0 (length deck.readers))
-    → now ≡ map (hears members) first → take n (now ++ drop (length now) items) ≡ heard_readers deck members
-heard_whole deck members n items first now long begun heard =
-    take-append-le n now (drop (length now) items) (omega (arith, long)) ∙ take_all n now (omega (arith, long)) ∙ heard ∙ ap (map (hears members)) begun

@@ -2,10 +2,10 @@
 use Rattle.std.specs.Prelude.{◌≡◌, ◌≤◌, ℕ, ◌+◌, ◌*◌, false, List, length, map, take}
 use Rattle.air_ether.specs.declared.ether.TheConstants.{MOST_DUE}
 use Rattle.air_ether.specs.HeardSoFar.{Ether, IsEtherAfter, IsQuiet, due_of}
-use Rattle.air_model.specs.Buckets.{bucket_in}
+use Rattle.air_model.specs.Buckets.{bucket_in, entry_len}
 use Rattle.air_model.specs.Decks.{Deck}
 use Rattle.air_model.specs.Outputs.{odds_in}
-use Rattle.bucket_codec.specs.declared.offsets.TheConstants.{ENTRY_BYTES, HEAD_BYTES}
+use Rattle.bucket_codec.specs.declared.offsets.TheConstants.{HEAD_BYTES}
 use Rattle.receiver_core.specs.Receivers.{heard_count}
 use Rattle.listeners.specs.declared.ethers.EtherListener.{EtherListener}
 use Rattle.listeners.specs.Listeners.{Listener, hears, listener_of}
@@ -32,7 +32,7 @@ pub record IsEtherListener (deck : Deck) (number : ℕ) (pushed : List (List ℕ
   pub opened : IsOpen x
   pub pushes : x.ether.pushes ≡ length pushed
   pub odds : x.ether.odds ≡ odds_in deck
-  pub room : x.ether.most ≡ HEAD_BYTES + ENTRY_BYTES * length deck.items
+  pub room : x.ether.most ≡ HEAD_BYTES + entry_len deck.settings.version * length deck.items
   pub heard : HeardDue deck.settings.seed number (listener_of deck number) pushed x.ether x.listener
 
 -- Nothing of what is aired is lost, heard again or late.

@@ -3,13 +3,13 @@
 ghost use Rattle.std.specs.Prelude.{◌≡◌, ◌↔◌, ◌≤◌, ◌+◌, ◌*◌, ◌++◌, ℕ, List, [], All, IsTrue, IfOk, None, OnOk, true, length, map};
 ghost use Rattle.std.specs.List.{range_with_len};
 ghost use Rattle.air_model.specs.Aired.{scheme_in};
-ghost use Rattle.air_model.specs.Buckets.{bucket_in};
+ghost use Rattle.air_model.specs.Buckets.{bucket_in, entry_len};
 ghost use Rattle.air_model.specs.Ethers.{heard_by};
 ghost use Rattle.air_model.specs.Judges.{by_entries};
 ghost use Rattle.air_model.specs.Outputs.{odds_in, sessions_over};
 ghost use Rattle.air_model.specs.Reports.{counts_lines, verdict_lines};
 ghost use Rattle.air_model.specs.Tapes.{tape_read};
-ghost use Rattle.bucket_codec.specs.declared.offsets.TheConstants.{ENTRY_BYTES, HEAD_BYTES};
+ghost use Rattle.bucket_codec.specs.declared.offsets.TheConstants.{HEAD_BYTES};
 ghost use Rattle.listeners.specs.declared.ethers.TheConstants.{MOST_TAPE_RECORDS};
 ghost use Rattle.listeners.specs.Hearings.{AreApart};
 ghost use Rattle.listeners.specs.Listeners.{hears, listener_of};
@@ -85,7 +85,7 @@ fn hear_apart<T: Threads + Sync>(
     piece: &[u8],
 ) -> Result<(), NoMemory>
     requires whole { (tape_read piece.now).cut ≡ None }
-    requires room { All (λ r. length r ≤ HEAD_BYTES + ENTRY_BYTES * length planned.now.items) (tape_read piece.now).records }
+    requires room { All (λ r. length r ≤ HEAD_BYTES + entry_len planned.now.settings.version * length planned.now.items) (tape_read piece.now).records }
     requires few { (pushed : List (List ℕ)) × AreApart planned.now pushed readers.old × (length pushed + length (tape_read piece.now).records ≤ MOST_TAPE_RECORDS) }
     ensures { (pushed : List (List ℕ)) → AreApart planned.now pushed readers.old → OnOk result (AreApart planned.now (pushed ++ (tape_read piece.now).records) readers.new) }
 {
@@ -132,7 +132,6 @@ fn end_apart<T: Threads + Sync>(
     ensures { (pushed : List (List ℕ)) → AreApart planned.now pushed readers.items →
         IfOk result (λ ls. ls.items ≡ map (λ r. hears (map bucket_in (heard_by planned.now.settings.seed r (odds_in planned.now) pushed)) (listener_of planned.now r)) (range_with_len 0 (length planned.now.readers))) }
 {
-    let _readers = planned.deck().readers();
     let mut readers = readers;
     end_side_by_side(threads, alloc, &mut readers);
     let listeners = listeners_of_readers(alloc, readers)?;
@@ -169,7 +168,7 @@ impl Apart {
         piece: &[u8],
     ) -> Result<(), NoMemory>
         requires whole { (tape_read piece.now).cut ≡ None }
-        requires room { All (λ r. length r ≤ HEAD_BYTES + ENTRY_BYTES * length planned.now.items) (tape_read piece.now).records }
+        requires room { All (λ r. length r ≤ HEAD_BYTES + entry_len planned.now.settings.version * length planned.now.items) (tape_read piece.now).records }
         requires few { (pushed : List (List ℕ)) × AreApart planned.now pushed self.old.readers.items × (length pushed + length (tape_read piece.now).records ≤ MOST_TAPE_RECORDS) }
         ensures { (pushed : List (List ℕ)) → AreApart planned.now pushed self.old.readers.items →
             OnOk result (AreApart planned.now (pushed ++ (tape_read piece.now).records) self.new.readers.items) }

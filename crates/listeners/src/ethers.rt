@@ -17,7 +17,7 @@ ghost use Rattle.listeners.specs.Private.ApartSteps.{HearsPiece};
 use crate::listener::Listener;
 use air_base::NoMemory;
 use air_ether::Ether;
-use bucket_codec::offsets::{ENTRY_BYTES, HEAD_BYTES};
+use air_sender::bucket_room;
 use bucket_codec::{TapeReader, decode};
 use chunk_program::Planned;
 use std::alloc::Global;
@@ -58,7 +58,7 @@ impl EtherListener {
     {
         let deck = planned.deck();
         let set = deck.settings();
-        let most = HEAD_BYTES + ENTRY_BYTES * deck.items() as usize;
+        let most = bucket_room(planned);
         Ok(EtherListener {
             ether: Ether::new(alloc, set.seed, number, set.loss, set.again, set.late, most)?,
             listener: Listener::new(alloc, planned, number)?,

@@ -5,12 +5,13 @@
 
 ghost use Rattle.std.specs.Prelude.{◌≡◌, ◌↔◌, ◌≤◌, ◌+◌, ◌*◌, ◌++◌, ℕ, List, [], All, IfOk, IsTrue, None, OnOk, length};
 ghost use Rattle.air_model.specs.Aired.{scheme_in};
+ghost use Rattle.air_model.specs.Buckets.{entry_len};
 ghost use Rattle.air_model.specs.Ethers.{heard_by};
 ghost use Rattle.air_model.specs.Judges.{by_entries};
 ghost use Rattle.air_model.specs.Outputs.{odds_in, sessions_over};
 ghost use Rattle.air_model.specs.Reports.{counts_lines, verdict_lines};
 ghost use Rattle.air_model.specs.Tapes.{tape_read};
-ghost use Rattle.bucket_codec.specs.declared.offsets.TheConstants.{ENTRY_BYTES, HEAD_BYTES};
+ghost use Rattle.bucket_codec.specs.declared.offsets.TheConstants.{HEAD_BYTES};
 ghost use Rattle.listeners.specs.declared.ethers.TheConstants.{MOST_TAPE_RECORDS};
 ghost use Rattle.listeners.specs.EtherListeners.{IsPerfect};
 ghost use Rattle.listeners.specs.Hearings.{AreHearing, AreTogether};
@@ -53,7 +54,7 @@ impl Hearers {
         piece: &[u8],
     ) -> Result<(), NoMemory>
         requires whole { (tape_read piece.now).cut ≡ None }
-        requires room { All (λ r. length r ≤ HEAD_BYTES + ENTRY_BYTES * length planned.now.items) (tape_read piece.now).records }
+        requires room { All (λ r. length r ≤ HEAD_BYTES + entry_len planned.now.settings.version * length planned.now.items) (tape_read piece.now).records }
         requires few { (pushed : List (List ℕ)) × AreHearing planned.now pushed self.old × (length pushed + length (tape_read piece.now).records ≤ MOST_TAPE_RECORDS) }
         ensures { (pushed : List (List ℕ)) → AreHearing planned.now pushed self.old → OnOk result (AreHearing planned.now (pushed ++ (tape_read piece.now).records) self.new) }
     {

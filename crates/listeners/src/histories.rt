@@ -6,11 +6,12 @@
 ghost use Rattle.std.specs.Prelude.{◌≡◌, ◌≤◌, ◌+◌, ◌*◌, All, List, None, IfOk, length};
 ghost use Rattle.air_base.specs.declared.limits.TheConstants.{MOST_TAPE_BYTES};
 ghost use Rattle.air_history.specs.declared.histories.Event.{Event};
+ghost use Rattle.air_model.specs.Buckets.{entry_len};
 ghost use Rattle.air_model.specs.Outputs.{true_sessions};
 ghost use Rattle.air_model.specs.Reports.{counts_lines, verdict_lines};
 ghost use Rattle.air_model.specs.Tapes.{tape_read};
 ghost use Rattle.listeners.specs.HistoryTapes.{HasTape};
-ghost use Rattle.bucket_codec.specs.declared.offsets.TheConstants.{ENTRY_BYTES, HEAD_BYTES};
+ghost use Rattle.bucket_codec.specs.declared.offsets.TheConstants.{HEAD_BYTES};
 ghost use Rattle.listeners.specs.declared.ethers.TheConstants.{MOST_TAPE_RECORDS};
 
 use crate::readers::Sessions;
@@ -43,6 +44,6 @@ fn shows_whole_tape(planned: &Planned, tape: &[u8])
     requires few { length tape.now ≤ MOST_TAPE_BYTES }
     requires aired { (H : List Event) × HasTape planned.now H tape.now }
     ensures whole { (tape_read tape.now).cut ≡ None }
-    ensures room { All (λ r. length r ≤ HEAD_BYTES + ENTRY_BYTES * length planned.now.items) (tape_read tape.now).records }
+    ensures room { All (λ r. length r ≤ HEAD_BYTES + entry_len planned.now.settings.version * length planned.now.items) (tape_read tape.now).records }
     ensures few { length (tape_read tape.now).records ≤ MOST_TAPE_RECORDS }
 {}

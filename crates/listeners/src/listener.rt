@@ -10,6 +10,7 @@ ghost use Rattle.receiver_core.specs.Receivers.{heard_count};
 ghost use Rattle.listeners.specs.Listeners.{ChangesNoAttempt, end_state, hears, hears_one, listener_of};
 ghost use Rattle.listeners.specs.Private.Endings.{lines_and_counts};
 
+use crate::readers::Sessions;
 use crate::verdicts::{Line, end_queries, take_verdicts};
 use air_base::{Counts, NoMemory};
 use air_model::bucket::BucketFault;
@@ -79,24 +80,20 @@ impl Listener {
         Ok((lines, receiver.counts()))
     }
 
-    /// Ends the session: adds its verdict lines to those of the readers before it, and its counts to theirs.
-    pub fn end(
-        self,
-        alloc: Global,
-        verdicts: &mut Vec<VerdictLine>,
-        counts: &mut Vec<CountsLine>,
-    ) -> Result<(), NoMemory>
-        ensures verdicts { OnOk result (verdicts.new.items ≡ verdicts.old.items ++ map (line_by self.number) (end_state self).lines) }
-        ensures counts { OnOk result (counts.new.items ≡ counts.old.items ++ record { reader = self.number; counts = (end_state self).counts } ∷ []) }
+    /// Ends the session: adds its verdict lines and its counts to those of the sessions before it, which are let go where memory runs out.
+    pub fn end(self, alloc: Global, sessions: Sessions) -> Result<Sessions, NoMemory>
+        ensures verdicts { IfOk result (λ s. s.verdicts.items ≡ sessions.verdicts.items ++ map (line_by self.number) (end_state self).lines) }
+        ensures counts { IfOk result (λ s. s.counts.items ≡ sessions.counts.items ++ record { reader = self.number; counts = (end_state self).counts } ∷ []) }
     {
         let reader = self.number;
         let (lines, told) = self.ended(alloc)?;
-        add_lines(reader, lines, verdicts)?;
-        counts.push(CountsLine {
+        let mut sessions = sessions;
+        add_lines(reader, lines, &mut sessions.verdicts)?;
+        sessions.counts.push(CountsLine {
             reader,
             counts: told,
         })?;
-        Ok(())
+        Ok(sessions)
     }
 }
 

@@ -3,7 +3,7 @@
 //! Every reader hears what came of a record, so a bucket that isn't wanted costs it a look at the head, and nothing is
 //! copied. What their sessions come to are the lines of a report.
 
-ghost use Rattle.std.specs.Prelude.{◌≡◌, ◌<◌, ◌+◌, ◌^◌, All, IfOk, OnOk, length, map};
+ghost use Rattle.std.specs.Prelude.{◌≡◌, ◌<◌, ◌+◌, ◌^◌, All, IfOk, length, map};
 ghost use Rattle.std.specs.List.{range_with_len};
 ghost use Rattle.std.specs.Result.{result_ok};
 ghost use Rattle.air_model.specs.Buckets.{IsInRange};
@@ -40,20 +40,21 @@ pub fn listeners_of(alloc: Global, planned: &Planned) -> Result<Vec<Listener>, N
     Ok(listeners)
 }
 
-/// Lets all hear one member. What `decode` answers is in range.
+/// Lets all hear one member, and gives them back; they are let go where memory runs out. What `decode` answers is in range.
 pub fn all_hear(
     alloc: Global,
-    listeners: &mut [Listener],
+    listeners: Vec<Listener>,
     heard: &Result<BucketView<'_>, BucketFault>,
-) -> Result<(), NoMemory>
-    requires counts { All (λ l. heard_count l.state.counts + 1 < 2 ^ 64) listeners.old }
+) -> Result<Vec<Listener>, NoMemory>
+    requires counts { All (λ l. heard_count l.state.counts + 1 < 2 ^ 64) listeners.items }
     requires range { IfOk heard.now IsInRange }
-    ensures { OnOk result (listeners.new ≡ map (hears_one (result_ok heard.now)) listeners.old) }
+    ensures { IfOk result (λ ls. ls.items ≡ map (hears_one (result_ok heard.now)) listeners.items) }
 {
+    let mut listeners = listeners;
     for listener in listeners.iter_mut() {
         listener.hear(alloc, heard)?;
     }
-    Ok(())
+    Ok(listeners)
 }
 
 /// Ends the sessions of all, one after another.
@@ -62,10 +63,12 @@ pub fn end_all(alloc: Global, listeners: Vec<Listener>) -> Result<Sessions, NoMe
     ensures verdicts { IfOk result (λ s. s.verdicts.items ≡ verdict_lines (map end_state listeners.items)) }
     ensures counts { IfOk result (λ s. s.counts.items ≡ counts_lines (map end_state listeners.items)) }
 {
-    let mut verdicts = Vec::new(alloc);
-    let mut counts = Vec::new(alloc);
+    let mut sessions = Sessions {
+        verdicts: Vec::new(alloc),
+        counts: Vec::new(alloc),
+    };
     for listener in listeners {
-        listener.end(alloc, &mut verdicts, &mut counts)?;
+        sessions = listener.end(alloc, sessions)?;
     }
-    Ok(Sessions { verdicts, counts })
+    Ok(sessions)
 }

@@ -2,12 +2,13 @@
 
 ghost use Rattle.std.specs.Prelude.{◌≡◌, ◌≤◌, ◌+◌, ◌*◌, All, None, IfOk, length};
 ghost use Rattle.air_model.specs.Aired.{scheme_in};
+ghost use Rattle.air_model.specs.Buckets.{entry_len};
 ghost use Rattle.air_model.specs.Ethers.{heard_by};
 ghost use Rattle.air_model.specs.Judges.{by_entries};
 ghost use Rattle.air_model.specs.Outputs.{odds_in, sessions_over};
 ghost use Rattle.air_model.specs.Reports.{counts_lines, verdict_lines};
 ghost use Rattle.air_model.specs.Tapes.{tape_read};
-ghost use Rattle.bucket_codec.specs.declared.offsets.TheConstants.{ENTRY_BYTES, HEAD_BYTES};
+ghost use Rattle.bucket_codec.specs.declared.offsets.TheConstants.{HEAD_BYTES};
 ghost use Rattle.listeners.specs.declared.ethers.TheConstants.{MOST_TAPE_RECORDS};
 
 use crate::hearers::Hearers;
@@ -26,7 +27,7 @@ pub fn ether_sessions<T: Threads + Sync>(
     tape: &[u8],
 ) -> Result<Sessions, NoMemory>
     requires whole { (tape_read tape.now).cut ≡ None }
-    requires room { All (λ r. length r ≤ HEAD_BYTES + ENTRY_BYTES * length planned.now.items) (tape_read tape.now).records }
+    requires room { All (λ r. length r ≤ HEAD_BYTES + entry_len planned.now.settings.version * length planned.now.items) (tape_read tape.now).records }
     requires few { length (tape_read tape.now).records ≤ MOST_TAPE_RECORDS }
     ensures verdicts { IfOk result (λ s. s.verdicts.items
         ≡ verdict_lines (sessions_over (by_entries (scheme_in planned.now)) planned.now (λ r. heard_by planned.now.settings.seed r (odds_in planned.now) (tape_read tape.now).records))) }

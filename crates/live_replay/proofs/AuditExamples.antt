@@ -1,5 +1,5 @@
 -- Audits of small reports: what each relation says of the report of a run of a small deck, and of texts that are none.
-use Rattle.std.proofs.Common.{◌≡◌, ◌<◌, ◌≤◌, get_or, map, ℕ, zero, suc, List, [], ◌∷◌, None, All, refl, sym, ap, subst, ◌∙◌, arith}
+use Rattle.std.proofs.Common.{◌≡◌, ◌<◌, ◌≤◌, get_or, ℕ, zero, suc, List, [], ◌∷◌, None, All, refl, sym, ap, subst, ◌∙◌, arith}
 use Rattle.std.specs.Prelude.{codes}
 use Rattle.std.proofs.lemmas.List.Elements.{All-nil}
 use Rattle.csv.proofs.OnLiterals.{csv_on_literals}
@@ -31,7 +31,7 @@ use Rattle.air_report.proofs.TiedReports.{spelled_report, told_fault}
 use Rattle.live_replay.specs.AuditAnswers.{CanBeAudited, IsAudit, IsTooMuch}
 use Rattle.live_replay.specs.Audits.{findings, replayed_in}
 use Rattle.live_replay.specs.FindingLaws.{GivesVerdict}
-use Rattle.live_replay.specs.Findings.{all_pass, is_clash, is_refused, look_cause, verdict_cause}
+use Rattle.live_replay.specs.Findings.{all_pass, is_clash, is_refused, look_cause, spans_so, verdict_cause}
 use Rattle.live_replay.specs.TrueAudits.{IsTrueAudit}
 use Rattle.live_replay.specs.declared.findings.Finding.{Finding}
 use Rattle.live_replay.proofs.AuditLemmas.{no_report_fault, one_report}
@@ -50,15 +50,20 @@ small = record pair { updates = [] }
 pub small_is_deck : IsDeck small
 small_is_deck = record {
   some = pair_is_deck.some;
+  version = pair_is_deck.version;
   most = pair_is_deck.most;
   values = pair_is_deck.values;
-  sizes = refl;
+  sizes = pair_is_deck.sizes;
   aired = pair_is_deck.aired;
+  few = pair_is_deck.few;
+  from_two = pair_is_deck.from_two;
+  rising = pair_is_deck.rising;
   updates = All-nil (All (IsUpdate 2));
   readers = refl;
   tries = pair_is_deck.tries;
   queries = pair_is_deck.queries;
   script = λ by. omega arith;
+  plain = (refl, refl);
 }
 
 -- The one history of a run of it.
@@ -188,7 +193,7 @@ abbrev pub one_finding : List Finding
 one_finding = record { row = 11; differs = None } ∷ []
 
 pub its_findings : findings small (read_in 11) ≡ one_finding
-unfolding findings verdict_cause look_cause all_pass is_refused is_clash passes is_late clash_by_history least stale origin consistent last_alone runs_alone descends_from descends descends_in writer writer_before writes reads is_start front last_place table value_after write_of value_on_base
+unfolding findings verdict_cause look_cause all_pass is_refused is_clash spans_so passes is_late clash_by_history least stale origin consistent last_alone runs_alone descends_from descends descends_in writer writer_before writes reads is_start front last_place table value_after write_of value_on_base
 its_findings = refl
 
 pub is_audit : IsAudit small its_bytes one_finding

@@ -3,7 +3,8 @@ use Rattle.std.specs.Prelude.{◌≡◌, ℕ, List, [], ◌∷◌, Option, Some,
 use Rattle.air_base.specs.declared.verdicts.Policy.TheVariants.{Datacycle, RMatrix}
 use Rattle.air_base.specs.declared.verdicts.ReadOf.{ReadOf}
 use Rattle.air_base.specs.declared.verdicts.VerdictKind.{VerdictKind}
-use Rattle.air_base.specs.declared.verdicts.VerdictKind.TheVariants.{Accept, Abort, Unfinished}
+use Rattle.air_base.specs.declared.verdicts.VerdictKind.TheVariants.{Accept, Abort, Aged, Unfinished}
+use Rattle.air_history.specs.Ages.{span, spans_too_far}
 use Rattle.air_history.specs.Places.{last_place}
 use Rattle.air_history.specs.Histories.{front, writer, writer_before, writes, reads, is_start}
 use Rattle.air_history.specs.Descents.{descends, descends_in}
@@ -14,10 +15,10 @@ use Rattle.air_history.specs.Clashes.{least, is_late, clash_by_history}
 use Rattle.air_history.specs.ClashLaws.{passes}
 use Rattle.air_model.specs.Decks.{Deck, event_of, script_history}
 use Rattle.air_model.specs.Reports.{total_at}
-use Rattle.air_model.proofs.SessionExamples.{chained_deck, judged_by, s, swapped_deck, u}
+use Rattle.air_model.proofs.SessionExamples.{aired_in, chained_deck, judged_by, s, swapped_deck, u}
 use Rattle.live_replay.specs.declared.findings.Cause.{Cause}
 use Rattle.live_replay.specs.declared.findings.Cause.TheVariants.{Value, Verdict, Clash, Total}
-use Rattle.live_replay.specs.Findings.{all_pass, is_refused, is_clash, verdict_cause, look_cause}
+use Rattle.live_replay.specs.Findings.{all_pass, is_refused, is_clash, spans_so, verdict_cause, look_cause}
 
 -- A read of an item in a cycle, with its value.
 abbrev r : ℕ → ℕ → ℕ → ReadOf
@@ -53,7 +54,7 @@ pub record Verdicts : Type 0 where
   late_named : verdict_finding (judged_by RMatrix both) (Abort 1 1 0) (r 0 2 11 ∷ []) ≡ Some Verdict
 
 verdicts : Verdicts
-unfolding verdict_cause all_pass is_refused is_clash passes is_late clash_by_history least stale origin consistent last_alone runs_alone descends_from descends descends_in writer writer_before writes reads is_start front last_place table value_after write_of value_on_base script_history event_of
+unfolding verdict_cause all_pass is_refused is_clash spans_so passes is_late clash_by_history least stale origin consistent last_alone runs_alone descends_from descends descends_in writer writer_before writes reads is_start front last_place table value_after write_of value_on_base script_history event_of
 verdicts = record {
   agrees = refl;
   aborted = refl;
@@ -67,6 +68,52 @@ verdicts = record {
   taken = refl;
   late = refl;
   late_named = refl;
+}
+
+-- One start, and no commit; with buckets of version 2, and of version 1.
+abbrev young : Deck
+young = aired_in 2 (swapped_deck (s ∷ []))
+
+abbrev full : Deck
+full = swapped_deck (s ∷ [])
+
+pub record Ages : Type 0 where
+  -- Reads of 255 cycles lie too far apart to be judged by ages, and those of 254 don't.
+  aged : verdict_finding young (Aged 1 256) (r 0 1 10 ∷ []) ≡ None
+  older_later : verdict_finding young (Aged 1 45) (r 0 300 10 ∷ []) ≡ None
+  too_near : verdict_finding young (Aged 1 256) (r 0 2 10 ∷ []) ≡ Some Verdict
+  nothing_held : verdict_finding young (Aged 0 256) [] ≡ Some Verdict
+  accepted_far : verdict_finding young Accept (r 0 1 10 ∷ r 1 256 20 ∷ []) ≡ Some Verdict
+  accepted_near : verdict_finding young Accept (r 0 2 10 ∷ r 1 256 20 ∷ []) ≡ None
+  aborted_far : verdict_finding young (Abort 1 256 0) (r 0 1 10 ∷ []) ≡ Some Verdict
+  unfinished_far : verdict_finding young Unfinished (r 0 1 10 ∷ r 1 256 20 ∷ []) ≡ Some Verdict
+  -- The reads without the named one are near.
+  aged_before : verdict_finding young (Aged 2 257) (r 0 1 10 ∷ r 1 256 20 ∷ []) ≡ Some Verdict
+  -- The value goes before the verdict; under R-Matrix the named read comes in time.
+  other_value : verdict_finding young (Aged 1 256) (r 0 1 11 ∷ []) ≡ Some Value
+  late_named : verdict_finding (judged_by RMatrix young) (Aged 1 1) (r 0 256 10 ∷ []) ≡ Some Verdict
+  newer_named : verdict_finding (judged_by RMatrix young) (Aged 1 256) (r 0 1 10 ∷ []) ≡ None
+  -- In version 1 no reads lie too far apart.
+  far_in_full : verdict_finding full Accept (r 0 1 10 ∷ r 1 256 20 ∷ []) ≡ None
+  aged_in_full : verdict_finding full (Aged 1 256) (r 0 1 10 ∷ []) ≡ Some Verdict
+
+ages : Ages
+unfolding span spans_too_far verdict_cause all_pass is_refused is_clash spans_so passes is_late clash_by_history least stale origin consistent last_alone runs_alone descends_from descends descends_in writer writer_before writes reads is_start front last_place table value_after write_of value_on_base script_history event_of
+ages = record {
+  aged = refl;
+  older_later = refl;
+  too_near = refl;
+  nothing_held = refl;
+  accepted_far = refl;
+  accepted_near = refl;
+  aborted_far = refl;
+  unfinished_far = refl;
+  aged_before = refl;
+  other_value = refl;
+  late_named = refl;
+  newer_named = refl;
+  far_in_full = refl;
+  aged_in_full = refl;
 }
 
 -- Item 0 becomes 11, item 2 that and 1, item 1 that and 1, all in cycle 1.
@@ -84,5 +131,5 @@ pub record Chain : Type 0 where
   catalog : look_finding chain 0 60 ≡ None
 
 chain_is : Chain
-unfolding verdict_cause look_cause total_at all_pass is_refused is_clash passes is_late clash_by_history least stale origin consistent last_alone runs_alone descends_from descends descends_in writer writer_before writes reads is_start front last_place table value_after write_of value_on_base script_history event_of
+unfolding verdict_cause look_cause total_at all_pass is_refused is_clash spans_so passes is_late clash_by_history least stale origin consistent last_alone runs_alone descends_from descends descends_in writer writer_before writes reads is_start front last_place table value_after write_of value_on_base script_history event_of
 chain_is = record { apart = refl; abort = refl; passes = refl; together = refl; at_start = refl; later = refl; other_cycle = refl; catalog = refl }

@@ -1,6 +1,6 @@
 -- When a line agrees: exactly if the replay gives it, which it does for every line of a session that the history judges.
-use Rattle.std.proofs.Common.{◌≡◌, ◌↔◌, ℕ, Bool, true, false, not, ◌&&◌, ◌==◌, if◌then◌else◌, Option, Some, None, List, get_or, map, All, refl, sym, subst}
-use Rattle.std.specs.Prelude.{IsSomeAnd, IfSome}
+use Rattle.std.proofs.Common.{◌≡◌, ◌↔◌, ℕ, Bool, true, false, not, ◌&&◌, ◌==◌, if◌then◌else◌, Option, Some, None, List, [], ◌∷◌, ◌++◌, get_or, map, All, refl, sym, ◌∙◌, subst}
+use Rattle.std.specs.Prelude.{IsSomeAnd, IfSome, IsTrue}
 use Rattle.std.specs.List.{list_all}
 use Rattle.std.specs.Option.{is_some, option_map_or}
 use Rattle.std.proofs.lemmas.Bool.{and_parts, and_from, eqb-true, eq-eqb, not-true, not_from_false, false≢true}
@@ -11,7 +11,7 @@ use Rattle.std.proofs.lemmas.List.Sums.{AllPass-from_list_all, list_all-from_All
 use Rattle.air_base.specs.declared.verdicts.Clash.{Clash}
 use Rattle.air_base.specs.declared.verdicts.Policy.{Policy}
 use Rattle.air_base.specs.declared.verdicts.VerdictKind.{VerdictKind}
-use Rattle.air_base.specs.declared.verdicts.VerdictKind.TheVariants.{Accept, Abort, Unfinished}
+use Rattle.air_base.specs.declared.verdicts.VerdictKind.TheVariants.{Accept, Abort, Aged, Unfinished}
 use Rattle.air_history.specs.declared.histories.Event.{Event}
 use Rattle.air_history.specs.Tables.{values_of}
 use Rattle.air_history.specs.Reads.{ReadAt, read_value}
@@ -25,14 +25,15 @@ use Rattle.air_model.specs.Judges.{Judge, by_history}
 use Rattle.air_model.specs.Reads.{Read}
 use Rattle.air_model.specs.Reports.{line_by, total_at}
 use Rattle.air_model.specs.Sessions.{Line, Reader, line_of, read_in, session}
-use Rattle.air_model.specs.SessionLaws.{QueriesFilled}
+use Rattle.air_model.specs.SessionLaws.{QueriesFilled, are_far, decided_on}
 use Rattle.air_model.specs.declared.reports.LookLine.{LookLine}
 use Rattle.air_model.specs.declared.reports.VerdictLine.{VerdictLine}
 use Rattle.air_model.specs.Judges as judge
+use Rattle.air_model.proofs.HeardLemmas.{nearer, none_far}
 use Rattle.air_model.proofs.MomentLemmas.{Gives, Keeps, kept}
 use Rattle.live_replay.specs.declared.findings.Cause.TheVariants as cause
-use Rattle.live_replay.specs.Findings.{all_pass, has_value, is_clash, is_refused, look_cause, place_of_line, places_of, read_in_cycle, verdict_cause}
-use Rattle.live_replay.specs.FindingLaws.{EndsSo, GivesLook, GivesVerdict}
+use Rattle.live_replay.specs.Findings.{all_pass, has_value, is_clash, is_refused, look_cause, place_of_line, places_of, read_in_cycle, spans_so, verdict_cause}
+use Rattle.live_replay.specs.FindingLaws.{EndsSo, GivesLook, GivesVerdict, SpansSo}
 use Rattle.live_replay.proofs.PassLemmas.{accepts_pass, pass_accepts}
 
 -- ---- one line
@@ -61,6 +62,7 @@ ends_from policy H R Accept refused clash = tt
 ends_from policy H R (Abort item cycle named) refused clash =
     let both = and_parts (not (is_late policy R (read_in_cycle item cycle))) (is_some (clash_by_history policy H R (read_in_cycle item cycle))) refused in
     (not-true _ both.0, named_so (clash_by_history policy H R (read_in_cycle item cycle)) named both.1 clash)
+ends_from policy H R (Aged item cycle) refused clash = not-true _ refused
 ends_from policy H R Unfinished refused clash = tt
 
 refused_from : (policy : Policy) (H : List Event) (R : List ReadAt) (kind : VerdictKind) → EndsSo policy H R kind → (is_refused policy H R kind ≡ true) × (is_clash policy H R kind ≡ true)
@@ -69,7 +71,34 @@ refused_from policy H R Accept end = (refl, refl)
 refused_from policy H R (Abort item cycle named) end =
     let named = so_named (clash_by_history policy H R (read_in_cycle item cycle)) named end.1 in
     (and_from _ _ (not_from_false _ end.0) named.0, named.1)
+refused_from policy H R (Aged item cycle) end = (not_from_false _ end, refl)
 refused_from policy H R Unfinished end = (refl, refl)
+
+-- Reads that don't lie too far apart, where nothing or an abort ended the attempt.
+not_far : {A : Type 0} (b : Bool) → b ≡ false → b ≡ true → A
+not_far b near far = absurd (false≢true (sym near ∙ far))
+
+near_if : (b : Bool) → (IsTrue b → ⊥) → b ≡ false
+near_if true h = absurd (h refl)
+near_if false h = refl
+
+spans_from : (version : ℕ) (R : List ReadAt) (kind : VerdictKind) → spans_so version R kind ≡ true → SpansSo version R kind
+unfolding spans_so
+spans_from version R Accept h = let near = not-true (are_far version R) h in (near, (λ no. absurd no, λ far. not_far (are_far version R) near far))
+spans_from version R (Abort item cycle clash) h =
+    let all = decided_on (Abort item cycle clash) R in let near = not-true (are_far version all) h in
+    (nearer version R (read_in_cycle item cycle) near, (λ no. absurd no, λ far. not_far (are_far version all) near far))
+spans_from version R (Aged item cycle) h =
+    let both = and_parts (not (are_far version R)) (are_far version (decided_on (Aged item cycle) R)) h in
+    (not-true (are_far version R) both.0, (λ _. both.1, λ _. tt))
+spans_from version R Unfinished h = let near = not-true (are_far version R) h in (near, (λ no. absurd no, λ far. not_far (are_far version R) near far))
+
+from_spans : (version : ℕ) (R : List ReadAt) (kind : VerdictKind) → SpansSo version R kind → spans_so version R kind ≡ true
+unfolding spans_so
+from_spans version R Accept s = not_from_false _ s.0
+from_spans version R (Abort item cycle clash) s = not_from_false _ (near_if (are_far version (decided_on (Abort item cycle clash) R)) (λ far. absurd (s.1.1 far)))
+from_spans version R (Aged item cycle) s = and_from _ _ (not_from_false _ s.0) (s.1.0 tt)
+from_spans version R Unfinished s = not_from_false _ s.0
 
 module _ (deck : Deck) (H : List Event) where
   pub agrees : (line : VerdictLine) → (verdict_cause deck H line ≡ None) ↔ GivesVerdict deck H line
@@ -77,19 +106,23 @@ module _ (deck : Deck) (H : List Event) where
   agrees line = (
     λ none.
         let R = places_of line.reads in
-        let tests = chosen (list_all (has_value (values_in deck) H) line.reads) (all_pass deck.settings.policy H R && is_refused deck.settings.policy H R line.verdict.kind) (is_clash deck.settings.policy H R line.verdict.kind) none in
-        let both = and_parts (all_pass deck.settings.policy H R) (is_refused deck.settings.policy H R line.verdict.kind) tests.1 in
+        let kind = line.verdict.kind in
+        let ended = is_refused deck.settings.policy H R kind && spans_so deck.settings.version R kind in
+        let tests = chosen (list_all (has_value (values_in deck) H) line.reads) (all_pass deck.settings.policy H R && ended) (is_clash deck.settings.policy H R kind) none in
+        let both = and_parts (all_pass deck.settings.policy H R) ended tests.1 in
+        let last = and_parts (is_refused deck.settings.policy H R kind) (spans_so deck.settings.version R kind) both.1 in
         record {
           values = λ k d l. eqb-true _ _ (AllPass-from_list_all (has_value (values_in deck) H) line.reads tests.0 k d l);
           accepts = pass_accepts deck.settings.policy H R both.0;
-          end = ends_from deck.settings.policy H R line.verdict.kind both.1 tests.2;
+          end = ends_from deck.settings.policy H R kind last.0 tests.2;
+          span = spans_from deck.settings.version R kind last.1;
         },
     λ gives.
         let R = places_of line.reads in
         let end = refused_from deck.settings.policy H R line.verdict.kind gives.end in
         none_chosen _ _ _
         (list_all-from_AllPass (has_value (values_in deck) H) line.reads (λ k d l. eq-eqb _ _ (gives.values k d l)))
-        (and_from _ _ (accepts_pass deck.settings.policy H R gives.accepts) end.0) end.1,
+        (and_from _ _ (accepts_pass deck.settings.policy H R gives.accepts) (and_from _ _ end.0 (from_spans deck.settings.version R line.verdict.kind gives.span))) end.1,
   )
 
   pub look_agrees : (line : LookLine) → (look_cause deck H line ≡ None) ↔ GivesLook deck H line
@@ -110,14 +143,15 @@ module _ (deck : Deck) (H : List Event) where
   places_in q a kind R = map-map _ _ R
 
   gives_line : (r q a : ℕ) (kind : VerdictKind) (R : List Read) → Accepts deck.settings.policy H (map judge.place_of R) → EndsSo deck.settings.policy H (map judge.place_of R) kind →
-      verdict_cause deck H (line_by r (line_of judging q a kind R)) ≡ None
+      SpansSo deck.settings.version (map judge.place_of R) kind → verdict_cause deck H (line_by r (line_of judging q a kind R)) ≡ None
   unfolding line_of by_history
-  gives_line r q a kind R accepts end =
+  gives_line r q a kind R accepts end span =
       let same : map judge.place_of R ≡ places_of (line_of judging q a kind R).reads = sym (places_in q a kind R) in
       (agrees (line_by r (line_of judging q a kind R))).1 (record {
         values = All-map (λ s. s.value ≡ read_value (values_of (values_in deck)) H (place_of_line s)) (λ (x : Read). record { item = x.item; cycle = x.cycle; value = read_value (values_of (values_in deck)) H (judge.place_of x) }) R (λ k d l. refl);
         accepts = subst (Accepts deck.settings.policy H) same accepts;
         end = subst (λ S. EndsSo deck.settings.policy H S kind) same end;
+        span = subst (λ S. SpansSo deck.settings.version S kind) same span;
       })
 
   pub session_agrees : (r : ℕ) (reader : Reader) (heard : List (Option Bucket)) → QueriesFilled reader →
@@ -129,7 +163,7 @@ module _ (deck : Deck) (H : List Event) where
       Any x = Unit {0}
 
       K : ℕ → ℕ → List Read → Type 0
-      K q a R = Accepts deck.settings.policy H (map judge.place_of R)
+      K q a R = Accepts deck.settings.policy H (map judge.place_of R) × (are_far deck.settings.version (map judge.place_of R) ≡ false)
 
       L : Line → Type 0
       L l = verdict_cause deck H (line_by r l) ≡ None
@@ -145,13 +179,19 @@ module _ (deck : Deck) (H : List Event) where
       ended : (policy : Policy) (R : List ReadAt) (x : ReadAt) (c : Clash) → is_late policy R x ≡ false → clash_by_history policy H R x ≡ Some c → EndsSo policy H R (Abort x.item x.cycle c.item)
       ended policy R x c late e = (late, subst (λ o. IsSomeAnd o (λ held. held.item ≡ c.item)) (sym e) refl)
 
+      near : (R : List Read) → are_far deck.settings.version (map judge.place_of R) ≡ false → IsTrue (are_far deck.settings.version (map judge.place_of R)) → ⊥
+      near R h far = not_far (are_far deck.settings.version (map judge.place_of R)) h far
+
       rules : Keeps judging (air_of deck) reader Any K L
       rules = record {
-        first = λ q. accepts_none deck.settings.policy H;
-        again = λ q a R k l. accepts_none deck.settings.policy H;
-        more = λ q a R x k any judged none. subst (Accepts deck.settings.policy H) (sym (map_push judge.place_of R x))
-            (accepts_push deck.settings.policy H (map judge.place_of R) (judge.place_of x) k judged.in_time none);
-        accepted = λ q a R k some e. gives_line r q a Accept R k tt;
-        aborted = λ q a R x c k any judged e. gives_line r q a (Abort x.item x.cycle c.item) R k (ended deck.settings.policy (map judge.place_of R) (judge.place_of x) c judged.in_time e);
-        unfinished = λ q a R k e. gives_line r q a Unfinished R k tt;
+        first = λ q. (accepts_none deck.settings.policy H, none_far deck.settings.version);
+        again = λ q a R k l. (accepts_none deck.settings.policy H, none_far deck.settings.version);
+        more = λ q a R x k any judged near none.
+            subst (λ S. Accepts deck.settings.policy H S × (are_far deck.settings.version S ≡ false)) (sym (map_push judge.place_of R x))
+            (accepts_push deck.settings.policy H (map judge.place_of R) (judge.place_of x) k.0 judged.in_time none, near);
+        accepted = λ q a R k some e. gives_line r q a Accept R k.0 tt (k.1, (λ no. absurd no, near R k.1));
+        aborted = λ q a R x c k any judged near e. gives_line r q a (Abort x.item x.cycle c.item) R k.0 (ended deck.settings.policy (map judge.place_of R) (judge.place_of x) c judged.in_time e)
+            (k.1, (λ no. absurd no, λ far. not_far (are_far deck.settings.version (map judge.place_of R ++ judge.place_of x ∷ [])) near far));
+        aged = λ q a R x k any judged far. gives_line r q a (Aged x.item x.cycle) R k.0 judged.in_time (k.1, (λ _. far, λ _. tt));
+        unfinished = λ q a R k e. gives_line r q a Unfinished R k.0 tt (k.1, (λ no. absurd no, near R k.1));
       }

@@ -1,5 +1,5 @@
 -- What lines in the grammar give a replay: items of the deck, and cycles from 1 on.
-use Rattle.std.proofs.Common.{◌≡◌, ℕ, ◌+◌, ◌<◌, ◌≤◌, Bool, true, false, cond, ◌==◌, Option, Some, None, List, [], ◌∷◌, length, get_or, map, All, refl, sym, ◌∙◌, ap, subst, inl, inr, arith}
+use Rattle.std.proofs.Common.{◌≡◌, ℕ, ◌<◌, ◌≤◌, Bool, true, false, ◌==◌, Option, Some, None, List, [], ◌∷◌, length, get_or, map, All, refl, sym, ap, subst, inl, inr, arith}
 use Rattle.std.specs.Prelude.{slice_get}
 use Rattle.std.specs.List.{list_all}
 use Rattle.std.specs.Option.{option_map_or}
@@ -10,7 +10,7 @@ use Rattle.std.proofs.lemmas.List.Sums.{AllPass-from_list_all}
 use Rattle.std.proofs.lemmas.Option.{get_or_from_slice_get, slice_get_within}
 use Rattle.air_base.specs.declared.verdicts.ReadOf.{ReadOf}
 use Rattle.air_base.specs.declared.verdicts.VerdictKind.{VerdictKind}
-use Rattle.air_base.specs.declared.verdicts.VerdictKind.TheVariants.{Accept, Abort, Unfinished}
+use Rattle.air_base.specs.declared.verdicts.VerdictKind.TheVariants.{Accept, Abort, Aged, Unfinished}
 use Rattle.air_history.specs.Histories.{starts}
 use Rattle.air_history.specs.Reads.{IsRead}
 use Rattle.air_model.specs.Decks.{Deck, IsDeck, IsQuery}
@@ -38,11 +38,13 @@ front_fits n (x ∷ items) (y ∷ query) h fits =
 follow_leads : (query items : List ℕ) (kind : VerdictKind) → follow query items kind ≡ true → leads items query ≡ true
 follow_leads query items Accept h = (and_parts _ _ h).0
 follow_leads query items (Abort item cycle clash) h = (and_parts _ _ (and_parts _ _ h).0).0
+follow_leads query items (Aged item cycle) h = (and_parts _ _ h).0
 follow_leads query items Unfinished h = (and_parts _ _ h).0
 
 end_fits : (starts : ℕ) (kind : VerdictKind) → end_begun starts kind ≡ true → EndFits starts kind
 end_fits starts Accept h = tt
 end_fits starts (Abort item cycle clash) h = leb-true cycle starts (and_parts _ _ h).1
+end_fits starts (Aged item cycle) h = leb-true cycle starts (and_parts _ _ h).1
 end_fits starts Unfinished h = tt
 
 unmapped : (n : ℕ) (reads : List ReadOf) → All (λ i. i < n) (map read_item reads) → All (λ r. r.item < n) reads

@@ -8,6 +8,7 @@ pub mod PassLemmas
 pub mod RunLemmas
 pub mod ReplayLemmas
 pub mod PolicyLemmas
+pub mod SpanLemmas
 pub mod GrammarLemmas
 pub mod FoundLemmas
 pub mod FindingLemmas

@@ -5,7 +5,8 @@ use Rattle.csv.specs.Writing.{escaped, fields_text, is_blank}
 use Rattle.air_base.specs.Numbers.{number_text}
 use Rattle.air_base.specs.declared.verdicts.Policy.TheVariants.{FMatrix, Datacycle}
 use Rattle.air_base.specs.declared.verdicts.ReadOf.{ReadOf}
-use Rattle.air_base.specs.declared.verdicts.VerdictKind.TheVariants.{Accept, Abort}
+use Rattle.air_base.specs.declared.verdicts.VerdictKind.TheVariants.{Accept, Abort, Aged}
+use Rattle.air_history.specs.Ages.{span, spans_too_far}
 use Rattle.air_history.specs.Clashes.{clash_by_history, is_late, least}
 use Rattle.air_history.specs.Consistency.{consistent, descends_from, last_alone, runs_alone}
 use Rattle.air_history.specs.Descents.{descends, descends_in}
@@ -23,7 +24,7 @@ use Rattle.air_model.proofs.SessionExamples.{pair, s, swapped_deck, u}
 use Rattle.air_report.specs.declared.reading.lines.EventLine.TheVariants as line
 use Rattle.air_report.specs.declared.reading.lines.Line.TheVariants as l
 use Rattle.live_replay.specs.Audits.{found_in, replayed_in}
-use Rattle.live_replay.specs.FindingLaws.{EndsSo}
+use Rattle.live_replay.specs.FindingLaws.{EndsSo, SpansSo}
 use Rattle.live_replay.specs.FindingTexts.{audited_row, cause_word, differs, finding_row, findings_text, row_of, some_differ}
 use Rattle.live_replay.specs.Findings.{has_value, look_cause, place_of_line, places_of, read_in_cycle}
 use Rattle.live_replay.specs.ReportFindings.{finding_of, sessions_judged}
@@ -86,9 +87,14 @@ pub record Texts : Type 0 where
   other_clash : EndsSo Datacycle (script_history turned) (at 0 1 ∷ []) (Abort 1 2 1) → ⊥
   no_clash : EndsSo FMatrix (script_history turned) (at 0 1 ∷ []) (Abort 1 2 0) → ⊥
   accepted : EndsSo FMatrix (script_history turned) (at 0 1 ∷ []) Accept
+  -- With the read of cycle 256 that of cycle 1 lies too far apart in version 2, and in version 1 it doesn't.
+  aged : SpansSo 2 (at 0 1 ∷ []) (Aged 1 256)
+  not_aged : SpansSo 1 (at 0 1 ∷ []) (Aged 1 256) → ⊥
+  accepted_near : SpansSo 2 (at 0 2 ∷ at 1 256 ∷ []) Accept
+  accepted_far : SpansSo 2 (at 0 1 ∷ at 1 256 ∷ []) Accept → ⊥
 
 texts : Texts
-unfolding findings_text rows_text number_text escaped fields_text is_blank look_cause total_at replayed_in script_history event_of is_start front table value_after write_of value_on_base is_late clash_by_history least stale origin consistent last_alone runs_alone descends_from descends descends_in writer writer_before writes reads last_place by_history abort accept_if_whole copy_of count_copied decide drop_copy end end_query hear hear_all hold is_unusable line_of next_attempt next_query query_of session settle turn turn_with wanted with_line
+unfolding span spans_too_far findings_text rows_text number_text escaped fields_text is_blank look_cause total_at replayed_in script_history event_of is_start front table value_after write_of value_on_base is_late clash_by_history least stale origin consistent last_alone runs_alone descends_from descends descends_in writer writer_before writes reads last_place by_history abort accept_if_whole copy_of count_copied decide drop_copy end end_query hear hear_all hold is_unusable line_of next_attempt next_query query_of session settle turn turn_with wanted with_line
 texts = record {
   words = refl;
   agreeing = refl;
@@ -113,4 +119,8 @@ texts = record {
   other_clash = λ h. let same : 0 ≡ 1 = h.1 in omega (arith, same);
   no_clash = λ h. h.1;
   accepted = tt;
+  aged = (refl, (λ _. refl, λ _. tt));
+  not_aged = λ h. let far : false ≡ true = h.1.0 tt in cc far;
+  accepted_near = (refl, (λ no. absurd no, λ far. let no : false ≡ true = far in cc no));
+  accepted_far = λ h. let far : true ≡ false = h.0 in cc far;
 }

@@ -20,7 +20,7 @@ use Rattle.live_replay.specs.declared.findings.Cause.{Cause}
 use Rattle.live_replay.specs.declared.findings.Cause.TheVariants.{Value, Verdict, Total}
 use Rattle.live_replay.specs.declared.findings.Finding.{Finding}
 use Rattle.live_replay.specs.Audits.{findings, replayed_in}
-use Rattle.live_replay.specs.Findings.{all_pass, is_refused, is_clash, verdict_cause, look_cause}
+use Rattle.live_replay.specs.Findings.{all_pass, is_refused, is_clash, spans_so, verdict_cause, look_cause}
 
 -- Item 0 becomes 11 and item 1 becomes 21, both in cycle 1.
 abbrev deck : Deck
@@ -61,5 +61,5 @@ pub record Reports : Type 0 where
   replayed : replayed_in whole.report ≡ 8
 
 reports : Reports
-unfolding findings replayed_in verdict_cause look_cause total_at all_pass is_refused is_clash passes is_late clash_by_history least stale origin consistent last_alone runs_alone descends_from descends descends_in writer writer_before writes reads is_start front last_place table value_after write_of value_on_base script_history event_of
+unfolding findings replayed_in verdict_cause look_cause total_at all_pass is_refused is_clash spans_so passes is_late clash_by_history least stale origin consistent last_alone runs_alone descends_from descends descends_in writer writer_before writes reads is_start front last_place table value_after write_of value_on_base script_history event_of
 reports = record { agrees = refl; verdict = refl; value = refl; rows = refl; replayed = refl }

@@ -6,7 +6,7 @@ use Rattle.std.specs.Option.{is_some, option_map_or}
 use Rattle.air_base.specs.declared.verdicts.Policy.{Policy}
 use Rattle.air_base.specs.declared.verdicts.ReadOf.{ReadOf}
 use Rattle.air_base.specs.declared.verdicts.VerdictKind.{VerdictKind}
-use Rattle.air_base.specs.declared.verdicts.VerdictKind.TheVariants.{Accept, Abort, Unfinished}
+use Rattle.air_base.specs.declared.verdicts.VerdictKind.TheVariants.{Accept, Abort, Aged, Unfinished}
 use Rattle.air_history.specs.declared.histories.Event.{Event}
 use Rattle.air_history.specs.Tables.{values_of}
 use Rattle.air_history.specs.Reads.{ReadAt, read_value}
@@ -14,6 +14,7 @@ use Rattle.air_history.specs.Clashes.{clash_by_history, is_late}
 use Rattle.air_history.specs.ClashLaws.{passes}
 use Rattle.air_model.specs.Decks.{Deck, values_in}
 use Rattle.air_model.specs.Reports.{total_at}
+use Rattle.air_model.specs.SessionLaws.{are_far, decided_on}
 use Rattle.air_model.specs.declared.reports.LookLine.{LookLine}
 use Rattle.air_model.specs.declared.reports.VerdictLine.{VerdictLine}
 use Rattle.live_replay.specs.declared.findings.Cause.{Cause}
@@ -39,11 +40,13 @@ has_value values H read = read.value == read_value (values_of values) H (place_o
 unfoldable pub all_pass : Policy → List Event → List ReadAt → Bool
 all_pass policy H R = list_all (λ k. passes policy H (take k R) (get_or R k (read_in_cycle 0 0))) (range_with_len 0 (length R))
 
--- The named read of an abort is refused: it comes in time, and clashes with a read before it. No other verdict names a read.
+-- The named read of an abort is refused: it comes in time, and clashes with a read before it. That of an aged attempt comes in time. No
+-- other verdict names a read.
 unfoldable pub is_refused : Policy → List Event → List ReadAt → VerdictKind → Bool
 is_refused policy H R Accept = true
 is_refused policy H R (Abort item cycle clash) =
     not (is_late policy R (read_in_cycle item cycle)) && is_some (clash_by_history policy H R (read_in_cycle item cycle))
+is_refused policy H R (Aged item cycle) = not (is_late policy R (read_in_cycle item cycle))
 is_refused policy H R Unfinished = true
 
 -- The named clash of an abort is the item of the read with which the named one clashes. No other verdict names one.
@@ -51,7 +54,16 @@ unfoldable pub is_clash : Policy → List Event → List ReadAt → VerdictKind 
 is_clash policy H R Accept = true
 is_clash policy H R (Abort item cycle clash) =
     option_map_or (λ held. held.item == clash) (clash_by_history policy H R (read_in_cycle item cycle)) false
+is_clash policy H R (Aged item cycle) = true
 is_clash policy H R Unfinished = true
+
+-- Whether the reads lie as far apart as the verdict says: those of an aged attempt too far for the version, with the named read and not
+-- without it; those of any other not too far, an abort's with the named read.
+unfoldable pub spans_so : ℕ → List ReadAt → VerdictKind → Bool
+spans_so version R Accept = not (are_far version R)
+spans_so version R (Abort item cycle clash) = not (are_far version (decided_on (Abort item cycle clash) R))
+spans_so version R (Aged item cycle) = not (are_far version R) && are_far version (decided_on (Aged item cycle) R)
+spans_so version R Unfinished = not (are_far version R)
 
 -- Why a verdict's line differs: the first of three causes that applies, in this order.
 unfoldable pub verdict_cause : Deck → List Event → VerdictLine → Option Cause
@@ -60,7 +72,7 @@ verdict_cause deck H line =
     let R = places_of line.reads in
     let kind = line.verdict.kind in
     if not (list_all (has_value (values_in deck) H) line.reads) then Some Value
-    else if not (all_pass policy H R && is_refused policy H R kind) then Some Verdict
+    else if not (all_pass policy H R && (is_refused policy H R kind && spans_so deck.settings.version R kind)) then Some Verdict
     else if not (is_clash policy H R kind) then Some Clash
     else None
 

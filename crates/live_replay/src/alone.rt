@@ -5,7 +5,7 @@
 ghost use Rattle.std.specs.Prelude.{◌≡◌, ◌≤◌, ◌<◌, ◌&&◌, ◌||◌, ℕ, false, length, get_or, map, All, IfOk, IfSome, OnOk};
 ghost use Rattle.air_history.specs.Consistency.{consistent};
 ghost use Rattle.air_history.specs.Histories.{event_at, starts, writes};
-ghost use Rattle.air_history.specs.Places.{last_place, same_place};
+ghost use Rattle.air_history.specs.Places.{last_place};
 ghost use Rattle.air_history.specs.Reads.{origin};
 ghost use Rattle.live_replay.specs.Findings.{places_of};
 ghost use Rattle.live_replay.specs.Private.Alone.{MarksAlone, MarksDescents};

@@ -1,6 +1,6 @@
 //! The audit of a report: the finding of each verdict, glance and look line, in order.
 
-ghost use Rattle.std.specs.Prelude.{◌≡◌, ◌*◌, ◌<◌, ◌≤◌, ◌^◌, ◌++◌, length, not, count_by, All, IfOk, IfErr, OnOk};
+ghost use Rattle.std.specs.Prelude.{◌≡◌, ◌<◌, ◌≤◌, ◌^◌, ◌++◌, length, not, count_by, All, IfOk, IfErr, OnOk};
 ghost use Rattle.air_history.specs.Histories.{is_start, starts};
 ghost use Rattle.air_report.specs.KeptReports.{IsFew, KeepsGrammar};
 ghost use Rattle.live_replay.specs.Audits.{IsAuditRefusal, findings, found_in, replayed_in};

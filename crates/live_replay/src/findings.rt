@@ -10,7 +10,8 @@ use std::fmt;
 pub enum Cause {
     /// A read's value is another.
     Value,
-    /// A read that should pass doesn't, or the refused read passes or comes too late.
+    /// A read that should pass doesn't, the refused read passes or comes too late, or the reads lie nearer or farther apart than the
+    /// verdict says.
     Verdict,
     /// The refused read clashes with another item.
     Clash,

@@ -1,17 +1,18 @@
 //! The finding of one line.
 
-ghost use Rattle.std.specs.Prelude.{◌≡◌, ◌<◌, ◌≤◌, length, not, All, IfOk, if◌then◌else◌, Some, None};
+ghost use Rattle.std.specs.Prelude.{◌≡◌, ◌<◌, ◌≤◌, ◌&&◌, length, not, All, IfOk, if◌then◌else◌, Some, None};
 ghost use Rattle.std.specs.List.{list_all};
-ghost use Rattle.air_base.specs.declared.verdicts.VerdictKind.{VerdictKind};
+ghost use Rattle.air_base.specs.declared.verdicts.VerdictKind.TheVariants.{Abort};
 ghost use Rattle.air_history.specs.Histories.{starts};
 ghost use Rattle.air_model.specs.Decks.{values_in};
-ghost use Rattle.live_replay.specs.Findings.{has_value, is_clash, is_refused, look_cause, places_of, verdict_cause};
+ghost use Rattle.live_replay.specs.Findings.{has_value, is_clash, is_refused, look_cause, places_of, spans_so, verdict_cause};
 ghost use Rattle.live_replay.specs.Private.Lines.{EndFits, LineFits};
 ghost use Rattle.live_replay.specs.declared.findings.Cause.{Cause};
 
 use crate::findings::Cause;
 use crate::policies::{all_pass, clash, is_late};
 use crate::replay::Replay;
+use crate::spans::spans_so;
 use air_base::{NoMemory, ReadOf, VerdictKind};
 use air_model::reports::{LookLine, VerdictLine};
 use std::alloc::Global;
@@ -29,6 +30,32 @@ fn have_values(replay: &Replay<'_>, reads: &[ReadOf]) -> bool
     true
 }
 
+/// Why an abort differs whose reads all pass and lie near enough: by its named read, and the item with which that clashes.
+#[tactic(auto, unfolding(crate::specs::Findings::is_refused, crate::specs::Findings::is_clash))]
+fn abort_cause(
+    alloc: Global,
+    replay: &Replay<'_>,
+    reads: &[ReadOf],
+    named: ReadOf,
+    told: u16,
+) -> Result<Option<Cause>, NoMemory>
+    requires reads { All (λ r. r.cycle ≤ starts replay.now.history) reads.now }
+    requires named { named.cycle ≤ starts replay.now.history }
+    ensures { IfOk result (λ cause. cause ≡
+        (if not (is_refused replay.now.deck.settings.policy replay.now.history (places_of reads.now) (Abort named.item named.cycle told)) then Some Cause.Verdict
+        else if not (is_clash replay.now.deck.settings.policy replay.now.history (places_of reads.now) (Abort named.item named.cycle told)) then Some Cause.Clash
+        else None)) }
+{
+    if is_late(replay.policy(), reads, &named) {
+        return Ok(Some(Cause::Verdict));
+    }
+    match clash(alloc, replay, reads, &named)? {
+        None => Ok(Some(Cause::Verdict)),
+        Some(held) if held.item == told => Ok(None),
+        Some(_) => Ok(Some(Cause::Clash)),
+    }
+}
+
 /// Why the end of an attempt differs whose reads all pass.
 #[tactic(auto, unfolding(crate::specs::Findings::is_refused, crate::specs::Findings::is_clash))]
 fn end_cause(
@@ -40,30 +67,36 @@ fn end_cause(
     requires reads { All (λ r. r.cycle ≤ starts replay.now.history) reads.now }
     requires end { EndFits (starts replay.now.history) end }
     ensures { IfOk result (λ cause. cause ≡
-        (if not (is_refused replay.now.deck.settings.policy replay.now.history (places_of reads.now) end) then Some Cause.Verdict
+        (if not (is_refused replay.now.deck.settings.policy replay.now.history (places_of reads.now) end
+        && spans_so replay.now.deck.settings.version (places_of reads.now) end) then Some Cause.Verdict
         else if not (is_clash replay.now.deck.settings.policy replay.now.history (places_of reads.now) end) then Some Cause.Clash
         else None)) }
 {
-    let VerdictKind::Abort {
-        item,
-        cycle,
-        clash: told,
-    } = end
-    else {
-        return Ok(None);
-    };
-    let named = ReadOf {
+    if !spans_so(replay.version(), reads, end) {
+        return Ok(Some(Cause::Verdict));
+    }
+    match end {
+        VerdictKind::Abort { item, cycle, clash } => {
+            abort_cause(alloc, replay, reads, read_in_cycle(item, cycle), clash)
+        }
+        VerdictKind::Aged { item, cycle } => {
+            if is_late(replay.policy(), reads, &read_in_cycle(item, cycle)) {
+                return Ok(Some(Cause::Verdict));
+            }
+            Ok(None)
+        }
+        VerdictKind::Accept | VerdictKind::Unfinished => Ok(None),
+    }
+}
+
+/// A read of an item in a cycle, of no value.
+fn read_in_cycle(item: u16, cycle: u32) -> ReadOf
+    ensures { result ≡ record { item = item; cycle = cycle; value = 0 } }
+{
+    ReadOf {
         item,
         cycle,
         value: 0,
-    };
-    if is_late(replay.policy(), reads, &named) {
-        return Ok(Some(Cause::Verdict));
-    }
-    match clash(alloc, replay, reads, &named)? {
-        None => Ok(Some(Cause::Verdict)),
-        Some(held) if held.item == told => Ok(None),
-        Some(_) => Ok(Some(Cause::Clash)),
     }
 }
 

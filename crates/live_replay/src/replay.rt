@@ -81,6 +81,13 @@ impl<'a> Replay<'a> {
         self.deck.settings().policy
     }
 
+    /// The version of the deck's buckets.
+    pub fn version(&self) -> u8
+        ensures { result ≡ self.now.deck.settings.version }
+    {
+        self.deck.settings().version
+    }
+
     /// The history.
     pub fn history(&self) -> &History
         ensures { result.now ≡ self.now.history }

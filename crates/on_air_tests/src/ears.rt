@@ -1,7 +1,6 @@
 //! An ear that would go on after its end, and a datagram that is one byte longer than the room for it.
 
-ghost use Rattle.std.specs.Prelude.{◌≡◌, ◌≤◌, ◌<◌, None, Some, length, IfOk};
-ghost use Rattle.air_devices.specs.Counts.{HasCause};
+ghost use Rattle.std.specs.Prelude.{◌<◌, None, Some, length};
 ghost use Rattle.air_devices.specs.Ears.{Hears};
 ghost use Rattle.air_devices.specs.Untold.{untold_ear};
 

@@ -3,10 +3,8 @@
 //! A datagram may be lost, so nothing is said of what is heard. The deck of who listens lets it hear one datagram, and its ear
 //! sends itself one.
 
-ghost use Rattle.std.specs.Prelude.{◌≡◌, ◌<◌, length, Some, None, IfOk, IsSome, OnErr};
+ghost use Rattle.std.specs.Prelude.{◌≡◌, ◌<◌, None};
 ghost use Rattle.std.specs.Thread.{IsSync};
-ghost use Rattle.air_devices.specs.Counts.{HasCause};
-ghost use Rattle.air_devices.specs.Ears.{Hears};
 ghost use Rattle.air_devices.specs.Masts.{nothing_sent};
 ghost use Rattle.air_devices.specs.Told.{WhereTold};
 

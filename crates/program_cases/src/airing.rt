@@ -4,16 +4,15 @@
 //! told too. `memory` airs on a new mast, and has its room and the call that fails.
 
 ghost use Rattle.std.specs.Prelude.{◌≡◌, ◌≤◌, length};
-ghost use Rattle.air_model.specs.Disks.{all_items};
 ghost use Rattle.air_sender.specs.BoardBuckets.{EntriesBelow};
 
 use crate::tapes::add_records;
 use air_base::limits::MOST_DATAGRAM_BYTES;
-use air_base::{NoMemory, Policy};
+use air_base::{Form, NoMemory, Policy};
 use air_devices::{Failed, Mast, MemMast};
-use air_sender::{AirFault, TapeMast, air_cycle, tape_bytes};
+use air_sender::{AirFault, TapeMast, air_cycle, bucket_room, own_form, tape_bytes};
 use case_lines::{BadCase, Parts, add_hex_words, add_line};
-use chunk_program::Program;
+use chunk_program::Planned;
 use control_matrix::Board;
 use std::alloc::Global;
 
@@ -21,7 +20,7 @@ use std::alloc::Global;
 /// bytes are then.
 fn air<M: Mast>(
     alloc: Global,
-    program: &Program,
+    planned: &Planned,
     board: &Board,
     policy: Policy,
     after: u8,
@@ -30,11 +29,14 @@ fn air<M: Mast>(
 ) -> Result<(), NoMemory>
     requires started { 1 ≤ board.now.cycle }
     requires below { EntriesBelow board.now }
-    requires items { length (all_items program.now) ≡ length board.now.values }
+    requires items { length planned.now.items ≡ length board.now.values }
 {
-    let long = 24 + 4 * usize::from(board.n());
+    planned.shows_planned();
+    let version = own_form(planned).version;
+    let form = Form { policy, version };
+    let long = bucket_room(planned);
     let mut buf = vec![in alloc; 0xeeu8; long + usize::from(after)]?;
-    match air_cycle(program, board, policy, mast, &mut buf) {
+    match air_cycle(planned.program(), board, form, mast, &mut buf) {
         Ok(()) => add_line(b"aired", &[], came)?,
         Err(AirFault::Mast { slot }) => add_line(b"failed at slot", &[u64::from(slot)], came)?,
     }
@@ -47,7 +49,7 @@ fn air<M: Mast>(
 /// Answers a question about what is aired: how many bytes a number of cycles has, or the board's cycle on a mast.
 pub fn tell_aired(
     alloc: Global,
-    program: &Program,
+    planned: &Planned,
     board: &Board,
     word: &[u8],
     parts: &mut Parts<'_>,
@@ -56,21 +58,22 @@ pub fn tell_aired(
 ) -> Result<(), NoMemory>
     requires started { 1 ≤ board.now.cycle }
     requires below { EntriesBelow board.now }
-    requires items { length (all_items program.now) ≡ length board.now.values }
+    requires items { length planned.now.items ≡ length board.now.values }
 {
     if word == b"length".as_slice() {
         let cycles = parts.narrow();
-        return add_line(b"bytes", &[tape_bytes(program, board.n(), cycles)], came);
+        let bytes = tape_bytes(planned.program(), board.n(), cycles, own_form(planned));
+        return add_line(b"bytes", &[bytes], came);
     }
     let policy = parts.policy();
     let after = parts.byte();
     if word == b"air".as_slice() {
-        return air(alloc, program, board, policy, after, mast, came);
+        return air(alloc, planned, board, policy, after, mast, came);
     }
     let room = parts.number();
     let fail = parts.numbers(alloc)?;
     let mut memory = MemMast::new(alloc, room as usize, fail)?;
-    air(alloc, program, board, policy, after, &mut memory, came)?;
+    air(alloc, planned, board, policy, after, &mut memory, came)?;
     add_records(memory.sent(), came)
 }
 

@@ -55,9 +55,8 @@ impl ProgramPlayer {
             b"cut" => plans::tell_cut(&cut, came),
             b"wait" => plans::tell_wait(planned.program(), &cut, parts, came),
             _ => match boards::started_board(alloc, planned.deck())? {
-                Some(board) if cut.order().len() == board.n() as usize => {
-                    let program = planned.program();
-                    airing::tell_aired(alloc, program, &board, word, parts, &mut self.mast, came)
+                Some(board) if planned.deck().items() == board.n() => {
+                    airing::tell_aired(alloc, &planned, &board, word, parts, &mut self.mast, came)
                 }
                 _ => add_line(b"no board", &[], came),
             },

@@ -5,6 +5,7 @@
 ghost use Rattle.std.specs.Prelude.{◌≡◌, ◌≤◌, IfOk};
 ghost use Rattle.air_model.specs.Decks.{disks_in};
 
+use air_base::limits::MOST_ITEMS;
 use air_base::{NoMemory, write_u64};
 use case_lines::{Parts, add_line};
 use chunk_program::{Cut, PlanFault, Planned, Program, cut};
@@ -13,7 +14,7 @@ use std::alloc::Global;
 
 /// The cut of a deck, and the deck with its program, or why there is none.
 pub fn plan_deck(alloc: Global, deck: Deck) -> Result<(Cut, Planned), PlanFault>
-    ensures { IfOk result (λ p. p.0 ≡ disks_in p.1) }
+    ensures { IfOk result (λ p. p.0 ≡ disks_in p.1 0) }
 {
     let Ok(cut) = cut(alloc, &deck) else {
         return Err(PlanFault::NoMemory);
@@ -76,7 +77,7 @@ fn rate_of(deck: &Deck, item: u16) -> u32
 
 /// Adds for each item its disk, how often and how far apart it comes, its first slot, and its PIX number at its rate.
 fn add_items(planned: &Planned, cut: &Cut, out: &mut Vec<u8>) -> Result<(), NoMemory>
-    requires { cut.now ≡ disks_in planned.now }
+    requires { cut.now ≡ disks_in planned.now 0 }
 {
     let deck = planned.deck();
     let program = planned.program();
@@ -96,7 +97,7 @@ fn add_items(planned: &Planned, cut: &Cut, out: &mut Vec<u8>) -> Result<(), NoMe
 
 /// The plan: slots, minor cycles and their length, the disks, the slots of each minor cycle, and the items.
 pub fn tell_plan(planned: &Planned, cut: &Cut, came: &mut Vec<u8>) -> Result<(), NoMemory>
-    requires { cut.now ≡ disks_in planned.now }
+    requires { cut.now ≡ disks_in planned.now 0 }
 {
     let program = planned.program();
     let numbers = [
@@ -120,7 +121,7 @@ pub fn tell_cut(cut: &Cut, came: &mut Vec<u8>) -> Result<(), NoMemory> {
 
 /// Of each item its disk and its place there.
 fn add_homes(cut: &Cut, came: &mut Vec<u8>) -> Result<(), NoMemory> {
-    for item in 0..cut.order().len().min(256) as u16 {
+    for item in 0..cut.order().len().min(MOST_ITEMS) as u16 {
         let numbers = [
             u64::from(item),
             u64::from(cut.disk_of(item)),
@@ -142,7 +143,7 @@ pub fn tell_wait(
 {
     let slot = parts.number();
     let item = parts.number();
-    if slot >= u64::from(program.slots()) || item >= cut.order().len().min(256) as u64 {
+    if slot >= u64::from(program.slots()) || item >= cut.order().len().min(MOST_ITEMS) as u64 {
         return add_line(b"not a call", &[], came);
     }
     let wait = program.next_wake(slot as u32, item as u16);

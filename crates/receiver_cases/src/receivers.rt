@@ -1,7 +1,7 @@
 //! Receivers of a deck's text, and their calls.
 //!
 //! `hear` has the bytes of a bucket in hexadecimal digits; the other calls have no parts. What a step comes to is told in a line, and an
-//! abort in two.
+//! abort or an aged attempt in two.
 
 use air_base::limits::MOST_DECK_BYTES;
 use air_base::{NoMemory, Verdict, VerdictKind};
@@ -58,6 +58,11 @@ fn add_verdict(verdict: &Verdict, came: &mut Vec<u8>) -> Result<(), NoMemory> {
             add_line(b"aborts query, attempt", &[query, attempt], came)?;
             let numbers = [u64::from(item), u64::from(cycle), u64::from(clash)];
             add_line(b"by item, cycle, clash", &numbers, came)
+        }
+        VerdictKind::Aged { item, cycle } => {
+            add_line(b"ages query, attempt", &[query, attempt], came)?;
+            let numbers = [u64::from(item), u64::from(cycle)];
+            add_line(b"by item, cycle", &numbers, came)
         }
     }
 }

@@ -9,7 +9,7 @@ use Rattle.air_model.specs.Buckets.{Bucket}
 use Rattle.air_model.specs.declared.bucket.BucketFault.{BucketFault}
 use Rattle.air_model.specs.Judges.{Judge}
 use Rattle.air_model.specs.Reads.{Read}
-use Rattle.air_model.specs.Sessions.{State, abort, accept_if_whole, comes_late, count_dozed, count_foreign, count_late, count_opened, count_refused, decide, drop_copy, hear, hear_read, hold, is_wanted, next_attempt, next_query, offer, open_bucket, query_of, read_in, wanted, with_line}
+use Rattle.air_model.specs.Sessions.{State, abort, accept_if_whole, comes_aged, comes_late, count_dozed, count_foreign, count_late, count_opened, count_refused, decide, drop_copy, hear, hear_read, hold, is_wanted, next_attempt, next_query, offer, open_bucket, query_of, read_in, wanted, with_line, judge_read, end_aged}
 use Rattle.air_model.proofs.MomentLemmas.{cond_keeps}
 use Rattle.receiver_core.specs.FeedAnswers.{ChangesItsCountAlone, count_fed, fed_of, fed_read}
 use Rattle.receiver_core.specs.LastReads.{in_state}
@@ -25,9 +25,17 @@ module _ (judge : Judge) (r : Receiver) where
   decide_counts x None s = cond_keeps (λ t. t.counts ≡ s.counts) (is_some (wanted r.reader (record s { held = s.held ++ x ∷ [] }))) _ _ (λ _. refl) (λ _. refl)
   decide_counts x (Some c) s = cond_keeps (λ t. t.counts ≡ s.counts) (nat_lt s.attempt r.reader.plan.tries) _ _ (λ _. refl) (λ _. refl)
 
+  aged_counts : (x : Read) (s : State) → (end_aged judge r.air r.reader x s).counts ≡ s.counts
+  unfolding end_aged next_attempt next_query with_line
+  aged_counts x s = cond_keeps (λ t. t.counts ≡ s.counts) (nat_lt s.attempt r.reader.plan.tries) _ _ (λ _. refl) (λ _. refl)
+
+  judge_counts : (x : Read) (s : State) → (judge_read judge r.air r.reader x s).counts ≡ s.counts
+  unfolding judge_read
+  judge_counts x s = cond_keeps (λ t. t.counts ≡ s.counts) (comes_aged r.air s x) _ _ (λ _. aged_counts x s) (λ _. decide_counts x (judge.clash s.held x) s)
+
   open_counts : (x : Read) (s : State) → (open_bucket judge r.air r.reader x s).counts ≡ count_fed fed.Opened s.counts
   unfolding open_bucket offer count_opened
-  open_counts x s = decide_counts x (judge.clash s.held x) (count_opened s)
+  open_counts x s = judge_counts x (count_opened s)
 
   read_counts : (o : Option Read) (m : ℕ) → (hear_read judge r.air r.reader o (at_cycle m r.state)).counts ≡ count_fed (fed_read r o) r.state.counts
   unfolding hear_read fed_read count_dozed count_late wanted query_of

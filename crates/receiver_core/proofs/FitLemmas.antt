@@ -1,6 +1,6 @@
 -- When a bucket fits, from what its head tells.
-use Rattle.std.proofs.Common.{◌≡◌, ◌≢◌, ℕ, ◌<◌, ◌≤◌, ◌==◌, Bool, true, false, ◌&&◌, nat_lt, length, get_or, Option, None, refl, sym, ◌∙◌, ap, arith}
-use Rattle.std.proofs.lemmas.Bool.{ne_eqb, le-ltb, lt-ltb}
+use Rattle.std.proofs.Common.{◌≡◌, ◌≢◌, ℕ, ◌<◌, ◌≤◌, ◌==◌, Bool, true, false, ◌&&◌, nat_le, nat_lt, length, get_or, Option, None, refl, sym, ◌∙◌, ap, arith}
+use Rattle.std.proofs.lemmas.Bool.{le-leb, le-ltb, lt-leb, lt-ltb, ne_eqb}
 use Rattle.std.proofs.lemmas.List.{get_or_default}
 use Rattle.air_model.specs.Aired.{Air, body_fits, fits}
 use Rattle.air_model.specs.Buckets.{Body, Bucket, Idle, Column, Vector, count_of, item_of, kind_of}
@@ -19,31 +19,42 @@ body_is air slot (Idle count) = refl
 body_is air slot (Column item value entries) = refl
 body_is air slot (Vector item value entries) = refl
 
--- In the deck's edition and within the program the body decides.
-fits_in_slot : (air : Air) (b : Bucket) → b.edition ≡ 0 → b.slot < length air.slots →
-    fits air b ≡ (kind_fits air.scheme.policy (get_or air.slots b.slot None) (kind_of b.body) (item_of b.body) && (count_of b.body == air.items))
+-- In version 1, in the deck's edition and within the program the body decides.
+fits_in_slot : (a : Inside) (b : Bucket) → b.version ≤ 1 → b.edition ≡ 0 → b.slot < length a.slots.items →
+    fits (air_in a) b ≡ (kind_fits a.policy (get_or a.slots.items b.slot None) (kind_of b.body) (item_of b.body) && (count_of b.body == a.items))
 unfolding fits
-fits_in_slot air b e l =
-    ap (λ n. (n == 0) && nat_lt b.slot (length air.slots) && body_fits air (get_or air.slots b.slot None) b.body) e
-    ∙ ap (λ t. t && body_fits air (get_or air.slots b.slot None) b.body) (lt-ltb b.slot (length air.slots) l)
-    ∙ body_is air (get_or air.slots b.slot None) b.body
+fits_in_slot a b v e l =
+    let body = body_fits (air_in a) (get_or a.slots.items b.slot None) b.body in
+    ap (λ t. t && (b.edition == 0) && nat_lt b.slot (length a.slots.items) && body) (le-leb b.version 1 v)
+    ∙ ap (λ n. (n == 0) && nat_lt b.slot (length a.slots.items) && body) e
+    ∙ ap (λ t. t && body) (lt-ltb b.slot (length a.slots.items) l)
+    ∙ body_is (air_in a) (get_or a.slots.items b.slot None) b.body
 
-pub other_edition : (air : Air) (b : Bucket) → b.edition ≢ 0 → fits air b ≡ false
+pub other_version : (a : Inside) (b : Bucket) → 1 < b.version → fits (air_in a) b ≡ false
 unfolding fits
-other_edition air b e = ap (λ t. t && nat_lt b.slot (length air.slots) && body_fits air (get_or air.slots b.slot None) b.body) (ne_eqb b.edition 0 e)
+other_version a b v =
+    ap (λ t. t && (b.edition == 0) && nat_lt b.slot (length a.slots.items) && body_fits (air_in a) (get_or a.slots.items b.slot None) b.body) (lt-leb b.version 1 v)
 
-pub no_such_slot : (air : Air) (b : Bucket) → length air.slots ≤ b.slot → fits air b ≡ false
+pub other_edition : (a : Inside) (b : Bucket) → b.edition ≢ 0 → fits (air_in a) b ≡ false
 unfolding fits
-no_such_slot air b l =
-    ap (λ t. (b.edition == 0) && t && body_fits air (get_or air.slots b.slot None) b.body) (le-ltb b.slot (length air.slots) l)
-    ∙ ap (λ t. t && body_fits air (get_or air.slots b.slot None) b.body) (and_false (b.edition == 0))
+other_edition a b e =
+    let body = body_fits (air_in a) (get_or a.slots.items b.slot None) b.body in
+    ap (λ t. nat_le b.version 1 && t && nat_lt b.slot (length a.slots.items) && body) (ne_eqb b.edition 0 e)
+    ∙ ap (λ t. t && nat_lt b.slot (length a.slots.items) && body) (and_false (nat_le b.version 1))
+
+pub no_such_slot : (a : Inside) (b : Bucket) → length a.slots.items ≤ b.slot → fits (air_in a) b ≡ false
+unfolding fits
+no_such_slot a b l =
+    let body = body_fits (air_in a) (get_or a.slots.items b.slot None) b.body in
+    ap (λ t. nat_le b.version 1 && (b.edition == 0) && t && body) (le-ltb b.slot (length a.slots.items) l)
+    ∙ ap (λ t. t && body) (and_false (nat_le b.version 1 && (b.edition == 0)))
 
 -- The same at the fields: the answer of the slot's test and the number of items.
-pub in_slot : (a : Inside) (air : Air) (b : Bucket) (s : ℕ) (item : Option ℕ) (right : Bool) (n : ℕ) → air_in a ≡ air → s ≡ b.slot → b.edition ≡ 0 → s < length a.slots.items →
+pub in_slot : (a : Inside) (air : Air) (b : Bucket) (s : ℕ) (item : Option ℕ) (right : Bool) (n : ℕ) → air_in a ≡ air → s ≡ b.slot → b.version ≤ 1 → b.edition ≡ 0 → s < length a.slots.items →
     item ≡ get_or a.slots.items s item → right ≡ kind_fits a.policy item (kind_of b.body) (item_of b.body) → n ≡ count_of b.body → (right && (n == a.items)) ≡ fits air b
-in_slot a air b s item right n is at first within carried stands counted =
-    let here : get_or (air_in a).slots b.slot None ≡ item =
+in_slot a air b s item right n is at old first within carried stands counted =
+    let here : get_or a.slots.items b.slot None ≡ item =
     get_or_default a.slots.items b.slot None item (omega arith) ∙ ap (λ k. get_or a.slots.items k item) (sym at) ∙ sym carried in
     ap (λ t. t && (n == a.items)) stands ∙ ap (λ m. kind_fits a.policy item (kind_of b.body) (item_of b.body) && (m == a.items)) counted
     ∙ ap (λ o. kind_fits a.policy o (kind_of b.body) (item_of b.body) && (count_of b.body == a.items)) (sym here)
-    ∙ sym (fits_in_slot (air_in a) b first (omega arith)) ∙ ap (λ (t : Air). fits t b) is
+    ∙ sym (fits_in_slot a b old first (omega arith)) ∙ ap (λ (t : Air). fits t b) is

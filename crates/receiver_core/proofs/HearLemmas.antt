@@ -1,7 +1,8 @@
 -- What a heard bucket is to a receiver: what is answered, and what the rule does.
 use Rattle.std.proofs.Common.{◌≡◌, ◌≢◌, ℕ, ◌+◌, arith, cond, max, true, false, ◌&&◌, ◌==◌, [], length, get_or, is_none, not, Option, Some, None, Ok, refl, sym, ◌∙◌, ap}
 use Rattle.std.proofs.lemmas.Bool.{and_parts, cond-false, cond-true, eqb-true}
-use Rattle.air_model.specs.Aired.{Air, airs_columns, body_fits, fits}
+use Rattle.air_model.specs.Aired.{Air, airs_columns, body_fits, fits, slots_at}
+use Rattle.air_model.proofs.AiredLemmas.{fit_parts}
 use Rattle.air_model.specs.Airings.{carries}
 use Rattle.air_model.specs.Buckets.{Body, Bucket, Idle, Column, Vector, count_of, entries_of, item_of, kind_of, value_of}
 use Rattle.air_model.specs.Judges.{Judge, by_entries}
@@ -58,8 +59,7 @@ fitting_count air slot (Vector item value entries) f = eqb-true (length entries)
 
 -- A bucket that fits has the deck's number of items.
 pub fits_counted : (air : Air) (b : Bucket) → fits air b ≡ true → count_of b.body ≡ air.items
-unfolding fits
-fits_counted air b f = fitting_count air (get_or air.slots b.slot None) b.body (and_parts _ (body_fits air (get_or air.slots b.slot None) b.body) f).1
+fits_counted air b f = fitting_count air (get_or (slots_at air b.cycle) b.slot None) b.body (fit_parts air b f).body
 
 -- ---- what is answered
 

@@ -46,6 +46,16 @@ pub dropped_one : (air : Air) (reader : Reader) (before now : Cache) (i : ℕ) �
 unfolding without_item
 dropped_one air reader before now i k e = subst (IsCacheOf air reader) (sym e) (record { room = k.room; pix = k.pix; copies = All-filter _ (IsWholeRead air.items) before.copies k.copies })
 
+-- All were dropped.
+pub emptied : (r : Inside) (cache : Cache) → IsReceiver r → cache ≡ record r.copies { copies = [] } → IsReceiver (record r { copies = cache })
+emptied r cache k e = record {
+  deck = k.deck;
+  cache = subst (IsCacheOf r.air r.reader) (sym e) (record { room = k.cache.room; pix = k.cache.pix; copies = All-nil (IsWholeRead r.air.items) });
+  held = k.held;
+  few = k.few;
+  column = k.column;
+}
+
 -- ---- the held reads
 
 -- The held items stay the query's first ones.
@@ -95,7 +105,7 @@ item_within r i k w =
     let at = wanted_at r i w in
     let below : get_or q n i < r.air.items = k.deck.within r.query [] here n i (slice_get_within q n i at) in
     let same = get_or_from_slice_get q n i i at in
-    let all : length r.copies.pix ≡ r.air.items = ap length k.cache.pix ∙ k.deck.numbers in
+    let all : length r.copies.pix ≡ r.air.items = ap length (k.cache.pix r.latest) ∙ k.deck.numbers r.latest in
     omega arith
 
 -- So has the item of a held read that clashes.
@@ -104,7 +114,7 @@ clash_within r x c k here e =
     let held : Contains (map (λ (y : Read). y.item) r.held.reads) c.item = (names r.air.scheme [] []).1 r.held.reads x c e in
     let first : All (λ i. i < r.air.items) (take (length r.held.reads) (at_hand r)) = All-take (λ i. i < r.air.items) (length r.held.reads) (at_hand r) (k.deck.within r.query [] here) in
     let below : c.item < r.air.items = All-contains (λ i. i < r.air.items) (take (length r.held.reads) (at_hand r)) c.item first (subst (λ is. Contains is c.item) k.held.first held) in
-    let all : length r.copies.pix ≡ r.air.items = ap length k.cache.pix ∙ k.deck.numbers in
+    let all : length r.copies.pix ≡ r.air.items = ap length (k.cache.pix r.latest) ∙ k.deck.numbers r.latest in
     omega arith
 
 pub clashes_within : (r : Inside) (x : Read) (o : Option Clash) → IsReceiver r → r.query < length r.reader.queries → (by_entries r.air.scheme).clash r.held.reads x ≡ o → IfSome o (λ c. c.item < length r.copies.pix)

@@ -9,6 +9,7 @@ use Rattle.air_base.specs.declared.verdicts.VerdictKind.TheVariants.{Abort}
 use Rattle.held_reads.specs.declared.held.TheConstants.{ROOM}
 use Rattle.air_history.specs.UpdateRules.{has_repeat}
 use Rattle.air_history.specs.Clashes.{is_late}
+use Rattle.air_model.specs.Aired.{pix_at}
 use Rattle.air_model.specs.Buckets.{Body, Bucket, Column, Idle, IsInRange, Vector, count_of, entries_of, item_of, kind_of, value_of}
 use Rattle.air_model.specs.Copies.{keep, with_copy, without_item}
 use Rattle.air_model.specs.Judges.{by_entries, heard_of, place_of}
@@ -24,7 +25,7 @@ use Rattle.receiver_core.specs.Receivers.{Receiver}
 use Rattle.receiver_core.specs.ReceiverView.{IsReceiver, IsWholeRead, receiver_in}
 use Rattle.receiver_core.specs.declared.receivers.Receiver.TheInside.{Inside}
 use Rattle.receiver_core.proofs.StateLemmas.{left}
-use Rattle.receiver_core.proofs.WordLemmas.{open_clash, open_clear, with_opened}
+use Rattle.receiver_core.proofs.WordLemmas.{never_aged, open_clash, open_clear, with_opened}
 
 -- ---- the wanted item isn't held
 
@@ -120,8 +121,8 @@ abbrev pub opened_with : Inside → HeldValues → Cache → Inside
 opened_with r held cache = record r { counts = record r.counts { opened = r.counts.opened + 1 }; held = held; copies = cache }
 
 -- The copies that stay of some and the new one, by the reader's room and the numbers of the air.
-kept_at : (r : Inside) (R : List Read) (x : Read) → IsReceiver r → keep r.copies.room r.copies.pix (with_copy x R) ≡ keep r.reader.plan.room r.air.pix (with_copy x R)
-kept_at r R x k = ap (λ n. keep n r.copies.pix (with_copy x R)) k.cache.room ∙ ap (λ p. keep r.reader.plan.room p (with_copy x R)) k.cache.pix
+kept_at : (r : Inside) (R : List Read) (x : Read) → IsReceiver r → keep r.copies.room r.copies.pix (with_copy x R) ≡ keep r.reader.plan.room (pix_at r.air r.latest) (with_copy x R)
+kept_at r R x k = ap (λ n. keep n r.copies.pix (with_copy x R)) k.cache.room ∙ ap (λ p. keep r.reader.plan.room p (with_copy x R)) (k.cache.pix r.latest)
 
 -- The cache once the read is offered, without the copy of the item that clashes.
 abbrev pub offered_to : Inside → Read → Option Clash → Cache
@@ -135,7 +136,7 @@ opened_clear r held cache x k e f none =
     ap (λ h. in_state (receiver_in (opened_with r h cache)) (accept_if_whole (by_entries r.air.scheme) r.air r.reader (receiver_in (opened_with r h cache)).state)) e
     ∙ ap (λ (c : Cache). in_state (receiver_in r) (accept_if_whole (by_entries r.air.scheme) r.air r.reader (record (with_opened (receiver_in r).state) { held = r.held.reads ++ x ∷ []; copies = c.copies }))) f
     ∙ ap (λ cs. in_state (receiver_in r) (accept_if_whole (by_entries r.air.scheme) r.air r.reader (record (with_opened (receiver_in r).state) { held = r.held.reads ++ x ∷ []; copies = cs }))) (kept_at r r.copies.copies x k)
-    ∙ ap (in_state (receiver_in r)) (open_clear r.air r.reader x (receiver_in r).state none)
+    ∙ ap (in_state (receiver_in r)) (open_clear r.air r.reader x (receiver_in r).state (never_aged r.air (receiver_in r).state x k.deck.full) none)
 
 -- The receiver after the abort, with these copies.
 abbrev after_abort : Inside → Read → Clash → List Read → Receiver
@@ -148,4 +149,4 @@ pub opened_clash : (r : Inside) (held : HeldValues) (cache : Cache) (x : Read) (
 opened_clash r held cache x c k e f some =
     ap (λ h. in_state (receiver_in (opened_with r h cache)) (next_attempt r.reader (with_line (by_entries r.air.scheme) (Abort x.item x.cycle c.item) (receiver_in (opened_with r h cache)).state))) e
     ∙ ap (λ (t : Cache). after_abort r x c t.copies) f ∙ ap (after_abort r x c) (kept_at r (without_item c.item r.copies.copies) x k)
-    ∙ ap (in_state (receiver_in r)) (open_clash r.air r.reader x c (receiver_in r).state some)
+    ∙ ap (in_state (receiver_in r)) (open_clash r.air r.reader x c (receiver_in r).state (never_aged r.air (receiver_in r).state x k.deck.full) some)

@@ -1,21 +1,22 @@
 -- What a receiver holds of a history, as long as the history aired what the receiver heard. Each call keeps it, and `held_law`
 -- says the same of the rules.
-use Rattle.std.specs.Prelude.{◌≡◌, ℕ, ◌<◌, true, not, ◌==◌, List, length, map, All, IfSome, IsTrue, Option}
+use Rattle.std.specs.Prelude.{◌≡◌, ℕ, ◌<◌, true, false, not, ◌==◌, List, length, map, All, IfSome, IsTrue, Option}
 use Rattle.std.specs.List.{find, list_any}
 use Rattle.std.specs.Option.{is_some}
 use Rattle.air_history.specs.declared.histories.Event.{Event}
-use Rattle.air_history.specs.ClashLaws.{Accepts, HasAiredEntries, IsAllowed}
+use Rattle.air_history.specs.ClashLaws.{Accepts, HasAiredEntries, HasCappedEntries, IsAllowed}
 use Rattle.air_model.specs.Aired.{Air, IsAiredBucket, SlotsFit, fits}
-use Rattle.air_model.specs.Buckets.{Bucket}
+use Rattle.air_model.specs.Buckets.{Bucket, has_ages}
 use Rattle.air_model.specs.Judges.{heard_of, place_of}
 use Rattle.air_model.specs.Reads.{Read}
 use Rattle.air_model.specs.SessionLaws.{QueriesFilled}
 use Rattle.air_model.specs.Sessions.{Reader, State, query_of, wanted}
 use Rattle.receiver_core.specs.Receivers.{Receiver}
 
--- The read is the history's: its entries are those that the history airs with its item in its cycle.
+-- The read is the history's: its entries are those that the history airs with its item in its cycle, some of them perhaps as ages tell
+-- them; and where the air's buckets have no ages, each is the history's own.
 abbrev pub IsReadIn : Air → List Event → Read → Type 0
-IsReadIn air H x = HasAiredEntries air.scheme air.items H (heard_of x)
+IsReadIn air H x = HasCappedEntries air.scheme air.items H (heard_of x) × (has_ages air.version ≡ false → HasAiredEntries air.scheme air.items H (heard_of x))
 
 -- The held reads and the copies are the history's; the policy accepted the held ones one after another, and allows them in
 -- their order; and the query at hand wants an item, as none that is whole stays at hand.

@@ -1,9 +1,10 @@
 -- The fields of a receiver.
-use Rattle.std.specs.Prelude.{◌≡◌, ℕ, ◌+◌, ◌*◌, ◌<◌, ◌≤◌, List, [], get_or, length, map, take, All}
+use Rattle.std.specs.Prelude.{◌≡◌, ℕ, ◌+◌, ◌*◌, ◌<◌, ◌≤◌, false, List, [], get_or, length, map, take, All}
 use Rattle.air_base.specs.declared.verdicts.Policy.{Policy}
 use Rattle.air_base.specs.declared.limits.TheConstants.{MOST_TRIES}
 use Rattle.held_reads.specs.declared.held.TheConstants.{ROOM}
-use Rattle.air_model.specs.Aired.{Air}
+use Rattle.air_model.specs.Aired.{Air, pix_at}
+use Rattle.air_model.specs.Buckets.{has_ages}
 use Rattle.air_model.specs.Reads.{Read}
 use Rattle.air_model.specs.Sessions.{Reader}
 use Rattle.pix_cache.specs.Caches.{Cache}
@@ -29,13 +30,14 @@ receiver_in r = record {
   last = r.last;
 }
 
--- The queries are short, and none has an item twice; their items are those of the air, and each of these has a PIX number; and
--- a query is tried as often as a deck may say at most.
+-- The queries are short, and none has an item twice; their items are those of the air, which tells entries in full, and each item has a
+-- PIX number in each cycle; and a query is tried as often as a deck may say at most.
 pub record AreOfDeck (air : Air) (reader : Reader) : Type 0 where
   pub short : HasFewQueries reader
   pub distinct : AreDistinct reader
   pub within : AreWithin air.items reader
-  pub numbers : length air.pix ≡ air.items
+  pub full : has_ages air.version ≡ false
+  pub numbers : (c : ℕ) → length (pix_at air c) ≡ air.items
   pub tries : reader.plan.tries ≤ MOST_TRIES
 
 -- A read is of one of the items, and has an entry for each, which is below its cycle.
@@ -44,10 +46,10 @@ pub record IsWholeRead (items : ℕ) (x : Read) : Type 0 where
   pub sized : length x.entries ≡ items
   pub below : All (λ entry. entry < x.cycle) x.entries
 
--- The cache has the reader's room and the PIX numbers of the air.
+-- The cache has the reader's room and the PIX numbers of the air, which are the same in all cycles.
 pub record IsCacheOf (air : Air) (reader : Reader) (cache : Cache) : Type 0 where
   pub room : cache.room ≡ reader.plan.room
-  pub pix : cache.pix ≡ air.pix
+  pub pix : (c : ℕ) → cache.pix ≡ pix_at air c
   pub copies : All (IsWholeRead air.items) cache.copies
 
 -- The held reads are checked by the deck's policy, are over the deck's items, and are those of the first items of the query.

@@ -1,10 +1,12 @@
 //! What all receivers of a deck know: the policy, the number of items, the item of each slot, and the PIX numbers.
+//!
+//! A deck is plain so far: its buckets are of version 1, and all its cycles have one program.
 
-ghost use Rattle.std.specs.Prelude.{◌≡◌, ◌<◌, ◌≤◌, List, length, map, IfOk};
+ghost use Rattle.std.specs.Prelude.{◌≡◌, ◌<◌, ◌≤◌, ℕ, false, List, length, map, IfOk};
 ghost use Rattle.std.specs.List.{enumerate_from};
 ghost use Rattle.air_base.specs.declared.limits.TheConstants.{MOST_ITEMS};
-ghost use Rattle.air_model.specs.Buckets.{item_of, kind_of};
-ghost use Rattle.air_model.specs.Aired.{air_of, airs_columns, fits};
+ghost use Rattle.air_model.specs.Buckets.{has_ages, item_of, kind_of};
+ghost use Rattle.air_model.specs.Aired.{air_of, airs_columns, fits, pix_at};
 ghost use Rattle.air_model.specs.Airings.{carries, pix_number};
 ghost use Rattle.air_model.specs.Decks.{disks_in, rates_in};
 ghost use Rattle.air_model.specs.Programs;
@@ -39,7 +41,8 @@ impl Air {
     /// What the receivers of a deck know.
     pub fn new(alloc: Global, planned: &PlannedRef<'_>) -> Result<Air, NoMemory>
         ensures told { IfOk result (λ a. a ≡ air_of planned.now) }
-        ensures numbers { IfOk result (λ a. length a.pix ≡ a.items) }
+        ensures full { IfOk result (λ a. has_ages a.version ≡ false) }
+        ensures numbers { IfOk result (λ a. (c : ℕ) → length (pix_at a c) ≡ a.items) }
         ensures few { IfOk result (λ a. a.items ≤ MOST_ITEMS) }
     {
         let deck = planned.deck();
@@ -67,7 +70,7 @@ impl Air {
 
     /// The PIX number of each item.
     pub fn pix(&self) -> &[u64]
-        ensures { result.now ≡ self.now.pix }
+        ensures { (c : ℕ) → result.now ≡ pix_at self.now c }
     {
         self.pix.as_slice()
     }
@@ -77,7 +80,7 @@ impl Air {
         ensures { result ≡ fits self.now bucket.now }
     {
         let slot = bucket.slot() as usize;
-        if bucket.edition() != 0 || slot >= self.slots.len() {
+        if bucket.version() > 1 || bucket.edition() != 0 || slot >= self.slots.len() {
             return false;
         }
         stands_right(self.policy, self.slots[slot], bucket) && bucket.count() == self.items
@@ -129,7 +132,7 @@ fn slots(alloc: Global, program: &Program) -> Result<Vec<Option<u16>>, NoMemory>
 
 /// The PIX number of each item.
 fn pix_numbers(alloc: Global, planned: &PlannedRef<'_>) -> Result<Vec<u64>, NoMemory>
-    ensures { IfOk result (λ pix. pix.items ≡ map (λ p. pix_number (disks_in planned.now) p.0 p.1) (enumerate_from 0 (rates_in planned.now))) }
+    ensures { IfOk result (λ pix. pix.items ≡ map (λ p. pix_number (disks_in planned.now 0) p.0 p.1) (enumerate_from 0 (rates_in planned.now))) }
 {
     let deck = planned.deck();
     let program = planned.program();

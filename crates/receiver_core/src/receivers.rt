@@ -94,7 +94,7 @@ impl Receiver {
         program: &Program,
     ) -> Result<Receiver, NoMemory>
         requires number { number < length deck.now.readers }
-        requires program { program.now ≡ disks_in deck.now }
+        requires program { program.now ≡ disks_in deck.now 0 }
         ensures { IfOk result (λ r. r ≡ receiver_of deck.now number) }
     {
         let air = Air::new(alloc, &PlannedRef::of(deck, program))?;

@@ -50,7 +50,7 @@ fn read_of(parts: &mut Parts<'_>) -> ReadOf {
     }
 }
 
-/// How an attempt ended that is of this tag: an abort has an item, a cycle and a clash.
+/// How an attempt ended that is of this tag: an abort has an item, a cycle and a clash, an aged attempt an item and a cycle.
 fn kind_of(tag: &[u8], parts: &mut Parts<'_>) -> VerdictKind {
     match tag {
         b"accept" => VerdictKind::Accept,
@@ -58,6 +58,10 @@ fn kind_of(tag: &[u8], parts: &mut Parts<'_>) -> VerdictKind {
             item: parts.small(),
             cycle: parts.narrow(),
             clash: parts.small(),
+        },
+        b"aged" => VerdictKind::Aged {
+            item: parts.small(),
+            cycle: parts.narrow(),
         },
         _ => VerdictKind::Unfinished,
     }
@@ -136,7 +140,9 @@ impl Draft {
             b"start" => self.events.push(Event::Start)?,
             b"commit" => self.events.push(commit(alloc, parts)?)?,
             b"read" => self.reads.push(read_of(parts))?,
-            b"accept" | b"abort" | b"unfinished" => self.put_verdict(alloc, tag, parts)?,
+            b"accept" | b"abort" | b"aged" | b"unfinished" => {
+                self.put_verdict(alloc, tag, parts)?
+            }
             b"counts" => self.counts.push(counts_of(parts))?,
             b"glance" => self.glances.push(look_of(parts))?,
             b"look" => self.looks.push(look_of(parts))?,

@@ -28,6 +28,9 @@ fn add_kind(kind: VerdictKind, came: &mut Vec<u8>) -> Result<(), NoMemory> {
             let numbers = [u64::from(item), u64::from(cycle), u64::from(clash)];
             add_line(b"abort", &numbers, came)
         }
+        VerdictKind::Aged { item, cycle } => {
+            add_line(b"aged", &[u64::from(item), u64::from(cycle)], came)
+        }
         VerdictKind::Unfinished => add_line(b"unfinished", &[], came),
     }
 }

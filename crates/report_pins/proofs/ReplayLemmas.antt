@@ -19,7 +19,7 @@ use Rattle.air_report.specs.declared.reading.lines.Line.TheVariants.{Look, Verdi
 use Rattle.air_report.specs.KeptReports.{KeepsGrammar}
 use Rattle.air_report.specs.declared.reading.ReadReport.{ReadReport}
 use Rattle.live_replay.specs.Audits.{findings}
-use Rattle.live_replay.specs.Findings.{all_pass, is_refused, is_clash, verdict_cause, look_cause}
+use Rattle.live_replay.specs.Findings.{all_pass, is_refused, is_clash, spans_so, verdict_cause, look_cause}
 use Rattle.live_replay.specs.declared.findings.Cause.TheVariants as cause
 use Rattle.report_pins.specs.SmallDeck.{small_deck}
 use Rattle.report_pins.specs.SmallReports.{r_matrix_deck, found, history, late_report, read_report}
@@ -107,11 +107,11 @@ late_read_kept d r is given = kept_given d r_matrix_deck r late_report is given 
 -- ---- the findings
 
 read_found : findings small_deck read_report ≡ found 6 None ∷ found 7 None ∷ found 8 (Some cause.Verdict) ∷ found 9 (Some cause.Value) ∷ found 10 None ∷ []
-unfolding findings verdict_cause look_cause total_at all_pass is_refused is_clash passes is_late clash_by_history least stale origin consistent last_alone runs_alone descends_from descends descends_in writer writer_before writes reads is_start front last_place table value_after write_of value_on_base
+unfolding findings verdict_cause look_cause total_at all_pass is_refused is_clash spans_so passes is_late clash_by_history least stale origin consistent last_alone runs_alone descends_from descends descends_in writer writer_before writes reads is_start front last_place table value_after write_of value_on_base
 read_found = refl
 
 late_found : findings r_matrix_deck late_report ≡ found 6 (Some cause.Verdict) ∷ found 7 None ∷ []
-unfolding findings verdict_cause all_pass is_refused is_clash passes is_late clash_by_history least stale origin writer writer_before writes is_start front last_place table value_after write_of value_on_base
+unfolding findings verdict_cause all_pass is_refused is_clash spans_so passes is_late clash_by_history least stale origin writer writer_before writes is_start front last_place table value_after write_of value_on_base
 late_found = refl
 
 pub read_findings : (d : Deck) (r : ReadReport) → d ≡ small_deck → r ≡ read_report

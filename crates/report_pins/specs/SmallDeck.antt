@@ -21,11 +21,12 @@ abbrev pub small_deck : Deck
 small_deck = record {
   items = item 10 ∷ item 20 ∷ item 30 ∷ item 40 ∷ [];
   disks = record { size = 4; freq = 1 } ∷ [];
+  replans = [];
   updates = (set_to 0 11 ∷ add_to 1 0 2 ∷ set_to 2 32 ∷ []) ∷ (set_to 3 42 ∷ set_to 3 43 ∷ []) ∷ [];
   readers = record { room = 0; age = 0; tries = 2 } ∷ [];
   queries = ((0 ∷ 3 ∷ []) ∷ (0 ∷ 1 ∷ 2 ∷ []) ∷ (0 ∷ 1 ∷ []) ∷ (0 ∷ 2 ∷ []) ∷ []) ∷ [];
   script = [];
-  settings = record { policy = FMatrix; cycles = 2; seed = 0; loss = 0; again = 0; late = 0; monitors = 1; hears = 1 };
+  settings = record { policy = FMatrix; version = 1; cycles = 2; seed = 0; loss = 0; again = 0; late = 0; monitors = 1; hears = 1 };
 }
 
 -- A line of a text.

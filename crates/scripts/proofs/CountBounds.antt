@@ -10,12 +10,12 @@ use Rattle.std.proofs.lemmas.List.{get_or_past}
 use Rattle.std.proofs.lemmas.List.Sums.{get_or-le-sum_by, sum_by-le}
 use Rattle.std.proofs.lemmas.Nat.{mul-le}
 use Rattle.air_base.specs.declared.verdicts.Clash.{Clash}
-use Rattle.air_base.specs.declared.verdicts.VerdictKind.TheVariants.{Abort, Accept, Unfinished}
+use Rattle.air_base.specs.declared.verdicts.VerdictKind.TheVariants.{Abort, Accept, Aged, Unfinished}
 use Rattle.air_model.specs.Aired.{Air, fits}
 use Rattle.air_model.specs.Buckets.{Bucket}
 use Rattle.air_model.specs.Judges.{Judge}
 use Rattle.air_model.specs.Reads.{Read}
-use Rattle.air_model.specs.Sessions.{Reader, State, abort, accept_if_whole, comes_late, copy_of, count_copied, count_dozed, count_foreign, count_late, count_opened, count_refused, decide, drop_copy, end, end_query, hear, hear_all, hear_read, hold, is_unusable, is_wanted, next_attempt, next_query, offer, open_bucket, read_in, session, settle, start, turn, turn_with, wanted, with_line}
+use Rattle.air_model.specs.Sessions.{Reader, State, abort, accept_if_whole, comes_aged, comes_late, copy_of, count_copied, count_dozed, count_foreign, count_late, count_opened, count_refused, decide, drop_copy, end, end_aged, end_query, hear, hear_all, hear_read, hold, is_unusable, is_wanted, judge_read, next_attempt, next_query, offer, open_bucket, read_in, session, settle, start, turn, turn_with, wanted, with_line}
 use Rattle.receiver_core.specs.Receivers.{heard_count}
 
 -- All that a state counts: heard members and used copies.
@@ -43,6 +43,12 @@ module _ (judge : Judge) (air : Air) (reader : Reader) where
       let t = drop_copy item (with_line judge (Abort x.item x.cycle item) s) in
       either (nat_lt t.attempt reader.plan.tries) (record t { attempt = t.attempt + 1; held = [] }) (next_query t) (state_count s) (omega arith) (omega arith)
 
+  aged_counts : (x : Read) (s : State) → state_count (end_aged judge air reader x s) ≤ state_count s
+  unfolding end_aged next_attempt next_query with_line
+  aged_counts x s =
+      let t = with_line judge (Aged x.item x.cycle) s in
+      either (nat_lt t.attempt reader.plan.tries) (record t { attempt = t.attempt + 1; held = [] }) (next_query t) (state_count s) (omega arith) (omega arith)
+
   turn_counts : (o : Option Read) (s : State) → state_count (turn_with judge air reader o s) ≤ state_count s + 1
   unfolding turn_with drop_copy count_copied
   turn_counts None s = omega arith
@@ -64,9 +70,14 @@ module _ (judge : Judge) (air : Air) (reader : Reader) where
   decide_counts x None s = hold_counts x s
   decide_counts x (Some c) s = abort_counts x c.item s
 
+  judge_counts : (x : Read) (s : State) → state_count (judge_read judge air reader x s) ≤ state_count s
+  unfolding judge_read
+  judge_counts x s =
+      either (comes_aged air s x) (end_aged judge air reader x s) (decide judge air reader x (judge.clash s.held x) s) (state_count s) (aged_counts x s) (decide_counts x (judge.clash s.held x) s)
+
   open_counts : (x : Read) (s : State) → state_count (open_bucket judge air reader x s) ≤ state_count s + 1
   unfolding open_bucket offer count_opened
-  open_counts x s = let one = decide_counts x (judge.clash s.held x) (count_opened s) in omega arith
+  open_counts x s = let one = judge_counts x (count_opened s) in omega arith
 
   read_counts : (o : Option Read) (s : State) → state_count (hear_read judge air reader o s) ≤ state_count s + 1
   unfolding hear_read count_dozed count_late

@@ -34,6 +34,6 @@ slots_few items n some =
     let cold = take (n - n / 8 - n / 4) (drop (n / 4) behind) in
     omega (arith, slots_long hot warm cold, length-take (n / 8) items, length-take (n / 4) behind, length-take (n - n / 8 - n / 4) (drop (n / 4) behind))
 
-pub drill_slots : (seed size : ℕ) → 1 ≤ size → length (program (disks_in (drill_deck seed size))) ≤ 2 * drill_items size
+pub drill_slots : (seed size : ℕ) → 1 ≤ size → length (program (disks_in (drill_deck seed size) 0)) ≤ 2 * drill_items size
 unfolding drill_deck
 drill_slots seed size some = slots_few (order (rates_in (drill_deck seed size))) (drill_items size) (omega arith)

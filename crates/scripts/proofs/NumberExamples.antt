@@ -3,7 +3,7 @@ use Rattle.std.specs.Prelude.{◌≡◌, ℕ, List, [], ◌∷◌, codes, refl}
 use Rattle.csv.specs.Writing.{escaped, fields_text, is_blank}
 use Rattle.air_base.specs.Numbers.{number_text}
 use Rattle.air_base.specs.declared.verdicts.VerdictKind.{VerdictKind}
-use Rattle.air_base.specs.declared.verdicts.VerdictKind.TheVariants.{Accept, Abort, Unfinished}
+use Rattle.air_base.specs.declared.verdicts.VerdictKind.TheVariants.{Accept, Abort, Aged, Unfinished}
 use Rattle.air_history.specs.Histories.{is_start, starts}
 use Rattle.air_history.specs.declared.histories.Event.{Event}
 use Rattle.air_history.specs.declared.histories.Event.TheVariants.{Commit, Start}
@@ -20,9 +20,9 @@ use Rattle.scripts.specs.DrillLines.{commits, drill_line, drill_numbers, drill_o
 abbrev line : VerdictKind → VerdictLine
 line kind = record { reader = 0; verdict = record { query = 0; attempt = 1; kind = kind }; reads = [] }
 
--- Two accepts, one abort and three that stay unfinished.
+-- Two accepts, one abort, one that is aged and three that stay unfinished.
 abbrev lines : List VerdictLine
-lines = line Accept ∷ line Unfinished ∷ line (Abort 1 2 0) ∷ line Unfinished ∷ line Accept ∷ line Unfinished ∷ []
+lines = line Accept ∷ line Unfinished ∷ line (Abort 1 2 0) ∷ line Unfinished ∷ line (Aged 1 256) ∷ line Accept ∷ line Unfinished ∷ []
 
 -- The counts of two readers.
 abbrev both : List CountsLine

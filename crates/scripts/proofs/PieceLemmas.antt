@@ -3,6 +3,7 @@ use Rattle.std.proofs.Common.{◌≡◌, ℕ, ◌+◌, ◌*◌, ◌<◌, [], ◌
 use Rattle.std.proofs.lemmas.List.{get_or-replicate, length-replicate, length_push}
 use Rattle.air_history.specs.declared.histories.Event.{Event}
 use Rattle.air_history.specs.Boards.{board_of}
+use Rattle.air_model.specs.Buckets.{entry_len}
 use Rattle.air_model.specs.Decks.{Deck, count_parts, script_history, values_in}
 use Rattle.scripts.specs.declared.piece_runs.PieceRun.{PieceRun}
 use Rattle.scripts.specs.PieceRuns.{IsPieceRun}
@@ -13,7 +14,7 @@ no_parts : (deck : Deck) (by n : ℕ) → n ≡ 0 → count_parts by (take n dec
 no_parts deck by n e = ap (λ n. count_parts by (take n deck.script)) e
 
 -- Before any event.
-pub piece_begins : (deck : Deck) (r : PieceRun) → r.events.items ≡ [] → r.board ≡ board_of (values_in deck) [] → r.made.items ≡ replicate (length deck.updates) 0 → length r.room.items ≡ 24 + 4 * length deck.items
+pub piece_begins : (deck : Deck) (r : PieceRun) → r.events.items ≡ [] → r.board ≡ board_of (values_in deck) [] → r.made.items ≡ replicate (length deck.updates) 0 → length r.room.items ≡ 24 + entry_len deck.settings.version * length deck.items
     → IsPieceRun deck r
 piece_begins deck r none board made room =
     let size : length r.events.items ≡ 0 = ap length none in
@@ -30,7 +31,7 @@ piece_begins deck r none board made room =
 -- After one event more.
 pub piece_next : (deck : Deck) (before after : PieceRun) (e : Event) → IsPieceRun deck before → length before.events.items < length deck.script → e ≡ event_in deck (length before.events.items)
     → after.events.items ≡ before.events.items ++ e ∷ [] → after.board ≡ board_of (values_in deck) (before.events.items ++ e ∷ []) → length after.made.items ≡ length deck.updates
-    → CountsParts deck (length before.events.items + 1) after.made.items → length after.room.items ≡ 24 + 4 * length deck.items → IsPieceRun deck after
+    → CountsParts deck (length before.events.items + 1) after.made.items → length after.room.items ≡ 24 + entry_len deck.settings.version * length deck.items → IsPieceRun deck after
 piece_next deck before after e was more is grew board updaters counts room =
     let k = length before.events.items in
     let size : length after.events.items ≡ k + 1 = ap length grew ∙ length_push before.events.items e in

@@ -5,8 +5,8 @@ use Rattle.std.proofs.lemmas.Grind.{flat_map-append}
 use Rattle.air_history.specs.declared.histories.Event.{Event}
 use Rattle.air_model.specs.Aired.{air_of, history_tape, scheme_in}
 use Rattle.air_model.specs.AiredLaws.{CanAir}
-use Rattle.air_model.specs.Buckets.{spelling}
-use Rattle.air_model.specs.Decks.{Deck, script_history, values_in}
+use Rattle.air_model.specs.Buckets.{entry_len, spelling}
+use Rattle.air_model.specs.Decks.{Deck, IsDeck, script_history, values_in}
 use Rattle.air_model.specs.Ethers.{heard_by}
 use Rattle.air_model.specs.Judges.{by_entries}
 use Rattle.air_model.specs.Outputs.{odds_in, script_tape, sessions_over, true_sessions}
@@ -17,6 +17,7 @@ use Rattle.air_model.proofs.TapeLemmas.{whole_read}
 use Rattle.listeners.specs.declared.ethers.TheConstants.{MOST_TAPE_RECORDS}
 use Rattle.listeners.specs.declared.hearers.Hearers.{Hearers}
 use Rattle.listeners.specs.Hearings.{AreHearing}
+use Rattle.listeners.proofs.EtherLemmas.{room_few}
 use Rattle.listeners.proofs.ReaderLemmas.{few_records}
 use Rattle.air_sender.specs.AiredBytes.{aired_bytes}
 use Rattle.air_sender.proofs.AiredLemmas.{buckets_none, front_aired}
@@ -55,10 +56,14 @@ middle P xs ys zs all = λ k d below.
     subst P (get_or_append_left (xs ++ ys) zs d (length xs + k) inside ∙ get_or-append-add xs ys k d)
     (all (length xs + k) d (omega (arith, inside, length-append (xs ++ ys) zs)))
 
+-- A record is no longer than a bucket with an entry for each item.
+abbrev IsShort : Deck → List ℕ → Type 0
+IsShort deck r = length r ≤ 24 + entry_len deck.settings.version * length deck.items
+
 -- A piece of a script's tape: it is whole, its records are those aired since, few, and none is longer than a bucket.
 pub record IsPiece (deck : Deck) (before piece : List (List ℕ)) (tape : List ℕ) : Type 0 where
   pub read : tape_read tape ≡ record { records = piece; cut = None }
-  pub short : All (λ r. length r ≤ 24 + 4 * length deck.items) piece
+  pub short : All (IsShort deck) piece
   pub few : length before + length piece ≤ MOST_TAPE_RECORDS
 
 -- What a script's history airs is few records.
@@ -69,16 +74,17 @@ few_aired deck few =
     let count : length (aired_bytes deck (script_history deck)) ≤ length tape = subst (λ (t : TapeRead). length t.records ≤ length tape) back (few_records (length tape) 0 tape) in
     omega (arith, count, few)
 
-pub is_piece : (deck : Deck) (before now : List Event) (piece : List (List ℕ)) (tape : List ℕ) (k : ℕ) → length (script_tape deck) ≤ 1073741824 → length deck.items ≤ 256
+pub is_piece : (deck : Deck) (before now : List Event) (piece : List (List ℕ)) (tape : List ℕ) (k : ℕ) → length (script_tape deck) ≤ 1073741824 → IsDeck deck
     → now ≡ take k (script_history deck) → aired_bytes deck now ≡ aired_bytes deck before ++ piece → tape ≡ tape_of piece → IsPiece deck (aired_bytes deck before) piece tape
-is_piece deck before now piece tape k few items is aired same =
+is_piece deck before now piece tape k few made is aired same =
     let begun = script_begins deck now k is in
     let whole : aired_bytes deck (script_history deck) ≡ (aired_bytes deck before ++ piece) ++ begun.0 = begun.1 ∙ ap (λ l. l ++ begun.0) aired in
-    let short = middle (λ r. length r ≤ 24 + 4 * length deck.items) (aired_bytes deck before) piece begun.0
-    (subst (All (λ r. length r ≤ 24 + 4 * length deck.items)) whole (records_short deck (script_history deck))) in
+    let short = middle (IsShort deck) (aired_bytes deck before) piece begun.0
+    (subst (All (IsShort deck)) whole (records_short deck (script_history deck))) in
     let count = few_aired deck few in
+    let most = room_few deck.settings.version (length deck.items) made.most in
     record {
-      read = ap tape_read same ∙ whole_read piece (length (tape_of piece)) 0 (λ j d below. let s = short j d below in omega (arith, s, items)) (omega arith);
+      read = ap tape_read same ∙ whole_read piece (length (tape_of piece)) 0 (λ j d below. let s = short j d below in omega (arith, s, most)) (omega arith);
       short = short;
       few = omega (arith, count, ap length whole, length-append (aired_bytes deck before ++ piece) begun.0, length-append (aired_bytes deck before) piece);
     }
@@ -87,8 +93,8 @@ is_piece deck before now piece tape k few items is aired same =
 pub piece_whole : (deck : Deck) (before piece : List (List ℕ)) (tape : List ℕ) → IsPiece deck before piece tape → (tape_read tape).cut ≡ None
 piece_whole deck before piece tape p = ap (λ (t : TapeRead). t.cut) p.read
 
-pub piece_short : (deck : Deck) (before piece : List (List ℕ)) (tape : List ℕ) → IsPiece deck before piece tape → All (λ r. length r ≤ 24 + 4 * length deck.items) (tape_read tape).records
-piece_short deck before piece tape p = subst (λ (t : TapeRead). All (λ r. length r ≤ 24 + 4 * length deck.items) t.records) (sym p.read) p.short
+pub piece_short : (deck : Deck) (before piece : List (List ℕ)) (tape : List ℕ) → IsPiece deck before piece tape → All (IsShort deck) (tape_read tape).records
+piece_short deck before piece tape p = subst (λ (t : TapeRead). All (IsShort deck) t.records) (sym p.read) p.short
 
 pub piece_few : (deck : Deck) (before piece : List (List ℕ)) (tape : List ℕ) → IsPiece deck before piece tape → length before + length (tape_read tape).records ≤ MOST_TAPE_RECORDS
 piece_few deck before piece tape p = subst (λ (t : TapeRead). length before + length t.records ≤ MOST_TAPE_RECORDS) (sym p.read) p.few

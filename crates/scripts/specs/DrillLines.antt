@@ -47,7 +47,7 @@ commits H = count_by (λ e. not (is_start e)) H
 -- of the tape; accepted, aborted and unfinished; and the sums of what was opened, slept through and taken from copies.
 abbrev pub drill_numbers : Deck → List Event → List ℕ → List VerdictLine → List CountsLine → List ℕ
 drill_numbers deck H tape verdicts counts =
-    length deck.items ∷ commits H ∷ starts H ∷ length (program (disks_in deck)) ∷ length tape
+    length deck.items ∷ commits H ∷ starts H ∷ length (program (disks_in deck 0)) ∷ length tape
     ∷ lines_with is_accept verdicts ∷ lines_with is_abort verdicts ∷ lines_with is_unfinished verdicts
     ∷ sum_of (λ c. c.opened) counts ∷ sum_of (λ c. c.dozed) counts ∷ sum_of (λ c. c.copied) counts ∷ []
 

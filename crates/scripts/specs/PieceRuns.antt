@@ -1,8 +1,9 @@
 -- How far a run of a deck's script is that goes on piece by piece.
 use Rattle.std.specs.Prelude.{◌≡◌, ℕ, ◌+◌, ◌*◌, ◌<◌, ◌≤◌, length, get_or, take}
 use Rattle.air_history.specs.Boards.{board_of}
+use Rattle.air_model.specs.Buckets.{entry_len}
 use Rattle.air_model.specs.Decks.{Deck, count_parts, script_history, values_in}
-use Rattle.bucket_codec.specs.declared.offsets.TheConstants.{ENTRY_BYTES, HEAD_BYTES}
+use Rattle.bucket_codec.specs.declared.offsets.TheConstants.{HEAD_BYTES}
 use Rattle.scripts.specs.declared.piece_runs.PieceRun.{PieceRun}
 
 -- Its events begin the script's history, the board is theirs, and so are the parts of each updater that are counted; and there
@@ -13,4 +14,4 @@ pub record IsPieceRun (deck : Deck) (r : PieceRun) : Type 0 where
   pub stepped : r.board ≡ board_of (values_in deck) r.events.items
   pub updaters : length r.made.items ≡ length deck.updates
   pub counts : (by : ℕ) → by < length r.made.items → get_or r.made.items by 0 ≡ count_parts by (take (length r.events.items) deck.script)
-  pub room : length r.room.items ≡ HEAD_BYTES + ENTRY_BYTES * length deck.items
+  pub room : length r.room.items ≡ HEAD_BYTES + entry_len deck.settings.version * length deck.items

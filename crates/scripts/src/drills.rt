@@ -49,7 +49,7 @@ pub fn run_drill<T: Threads + Sync>(
 
 /// A deck whose program is short enough, with its program: so nothing but memory is wanting where it fails.
 fn plan_short(alloc: Global, deck: Deck) -> Result<Planned, NoMemory>
-    requires { length (program (disks_in deck)) ≤ MOST_SLOTS }
+    requires { length (program (disks_in deck 0)) ≤ MOST_SLOTS }
     ensures { IfOk result (λ p. p ≡ deck) }
 {
     let cut = cut(alloc, &deck)?;
@@ -87,8 +87,7 @@ fn numbers_of(planned: &Planned, aired: &AiredScript) -> [u64; 11]
 fn line_of(alloc: Global, numbers: &[u64]) -> Result<Vec<u8>, NoMemory>
     ensures { IfOk result (λ text. text.items ≡ drill_line numbers.now) }
 {
-    let mut wtr = row_writer(Vec::new(alloc));
-    put_numbers(alloc, &mut wtr, b"drill", numbers)?;
+    let wtr = put_numbers(alloc, row_writer(Vec::new(alloc)), b"drill", numbers)?;
     let text = finish(wtr)?;
     Ok(text)
 }

@@ -12,7 +12,7 @@ ghost use Rattle.item_catalog.specs.declared.deck.drill.TheConstants.{MOST_DRILL
 
 /// The program of a drill's deck has at most two slots for each item.
 pub fn drill_slots_law()
-    ensures { (seed size : ℕ) → 1 ≤ size → length (program (disks_in (drill_deck seed size))) ≤ 2 * drill_items size }
+    ensures { (seed size : ℕ) → 1 ≤ size → length (program (disks_in (drill_deck seed size) 0)) ≤ 2 * drill_items size }
 {}
 
 /// The tape of a drill's script isn't too long.

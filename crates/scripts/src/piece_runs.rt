@@ -6,7 +6,9 @@
 ghost use Rattle.std.specs.Prelude.{◌≡◌, ◌↔◌, ◌<◌, ◌≤◌, ◌+◌, ◌*◌, ◌++◌, ◌∷◌, [], ℕ, List, false, cond, IfOk, IsTrue, OnOk, length};
 ghost use Rattle.air_history.specs.Boards.{board_of};
 ghost use Rattle.air_history.specs.Histories.{starts};
+ghost use Rattle.air_model.specs.Buckets.{entry_len};
 ghost use Rattle.air_model.specs.Decks.{script_history, values_in};
+ghost use Rattle.bucket_codec.specs.declared.offsets.TheConstants.{HEAD_BYTES};
 ghost use Rattle.air_sender.specs.TapeMasts.{told_by_tape};
 ghost use Rattle.air_sender.specs.AiredBytes.{aired_bytes};
 ghost use Rattle.scripts.specs.PieceRuns.{IsPieceRun};
@@ -14,8 +16,7 @@ ghost use Rattle.scripts.specs.PieceRuns.{IsPieceRun};
 use crate::parts::{count_part, event_at, values_of};
 use air_base::NoMemory;
 use air_history::Event;
-use air_sender::{TapeMast, air_cycle, below_law, own_cycle_law};
-use bucket_codec::offsets::{ENTRY_BYTES, HEAD_BYTES};
+use air_sender::{TapeMast, air_cycle, below_law, bucket_room, own_cycle_law, own_form};
 use chunk_program::Planned;
 use control_matrix::Board;
 use std::alloc::Global;
@@ -41,7 +42,7 @@ impl PieceRun {
             events: Vec::new(alloc),
             made: vec![in alloc; 0; deck.updaters() as usize]?,
             board: Board::new(alloc, &values)?,
-            room: vec![in alloc; 0; HEAD_BYTES + ENTRY_BYTES * deck.items() as usize]?,
+            room: vec![in alloc; 0; bucket_room(planned)]?,
         })
     }
 
@@ -119,10 +120,10 @@ impl PieceRun {
         piece: &mut TapeMast,
     ) -> Result<(), NoMemory>
         requires stepped { self.old.board ≡ board_of (values_in planned.now) (self.old.events.items ++ event.now ∷ []) }
-        requires room { length self.old.room.items ≡ HEAD_BYTES + ENTRY_BYTES * length planned.now.items }
+        requires room { length self.old.room.items ≡ HEAD_BYTES + entry_len planned.now.settings.version * length planned.now.items }
         ensures aired { (before : List (List ℕ)) → aired_bytes planned.now self.old.events.items ≡ before ++ (told_by_tape piece.old).buckets →
             OnOk result (aired_bytes planned.now (self.old.events.items ++ event.now ∷ []) ≡ before ++ (told_by_tape piece.new).buckets) }
-        ensures room { length self.new.room.items ≡ HEAD_BYTES + ENTRY_BYTES * length planned.now.items }
+        ensures room { length self.new.room.items ≡ HEAD_BYTES + entry_len planned.now.settings.version * length planned.now.items }
         ensures events { self.new.events ≡ self.old.events }
         ensures made { self.new.made ≡ self.old.made }
         ensures board { self.new.board ≡ self.old.board }
@@ -132,11 +133,11 @@ impl PieceRun {
         }
         own_cycle_law();
         below_law();
-        let policy = planned.deck().settings().policy;
+        planned.shows_planned();
         match air_cycle(
             planned.program(),
             &self.board,
-            policy,
+            own_form(planned),
             piece,
             &mut self.room,
         ) {

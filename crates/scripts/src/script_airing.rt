@@ -13,7 +13,7 @@ ghost use Rattle.scripts.specs.Pieces.{IsAiring, piece_in, tape_so_far};
 use crate::piece_runs::PieceRun;
 use air_base::NoMemory;
 use air_history::Event;
-use air_sender::{TapeMast, tape_bytes};
+use air_sender::{TapeMast, own_form, tape_bytes};
 use chunk_program::Planned;
 use listeners::{Hearers, Sessions};
 use std::alloc::Global;
@@ -36,13 +36,14 @@ impl ScriptAiring {
         ensures empty { IfOk result (λ a. a.run.events.items ≡ []) }
         ensures nothing { IfOk result (λ a. tape_so_far planned.now a ≡ []) }
         ensures size { IfOk result (λ a. a.cycles ≡ cycles) }
-        ensures room { IfOk result (λ a. a.mast.tape.room ≡ cycles * cycle_size (length planned.now.items) (slots_of (disks_in planned.now))) }
+        ensures room { IfOk result (λ a. a.mast.tape.room ≡ cycles * cycle_size planned.now.settings.version (length planned.now.items) (slots_of (disks_in planned.now 0))) }
     {
         let items = planned.deck().items();
+        let form = own_form(planned);
         Ok(ScriptAiring {
             run: PieceRun::new(alloc, planned)?,
             hearers: Hearers::new(alloc, planned)?,
-            mast: TapeMast::new(alloc, tape_bytes(planned.program(), items, cycles))?,
+            mast: TapeMast::new(alloc, tape_bytes(planned.program(), items, cycles, form))?,
             cycles,
         })
     }

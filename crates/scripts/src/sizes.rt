@@ -6,7 +6,7 @@ ghost use Rattle.air_model.specs.Programs.{program as slots_of};
 ghost use Rattle.air_sender.specs.TapeSizes.{cycle_size};
 ghost use Rattle.item_catalog.specs.DeckLimits.{script_starts};
 
-use air_sender::tape_bytes;
+use air_sender::{own_form, tape_bytes};
 use chunk_program::Planned;
 
 /// The most bytes of a tape that are aired at a time, where a cycle has no more.
@@ -16,11 +16,11 @@ pub const AIRED_PIECE_BYTES: u64 = 4_194_304;
 /// tape.
 pub fn piece_cycles(planned: &Planned) -> u32
     ensures some { 1 ≤ result }
-    ensures few { 1 < result → result * cycle_size (length planned.now.items) (slots_of (disks_in planned.now)) ≤ AIRED_PIECE_BYTES }
+    ensures few { 1 < result → result * cycle_size planned.now.settings.version (length planned.now.items) (slots_of (disks_in planned.now 0)) ≤ AIRED_PIECE_BYTES }
     ensures within { 1 < result → result ≤ script_starts planned.now }
 {
     let deck = planned.deck();
-    let cycle = tape_bytes(planned.program(), deck.items(), 1);
+    let cycle = tape_bytes(planned.program(), deck.items(), 1, own_form(planned));
     let most = (AIRED_PIECE_BYTES / cycle.max(1)) as u32;
     most.min(deck.script_starts()).max(1)
 }

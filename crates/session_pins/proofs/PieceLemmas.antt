@@ -7,7 +7,7 @@ use Rattle.air_history.specs.Histories.{cycle_at, front, is_start, starts, write
 use Rattle.air_history.specs.Columns.{column_entry}
 use Rattle.air_history.specs.Tables.{table, value_after, write_of}
 use Rattle.air_model.specs.Aired.{air_of, body_of, bucket_of, buckets_of}
-use Rattle.air_model.specs.Buckets.{count_of, entries_of, item_of, kind_of, spelling, value_of}
+use Rattle.air_model.specs.Buckets.{capped_body, capped_entries, count_of, entries_of, entry_bytes, item_of, kind_of, spelling, value_of}
 use Rattle.air_model.specs.Decks.{Deck, event_of, script_history, values_in}
 use Rattle.air_model.specs.Disks.{cut, order, order_with}
 use Rattle.air_model.specs.Programs.{chunk, chunk_len, least_common_multiple, minor_cycle, num_chunks, num_minors, program}
@@ -48,7 +48,7 @@ record Cycles : Type 0 where
   two : bytes_of (scripted (None ∷ None ∷ [])) (Start ∷ Start ∷ []) ≡ item_bytes 1 0 10 ∷ item_bytes 1 1 20 ∷ item_bytes 2 0 10 ∷ item_bytes 2 1 20 ∷ []
 
 cycles_computed : Cycles
-unfolding script_history event_of last_place greatest cycle_at front is_start starts writer writer_before writes column_entry table value_after write_of body_of bucket_of buckets_of count_of entries_of item_of kind_of spelling value_of cut order order_with chunk chunk_len least_common_multiple minor_cycle num_chunks num_minors program
+unfolding script_history event_of last_place greatest cycle_at front is_start starts writer writer_before writes column_entry table value_after write_of body_of bucket_of capped_entries capped_body buckets_of count_of entries_of item_of kind_of spelling entry_bytes value_of cut order order_with chunk chunk_len least_common_multiple minor_cycle num_chunks num_minors program
 cycles_computed = record { history = refl; one = refl; two = refl }
 
 -- What such a run airs after its first cycle is the second one.

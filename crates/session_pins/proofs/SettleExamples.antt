@@ -1,5 +1,5 @@
 -- A receiver whose one query asks for an item of which it keeps a copy: it settles by the copy alone.
-use Rattle.std.specs.Prelude.{◌≡◌, ℕ, List, [], ◌∷◌, refl}
+use Rattle.std.specs.Prelude.{◌≡◌, [], ◌∷◌, refl}
 use Rattle.air_history.specs.Clashes.{clash_by_entries, is_late, least}
 use Rattle.air_history.specs.Columns.{scheme_of}
 use Rattle.air_base.specs.declared.verdicts.Policy.TheVariants.{FMatrix}

@@ -5,7 +5,7 @@ use Rattle.air_model.specs.Tapes.{TapeRead}
 
 -- A bucket of edition 0.
 abbrev pub bucket : ℕ → ℕ → Body → Bucket
-bucket cycle slot body = record { edition = 0; cycle = cycle; slot = slot; body = body }
+bucket cycle slot body = record { version = 1; edition = 0; cycle = cycle; slot = slot; body = body }
 
 -- The bytes of an item's bucket in a cycle, in the slot of its number: its value, and the column 0 0.
 abbrev pub item_bytes : ℕ → ℕ → ℕ → List ℕ

@@ -9,13 +9,14 @@ use Rattle.air_model.specs.Decks.{Deck}
 
 -- Nothing is lost, heard again or late.
 abbrev pub clear_air : Settings
-clear_air = record { policy = FMatrix; cycles = 10; seed = 0; loss = 0; again = 0; late = 0; monitors = 0; hears = 1000000 }
+clear_air = record { policy = FMatrix; version = 1; cycles = 10; seed = 0; loss = 0; again = 0; late = 0; monitors = 0; hears = 1000000 }
 
 -- Two items on one disk; one reader asks for both, once; the script starts one cycle.
 abbrev pub pair : Deck
 pair = record {
   items = record { value = 10; rate = 1 } ∷ record { value = 20; rate = 1 } ∷ [];
   disks = record { size = 2; freq = 1 } ∷ [];
+  replans = [];
   updates = [];
   readers = record { room = 0; age = 0; tries = 1 } ∷ [];
   queries = ((0 ∷ 1 ∷ []) ∷ []) ∷ [];

@@ -12,9 +12,9 @@ use Rattle.air_model.specs.Reads.{Read}
 use Rattle.air_model.specs.Sessions.{Line, Reader, State, start}
 use Rattle.receiver_core.specs.Receivers.{Receiver}
 
--- Slot 0 carries item 0, and slot 1 item 1.
+-- In each cycle slot 0 carries item 0, and slot 1 item 1.
 abbrev pub air_by : Policy → Air
-air_by policy = record { scheme = scheme_of policy; items = 2; slots = Some 0 ∷ Some 1 ∷ []; pix = 1 ∷ 1 ∷ [] }
+air_by policy = record { scheme = scheme_of policy; version = 1; items = 2; replans = []; slots = (Some 0 ∷ Some 1 ∷ []) ∷ []; pix = (1 ∷ 1 ∷ []) ∷ [] }
 
 -- The reader asks for item 0 and then item 1, once, and keeps one copy.
 abbrev pub asker : Reader

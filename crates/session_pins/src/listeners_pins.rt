@@ -1,5 +1,5 @@
 //! Pins of `listeners`: a listener that hears one bucket, or ends, and readers that hear a tape of two buckets.
-#![tactic(auto, unfolding(air_history::specs::Clashes::least, air_history::specs::Clashes::is_late, air_history::specs::Clashes::clash_by_entries, air_model::specs::Copies::keep, air_model::specs::Copies::without_item, air_model::specs::Copies::with_copy, air_model::specs::Aired::body_fits, air_model::specs::Aired::fits, air_model::specs::Judges::by_entries, air_model::specs::Sessions::query_of, air_model::specs::Sessions::wanted, air_model::specs::Sessions::line_of, air_model::specs::Sessions::with_line, air_model::specs::Sessions::count_opened, air_model::specs::Sessions::count_dozed, air_model::specs::Sessions::count_late, air_model::specs::Sessions::count_refused, air_model::specs::Sessions::count_foreign, air_model::specs::Sessions::next_query, air_model::specs::Sessions::next_attempt, air_model::specs::Sessions::accept_if_whole, air_model::specs::Sessions::hold, air_model::specs::Sessions::abort, air_model::specs::Sessions::drop_copy, air_model::specs::Sessions::copy_of, air_model::specs::Sessions::decide, air_model::specs::Sessions::offer, air_model::specs::Sessions::open_bucket, air_model::specs::Sessions::hear_read, air_model::specs::Sessions::hear, air_model::specs::Sessions::turn_with, air_model::specs::Sessions::turn, air_model::specs::Sessions::settle, air_model::specs::Sessions::end_query, air_model::specs::Sessions::end, listeners::specs::Listeners::hears_one, listeners::specs::Listeners::end_state))]
+#![tactic(auto, unfolding(air_history::specs::Clashes::least, air_history::specs::Clashes::is_late, air_history::specs::Clashes::clash_by_entries, air_model::specs::Copies::keep, air_model::specs::Copies::without_item, air_model::specs::Copies::with_copy, air_model::specs::Aired::body_fits, air_model::specs::Aired::fits, air_model::specs::Judges::by_entries, air_model::specs::Sessions::query_of, air_model::specs::Sessions::wanted, air_model::specs::Sessions::line_of, air_model::specs::Sessions::with_line, air_model::specs::Sessions::count_opened, air_model::specs::Sessions::count_dozed, air_model::specs::Sessions::count_late, air_model::specs::Sessions::count_refused, air_model::specs::Sessions::count_foreign, air_model::specs::Sessions::next_query, air_model::specs::Sessions::next_attempt, air_model::specs::Sessions::accept_if_whole, air_model::specs::Sessions::hold, air_model::specs::Sessions::abort, air_model::specs::Sessions::drop_copy, air_model::specs::Sessions::copy_of, air_model::specs::Sessions::decide, air_model::specs::Sessions::offer, air_model::specs::Sessions::open_bucket, air_model::specs::Sessions::end_aged, air_model::specs::Sessions::judge_read, air_model::specs::Sessions::hear_read, air_model::specs::Sessions::hear, air_model::specs::Sessions::turn_with, air_model::specs::Sessions::turn, air_model::specs::Sessions::settle, air_model::specs::Sessions::end_query, air_model::specs::Sessions::end, listeners::specs::Listeners::hears_one, listeners::specs::Listeners::end_state))]
 
 ghost use Rattle.std.specs.Prelude.{◌≡◌, [], ◌∷◌, IfOk, Ok, OnOk};
 ghost use Rattle.air_base.specs.declared.verdicts.VerdictKind.TheVariants.{Unfinished};
@@ -13,7 +13,6 @@ ghost use Rattle.session_pins.specs.SmallReceivers.{counted, counts, heard as he
 
 use air_base::NoMemory;
 use air_model::bucket::BucketFault;
-use air_model::reports::{CountsLine, VerdictLine};
 use bucket_codec::BucketView;
 use chunk_program::Planned;
 use listeners::{Listener, Sessions, Together, ether_sessions};
@@ -37,16 +36,15 @@ pub fn every_record_refused_to_all(
 pub fn lines_of_the_first_reader(
     listener: Listener,
     alloc: Global,
-    verdicts: &mut Vec<VerdictLine>,
-    lines: &mut Vec<CountsLine>,
-) -> Result<(), NoMemory>
+    before: Sessions,
+) -> Result<Sessions, NoMemory>
     requires listener { listener ≡ listener_in 1 (holding 1) }
-    requires verdicts { verdicts.old.items ≡ [] }
-    requires lines { lines.old.items ≡ [] }
-    ensures verdicts { OnOk result (verdicts.new.items ≡ told 1 Unfinished (read 0 1 10 ∷ []) ∷ []) }
-    ensures lines { OnOk result (lines.new.items ≡ counted 1 (counts 1 0 0 0 0 0) ∷ []) }
+    requires verdicts { before.verdicts.items ≡ [] }
+    requires lines { before.counts.items ≡ [] }
+    ensures verdicts { IfOk result (λ s. s.verdicts.items ≡ told 1 Unfinished (read 0 1 10 ∷ []) ∷ []) }
+    ensures lines { IfOk result (λ s. s.counts.items ≡ counted 1 (counts 1 0 0 0 0 0) ∷ []) }
 {
-    listener.end(alloc, verdicts, lines)
+    listener.end(alloc, before)
 }
 
 /// Each reader hears through its own ether, by its own generator (readers share one generator), and in the order of the tape (pairs

@@ -20,6 +20,7 @@ pub fn mast_for_the_whole_tape(alloc: Global, planned: &Planned) -> Result<Scrip
 
 /// Of cycles of 2,048 bytes at most 2,048 are a piece, however many the script starts.
 pub fn piece_of_a_cycle_too_many(planned: &Planned) -> u32
+    requires version { planned.now.settings.version ≡ 1 }
     requires items { planned.now.items ≡ frequent.items }
     requires disks { planned.now.disks ≡ frequent.disks }
     ensures { result ≤ 2048 }

@@ -1,5 +1,5 @@
 //! Pins of `receiver_core`: what one heard bucket does to a receiver of two items.
-#![tactic(auto, unfolding(air_history::specs::Clashes::least, air_history::specs::Clashes::is_late, air_history::specs::Clashes::clash_by_entries, air_model::specs::Copies::keep, air_model::specs::Copies::without_item, air_model::specs::Copies::with_copy, air_model::specs::Aired::body_fits, air_model::specs::Aired::fits, air_model::specs::Judges::by_entries, air_model::specs::Sessions::query_of, air_model::specs::Sessions::wanted, air_model::specs::Sessions::line_of, air_model::specs::Sessions::with_line, air_model::specs::Sessions::count_opened, air_model::specs::Sessions::count_dozed, air_model::specs::Sessions::count_late, air_model::specs::Sessions::count_refused, air_model::specs::Sessions::count_foreign, air_model::specs::Sessions::next_query, air_model::specs::Sessions::next_attempt, air_model::specs::Sessions::accept_if_whole, air_model::specs::Sessions::hold, air_model::specs::Sessions::abort, air_model::specs::Sessions::drop_copy, air_model::specs::Sessions::copy_of, air_model::specs::Sessions::decide, air_model::specs::Sessions::offer, air_model::specs::Sessions::open_bucket, air_model::specs::Sessions::hear_read, air_model::specs::Sessions::hear, receiver_core::specs::FeedAnswers::fed_read, receiver_core::specs::FeedAnswers::fed_of, receiver_core::specs::LastReads::last_reads))]
+#![tactic(auto, unfolding(air_history::specs::Clashes::least, air_history::specs::Clashes::is_late, air_history::specs::Clashes::clash_by_entries, air_model::specs::Copies::keep, air_model::specs::Copies::without_item, air_model::specs::Copies::with_copy, air_model::specs::Aired::body_fits, air_model::specs::Aired::fits, air_model::specs::Judges::by_entries, air_model::specs::Sessions::query_of, air_model::specs::Sessions::wanted, air_model::specs::Sessions::line_of, air_model::specs::Sessions::with_line, air_model::specs::Sessions::count_opened, air_model::specs::Sessions::count_dozed, air_model::specs::Sessions::count_late, air_model::specs::Sessions::count_refused, air_model::specs::Sessions::count_foreign, air_model::specs::Sessions::next_query, air_model::specs::Sessions::next_attempt, air_model::specs::Sessions::accept_if_whole, air_model::specs::Sessions::hold, air_model::specs::Sessions::abort, air_model::specs::Sessions::drop_copy, air_model::specs::Sessions::copy_of, air_model::specs::Sessions::decide, air_model::specs::Sessions::offer, air_model::specs::Sessions::open_bucket, air_model::specs::Sessions::end_aged, air_model::specs::Sessions::judge_read, air_model::specs::Sessions::hear_read, air_model::specs::Sessions::hear, receiver_core::specs::FeedAnswers::fed_read, receiver_core::specs::FeedAnswers::fed_of, receiver_core::specs::LastReads::last_reads))]
 
 ghost use Rattle.std.specs.Prelude.{◌≡◌, [], ◌∷◌, Err, IfOk, Ok, Some};
 ghost use Rattle.air_base.specs.declared.verdicts.Policy.TheVariants.{FMatrix, RMatrix};
@@ -9,7 +9,7 @@ ghost use Rattle.air_model.specs.Decks.{disks_in};
 ghost use Rattle.air_model.specs.Sessions.{start};
 ghost use Rattle.session_pins.specs.SmallBuckets.{bucket};
 ghost use Rattle.session_pins.specs.SmallDecks.{tiered};
-ghost use Rattle.session_pins.specs.SmallReceivers.{air_by, asker, counts, heard as heard_read, holding, line, read, receiver_in};
+ghost use Rattle.session_pins.specs.SmallReceivers.{air_by, counts, heard as heard_read, holding, line, read, receiver_in};
 
 use air_base::NoMemory;
 use air_model::bucket::BucketFault;
@@ -86,8 +86,8 @@ pub fn offer_left_out_after_an_abort(
 /// An item's PIX number is its rate times the number of its disk's chunks: for item 0 twice two, and for item 1 three times one.
 pub fn cache_by_rate(alloc: Global, deck: &Deck, program: &Program) -> Result<Receiver, NoMemory>
     requires deck { deck.now ≡ tiered }
-    requires planned { program.now ≡ disks_in deck.now }
-    ensures { IfOk result (λ r. r.air.pix ≡ 4 ∷ 3 ∷ []) }
+    requires planned { program.now ≡ disks_in deck.now 0 }
+    ensures { IfOk result (λ r. r.air.pix ≡ (4 ∷ 3 ∷ []) ∷ []) }
 {
     let receiver = Receiver::new(alloc, deck, 0, program)?;
     Ok(receiver)

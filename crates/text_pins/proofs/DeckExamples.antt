@@ -1,5 +1,5 @@
 -- The smallest deck, what is no query, and what is said of a reader or an item that a deck doesn't have.
-use Rattle.std.proofs.Common.{◌≡◌, ℕ, ◌<◌, ◌≤◌, ◌^◌, false, true, List, [], ◌∷◌, All, refl, arith}
+use Rattle.std.proofs.Common.{◌≡◌, ℕ, ◌<◌, ◌≤◌, ◌^◌, false, true, List, [], ◌∷◌, All, refl, inl, sum_by, arith}
 use Rattle.std.proofs.lemmas.List.Elements.{All-nil, All-from_recursion}
 use Rattle.std.proofs.lemmas.Bool.{false≢true}
 use Rattle.air_history.specs.UpdateRules.{has_repeat}
@@ -7,6 +7,7 @@ use Rattle.air_model.specs.Airings.{chunks_of, disk_number}
 use Rattle.air_model.specs.Decks.{Deck, IsDeck, IsQuery, IsUpdate}
 use Rattle.air_model.specs.Programs.{num_chunks, num_minors, least_common_multiple}
 use Rattle.air_model.specs.Sessions.{reader_of}
+use Rattle.air_model.proofs.DeckLemmas.{each_edition}
 use Rattle.air_model.proofs.SessionExamples.{deck, item, pair}
 
 -- One item on one disk, and a reader that asks for it.
@@ -17,10 +18,14 @@ lone_is_deck : IsDeck lone
 unfolding has_repeat
 lone_is_deck = record {
   some = omega arith;
+  version = inl refl;
   most = omega arith;
   values = All-from_recursion (λ i. i.value < 2 ^ 64) lone.items (omega arith, tt);
-  sizes = refl;
-  aired = All-from_recursion (λ d. (0 < d.size) × (0 < d.freq)) lone.disks ((omega arith, omega arith), tt);
+  sizes = each_edition (λ specs. sum_by (λ d. d.size) specs ≡ 1) lone refl refl;
+  aired = each_edition (All (λ d. (0 < d.size) × (0 < d.freq))) lone refl (All-from_recursion (λ d. (0 < d.size) × (0 < d.freq)) lone.disks ((omega arith, omega arith), tt));
+  few = omega arith;
+  from_two = All-nil (λ r. 2 ≤ r.cycle);
+  rising = λ i j d less within. absurd (omega arith);
   updates = All-from_recursion (All (IsUpdate 1)) lone.updates (All-nil (IsUpdate 1), tt);
   readers = refl;
   tries = All-from_recursion (λ r. 1 ≤ r.tries) lone.readers (omega arith, tt);
@@ -30,6 +35,7 @@ lone_is_deck = record {
     tt,
   );
   script = λ by. omega arith;
+  plain = (refl, refl);
 }
 
 -- No query asks twice for an item.

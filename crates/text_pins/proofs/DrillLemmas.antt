@@ -7,12 +7,12 @@ use Rattle.air_model.specs.Draws.{draw, draw_each, generator}
 use Rattle.air_model.specs.Drills.{draw_query, draw_update, drill_deck}
 use Rattle.text_pins.specs.SmallWrites.{add_to}
 
-pub update_drawn : (result : Result UpdateLists NoMemory) (words left : Lcg) → words ≡ generator 3 1
-    → IfOk result (λ update. draw_update 5 words ≡ (update, left))
-    → IfOk result (λ update. update ≡ record { reads = 4 ∷ 0 ∷ []; writes = add_to 0 4 97 ∷ add_to 1 0 49 ∷ [] })
+pub update_drawn : (result : Result (UpdateLists × Lcg) NoMemory) (words : Lcg) → words ≡ generator 3 1
+    → IfOk result (λ drawn. draw_update 5 words ≡ drawn)
+    → IfOk result (λ drawn. drawn.0 ≡ record { reads = 4 ∷ 0 ∷ []; writes = add_to 0 4 97 ∷ add_to 1 0 49 ∷ [] })
 unfolding draw draw_each draw_update
-update_drawn (Ok update) words left seeded drawn = sym (ap (λ p. p.0) drawn) ∙ rw seeded refl
-update_drawn (Err error) words left seeded drawn = drawn
+update_drawn (Ok drawn) words seeded told = sym (ap (λ p. p.0) told) ∙ rw seeded refl
+update_drawn (Err error) words seeded told = told
 
 -- The first query of the drill of seed 1 and size 1.
 pub query_of_drill : get_or (drill_deck 1 1).queries 0 [] ≡ (13 ∷ 2 ∷ 9 ∷ 16 ∷ []) ∷ []

@@ -1,7 +1,7 @@
 -- Small reports: each has lines in one section or two.
 use Rattle.std.specs.Prelude.{ℕ, List, [], ◌∷◌, ◌++◌, false, None}
 use Rattle.air_base.specs.declared.verdicts.ReadOf.{ReadOf}
-use Rattle.air_base.specs.declared.verdicts.VerdictKind.TheVariants.{Abort}
+use Rattle.air_base.specs.declared.verdicts.VerdictKind.TheVariants.{Abort, Aged}
 use Rattle.air_history.specs.declared.histories.Event.TheVariants.{Commit, Start}
 use Rattle.air_model.specs.Reports.{Report}
 
@@ -30,6 +30,12 @@ read item cycle value = record { item = item; cycle = cycle; value = value }
 abbrev pub of_an_abort : Report
 of_an_abort = record nothing_told {
   verdicts = record { reader = 0; verdict = record { query = 1; attempt = 2; kind = Abort 5 6 7 }; reads = read 3 4 9 ∷ read 7 4 8 ∷ [] } ∷ [];
+}
+
+-- The second attempt of query 1 ends aged after two reads. All its numbers differ.
+abbrev pub of_an_aged_attempt : Report
+of_an_aged_attempt = record nothing_told {
+  verdicts = record { reader = 0; verdict = record { query = 1; attempt = 2; kind = Aged 5 6 }; reads = read 3 4 9 ∷ read 7 4 8 ∷ [] } ∷ [];
 }
 
 -- The counts of a reader, which all differ.

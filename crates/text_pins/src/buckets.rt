@@ -4,7 +4,7 @@
 ghost use Rattle.std.specs.Prelude.{◌≡◌, ◌++◌, [], ◌∷◌, Ok, Err, None, Some};
 ghost use Rattle.air_model.specs.Buckets.{Bucket};
 ghost use Rattle.bucket_codec.specs.BucketsToAir.{bucket_to_air};
-ghost use Rattle.text_pins.specs.SmallBuckets.{but, column_bytes, cut_at_byte, idle, idle_bytes, varied};
+ghost use Rattle.text_pins.specs.SmallBuckets.{aged, aged_bytes, but, column_bytes, cut_at_byte, idle, idle_bytes, varied};
 
 use air_model::bucket::BucketFault;
 use bucket_codec::{
@@ -62,7 +62,7 @@ pub fn size_without_the_entries(bucket: &Bucket<'_>) -> usize
 /// Of a wrong version and a wrong kind the version is told.
 #[tactic(auto, unfolding(air_model::specs::Buckets::reading))]
 pub fn faults_in_another_order<'a>(bytes: &'a [u8]) -> Result<BucketView<'a>, BucketFault>
-    requires { bytes.now ≡ but (but idle_bytes 2 2) 3 3 }
+    requires { bytes.now ≡ but (but idle_bytes 2 3) 3 3 }
     ensures { result ≡ Err BucketFault.Version }
 {
     decode(bytes)
@@ -104,4 +104,60 @@ pub fn slot_read_from_the_item(view: &BucketView<'_>) -> u16
     ensures { result ≡ 5 }
 {
     view.slot()
+}
+
+// ---- version 2, whose entries are told by their ages
+
+/// In cycle 300 the age 254 tells the entry 46, and an entry 45 is told as 0. A cap one cycle late is no blunder: it gives the same bytes,
+/// since an age of 255 is the cap.
+#[tactic(auto, using(crate::proofs::BucketLemmas::aged_has_room))]
+pub fn cap_one_cycle_early(bucket: &Bucket<'_>, out: &mut [u8]) -> usize
+    requires bucket { bucket_to_air bucket.now ≡ aged (46 ∷ 45 ∷ []) }
+    requires out { out.old ≡ idle_bytes ++ 9 ∷ 9 ∷ [] }
+    ensures { out.new ≡ aged_bytes 1 44 (254 ∷ 255 ∷ []) }
+{
+    encode(bucket, out)
+}
+
+/// Two entries take two bytes after the head.
+#[tactic(auto, using(crate::proofs::BucketLemmas::aged_size))]
+pub fn ages_measured_as_entries(bucket: &Bucket<'_>) -> usize
+    requires { bucket_to_air bucket.now ≡ aged (46 ∷ 45 ∷ []) }
+    ensures { result ≡ 26 }
+{
+    size_of(bucket)
+}
+
+/// No entry is of the bucket's own cycle, so there is no age 0.
+pub fn age_0_let_through<'a>(bytes: &'a [u8]) -> Result<BucketView<'a>, BucketFault>
+    requires { bytes.now ≡ aged_bytes 0 3 (0 ∷ 255 ∷ []) }
+    ensures { result ≡ Err BucketFault.Shape }
+{
+    decode(bytes)
+}
+
+/// The entry 0 is told by 255 alone, so no age is the cycle.
+pub fn age_equal_to_the_cycle<'a>(bytes: &'a [u8]) -> Result<BucketView<'a>, BucketFault>
+    requires { bytes.now ≡ aged_bytes 0 3 (2 ∷ 3 ∷ []) }
+    ensures { result ≡ Err BucketFault.Shape }
+{
+    decode(bytes)
+}
+
+/// Four bytes for each of two entries are too many.
+#[tactic(auto, unfolding(air_model::specs::Buckets::reading, air_model::specs::Buckets::entry_count))]
+pub fn ages_of_four_bytes<'a>(bytes: &'a [u8]) -> Result<BucketView<'a>, BucketFault>
+    requires { bytes.now ≡ aged_bytes 0 3 (0 ∷ 0 ∷ 0 ∷ 1 ∷ 0 ∷ 0 ∷ 0 ∷ 1 ∷ []) }
+    ensures { result ≡ Err BucketFault.Length }
+{
+    decode(bytes)
+}
+
+/// The age 254 of cycle 300 is read as the entry 46.
+#[tactic(auto, unfolding(air_model::specs::Buckets::kind_of, air_model::specs::Buckets::count_of, air_model::specs::Buckets::entries_of))]
+pub fn age_read_as_the_entry(view: &BucketView<'_>) -> u32
+    requires { view.now ≡ aged (46 ∷ 0 ∷ []) }
+    ensures { result ≡ 46 }
+{
+    view.entry(0)
 }

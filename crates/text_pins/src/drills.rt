@@ -25,25 +25,31 @@ pub fn rate_from_nought(words: &mut Lcg64Xsh32) -> (u64, u32)
 
 /// The first update of seed 3, among five items: the bases of its writes are the items that it reads, in turn. It also refuses that two reads
 /// are never drawn.
-pub fn base_among_the_written(alloc: Global, words: &mut Lcg64Xsh32) -> Result<Update, NoMemory>
-    requires { words.old ≡ generator 3 1 }
-    ensures { IfOk result (λ update. update ≡ record { reads = 4 ∷ 0 ∷ []; writes = add_to 0 4 97 ∷ add_to 1 0 49 ∷ [] }) }
+pub fn base_among_the_written(
+    alloc: Global,
+    words: Lcg64Xsh32,
+) -> Result<(Update, Lcg64Xsh32), NoMemory>
+    requires { words ≡ generator 3 1 }
+    ensures { IfOk result (λ drawn. drawn.0 ≡ record { reads = 4 ∷ 0 ∷ []; writes = add_to 0 4 97 ∷ add_to 1 0 49 ∷ [] }) }
 {
     draw_update(alloc, words, 5)
 }
 
 /// The first query of seed 2, among eighteen items: each is the seventh after the one before, and the first item comes after the last.
 #[tactic(auto, unfolding(air_model::specs::Draws::draw, air_model::specs::Drills::draw_query))]
-pub fn queries_six_apart(alloc: Global, words: &mut Lcg64Xsh32) -> Result<Vec<u16>, NoMemory>
-    requires { words.old ≡ generator 2 1 }
-    ensures { IfOk result (λ items. items.items ≡ 6 ∷ 13 ∷ 2 ∷ []) }
+pub fn queries_six_apart(
+    alloc: Global,
+    words: Lcg64Xsh32,
+) -> Result<(Vec<u16>, Lcg64Xsh32), NoMemory>
+    requires { words ≡ generator 2 1 }
+    ensures { IfOk result (λ drawn. drawn.0.items ≡ 6 ∷ 13 ∷ 2 ∷ []) }
 {
     draw_query(alloc, words, 18)
 }
 
 /// Of a hundred buckets five are lost, three heard again and ten late.
 pub fn late_for_again() -> Settings
-    ensures { result ≡ record { policy = FMatrix; cycles = 10; seed = 7; loss = 5; again = 3; late = 10; monitors = 0; hears = 1000000 } }
+    ensures { result ≡ record { policy = FMatrix; version = 1; cycles = 10; seed = 7; loss = 5; again = 3; late = 10; monitors = 0; hears = 1000000 } }
 {
     drill_settings(7)
 }

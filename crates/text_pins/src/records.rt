@@ -38,13 +38,14 @@ pub fn record_of_one_field_taken_for_the_end(
     records.next(row)
 }
 
-/// After out of memory no record is given any more.
+/// After out of memory no record is given any more, and the row has no field.
 pub fn record_given_after_no_memory(
     records: &mut Records<'_>,
     row: &mut ByteRecord,
 ) -> Result<bool, NoMemory>
     requires { records.old ≡ (codes "start" ∷ []) ∷ (codes "start" ∷ []) ∷ [] }
-    ensures { IfErr result (λ _. records.new ≡ []) }
+    ensures left { IfErr result (λ _. records.new ≡ []) }
+    ensures row { IfErr result (λ _. fields_of row.new ≡ []) }
 {
     records.next(row)
 }

@@ -3,7 +3,7 @@
 
 ghost use Rattle.std.specs.Prelude.{◌≡◌, ◌++◌, [], codes, true, IfOk, OnOk};
 ghost use Rattle.csv.specs.Writing.{default_writer, with_flexible, writer_setup};
-ghost use Rattle.text_pins.specs.SmallReports.{line, of_a_glance_and_a_look, of_a_start, of_an_abort, of_counts, of_two_events};
+ghost use Rattle.text_pins.specs.SmallReports.{line, of_a_glance_and_a_look, of_a_start, of_an_abort, of_an_aged_attempt, of_counts, of_two_events};
 
 use air_base::NoMemory;
 use air_report::{Report, Status, refusal_line, row_writer, write_report};
@@ -38,6 +38,20 @@ pub fn attempt_told_as_query(
     requires report { report.now ≡ of_an_abort }
     requires out { out.old.items ≡ [] }
     ensures { OnOk result (out.new.items ≡ line (codes "abort,0,1,2,3@4=9 7@4=8,5@6,7")) }
+{
+    write_report(alloc, report, out)
+}
+
+/// The row of an aged attempt has a tag of its own, and ends with the refused read: it names no clash.
+#[tactic(auto, using(crate::proofs::ReportLemmas::text_of_an_aged_attempt))]
+pub fn aged_told_as_an_abort(
+    alloc: Global,
+    report: &Report,
+    out: &mut Vec<u8>,
+) -> Result<(), NoMemory>
+    requires report { report.now ≡ of_an_aged_attempt }
+    requires out { out.old.items ≡ [] }
+    ensures { OnOk result (out.new.items ≡ line (codes "aged,0,1,2,3@4=9 7@4=8,5@6")) }
 {
     write_report(alloc, report, out)
 }

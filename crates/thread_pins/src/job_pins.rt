@@ -3,20 +3,19 @@
 //! Other jobs may commit at the same time, so they say what every order of events must keep.
 #![tactic(auto, unfolding(air_model::specs::DeckLaws::made_by, air_model::specs::DeckLaws::commits_from))]
 
-ghost use Rattle.std.specs.Prelude.{◌≡◌, ◌≤◌, ◌<◌, ◌+◌, ◌*◌, ◌^◌, ◌++◌, ℕ, List, [], ◌∷◌, length, All, Err, IfOk, OnErr, OnOk};
+ghost use Rattle.std.specs.Prelude.{◌≡◌, ◌≤◌, ◌<◌, ◌+◌, ◌^◌, ◌++◌, ℕ, List, [], ◌∷◌, length, All, Err, IfOk, OnErr, OnOk};
 ghost use Rattle.air_history.specs.Histories.{starts};
 ghost use Rattle.air_history.specs.UpdateRules.{UpdateFits};
 ghost use Rattle.air_history.specs.declared.histories.Event.{Event};
 ghost use Rattle.air_history.specs.declared.histories.Event.TheVariants.{Commit, Start};
 ghost use Rattle.air_model.specs.Decks.{count_made};
 ghost use Rattle.air_model.specs.DeckLaws.{made_by};
-ghost use Rattle.air_model.specs.Disks.{all_items};
-ghost use Rattle.bucket_codec.specs.declared.offsets.TheConstants.{ENTRY_BYTES, HEAD_BYTES};
 ghost use Rattle.cycle_snapshot.specs.Batches.{batch_events};
 ghost use Rattle.deck_runs.specs.PublishedBatches.{AreInStep};
+ghost use Rattle.deck_runs.specs.Sendings.{CanAirIn};
 ghost use Rattle.thread_pins.specs.SmallBatches.{reads_and_sets, first_batch};
 
-use air_base::{NoMemory, Policy};
+use air_base::{Form, NoMemory};
 use air_devices::{Gate, Mast};
 use air_history::Update;
 use air_model::reports::LookLine;
@@ -89,9 +88,7 @@ pub fn last_line_of_another_number(
 }
 
 /// A first job of two cycles starts two, and publishes two batches: one a cycle, each ending with its start, and together all that was
-/// seen up to the last start. Where it tells that the mast failed, each cycle that it started is published, and the mast's count rose.
-/// It also refuses a job that starts a cycle more than it publishes, a job of fewer cycles, and that the mast is blamed for being out
-/// of memory.
+/// seen up to the last start. It also refuses a job of fewer cycles.
 pub fn cycle_left_out<R: Wait, M: Mast, G: Gate>(
     wait: &R,
     alloc: Global,
@@ -100,6 +97,7 @@ pub fn cycle_left_out<R: Wait, M: Mast, G: Gate>(
     publisher: &mut Publisher,
     board: &mut Board,
     program: &Program,
+    form: Form,
     mast: &mut M,
     buf: &mut [u8],
     gate: &G,
@@ -108,29 +106,44 @@ pub fn cycle_left_out<R: Wait, M: Mast, G: Gate>(
     requires step { AreInStep pass.old publisher.old board.old }
     requires seen { starts pass.old.seen ≡ 0 }
     requires room { publisher.old.most ≡ 2 }
-    requires items { length (all_items program.now) ≡ length pass.old.values }
-    requires buffer { HEAD_BYTES + ENTRY_BYTES * length pass.old.values ≤ length buf.old }
-    requires faults { (M.state mast.old).faults ≡ 0 }
+    requires airable { CanAirIn form pass.old.values program.now (length buf.old) }
     ensures started { OnOk result (starts pass.new.seen ≡ 2) }
-    ensures few { OnErr result (starts pass.new.seen ≤ 2) }
     ensures published { OnOk result (length publisher.new.batches ≡ 2) }
     ensures each { All (λ batch. (commits : List Event) × (batch ≡ commits ++ Start ∷ []) × (starts commits ≡ 0)) publisher.new.batches }
     ensures whole { OnOk result ((later : List Event) × (pass.new.seen ≡ batch_events publisher.new.batches ++ later) × (starts later ≡ 0)) }
-    ensures in_step { (sent : ℕ) → result ≡ Err (ConductFault.Mast sent) → length publisher.new.batches ≡ starts pass.new.seen }
-    ensures cause { (sent : ℕ) → result ≡ Err (ConductFault.Mast sent) → 1 ≤ (M.state mast.new).faults }
 {
     conductor_job(
-        wait,
-        alloc,
-        station,
-        pass,
-        publisher,
-        board,
-        program,
-        Policy::Datacycle,
-        2,
-        mast,
-        buf,
-        gate,
+        wait, alloc, station, pass, publisher, board, program, form, 2, mast, buf, gate,
+    )
+}
+
+/// Where a first job of two cycles tells that the mast failed, each cycle that it started is published, and the mast's count rose; and
+/// whatever it tells, the board is at the last cycle that it started. It also refuses a job that starts a cycle more than it
+/// publishes, a board that stays behind, and that the mast is blamed for being out of memory.
+pub fn board_left_behind<R: Wait, M: Mast, G: Gate>(
+    wait: &R,
+    alloc: Global,
+    station: &Station,
+    pass: &mut ConductorPass,
+    publisher: &mut Publisher,
+    board: &mut Board,
+    program: &Program,
+    form: Form,
+    mast: &mut M,
+    buf: &mut [u8],
+    gate: &G,
+) -> Result<(), ConductFault>
+    requires own { pass.old.station ≡ station.now }
+    requires step { AreInStep pass.old publisher.old board.old }
+    requires room { (starts pass.old.seen ≡ 0) × (publisher.old.most ≡ 2) }
+    requires airable { CanAirIn form pass.old.values program.now (length buf.old) }
+    requires faults { (M.state mast.old).faults ≡ 0 }
+    ensures few { OnErr result (starts pass.new.seen ≤ 2) }
+    ensures in_step { (sent : ℕ) → result ≡ Err (ConductFault.Mast sent) → length publisher.new.batches ≡ starts pass.new.seen }
+    ensures cause { (sent : ℕ) → result ≡ Err (ConductFault.Mast sent) → 1 ≤ (M.state mast.new).faults }
+    ensures board { board.new.cycle ≡ starts pass.new.seen }
+{
+    conductor_job(
+        wait, alloc, station, pass, publisher, board, program, form, 2, mast, buf, gate,
     )
 }

@@ -38,9 +38,13 @@ impl From<NoMemory> for HearFault {
 }
 
 /// Lets all hear one datagram.
-fn all_hear_bytes(alloc: Global, listeners: &mut [Listener], bytes: &[u8]) -> Result<(), NoMemory>
-    requires { All (λ l. heard_count l.state.counts + 1 < 2 ^ 64) listeners.old }
-    ensures { OnOk result (listeners.new ≡ map (hears_one (bucket_in bytes.now)) listeners.old) }
+fn all_hear_bytes(
+    alloc: Global,
+    listeners: Vec<Listener>,
+    bytes: &[u8],
+) -> Result<Vec<Listener>, NoMemory>
+    requires { All (λ l. heard_count l.state.counts + 1 < 2 ^ 64) listeners.items }
+    ensures { IfOk result (λ ls. ls.items ≡ map (hears_one (bucket_in bytes.now)) listeners.items) }
 {
     all_hear(alloc, listeners, &decode(bytes))
 }
@@ -48,30 +52,31 @@ fn all_hear_bytes(alloc: Global, listeners: &mut [Listener], bytes: &[u8]) -> Re
 /// Lets all hear what an ear gives into this buffer, until its end, or until so many datagrams were heard.
 fn all_hear_ear<E: Ear>(
     alloc: Global,
-    listeners: &mut [Listener],
+    listeners: Vec<Listener>,
     ear: &mut E,
     buf: &mut [u8],
     hears: u32,
-) -> Result<(), HearFault>
+) -> Result<Vec<Listener>, HearFault>
     requires room { length buf.old ≡ MOST_HEARD_BYTES }
     requires tuned { IsSome (E.state ear.old).port }
-    requires counts { All (λ l. heard_count l.state.counts + hears < 2 ^ 64) listeners.old }
-    ensures heard { OnOk result (HaveHeardEar hears (E.state ear.old).told (E.state ear.new).told listeners.old listeners.new) }
+    requires counts { All (λ l. heard_count l.state.counts + hears < 2 ^ 64) listeners.items }
+    ensures heard { IfOk result (λ ls. HaveHeardEar hears (E.state ear.old).told (E.state ear.new).told listeners.items ls.items) }
     ensures calm { OnOk result ((E.state ear.new).faults ≡ (E.state ear.old).faults) }
     ensures fault { IfErr result (IsHearAnswer hears (E.state ear.old) (E.state ear.new)) }
     ensures port { (E.state ear.new).port ≡ (E.state ear.old).port }
 {
+    let mut listeners = listeners;
     for n in 0..hears {
         let taken = u64::from(n);
         let Ok(heard) = ear.hear(buf) else {
             return Err(HearFault::Ear { heard: taken });
         };
         let Heard::Bucket(len) = heard else {
-            return Ok(());
+            return Ok(listeners);
         };
-        all_hear_bytes(alloc, listeners, &buf[..len])?;
+        listeners = all_hear_bytes(alloc, listeners, &buf[..len])?;
     }
-    Ok(())
+    Ok(listeners)
 }
 
 /// Tunes the ear to a port, and lets all readers of a deck hear it until its end, or until they heard as many datagrams as the deck
@@ -93,9 +98,9 @@ pub fn ear_sessions<E: Ear>(
     if ear.tune_in(port).is_err() {
         return Err(HearFault::Ear { heard: 0 });
     }
-    let mut listeners = listeners_of(alloc, planned)?;
+    let listeners = listeners_of(alloc, planned)?;
     let mut buf = [0; MOST_HEARD_BYTES];
-    all_hear_ear(alloc, &mut listeners, ear, &mut buf, hears)?;
-    let sessions = end_all(alloc, listeners)?;
+    let heard = all_hear_ear(alloc, listeners, ear, &mut buf, hears)?;
+    let sessions = end_all(alloc, heard)?;
     Ok(sessions)
 }

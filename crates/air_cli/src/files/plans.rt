@@ -12,7 +12,7 @@ use std::alloc::Global;
 /// The cut of a deck, and the deck with its program.
 #[tactic(auto, unfolding(crate::specs::RunnableDecks::LengthCause))]
 pub fn plan_deck(alloc: Global, deck: Deck) -> Result<(Cut, Planned), Status>
-    ensures cut { IfOk result (λ p. p.0 ≡ disks_in p.1) }
+    ensures cut { IfOk result (λ p. p.0 ≡ disks_in p.1 0) }
     ensures planned { IfOk result (λ p. p.1 ≡ deck) }
     ensures short { OnOk result (HasShortProgram deck) }
     ensures refused { IfErr result (LengthCause deck) }

@@ -3,7 +3,7 @@ use Rattle.std.specs.Prelude.{ℕ, List, Option, Some, None, drop, if◌then◌e
 use Rattle.air_base.specs.LeadingParts.{after_digits, after_part, begins, digits_of, first_part}
 use Rattle.air_base.specs.Numbers.{number_of}
 use Rattle.air_base.specs.declared.verdicts.ReadOf.{ReadOf}
-use Rattle.item_catalog.specs.Spelled.{◌>>=◌}
+use Rattle.item_catalog.specs.Spelled.{spelled_then as ◌>>=◌}
 use Rattle.air_report.specs.LineTexts.{short_of, spelled_item}
 
 -- The item and the cycle of the place at the front, and the text behind it.

@@ -9,13 +9,13 @@ ghost use Rattle.air_report.specs.ReportGrammar.{HasReportFault, SpellsReport};
 /// Against every deck a text spells a report or has a fault.
 pub fn report_or_fault_law()
     ensures { (deck : Deck) (text : List ℕ) →
-        ((report : Report) × SpellsReport deck text report) ⊎ ((row : ℕ) × (kind : ℕ) × HasReportFault deck text row kind) }
+        ((report : Report) × SpellsReport deck text report) ⊎ ((row_number : ℕ) × (kind_number : ℕ) × HasReportFault deck text row_number kind_number) }
 {}
 
 /// No text spells a report and has a fault.
 pub fn not_both_reports_law()
-    ensures { (deck : Deck) (text : List ℕ) (report : Report) (row kind : ℕ) →
-        SpellsReport deck text report → HasReportFault deck text row kind → ⊥ }
+    ensures { (deck : Deck) (text : List ℕ) (report : Report) (row_number kind_number : ℕ) →
+        SpellsReport deck text report → HasReportFault deck text row_number kind_number → ⊥ }
 {}
 
 /// No text spells two reports.

@@ -27,7 +27,7 @@ pub fn spelled_lines_law()
 
 /// The fault of a text is the one that its records tell, read one by one.
 pub fn told_fault_law()
-    ensures { (deck : Deck) (text : List ℕ) (row kind : ℕ) → HasReportFault deck text row kind ↔ HasLineFault deck text row kind }
+    ensures { (deck : Deck) (text : List ℕ) (row_number kind_number : ℕ) → HasReportFault deck text row_number kind_number ↔ HasLineFault deck text row_number kind_number }
 {}
 
 /// The lines that a text spells are in the grammar.

@@ -3,7 +3,7 @@
 //! A call takes a record, and adds its line where no kind of fault applies; else it answers the least kind. What a draft is
 //! after a fault is told by no clause: it is thrown away.
 
-ghost use Rattle.std.specs.Prelude.{◌≡◌, [], Ok, None};
+ghost use Rattle.std.specs.Prelude.{◌≡◌, [], Ok};
 ghost use Rattle.csv.specs.Records.{fields_of};
 ghost use Rattle.air_report.specs.LineTexts.{spelled_line};
 ghost use Rattle.air_report.specs.LineFaults.{comes_after_later_section, comes_next, is_next};

@@ -1,6 +1,6 @@
 //! Reads as reports write them, and lists of them, read from the front in one pass.
 
-ghost use Rattle.std.specs.Prelude.{◌≡◌, ◌<◌, ◌^◌, IfOk, MatchOption, Some, None, option_map};
+ghost use Rattle.std.specs.Prelude.{◌≡◌, ◌^◌, IfOk, MatchOption, Some, None, option_map};
 ghost use Rattle.air_base.specs.LeadingParts.{FrontIs, after_digits, digits_of};
 ghost use Rattle.air_base.specs.NumberLists.{list_of};
 ghost use Rattle.air_report.specs.LineTexts.{below, short_of, spelled_item, spelled_place, spelled_read};

@@ -50,6 +50,7 @@ fn follow(query: &[u16], reads: &[ReadOf], end: VerdictKind) -> bool
         VerdictKind::Abort { item, clash, .. } => {
             reads.len() < query.len() && query[reads.len()] == item && was_read(reads, clash)
         }
+        VerdictKind::Aged { item, .. } => reads.len() < query.len() && query[reads.len()] == item,
         VerdictKind::Unfinished => reads.len() < query.len(),
     }
 }
@@ -110,7 +111,9 @@ fn end_begun(starts: u64, end: VerdictKind) -> bool
     ensures { result ≡ end_begun starts end }
 {
     match end {
-        VerdictKind::Abort { cycle, .. } => has_begun(starts, cycle),
+        VerdictKind::Abort { cycle, .. } | VerdictKind::Aged { cycle, .. } => {
+            has_begun(starts, cycle)
+        }
         _ => true,
     }
 }

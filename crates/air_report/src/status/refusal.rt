@@ -34,8 +34,7 @@ pub fn refusal_line(alloc: Global, status: &Status) -> Result<Vec<u8>, NoMemory>
 fn fault_text(alloc: Global, numbers: &[u64]) -> Result<Vec<u8>, NoMemory>
     ensures { IfOk result (λ text. text.items ≡ rows_text ((codes "fault" ∷ map number_text numbers.now) ∷ [])) }
 {
-    let mut wtr = row_writer(Vec::new(alloc));
-    put_numbers(alloc, &mut wtr, b"fault", numbers)?;
+    let wtr = put_numbers(alloc, row_writer(Vec::new(alloc)), b"fault", numbers)?;
     let text = finish(wtr)?;
     Ok(text)
 }

@@ -1,7 +1,8 @@
 //! Rows written as csv behind a text: those of reports, plans and fault lines.
 //!
-//! A writer is ready between two rows. Each call adds a row behind those that stand there; out of memory it adds
-//! none, and the writer and its text are let go. `finish` gives the text of all rows.
+//! A writer is ready between two rows. `put_row` and `put_numbers` take it and give it back with a row more; out of memory they
+//! let it go, with its text. `finish` gives the text of all rows. The calls that this crate makes of a row's parts change a writer
+//! where it stands, and say nothing of it after a refusal: their callers let it go.
 
 ghost use Rattle.std.specs.Prelude.{◌≡◌, ◌+◌, ◌<◌, ◌^◌, ◌++◌, ◌∷◌, [], ℕ, List, IfOk, OnOk, length, map};
 ghost use Rattle.csv.specs.Writing.{row_text};
@@ -22,8 +23,20 @@ pub fn row_writer(text: Vec<u8>) -> Writer<Vec<u8>>
     WriterBuilder::new().flexible(true).from_writer(text)
 }
 
+/// The writer with the row of these fields added.
+pub fn put_row<'a>(wtr: Writer<Vec<u8>>, fields: &[&'a [u8]]) -> Result<Writer<Vec<u8>>, NoMemory>
+    requires { IsRowWriter wtr }
+    ensures ready { IfOk result IsRowWriter }
+    ensures text { IfOk result (λ more.
+        written_text more ≡ written_text wtr ++ row_text row_writer (map (λ f. f.now) fields.now)) }
+{
+    let mut wtr = wtr;
+    add_row(&mut wtr, fields)?;
+    Ok(wtr)
+}
+
 /// Adds the row of these fields.
-pub fn put_row<'a>(wtr: &mut Writer<Vec<u8>>, fields: &[&'a [u8]]) -> Result<(), NoMemory>
+pub(crate) fn add_row<'a>(wtr: &mut Writer<Vec<u8>>, fields: &[&'a [u8]]) -> Result<(), NoMemory>
     requires { IsRowWriter wtr.old }
     ensures ready { OnOk result (IsRowWriter wtr.new) }
     ensures text { OnOk result
@@ -32,8 +45,25 @@ pub fn put_row<'a>(wtr: &mut Writer<Vec<u8>>, fields: &[&'a [u8]]) -> Result<(),
     wtr.write_fields(fields).map_err(|_| NoMemory)
 }
 
-/// Adds the row of a tag and numbers.
+/// The writer with the row of a tag and numbers added.
 pub fn put_numbers(
+    alloc: Global,
+    wtr: Writer<Vec<u8>>,
+    tag: &[u8],
+    ns: &[u64],
+) -> Result<Writer<Vec<u8>>, NoMemory>
+    requires { IsRowWriter wtr }
+    ensures ready { IfOk result IsRowWriter }
+    ensures text { IfOk result (λ more.
+        written_text more ≡ written_text wtr ++ row_text row_writer (tag.now ∷ map number_text ns.now)) }
+{
+    let mut wtr = wtr;
+    add_numbers(alloc, &mut wtr, tag, ns)?;
+    Ok(wtr)
+}
+
+/// Adds the row of a tag and numbers.
+pub(crate) fn add_numbers(
     alloc: Global,
     wtr: &mut Writer<Vec<u8>>,
     tag: &[u8],

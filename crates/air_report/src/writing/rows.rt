@@ -9,7 +9,7 @@ ghost use Rattle.air_model.specs.Rows.{row_writer};
 ghost use Rattle.air_report.specs.BegunRows.{IsBegun};
 ghost use Rattle.air_report.specs.RowWriters.{IsRowWriter, written_text};
 
-use crate::writing::fields::{end_row, put_field, put_numbers, put_row};
+use crate::writing::fields::{add_numbers, add_row, end_row, put_field};
 use air_base::{NoMemory, ReadOf, VerdictKind, write_u64};
 use air_history::Event;
 use air_model::reports::{CountsLine, LookLine, VerdictLine};
@@ -30,9 +30,9 @@ pub(crate) fn put_event(
     match event {
         Event::Commit { by, seq, .. } => {
             let ns = [u64::from(*by), u64::from(*seq)];
-            put_numbers(alloc, wtr, b"commit", &ns)
+            add_numbers(alloc, wtr, b"commit", &ns)
         }
-        Event::Start => put_row(wtr, &[b"start".as_slice()]),
+        Event::Start => add_row(wtr, &[b"start".as_slice()]),
     }
 }
 
@@ -57,7 +57,7 @@ pub(crate) fn put_counts(
         counts.foreign,
         counts.copied,
     ];
-    put_numbers(alloc, wtr, b"counts", &ns)
+    add_numbers(alloc, wtr, b"counts", &ns)
 }
 
 /// Adds the row of what a monitor saw.
@@ -73,7 +73,7 @@ pub(crate) fn put_look(
         (written_text wtr.new ≡ written_text wtr.old ++ row_text row_writer (look_row tag.now line.now)) }
 {
     let ns = [u64::from(line.monitor), u64::from(line.cycle), line.total];
-    put_numbers(alloc, wtr, tag, &ns)
+    add_numbers(alloc, wtr, tag, &ns)
 }
 
 /// Adds the row of a verdict.
@@ -92,6 +92,10 @@ pub(crate) fn put_verdict(
         VerdictKind::Abort { item, cycle, clash } => {
             put_attempt(alloc, wtr, b"abort", line)?;
             put_clash(alloc, wtr, item, cycle, clash)?;
+        }
+        VerdictKind::Aged { item, cycle } => {
+            put_attempt(alloc, wtr, b"aged", line)?;
+            put_place(alloc, wtr, item, cycle)?;
         }
         VerdictKind::Unfinished => put_attempt(alloc, wtr, b"unfinished", line)?,
     }
@@ -131,10 +135,24 @@ fn put_clash(
     ensures { OnOk result ((before : List ℕ) (fields : List (List ℕ)) → length fields + 2 < 2 ^ 64
         → IsBegun before fields wtr.old → IsBegun before (fields ++ place_text item cycle ∷ number_text clash ∷ []) wtr.new) }
 {
+    put_place(alloc, wtr, item, cycle)?;
+    let mut text = Vec::new(alloc);
+    put_number(wtr, &mut text, u64::from(clash))
+}
+
+/// Adds the field of a refused read: its place on the air.
+fn put_place(
+    alloc: Global,
+    wtr: &mut Writer<Vec<u8>>,
+    item: u16,
+    cycle: u32,
+) -> Result<(), NoMemory>
+    ensures { OnOk result ((before : List ℕ) (fields : List (List ℕ)) → length fields + 1 < 2 ^ 64
+        → IsBegun before fields wtr.old → IsBegun before (fields ++ place_text item cycle ∷ []) wtr.new) }
+{
     let mut text = Vec::new(alloc);
     add_place(item, cycle, &mut text)?;
-    put_field(wtr, &text)?;
-    put_number(wtr, &mut text, u64::from(clash))
+    put_field(wtr, &text)
 }
 
 /// Adds the field of a number; `text` has room for its digits.

@@ -9,9 +9,9 @@ use Rattle.cycle_snapshot.specs.Batches.{IsBatch}
 use Rattle.cycle_snapshot.specs.SnapshotStates.{PublisherState, with_batch}
 use Rattle.deck_runs.specs.declared.jobs.conductors.ConductFault.{ConductFault}
 use Rattle.deck_runs.specs.declared.jobs.conductors.ConductFault.TheVariants as fault
-use Rattle.air_base.specs.declared.verdicts.Policy.{Policy}
+use Rattle.air_base.specs.declared.verdicts.Form.{Form}
 use Rattle.air_history.specs.Boards.{Board}
-use Rattle.deck_runs.specs.PublishedBatches.{AreInStep, GoesOn, IsPublishedUpTo, PublishesOn}
+use Rattle.deck_runs.specs.PublishedBatches.{AreInStep, GoesOn, IsBoardOf, IsPublishedUpTo, PublishesOn}
 use Rattle.deck_runs.specs.Sendings.{FailsAfter, IsAirOf, IsCause, SendsCycles, SendsUpTo}
 
 -- One batch was published.
@@ -33,14 +33,15 @@ abbrev pub IsWithin : ℕ → ConductFault → Type 0
 IsWithin slots (fault.Mast sent) = sent < slots
 IsWithin slots fault.NoMemory = ⊤
 
--- What a conductor's job leaves, said at once: each part is a clause of `conductor_job`.
-pub record HasConducted {M : Type 0} (state : M → MastState) (policy : Policy) (slots : List (Option ℕ)) (cycles : ℕ) (p q : PassState) (f g : PublisherState) (board : Board) (before now : M) (result : Result (Unit {0}) ConductFault) : Type 0 where
+-- What a conductor's job leaves, said at once: each part is a clause of its contract.
+pub record HasConducted {M : Type 0} (state : M → MastState) (form : Form) (slots : List (Option ℕ)) (cycles : ℕ) (p q : PassState) (f g : PublisherState) (board : Board) (before now : M) (result : Result (Unit {0}) ConductFault) : Type 0 where
   pub pass : GoesOn p q
   pub publisher : PublishesOn f g
   pub done : OnOk result (AreInStep q g board × (starts q.seen ≡ starts p.seen + cycles))
   pub few : OnErr result (starts q.seen ≤ starts p.seen + cycles)
   pub published : IfErr result (IsPublishedUpTo q.seen g.batches)
-  pub aired : (air : Air) → IsAirOf p.values policy slots air →
+  pub aired : (air : Air) → IsAirOf p.values form slots air →
       MatchResult result (λ _. SendsCycles p.values air cycles p.seen q.seen (state before).told (state now).told) (SendsUpTo state p.values air cycles p q f g before now)
   pub cause : MatchResult result (λ _. (state now).faults ≡ (state before).faults) (IsCause (state before).faults (state now).faults)
   pub port : (state now).port ≡ (state before).port
+  pub own_board : IsBoardOf q board

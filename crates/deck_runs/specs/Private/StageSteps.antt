@@ -1,5 +1,5 @@
 -- For private steps alone. What the jobs of a run work on, before them and after.
-use Rattle.std.specs.Prelude.{◌≡◌, ℕ, ◌<◌, ◌≤◌, List, [], ◌++◌, length, take, slice_get, MatchBool, MatchResult, OnOk, Result, Some, vec_capacity}
+use Rattle.std.specs.Prelude.{◌≡◌, ℕ, ◌<◌, ◌≤◌, List, [], ◌++◌, length, take, slice_get, All, MatchBool, MatchResult, OnOk, Result, Some, vec_capacity}
 use Rattle.turnstile.specs.Passes.{TurnstileId}
 use Rattle.air_history.specs.declared.histories.Event.{Event}
 use Rattle.air_history.specs.Histories.{is_start, starts}
@@ -14,6 +14,7 @@ use Rattle.station.specs.PassStates.{PassState, new_pass, with_seen}
 use Rattle.deck_runs.specs.declared.jobs.conductors.ConductFault.{ConductFault}
 use Rattle.deck_runs.specs.declared.jobs.conductors.ConductFault.TheVariants as fault
 use Rattle.deck_runs.specs.declared.jobs.crews.UpdaterRun.{UpdaterRun}
+use Rattle.deck_runs.specs.Crews.{CanConduct, HasNewPass}
 use Rattle.deck_runs.specs.DeckBytes.{deck_bytes}
 use Rattle.deck_runs.specs.PublishedBatches.{GoesOn, IsUpTo, PublishesOn}
 use Rattle.deck_runs.specs.declared.threads.stages.Stage.{Stage}
@@ -34,6 +35,13 @@ pub record HasEndedUpdates (station : TurnstileId) (deck : Deck) (by : ℕ) (run
 pub record HaveEnded (station : TurnstileId) (deck : Deck) (updaters : List UpdaterRun) : Type 0 where
   pub count : length updaters ≡ length deck.updates
   pub each : (by : ℕ) (run : UpdaterRun) → slice_get updaters by ≡ Some run → HasEndedUpdates station deck by run
+
+-- A stage before the jobs: its conductor and its updaters have new passes, and there is room for the updaters' passes to come back.
+pub record IsOpen (s : Stage) : Type 0 where
+  pub conductor : CanConduct s.station s.planned.now s.conductor
+  pub updaters : AreNewUpdaters s.station s.planned.now s.updaters.items
+  pub ready : All (HasNewPass s.station s.planned.now) s.updaters.items
+  pub room : (s.passes.items ≡ []) × (length s.updaters.items ≤ vec_capacity s.passes)
 
 -- A stage after the jobs.
 pub record IsPlayed (s : Stage) : Type 0 where

@@ -1,17 +1,15 @@
 //! The conductor's job.
-ghost use Rattle.std.specs.Prelude.{◌≡◌, ◌<◌, ◌≤◌, ◌+◌, ◌*◌, ◌^◌, length, IfErr, MatchResult, OnErr, OnOk};
+ghost use Rattle.std.specs.Prelude.{◌≡◌, ◌<◌, ◌≤◌, ◌+◌, ◌^◌, length, IfErr, MatchResult, OnErr, OnOk};
 ghost use Rattle.air_history.specs.Histories.{starts};
-ghost use Rattle.air_model.specs.Disks.{all_items};
 ghost use Rattle.air_model.specs.Programs.{program as slots_of};
 ghost use Rattle.air_model.specs.Aired.{Air};
-ghost use Rattle.bucket_codec.specs.declared.offsets.TheConstants.{ENTRY_BYTES, HEAD_BYTES};
-ghost use Rattle.deck_runs.specs.PublishedBatches.{AreInStep, GoesOn, IsPublishedUpTo, PublishesOn};
-ghost use Rattle.deck_runs.specs.Sendings.{IsAirOf, IsCause, SendsCycles, SendsUpTo};
+ghost use Rattle.deck_runs.specs.PublishedBatches.{AreInStep, GoesOn, IsBoardOf, IsPublishedUpTo, PublishesOn};
+ghost use Rattle.deck_runs.specs.Sendings.{CanAirIn, IsAirOf, IsCause, SendsCycles, SendsUpTo};
 ghost use Rattle.deck_runs.specs.Private.CycleSteps.{HasConducted};
 
 use crate::jobs::cycles::conduct_cycle;
 use crate::jobs::means::Means;
-use air_base::{NoMemory, Policy};
+use air_base::{Form, NoMemory};
 use air_devices::{Gate, Mast};
 use chunk_program::Program;
 use control_matrix::Board;
@@ -40,10 +38,11 @@ impl From<NoMemory> for ConductFault {
     }
 }
 
-/// Conducts so many cycles. A cycle starts; its fresh events are applied to the board, once each; they are published as one batch;
+/// Conducts so many cycles, in this form. A cycle starts; its fresh events are applied to the board, once each; they are published as one batch;
 /// and its buckets are sent. What was sent are the buckets of the history that the pass has seen, for each way in which receivers
-/// may know them. After a fault nothing is said of the board. `ConductorPass::started` tells how many cycles the pass started.
-/// Each cycle stands between its two gate calls, of which no clause speaks.
+/// may know them. Whatever the answer, the board is that of what the pass has seen up to its last start.
+/// `ConductorPass::started` tells how many cycles the pass started, `Board::n` how many values there are, and `entry_size` how many
+/// bytes the buffer needs for each. Each cycle stands between its two gate calls, of which no clause speaks.
 pub fn conductor_job<R: Wait, M: Mast, G: Gate>(
     wait: &R,
     alloc: Global,
@@ -52,7 +51,7 @@ pub fn conductor_job<R: Wait, M: Mast, G: Gate>(
     publisher: &mut Publisher,
     board: &mut Board,
     program: &Program,
-    policy: Policy,
+    form: Form,
     cycles: u32,
     mast: &mut M,
     buf: &mut [u8],
@@ -61,14 +60,14 @@ pub fn conductor_job<R: Wait, M: Mast, G: Gate>(
     requires own { pass.old.station ≡ station.now }
     requires step { AreInStep pass.old publisher.old board.old }
     requires room { (starts pass.old.seen + cycles ≤ publisher.old.most) × (starts pass.old.seen + cycles + 1 < 2 ^ 32) }
-    requires items { length (all_items program.now) ≡ length pass.old.values }
-    requires buffer { HEAD_BYTES + ENTRY_BYTES * length pass.old.values ≤ length buf.old }
+    requires airable { CanAirIn form pass.old.values program.now (length buf.old) }
     ensures pass { GoesOn pass.old pass.new }
     ensures publisher { PublishesOn publisher.old publisher.new }
     ensures done { OnOk result (AreInStep pass.new publisher.new board.new × (starts pass.new.seen ≡ starts pass.old.seen + cycles)) }
+    ensures board { IsBoardOf pass.new board.new }
     ensures few { OnErr result (starts pass.new.seen ≤ starts pass.old.seen + cycles) }
     ensures published { IfErr result (IsPublishedUpTo pass.new.seen publisher.new.batches) }
-    ensures aired { (air : Air) → IsAirOf pass.old.values policy (slots_of program.now) air →
+    ensures aired { (air : Air) → IsAirOf pass.old.values form (slots_of program.now) air →
         MatchResult result (λ _. SendsCycles pass.old.values air cycles pass.old.seen pass.new.seen (M.state mast.old).told (M.state mast.new).told) (SendsUpTo M.state pass.old.values air cycles pass.old pass.new publisher.old publisher.new mast.old mast.new) }
     ensures cause { MatchResult result (λ _. (M.state mast.new).faults ≡ (M.state mast.old).faults) (IsCause (M.state mast.old).faults (M.state mast.new).faults) }
     ensures port { (M.state mast.new).port ≡ (M.state mast.old).port }
@@ -79,7 +78,7 @@ pub fn conductor_job<R: Wait, M: Mast, G: Gate>(
         alloc,
         station,
         program,
-        policy,
+        form,
     };
     conduct(&means, pass, publisher, board, cycles, mast, buf, gate)
 }
@@ -98,9 +97,8 @@ fn conduct<R: Wait, M: Mast, G: Gate>(
     requires own { pass.old.station ≡ means.now.station.now }
     requires step { AreInStep pass.old publisher.old board.old }
     requires room { (starts pass.old.seen + cycles ≤ publisher.old.most) × (starts pass.old.seen + cycles + 1 < 2 ^ 32) }
-    requires items { length (all_items means.now.program.now) ≡ length pass.old.values }
-    requires buffer { HEAD_BYTES + ENTRY_BYTES * length pass.old.values ≤ length buf.old }
-    ensures conducted { HasConducted M.state means.now.policy (slots_of means.now.program.now) cycles pass.old pass.new publisher.old publisher.new board.new mast.old mast.new result }
+    requires airable { CanAirIn means.now.form pass.old.values means.now.program.now (length buf.old) }
+    ensures conducted { HasConducted M.state means.now.form (slots_of means.now.program.now) cycles pass.old pass.new publisher.old publisher.new board.new mast.old mast.new result }
     ensures buffer { length buf.new ≡ length buf.old }
 {
     means.program.shows_well_made();

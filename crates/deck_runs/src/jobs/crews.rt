@@ -7,14 +7,17 @@ ghost use Rattle.std.specs.Thread.{IsSync};
 ghost use Rattle.air_model.specs.Decks.{values_in};
 ghost use Rattle.cycle_snapshot.specs.SnapshotStates.{new_publisher};
 ghost use Rattle.deck_runs.specs.Crews.{CanConduct, EachDone, EachWatched, HasMadeUpdates, HasNewPass, IsWatched};
+ghost use Rattle.deck_runs.specs.declared.jobs.TheConstants.{LOOKS};
 ghost use Rattle.deck_runs.specs.Private.StageSteps.{HasAired};
 
+use crate::jobs::LOOKS;
 use crate::jobs::conductors::{ConductFault, conductor_job};
 use crate::jobs::monitors::monitor_job;
 use crate::jobs::updaters::updater_job;
 use air_base::limits::{MOST_MONITORS, MOST_UPDATERS};
 use air_devices::{Gate, Mast};
 use air_model::reports::LookLine;
+use air_sender::own_form;
 use chunk_program::Planned;
 use control_matrix::Board;
 use cycle_snapshot::{Monitor, Publisher};
@@ -58,7 +61,7 @@ impl ConductorRun {
             publisher,
             &mut self.board,
             planned.program(),
-            settings.policy,
+            own_form(planned),
             settings.cycles,
             mast,
             &mut self.buf,
@@ -140,20 +143,14 @@ fn update_all<R: Threads + Wait + Sync, G: Gate + Sync>(
 }
 
 /// All monitors at once, on no more threads than a deck has monitors.
-fn watch_all<R: Threads + Sync, G: Gate + Sync>(
-    rt: &R,
-    monitors: &mut [MonitorRun],
-    looks: u32,
-    gate: &G,
-)
-    requires { 1 ≤ looks }
-    ensures { EachWatched looks monitors.old monitors.new }
+fn watch_all<R: Threads + Sync, G: Gate + Sync>(rt: &R, monitors: &mut [MonitorRun], gate: &G)
+    ensures { EachWatched LOOKS monitors.old monitors.new }
 {
     thread::for_each_mut(
         rt,
         monitors,
         MOST_MONITORS as usize,
-        &|_, run| run.work(looks, gate),
+        &|_, run| run.work(LOOKS, gate),
     );
 }
 
@@ -165,20 +162,18 @@ pub(crate) fn update_and_watch<R: Threads + Wait + Sync, G: Gate + Sync>(
     planned: &Planned,
     updaters: &mut [UpdaterRun],
     monitors: &mut [MonitorRun],
-    looks: u32,
     gate: &G,
 )
-    requires ready { All (HasNewPass station.now planned.now) updaters.old }
-    requires some { 1 ≤ looks }
+    requires { All (HasNewPass station.now planned.now) updaters.old }
     ensures updaters { EachDone planned.now updaters.old updaters.new }
-    ensures monitors { EachWatched looks monitors.old monitors.new }
+    ensures monitors { EachWatched LOOKS monitors.old monitors.new }
 {
     join_mut(
         rt,
         &mut ||
-            requires { IsSync R.row × IsSync G.row × (1 ≤ looks) }
-            ensures { EachWatched looks monitors.entry.now monitors.exit.now }
-        { watch_all(rt, monitors, looks, gate) },
+            requires { IsSync R.row × IsSync G.row }
+            ensures { EachWatched LOOKS monitors.entry.now monitors.exit.now }
+        { watch_all(rt, monitors, gate) },
         &mut ||
             requires { IsSync R.row × IsSync G.row × All (HasNewPass station.now planned.now) updaters.now }
             ensures { EachDone planned.entry.now updaters.entry.now updaters.exit.now }

@@ -1,19 +1,17 @@
 //! One cycle of a conductor: it starts, its events change the board, their batch is published, and its buckets are sent.
-ghost use Rattle.std.specs.Prelude.{◌≡◌, ◌<◌, ◌≤◌, ◌+◌, ◌-◌, ◌*◌, ◌^◌, ◌++◌, ◌∷◌, List, [], length, All, IfErr, MatchResult, OnErr, OnOk};
+ghost use Rattle.std.specs.Prelude.{◌≡◌, ◌<◌, ◌≤◌, ◌+◌, ◌-◌, ◌^◌, ◌++◌, ◌∷◌, List, [], length, All, IfErr, MatchResult, OnErr, OnOk};
 ghost use Rattle.air_history.specs.declared.histories.Event.{Event};
 ghost use Rattle.air_history.specs.Histories.{starts, ItemsFit};
 ghost use Rattle.air_history.specs.Tables.{BasesRead};
-ghost use Rattle.air_model.specs.Disks.{all_items};
 ghost use Rattle.air_model.specs.Programs.{program as slots_of};
 ghost use Rattle.air_model.specs.Aired.{Air};
 ghost use Rattle.air_sender.specs.BoardBuckets.{EntriesBelow};
-ghost use Rattle.bucket_codec.specs.declared.offsets.TheConstants.{ENTRY_BYTES, HEAD_BYTES};
 ghost use Rattle.air_sender.specs.AirFaults.{failed_slot};
 ghost use Rattle.cycle_snapshot.specs.Batches.{IsBatch, batch_events};
 ghost use Rattle.cycle_snapshot.specs.Private.BoardRuns.{step_all};
-ghost use Rattle.deck_runs.specs.PublishedBatches.{AreInStep, GoesOn, IsPublishedUpTo, IsUpTo, PublishesOn};
+ghost use Rattle.deck_runs.specs.PublishedBatches.{AreInStep, GoesOn, IsBoardOf, IsPublishedUpTo, IsUpTo, PublishesOn};
 ghost use Rattle.deck_runs.specs.declared.jobs.conductors.ConductFault.TheVariants as fault;
-ghost use Rattle.deck_runs.specs.Sendings.{IsAirOf, IsCause, SendsCycles};
+ghost use Rattle.deck_runs.specs.Sendings.{CanAirIn, IsAirOf, IsCause, SendsCycles};
 ghost use Rattle.deck_runs.specs.Private.CycleSteps.{AddsBatch, HasStopped, IsWithin, SendsInCycle};
 
 use crate::jobs::conductors::ConductFault;
@@ -58,7 +56,8 @@ fn start_fresh<R: Wait>(
     Ok(fresh)
 }
 
-/// Starts a cycle, applies its events to the board, and publishes them as one batch.
+/// Starts a cycle, applies its events to the board, and publishes them as one batch. Where the publisher refuses them the board has
+/// them all the same.
 fn begin_cycle<R: Wait>(
     means: &Means<'_, R>,
     pass: &mut ConductorPass,
@@ -71,6 +70,7 @@ fn begin_cycle<R: Wait>(
     ensures pass { GoesOn pass.old pass.new }
     ensures begun { OnOk result (AreInStep pass.new publisher.new board.new × AddsBatch publisher.old publisher.new) }
     ensures stopped { OnErr result ((publisher.new ≡ publisher.old) × IsPublishedUpTo pass.new.seen publisher.new.batches fault.NoMemory) }
+    ensures board { IsBoardOf pass.new board.new }
     ensures started { OnOk result (1 ≤ board.new.cycle) }
     ensures below { OnOk result (EntriesBelow board.new) }
     ensures sized { OnOk result (length board.new.values ≡ length pass.old.values) }
@@ -103,21 +103,21 @@ pub fn conduct_cycle<R: Wait, M: Mast>(
     requires own { pass.old.station ≡ means.now.station.now }
     requires step { AreInStep pass.old publisher.old board.old }
     requires room { (starts pass.old.seen < publisher.old.most) × (starts pass.old.seen + 2 < 2 ^ 32) }
-    requires items { length (all_items means.now.program.now) ≡ length pass.old.values }
-    requires buffer { HEAD_BYTES + ENTRY_BYTES * length pass.old.values ≤ length buf.old }
+    requires airable { CanAirIn means.now.form pass.old.values means.now.program.now (length buf.old) }
     ensures pass { GoesOn pass.old pass.new }
     ensures publisher { PublishesOn publisher.old publisher.new }
     ensures done { OnOk result (AreInStep pass.new publisher.new board.new × (length publisher.new.batches ≡ length publisher.old.batches + 1)) }
+    ensures board { IsBoardOf pass.new board.new }
     ensures stopped { IfErr result (HasStopped 1 pass.new publisher.old publisher.new) }
     ensures short { IfErr result (IsWithin (length (slots_of means.now.program.now))) }
-    ensures aired { (air : Air) → IsAirOf pass.old.values means.now.policy (slots_of means.now.program.now) air →
+    ensures aired { (air : Air) → IsAirOf pass.old.values means.now.form (slots_of means.now.program.now) air →
         MatchResult result (λ _. SendsCycles pass.old.values air 1 (batch_events publisher.old.batches) (batch_events publisher.new.batches) (M.state mast.old).told (M.state mast.new).told) (SendsInCycle M.state pass.old.values air (batch_events publisher.old.batches) (batch_events publisher.new.batches) mast.old mast.new) }
     ensures cause { MatchResult result (λ _. (M.state mast.new).faults ≡ (M.state mast.old).faults) (IsCause (M.state mast.old).faults (M.state mast.new).faults) }
     ensures port { (M.state mast.new).port ≡ (M.state mast.old).port }
     ensures buffer { length buf.new ≡ length buf.old }
 {
     begin_cycle(means, pass, publisher, board)?;
-    match air_cycle(means.program, board, means.policy, mast, buf) {
+    match air_cycle(means.program, board, means.form, mast, buf) {
         Ok(()) => Ok(()),
         Err(fault) => Err(ConductFault::Mast {
             sent: u64::from(slot_of(fault)),

@@ -6,7 +6,8 @@ ghost use Rattle.air_history.specs.Histories.{starts};
 ghost use Rattle.air_model.specs.Decks.{values_in};
 ghost use Rattle.air_devices.specs.Masts.{Changes, with_buckets};
 ghost use Rattle.air_model.specs.Batches.{AirsByBatches};
-ghost use Rattle.bucket_codec.specs.declared.offsets.TheConstants.{ENTRY_BYTES, HEAD_BYTES};
+ghost use Rattle.air_model.specs.Buckets.{entry_len};
+ghost use Rattle.bucket_codec.specs.declared.offsets.TheConstants.{HEAD_BYTES};
 ghost use Rattle.cycle_snapshot.specs.SnapshotStates.{MonitorState, new_monitor, new_publisher};
 ghost use Rattle.std.specs.Thread.{IsSync};
 ghost use Rattle.deck_runs.specs.Crews.{CanConduct, EachDone, EachWatched, HasNewPass, passes_of};
@@ -15,16 +16,15 @@ ghost use Rattle.deck_runs.specs.declared.jobs.crews.MonitorRun.{MonitorRun as W
 ghost use Rattle.deck_runs.specs.declared.jobs.crews.UpdaterRun.{UpdaterRun as Updater};
 ghost use Rattle.deck_runs.specs.declared.jobs.TheConstants.{LOOKS};
 ghost use Rattle.deck_runs.specs.DeckBytes.{deck_bytes};
-ghost use Rattle.deck_runs.specs.Private.StageSteps.{HasAired, AreNewUpdaters, BeginsWhole, IsEnd, IsPlayed};
+ghost use Rattle.deck_runs.specs.Private.StageSteps.{HasAired, BeginsWhole, IsEnd, IsOpen, IsPlayed};
 
-use crate::jobs::LOOKS;
 use crate::jobs::conductors::ConductFault;
 use crate::jobs::crews::{ConductorRun, MonitorRun, UpdaterRun, update_and_watch};
 use crate::jobs::openings::{first_values, updaters_of, watchers_of};
 use air_base::NoMemory;
 use air_devices::{Gate, Mast};
 use air_history::History;
-use bucket_codec::offsets::{ENTRY_BYTES, HEAD_BYTES};
+use air_sender::bucket_room;
 use chunk_program::Planned;
 use control_matrix::Board;
 use cycle_snapshot::{Monitor, Publisher, publisher};
@@ -52,25 +52,20 @@ fn conductor_of(
 ) -> Result<ConductorRun, NoMemory>
     ensures pass { IfOk result (λ run. run.pass ≡ pass) }
     ensures board { IfOk result (λ run. run.board ≡ board_of (values_in planned.now) []) }
-    ensures buffer { IfOk result (λ run. HEAD_BYTES + ENTRY_BYTES * length planned.now.items ≤ length run.buf.items) }
+    ensures buffer { IfOk result (λ run. HEAD_BYTES + entry_len planned.now.settings.version * length planned.now.items ≤ length run.buf.items) }
 {
-    let deck = planned.deck();
-    let values = first_values(alloc, deck)?;
+    let values = first_values(alloc, planned.deck())?;
     Ok(ConductorRun {
         pass,
         board: Board::new(alloc, &values)?,
-        buf: vec![in alloc; 0; HEAD_BYTES + ENTRY_BYTES * deck.items() as usize]?,
+        buf: vec![in alloc; 0; bucket_room(planned)]?,
     })
 }
 
 /// A stage of the deck, before all events.
 pub(crate) fn open_stage<'a>(alloc: Global, planned: &'a Planned) -> Result<Stage<'a>, NoMemory>
     ensures planned { IfOk result (λ s. s.planned.now ≡ planned.now) }
-    ensures conductor { IfOk result (λ s. CanConduct s.station s.planned.now s.conductor) }
-    ensures updaters { IfOk result (λ s. AreNewUpdaters s.station s.planned.now s.updaters.items) }
-    ensures ready { IfOk result (λ s. All (HasNewPass s.station s.planned.now) s.updaters.items) }
-    ensures empty { IfOk result (λ s. s.passes.items ≡ []) }
-    ensures room { IfOk result (λ s. length s.updaters.items ≤ vec_capacity s.passes) }
+    ensures opened { IfOk result IsOpen }
 {
     let deck = planned.deck();
     let (station, passes, pass) = Station::new(alloc, deck)?;
@@ -137,15 +132,12 @@ impl Stage<'_> {
         mast: &mut M,
         gate: &G,
     ) -> Result<(), ConductFault>
-        requires conductor { CanConduct self.old.station self.old.planned.now self.old.conductor }
-        requires updaters { All (HasNewPass self.old.station self.old.planned.now) self.old.updaters.items }
+        requires opened { IsOpen self.old }
         requires publisher { source.old ≡ new_publisher source.old.id (values_in self.old.planned.now) self.old.planned.now.settings.cycles }
         ensures conducted { HasAired M.state self.old.planned.now self.old.conductor.pass self.new.conductor.pass source.old source.new mast.old mast.new result }
         ensures updaters { EachDone self.old.planned.now self.old.updaters.items self.new.updaters.items }
         ensures watched { EachWatched LOOKS watchers.old watchers.new }
-        ensures planned { self.new.planned ≡ self.old.planned }
-        ensures station { self.new.station ≡ self.old.station }
-        ensures passes { self.new.passes ≡ self.old.passes }
+        ensures kept { (self.new.planned ≡ self.old.planned) × (self.new.station ≡ self.old.station) × (self.new.passes ≡ self.old.passes) }
     {
         let planned = self.planned;
         let (conducted, _) = join_mut(
@@ -164,7 +156,6 @@ impl Stage<'_> {
                     planned,
                     &mut self.updaters,
                     watchers,
-                    LOOKS,
                     gate,
                 )
             },

@@ -80,6 +80,7 @@ abbrev pub deck_from : DraftValue → Deck
 deck_from d = record {
   items = map plain_item d.items;
   disks = with_freqs (number_in Delta d.set) d.disks;
+  replans = [];
   updates = take d.updaters d.updates;
   readers = d.readers;
   queries = take (length d.readers) d.queries;

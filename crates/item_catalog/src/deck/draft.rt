@@ -30,7 +30,7 @@ use crate::scripts::Script;
 use crate::updates::item_lists::ItemList;
 use crate::updates::write_lists::WriteList;
 use air_base::limits::{
-    MOST_AGE, MOST_DELTA, MOST_DISKS, MOST_ITEMS, MOST_RATE, MOST_READERS, MOST_ROOM, MOST_SIZE,
+    MOST_AGE, MOST_DELTA, MOST_DISKS, MOST_FULL_ITEMS, MOST_RATE, MOST_READERS, MOST_ROOM,
     MOST_TRIES, MOST_UPDATERS,
 };
 use air_base::{NoMemory, read_u64};
@@ -129,7 +129,7 @@ impl Draft {
         if id != self.items.len() as u64 {
             return Err(Refusal::Kind(FaultKind::Id));
         }
-        if MOST_RATE < rate || MOST_ITEMS <= self.items.len() {
+        if MOST_RATE < rate || MOST_FULL_ITEMS <= self.items.len() {
             return Err(Refusal::Kind(FaultKind::Limit));
         }
         let rate = rate as u32;
@@ -150,7 +150,11 @@ impl Draft {
         let Some(freq) = read_freq(freq) else {
             return Err(Refusal::Kind(FaultKind::Form));
         };
-        if size < 1 || MOST_SIZE < size || is_no_freq(freq) || MOST_DISKS <= self.disks.len() {
+        if size < 1
+            || (MOST_FULL_ITEMS as u64) < size
+            || is_no_freq(freq)
+            || MOST_DISKS <= self.disks.len()
+        {
             return Err(Refusal::Kind(FaultKind::Limit));
         }
         self.disks.push(DiskPart {

@@ -48,55 +48,60 @@ fn no_updates(alloc: Global) -> Result<Vec<Updates>, NoMemory>
     Ok(lists)
 }
 
-/// The updates of each updater.
+/// The updates of each updater, and the generator that is left.
 fn draw_updates(
     alloc: Global,
-    generator: &mut Lcg64Xsh32,
+    mut generator: Lcg64Xsh32,
     n: u16,
     count: u32,
-) -> Result<Vec<Updates>, NoMemory>
+) -> Result<(Vec<Updates>, Lcg64Xsh32), NoMemory>
     requires { 4 < n }
-    ensures dealt { IfOk result (λ lists. lists.items ≡ map (dealt_to (draw_each count (λ u. draw_update n) generator.old).0) (range_with_len 0 4)) }
-    ensures left { OnOk result (generator.new ≡ (draw_each count (λ u. draw_update n) generator.old).1) }
+    ensures dealt { IfOk result (λ drawn. drawn.0.items ≡ map (dealt_to (draw_each count (λ u. draw_update n) generator).0) (range_with_len 0 4)) }
+    ensures left { IfOk result (λ drawn. drawn.1 ≡ (draw_each count (λ u. draw_update n) generator).1) }
 {
     let mut lists = no_updates(alloc)?;
     for u in 0..count {
-        let update = draw_update(alloc, generator, n)?;
+        let (update, left) = draw_update(alloc, generator, n)?;
+        generator = left;
         lists[(u % 4) as usize].push(update)?;
     }
-    Ok(lists)
+    Ok((lists, generator))
 }
 
-/// The queries of a reader.
+/// The queries of a reader, and the generator that is left.
 fn draw_queries(
     alloc: Global,
-    generator: &mut Lcg64Xsh32,
+    mut generator: Lcg64Xsh32,
     n: u16,
     count: u32,
-) -> Result<Queries, NoMemory>
+) -> Result<(Queries, Lcg64Xsh32), NoMemory>
     requires { 4 < n }
-    ensures { IfOk result (λ queries. draw_each count (λ q. draw_query n) generator.old ≡ (queries, generator.new)) }
+    ensures { IfOk result (λ drawn. draw_each count (λ q. draw_query n) generator ≡ drawn) }
 {
     let mut queries = Queries::new(alloc);
     for _q in 0..count {
-        queries.push(Query::from_vec(draw_query(alloc, generator, n)?))?;
+        let (items, left) = draw_query(alloc, generator, n)?;
+        generator = left;
+        queries.push(Query::from_vec(items))?;
     }
-    Ok(queries)
+    Ok((queries, generator))
 }
 
 /// The queries of each of the eight readers.
 fn draw_all_queries(
     alloc: Global,
-    generator: &mut Lcg64Xsh32,
+    mut generator: Lcg64Xsh32,
     n: u16,
     count: u32,
 ) -> Result<Vec<Queries>, NoMemory>
     requires { 4 < n }
-    ensures { IfOk result (λ lists. draw_each 8 (λ r. draw_each count (λ q. draw_query n)) generator.old ≡ (lists.items, generator.new)) }
+    ensures { IfOk result (λ lists. lists.items ≡ (draw_each 8 (λ r. draw_each count (λ q. draw_query n)) generator).0) }
 {
     let mut lists = Vec::new(alloc);
     for _r in 0..8_u32 {
-        lists.push(draw_queries(alloc, generator, n, count)?)?;
+        let (queries, left) = draw_queries(alloc, generator, n, count)?;
+        generator = left;
+        lists.push(queries)?;
     }
     Ok(lists)
 }
@@ -158,8 +163,8 @@ pub fn drill_deck(alloc: Global, seed: u64, size: u32) -> Result<Deck, NoMemory>
     let n = 16 + 2 * size as u16;
     let mut generator = Lcg64Xsh32::new(seed, 1);
     let items = draw_items(alloc, &mut generator, n)?;
-    let updates = draw_updates(alloc, &mut generator, n, 10 * size)?;
-    let queries = draw_all_queries(alloc, &mut generator, n, size)?;
+    let (updates, left) = draw_updates(alloc, generator, n, 10 * size)?;
+    let queries = draw_all_queries(alloc, left, n, size)?;
     let disks = drill_disks(alloc, n)?;
     let readers = drill_readers(alloc)?;
     let (script, starts) = drill_script(alloc, 10 * size)?.into_events();

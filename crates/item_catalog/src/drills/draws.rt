@@ -138,33 +138,41 @@ impl Reach {
     }
 }
 
-/// The next update.
-pub fn draw_update(alloc: Global, generator: &mut Lcg64Xsh32, n: u16) -> Result<Update, NoMemory>
+/// The next update, and the generator that is left.
+pub fn draw_update(
+    alloc: Global,
+    mut generator: Lcg64Xsh32,
+    n: u16,
+) -> Result<(Update, Lcg64Xsh32), NoMemory>
     requires { 4 < n }
-    ensures { IfOk result (λ update. draw_update n generator.old ≡ (update, generator.new)) }
+    ensures { IfOk result (λ drawn. draw_update n generator ≡ drawn) }
 {
-    let count = draw(generator, 3);
-    let first = draw_place(generator, n);
-    let more = draw(generator, 2);
+    let count = draw(&mut generator, 3);
+    let first = draw_place(&mut generator, n);
+    let more = draw(&mut generator, 2);
     let reach = Reach {
         items: n,
         reads: count,
         first_read: first,
-        first_written: draw_place(generator, n),
+        first_written: draw_place(&mut generator, n),
     };
-    let writes = reach.draw_writes(alloc, generator, 1 + more)?;
+    let writes = reach.draw_writes(alloc, &mut generator, 1 + more)?;
     let reads = around(alloc, n, first, 1, count)?;
     let update = Update::of_lists(alloc, &reads, &writes)?;
-    Ok(update)
+    Ok((update, generator))
 }
 
-/// The items of the next query.
-pub fn draw_query(alloc: Global, generator: &mut Lcg64Xsh32, n: u16) -> Result<Vec<u16>, NoMemory>
+/// The items of the next query, and the generator that is left.
+pub fn draw_query(
+    alloc: Global,
+    mut generator: Lcg64Xsh32,
+    n: u16,
+) -> Result<(Vec<u16>, Lcg64Xsh32), NoMemory>
     requires { 0 < n }
-    ensures { IfOk result (λ items. draw_query n generator.old ≡ (items.items, generator.new)) }
+    ensures { IfOk result (λ drawn. draw_query n generator ≡ (drawn.0.items, drawn.1)) }
 {
-    let more = draw(generator, MOST_DRAWN);
-    let first = draw_place(generator, n);
+    let more = draw(&mut generator, MOST_DRAWN);
+    let first = draw_place(&mut generator, n);
     let items = around(alloc, n, first, QUERY_GAP, 1 + more)?;
-    Ok(items)
+    Ok((items, generator))
 }

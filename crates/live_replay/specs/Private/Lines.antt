@@ -1,7 +1,7 @@
 -- For private steps alone. What of a line's numbers a replay needs.
 use Rattle.std.specs.Prelude.{◌<◌, ◌≤◌, ℕ, ⊤, All}
 use Rattle.air_base.specs.declared.verdicts.VerdictKind.{VerdictKind}
-use Rattle.air_base.specs.declared.verdicts.VerdictKind.TheVariants.{Accept, Abort, Unfinished}
+use Rattle.air_base.specs.declared.verdicts.VerdictKind.TheVariants.{Accept, Abort, Aged, Unfinished}
 use Rattle.air_history.specs.Reads.{IsRead}
 use Rattle.air_model.specs.declared.reports.VerdictLine.{VerdictLine}
 use Rattle.live_replay.specs.Findings.{places_of}
@@ -10,6 +10,7 @@ use Rattle.live_replay.specs.Findings.{places_of}
 abbrev pub EndFits : ℕ → VerdictKind → Type 0
 EndFits starts Accept = ⊤
 EndFits starts (Abort item cycle clash) = cycle ≤ starts
+EndFits starts (Aged item cycle) = cycle ≤ starts
 EndFits starts Unfinished = ⊤
 
 -- The items of a line are below n, and its reads are of cycles from 1 on, of the first so many.

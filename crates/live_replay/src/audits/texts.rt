@@ -1,6 +1,6 @@
 //! The text of an audit's findings: a row for each, and one that counts them.
 
-ghost use Rattle.std.specs.Prelude.{◌≡◌, ◌++◌, IfOk, OnOk, count_by, map};
+ghost use Rattle.std.specs.Prelude.{◌≡◌, ◌++◌, IfOk, count_by, map};
 ghost use Rattle.csv.specs.Writing.{row_text};
 ghost use Rattle.air_model.specs.Rows.{row_writer, rows_text};
 ghost use Rattle.air_report.specs.RowWriters.{IsRowWriter, written_text};
@@ -16,10 +16,9 @@ use std::alloc::Global;
 pub fn findings_text(alloc: Global, found: &[Finding]) -> Result<Vec<u8>, NoMemory>
     ensures { IfOk result (λ text. text.items ≡ findings_text found.now) }
 {
-    let mut wtr = row_writer(Vec::new(alloc));
-    put_findings(alloc, &mut wtr, found)?;
+    let wtr = put_findings(alloc, row_writer(Vec::new(alloc)), found)?;
     let ns = [found.len() as u64, differing_count(found)];
-    put_numbers(alloc, &mut wtr, b"audited", &ns)?;
+    let wtr = put_numbers(alloc, wtr, b"audited", &ns)?;
     let text = finish(wtr)?;
     Ok(text)
 }
@@ -37,25 +36,32 @@ pub(crate) fn differing_count(found: &[Finding]) -> u64
     count
 }
 
-/// Adds the rows of findings.
-fn put_findings(alloc: Global, wtr: &mut Writer<Vec<u8>>, found: &[Finding]) -> Result<(), NoMemory>
-    requires { IsRowWriter wtr.old }
-    ensures ready { OnOk result (IsRowWriter wtr.new) }
-    ensures text { OnOk result
-        (written_text wtr.new ≡ written_text wtr.old ++ rows_text (map finding_row found.now)) }
+/// The writer with the rows of findings added.
+fn put_findings(
+    alloc: Global,
+    wtr: Writer<Vec<u8>>,
+    found: &[Finding],
+) -> Result<Writer<Vec<u8>>, NoMemory>
+    requires { IsRowWriter wtr }
+    ensures ready { IfOk result IsRowWriter }
+    ensures text { IfOk result (λ more. written_text more ≡ written_text wtr ++ rows_text (map finding_row found.now)) }
 {
+    let mut wtr = wtr;
     for finding in found {
-        put_finding(alloc, wtr, *finding)?;
+        wtr = put_finding(alloc, wtr, *finding)?;
     }
-    Ok(())
+    Ok(wtr)
 }
 
-/// Adds the row of a finding.
-fn put_finding(alloc: Global, wtr: &mut Writer<Vec<u8>>, finding: Finding) -> Result<(), NoMemory>
-    requires { IsRowWriter wtr.old }
-    ensures ready { OnOk result (IsRowWriter wtr.new) }
-    ensures text { OnOk result
-        (written_text wtr.new ≡ written_text wtr.old ++ row_text row_writer (finding_row finding)) }
+/// The writer with the row of a finding added.
+fn put_finding(
+    alloc: Global,
+    wtr: Writer<Vec<u8>>,
+    finding: Finding,
+) -> Result<Writer<Vec<u8>>, NoMemory>
+    requires { IsRowWriter wtr }
+    ensures ready { IfOk result IsRowWriter }
+    ensures text { IfOk result (λ more. written_text more ≡ written_text wtr ++ row_text row_writer (finding_row finding)) }
 {
     let mut row = Vec::new(alloc);
     write_u64(u64::from(finding.row), &mut row)?;

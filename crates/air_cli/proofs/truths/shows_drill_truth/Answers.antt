@@ -10,5 +10,5 @@ returns c =
     let seed = c.args.seed in
     let size = c.args.size in
     let made = c.drill_law.ensures seed size c.ranges.seed.fits c.requires.some c.requires.few in
-    let slots : length (program (disks_in (drill_deck seed size))) ≤ 2 * drill_items size = c.drill_slots_law.ensures seed size c.requires.some in
+    let slots : length (program (disks_in (drill_deck seed size) 0)) ≤ 2 * drill_items size = c.drill_slots_law.ensures seed size c.requires.some in
     true_script (drill_deck seed size) made.0 made.1 (omega arith) c.script_law.ensures c.events_law.ensures c.bytes_law.ensures c.heard_was_pushed_law.ensures c.receiver_law.ensures

@@ -3,7 +3,7 @@
 //! A row for the program, then one for each disk, each minor cycle and each item. The numbers are those that the
 //! program and the cut tell.
 
-ghost use Rattle.std.specs.Prelude.{◌≡◌, ◌<◌, ◌++◌, [], None, get_or, length, map, slice_get, IfOk, IfSome, OnOk};
+ghost use Rattle.std.specs.Prelude.{◌≡◌, ◌<◌, ◌++◌, None, get_or, length, map, slice_get, IfOk, IfSome, OnOk};
 ghost use Rattle.std.specs.List.{enumerate_from, range_with_len};
 ghost use Rattle.csv.specs.Writing.{row_text};
 ghost use Rattle.air_base.specs.NumberLists.{list_text};
@@ -23,61 +23,71 @@ use std::alloc::Global;
 
 /// The text of the plan of a deck.
 pub(crate) fn plan_text(alloc: Global, cut: &Cut, planned: &Planned) -> Result<Vec<u8>, NoMemory>
-    requires { cut.now ≡ disks_in planned.now }
+    requires { cut.now ≡ disks_in planned.now 0 }
     ensures { IfOk result (λ text. text.items ≡ plan_output planned.now) }
 {
+    planned.shows_planned();
     let program = planned.program();
-    let mut wtr = row_writer(Vec::new(alloc));
-    put_program(alloc, &mut wtr, program)?;
-    put_disks(alloc, &mut wtr, planned)?;
-    put_minors(alloc, &mut wtr, program)?;
-    put_items(alloc, &mut wtr, cut, planned)?;
-    let text = finish(wtr)?;
+    let begun = row_writer(Vec::new(alloc));
+    let headed = put_program(alloc, begun, program)?;
+    let disks = put_disks(alloc, headed, planned)?;
+    let minors = put_minors(alloc, disks, program)?;
+    let whole = put_items(alloc, minors, cut, planned)?;
+    let text = finish(whole)?;
     Ok(text)
 }
 
 /// Adds the row of the program.
-fn put_program(alloc: Global, wtr: &mut Writer<Vec<u8>>, program: &Program) -> Result<(), NoMemory>
-    requires { IsRowWriter wtr.old }
-    ensures ready { OnOk result (IsRowWriter wtr.new) }
-    ensures text { OnOk result
-        (written_text wtr.new ≡ written_text wtr.old ++ row_text row_writer (program_row program.now)) }
+fn put_program(
+    alloc: Global,
+    wtr: Writer<Vec<u8>>,
+    program: &Program,
+) -> Result<Writer<Vec<u8>>, NoMemory>
+    requires { IsRowWriter wtr }
+    ensures ready { IfOk result IsRowWriter }
+    ensures text { IfOk result (λ more.
+        written_text more ≡ written_text wtr ++ row_text row_writer (program_row program.now)) }
 {
     let ns = [
         u64::from(program.slots()),
         u64::from(program.minors()),
         u64::from(program.minor_len()),
     ];
-    put_numbers(alloc, wtr, b"program", &ns)?;
-    Ok(())
+    let wtr = put_numbers(alloc, wtr, b"program", &ns)?;
+    Ok(wtr)
 }
 
 /// Adds the rows of the disks.
-fn put_disks(alloc: Global, wtr: &mut Writer<Vec<u8>>, planned: &Planned) -> Result<(), NoMemory>
-    requires { IsRowWriter wtr.old }
-    ensures ready { OnOk result (IsRowWriter wtr.new) }
-    ensures text { OnOk result (written_text wtr.new
-        ≡ written_text wtr.old ++ rows_text (map (disk_row (num_minors (disks_in planned.now))) (enumerate_from 0 (disks_in planned.now)))) }
+fn put_disks(
+    alloc: Global,
+    wtr: Writer<Vec<u8>>,
+    planned: &Planned,
+) -> Result<Writer<Vec<u8>>, NoMemory>
+    requires { IsRowWriter wtr }
+    ensures ready { IfOk result IsRowWriter }
+    ensures text { IfOk result (λ more. written_text more
+        ≡ written_text wtr ++ rows_text (map (disk_row (num_minors (disks_in planned.now 0))) (enumerate_from 0 (disks_in planned.now 0)))) }
 {
     let deck = planned.deck();
+    let mut wtr = wtr;
     for d in 0..deck.disks() {
-        put_disk(alloc, wtr, planned, d)?;
+        wtr = put_disk(alloc, wtr, planned, d)?;
     }
-    Ok(())
+    Ok(wtr)
 }
 
 /// Adds the row of a disk.
 fn put_disk(
     alloc: Global,
-    wtr: &mut Writer<Vec<u8>>,
+    wtr: Writer<Vec<u8>>,
     planned: &Planned,
     d: u32,
-) -> Result<(), NoMemory>
-    requires ready { IsRowWriter wtr.old }
+) -> Result<Writer<Vec<u8>>, NoMemory>
+    requires ready { IsRowWriter wtr }
     requires disk { d < length planned.now.disks }
-    ensures ready { OnOk result (IsRowWriter wtr.new) }
-    ensures text { OnOk result (IfSome (slice_get (disks_in planned.now) d) (λ disk.
-        written_text wtr.new ≡ written_text wtr.old ++ row_text row_writer (disk_row (num_minors (disks_in planned.now)) (d, disk)))) }
+    ensures ready { IfOk result IsRowWriter }
+    ensures text { IfOk result (λ more. IfSome (slice_get (disks_in planned.now 0) d) (λ disk.
+        written_text more ≡ written_text wtr ++ row_text row_writer (disk_row (num_minors (disks_in planned.now 0)) (d, disk)))) }
 {
     let deck = planned.deck();
     let program = planned.program();
@@ -87,44 +97,47 @@ fn put_disk(
         u64::from(program.chunks(d)),
         u64::from(program.chunk_len(d)),
     ];
-    put_numbers(alloc, wtr, b"disk", &ns)?;
-    Ok(())
+    let wtr = put_numbers(alloc, wtr, b"disk", &ns)?;
+    Ok(wtr)
 }
 
 /// Adds the rows of the minor cycles.
-fn put_minors(alloc: Global, wtr: &mut Writer<Vec<u8>>, program: &Program) -> Result<(), NoMemory>
-    requires { IsRowWriter wtr.old }
-    ensures ready { OnOk result (IsRowWriter wtr.new) }
-    ensures text { OnOk result (written_text wtr.new
-        ≡ written_text wtr.old ++ rows_text (map (minor_row program.now) (range_with_len 0 (num_minors program.now)))) }
+fn put_minors(
+    alloc: Global,
+    wtr: Writer<Vec<u8>>,
+    program: &Program,
+) -> Result<Writer<Vec<u8>>, NoMemory>
+    requires { IsRowWriter wtr }
+    ensures ready { IfOk result IsRowWriter }
+    ensures text { IfOk result (λ more. written_text more
+        ≡ written_text wtr ++ rows_text (map (minor_row program.now) (range_with_len 0 (num_minors program.now)))) }
 {
+    let mut wtr = wtr;
     for k in 0..program.minors() {
-        put_minor(alloc, wtr, program, k)?;
+        wtr = put_minor(alloc, wtr, program, k)?;
     }
-    Ok(())
+    Ok(wtr)
 }
 
 /// Adds the row of a minor cycle.
 fn put_minor(
     alloc: Global,
-    wtr: &mut Writer<Vec<u8>>,
+    wtr: Writer<Vec<u8>>,
     program: &Program,
     k: u32,
-) -> Result<(), NoMemory>
-    requires ready { IsRowWriter wtr.old }
+) -> Result<Writer<Vec<u8>>, NoMemory>
+    requires ready { IsRowWriter wtr }
     requires minor { k < num_minors program.now }
-    ensures ready { OnOk result (IsRowWriter wtr.new) }
-    ensures text { OnOk result
-        (written_text wtr.new ≡ written_text wtr.old ++ row_text row_writer (minor_row program.now k)) }
+    ensures ready { IfOk result IsRowWriter }
+    ensures text { IfOk result (λ more.
+        written_text more ≡ written_text wtr ++ row_text row_writer (minor_row program.now k)) }
 {
     let mut number = Vec::new(alloc);
     write_u64(u64::from(k), &mut number)?;
     let slots = slots_text(alloc, program, k)?;
-    put_row(
-        wtr,
-        &[b"minor".as_slice(), number.as_slice(), slots.as_slice()],
-    )?;
-    Ok(())
+    let fields = [b"minor".as_slice(), number.as_slice(), slots.as_slice()];
+    let wtr = put_row(wtr, &fields)?;
+    Ok(wtr)
 }
 
 /// The slots of a minor cycle, with one space between each two.
@@ -168,37 +181,38 @@ fn put_slot(slot: Option<u16>, text: &mut Vec<u8>) -> Result<(), NoMemory>
 /// Adds the rows of the items.
 fn put_items(
     alloc: Global,
-    wtr: &mut Writer<Vec<u8>>,
+    wtr: Writer<Vec<u8>>,
     cut: &Cut,
     planned: &Planned,
-) -> Result<(), NoMemory>
-    requires ready { IsRowWriter wtr.old }
-    requires cut { cut.now ≡ disks_in planned.now }
-    ensures ready { OnOk result (IsRowWriter wtr.new) }
-    ensures text { OnOk result (written_text wtr.new
-        ≡ written_text wtr.old ++ rows_text (map (item_row (disks_in planned.now)) (enumerate_from 0 (rates_in planned.now)))) }
+) -> Result<Writer<Vec<u8>>, NoMemory>
+    requires ready { IsRowWriter wtr }
+    requires cut { cut.now ≡ disks_in planned.now 0 }
+    ensures ready { IfOk result IsRowWriter }
+    ensures text { IfOk result (λ more. written_text more
+        ≡ written_text wtr ++ rows_text (map (item_row (disks_in planned.now 0)) (enumerate_from 0 (rates_in planned.now)))) }
 {
     let deck = planned.deck();
+    let mut wtr = wtr;
     for i in 0..deck.items() {
-        put_item(alloc, wtr, cut, planned, i)?;
+        wtr = put_item(alloc, wtr, cut, planned, i)?;
     }
-    Ok(())
+    Ok(wtr)
 }
 
 /// Adds the row of an item.
 fn put_item(
     alloc: Global,
-    wtr: &mut Writer<Vec<u8>>,
+    wtr: Writer<Vec<u8>>,
     cut: &Cut,
     planned: &Planned,
     i: u16,
-) -> Result<(), NoMemory>
-    requires ready { IsRowWriter wtr.old }
-    requires cut { cut.now ≡ disks_in planned.now }
+) -> Result<Writer<Vec<u8>>, NoMemory>
+    requires ready { IsRowWriter wtr }
+    requires cut { cut.now ≡ disks_in planned.now 0 }
     requires item { i < length planned.now.items }
-    ensures ready { OnOk result (IsRowWriter wtr.new) }
-    ensures text { OnOk result (IfSome (slice_get planned.now.items i) (λ item.
-        written_text wtr.new ≡ written_text wtr.old ++ row_text row_writer (item_row (disks_in planned.now) (i, item.rate)))) }
+    ensures ready { IfOk result IsRowWriter }
+    ensures text { IfOk result (λ more. IfSome (slice_get planned.now.items i) (λ item.
+        written_text more ≡ written_text wtr ++ row_text row_writer (item_row (disks_in planned.now 0) (i, item.rate)))) }
 {
     let deck = planned.deck();
     let program = planned.program();
@@ -210,6 +224,6 @@ fn put_item(
         u64::from(program.next_wake(0, i)),
         program.pix(i, deck.rate(i)),
     ];
-    put_numbers(alloc, wtr, b"item", &ns)?;
-    Ok(())
+    let wtr = put_numbers(alloc, wtr, b"item", &ns)?;
+    Ok(wtr)
 }

@@ -11,5 +11,5 @@ pub returns-clause-sent : goal.returns-clause-sent
 returns-clause-sent g c =
     let b = bucket_to_air c.slot_bucket-bucket.result in
     let bytes = front_is b c.encode-len.result c.encode-len.new.out _ c.encode-len.ensures.len c.encode-len.ensures.bytes in
-    let is = bucket_is c.args.policy (slots_of c.args.program.now) c.args.board.now c.args.slot c.slot_item.result b c.slot_item.ensures.carried c.slot_bucket-bucket.ensures.bucket in
+    let is = bucket_is c.args.form 0 (slots_of c.args.program.now) c.args.board.now c.args.slot c.slot_item.result b c.slot_item.ensures.carried c.slot_bucket-bucket.ensures.bucket in
     subst (λ (l : List ℕ). OnOk c.send.result (Changes (with_buckets (l ∷ [])) (g.M.Mast.state c.args.mast.now).told (g.M.Mast.state c.send.new.self).told)) (bytes ∙ ap spelling is) c.send.ensures.added

@@ -1,5 +1,5 @@
-use Rattle.air_sender.proofs.TapeLengths.{tape_size}
+use Rattle.air_sender.proofs.TapeLengths.{history_size}
 use Rattle.air_sender.proofs.board_laws.tape_size_law.Goals as goal
 
 pub returns : goal.returns
-returns c = tape_size
+returns c = history_size

@@ -9,8 +9,8 @@ unfolding head_bytes
 returns c =
     let old = c.args.out.now in
     let h = c.args.head.now in
-    let p4 : List ℕ = 65 ∷ 68 ∷ 1 ∷ h.kind ∷ [] in
-    let s1 = put_next old (set (set (set (set old 0 65) 1 68) 2 1) 3 h.kind) c.put_two.new.out p4 (big_bytes 2 h.edition) 4 2 refl refl (four_set old 65 68 1 h.kind (let r = c.requires in omega arith)) c.put_two.ensures in
+    let p4 : List ℕ = 65 ∷ 68 ∷ h.version ∷ h.kind ∷ [] in
+    let s1 = put_next old (set (set (set (set old 0 65) 1 68) 2 h.version) 3 h.kind) c.put_two.new.out p4 (big_bytes 2 h.edition) 4 2 refl refl (four_set old 65 68 h.version h.kind (let r = c.requires in omega arith)) c.put_two.ensures in
     let p6 = p4 ++ big_bytes 2 h.edition in
     let s2 = put_next old c.put_two.new.out c.put_two-2.new.out p6 (big_bytes 2 h.count) 6 2 refl refl s1 c.put_two-2.ensures in
     let p8 = p6 ++ big_bytes 2 h.count in

@@ -5,5 +5,5 @@ use Rattle.chunk_program.proofs.layout.len_before.Given as goal
 abbrev pub invariant-loop-disk : goal.invariant-loop-disk
 invariant-loop-disk l = record {
   counted : l.len ≡ minor_len l.minors (take l.disk-index l.disks);
-  under : l.len ≤ 256 * l.disk-index;
+  under : l.len ≤ 1024 * l.disk-index;
 }

@@ -35,9 +35,8 @@ returns-in_err-source-clause-fault g c =
 pub end-history-requires : goal.end-history-requires
 unfolding HasAired
 end-history-requires g c =
-    let new = c.in_ok-stage.ensures in
     let played = c.play-conducted.ensures in
-    is_played c.in_ok-stage.stage c.play-conducted.new.self new.conductor new.updaters new.empty new.room played.conducted.pass played.conducted.few played.updaters played.planned played.station played.passes
+    is_played c.in_ok-stage.stage c.play-conducted.new.self c.in_ok-stage.ensures.opened played.conducted.pass played.conducted.few played.updaters played.kept.0 played.kept.1 played.kept.2
 
 pub all_sights-sights-requires-clause-own : goal.all_sights-sights-requires-clause-own
 unfolding HasAired
@@ -69,7 +68,7 @@ returns-in_err-conducted-clause-fault g c =
     let new = c.play-conducted.new.mast in
     let seen = c.play-conducted.new.self.conductor.pass.seen in
     let e = c.in_err-conducted.field-0.0 in
-    let begins = subst (λ d. BeginsWhole d seen) (ap (λ p. p.now) c.play-conducted.ensures.planned) c.end-history.ensures.begins in
+    let begins = subst (λ d. BeginsWhole d seen) (ap (λ p. p.now) c.play-conducted.ensures.kept.0) c.end-history.ensures.begins in
     let h : IsRunAnswer state c.args.planned.now old new (run_fault e) = subst (λ d. IsRunAnswer state d old new (run_fault e)) c.in_ok-stage.ensures.planned (fault_answer state deck old new seen e begins c.in_err-conducted.ensures.conducted.aired) in
     search (rules, h)
 
@@ -82,7 +81,7 @@ returns-in_err-history-clause-fault g c =
     let new = c.play-conducted.new.mast in
     let seen = c.play-conducted.new.self.conductor.pass.seen in
     let aired = c.in_ok-conducted.ensures.conducted.aired in
-    let begins = subst (λ d. BeginsWhole d seen) (ap (λ p. p.now) c.play-conducted.ensures.planned) c.end-history.ensures.begins in
+    let begins = subst (λ d. BeginsWhole d seen) (ap (λ p. p.now) c.play-conducted.ensures.kept.0) c.end-history.ensures.begins in
     let h : IsRunAnswer state c.args.planned.now old new fault.NoMemory = subst (λ d. IsRunAnswer state d old new fault.NoMemory) c.in_ok-stage.ensures.planned (sends_first state deck old new seen begins (all_sent state deck old new seen aired.0 aired.1)) in
     search (rules, h)
 
@@ -95,7 +94,7 @@ returns-in_err-sights-clause-fault g c =
     let new = c.play-conducted.new.mast in
     let seen = c.play-conducted.new.self.conductor.pass.seen in
     let aired = c.in_ok-conducted.ensures.conducted.aired in
-    let begins = subst (λ d. BeginsWhole d seen) (ap (λ p. p.now) c.play-conducted.ensures.planned) c.end-history.ensures.begins in
+    let begins = subst (λ d. BeginsWhole d seen) (ap (λ p. p.now) c.play-conducted.ensures.kept.0) c.end-history.ensures.begins in
     let h : IsRunAnswer state c.args.planned.now old new fault.NoMemory = subst (λ d. IsRunAnswer state d old new fault.NoMemory) c.in_ok-stage.ensures.planned (sends_first state deck old new seen begins (all_sent state deck old new seen aired.0 aired.1)) in
     search (rules, h)
 
@@ -116,7 +115,7 @@ returns-clause-run g c =
     let looks = c.in_ok-sights.sights.looks.items in
     let sights = subst (λ l. AreAllSights h l glances looks) (with_items_is runs now (watched.0 ∙ sym runs.ok.0)) c.in_ok-sights.ensures in
     let whole = c.in_ok-conducted.ensures.conducted.whole in
-    let ended = subst (λ d. IsEnd d seen H) (ap (λ p. p.now) c.play-conducted.ensures.planned) c.in_ok-history.ensures.end in
+    let ended = subst (λ d. IsEnd d seen H) (ap (λ p. p.now) c.play-conducted.ensures.kept.0) c.in_ok-history.ensures.end in
     subst (λ d. IsRun d c.new.result) c.in_ok-stage.ensures.planned (subst (IsRun deck) (sym c.new.ensures) (record {
       whole = ended.whole whole.1;
       glances = glances_are deck f h runs.items now glances looks seen H given.publisher given.count given.each on watched sights whole.0 whole.1 ended.goes_on;
@@ -130,9 +129,9 @@ returns-clause-batches g c =
     let h = c.play-conducted.new.source in
     let seen = c.play-conducted.new.self.conductor.pass.seen in
     let H = c.in_ok-history.history in
-    let ended = subst (λ d. IsEnd d seen H) (ap (λ p. p.now) c.play-conducted.ensures.planned) c.in_ok-history.ensures.end in
+    let ended = subst (λ d. IsEnd d seen H) (ap (λ p. p.now) c.play-conducted.ensures.kept.0) c.in_ok-history.ensures.end in
     let by = airs_further deck seen H h.batches ended.goes_on c.in_ok-conducted.ensures.conducted.batches in
-    let told = subst (AirsByBatches deck H) (sym (ap (λ (l : Beginning). l.batches) c.tell-told.ensures)) by in
+    let told = subst (AirsByBatches deck H) (sym (ap (λ (l : Beginning). l.batches) c.tell-last_note.ensures)) by in
     subst (λ d. AirsByBatches d c.new.result.history c.new.result.batches) c.in_ok-stage.ensures.planned
     (subst (λ (run : Run). AirsByBatches deck run.history run.batches) (sym c.new.ensures) told)
 

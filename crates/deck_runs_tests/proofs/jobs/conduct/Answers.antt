@@ -1,12 +1,13 @@
 use Rattle.std.proofs.Common.{◌≡◌, ◌∙◌, length, sym, ap, arith}
+use Rattle.air_base.specs.declared.verdicts.Form.{Form}
 use Rattle.air_history.specs.Histories.{starts}
 use Rattle.air_model.specs.declared.deck.Settings.{Settings}
 use Rattle.air_model.specs.Decks.{values_in}
 use Rattle.station.specs.PassStates.{PassState}
 use Rattle.cycle_snapshot.specs.SnapshotStates.{PublisherState}
 use Rattle.update_commit.proofs.EventLemmas.{starts_none}
-use Rattle.deck_runs.proofs.RunLemmas.{new_in_step, values_sized}
-use Rattle.deck_runs_tests.proofs.AiredItems.{items_aired}
+use Rattle.deck_runs.proofs.RunLemmas.{can_air, new_in_step, values_sized}
+use Rattle.deck_runs_tests.proofs.AiredItems.{few_bytes, items_aired}
 use Rattle.deck_runs_tests.proofs.jobs.conduct.Goals as goal
 
 pub conductor_job-requires-clause-own : goal.conductor_job-requires-clause-own
@@ -27,13 +28,14 @@ conductor_job-requires-clause-room g c =
     let few = c.shows_well_made.ensures.limits.settings.cycles in
     (omega arith, omega arith)
 
-pub conductor_job-requires-clause-items : goal.conductor_job-requires-clause-items
-conductor_job-requires-clause-items g c =
-    items_aired c.args.deck.now c.args.program.now c.shows_well_made.ensures.made c.requires.program ∙ ap (λ (p : PassState). length p.values) (sym c.requires.pass)
-
-pub conductor_job-requires-clause-buffer : goal.conductor_job-requires-clause-buffer
-conductor_job-requires-clause-buffer g c =
-    let values = ap (λ (p : PassState). length p.values) c.requires.pass ∙ values_sized c.args.deck.now in
+pub conductor_job-requires-clause-airable : goal.conductor_job-requires-clause-airable
+conductor_job-requires-clause-airable g c =
+    let deck = c.args.deck.now in
+    let made = c.shows_well_made.ensures.made in
+    let sized = values_sized deck in
+    let values = ap (λ (p : PassState). length p.values) c.requires.pass ∙ sized in
     let size = ap length c.deref_mut.ensures.value in
     let room = c.requires.buffer in
-    omega arith
+    let few = few_bytes deck.settings.version (length deck.items) in
+    can_air deck _ _ _ _ made (ap (λ (s : Settings). let form : Form = record { policy = s.policy; version = s.version } in form) c.settings-settings.ensures) values
+    (items_aired deck c.args.program.now made c.requires.program ∙ sized) (omega arith)

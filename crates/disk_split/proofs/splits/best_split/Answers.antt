@@ -7,7 +7,7 @@ use Rattle.disk_split.specs.Private.Numbers.{IsLeastMinor, chunks_in, minors_in}
 use Rattle.disk_split.specs.Private.Rests.{AreChunks, AreSums, IsSplitRest, minor_from, weight_from}
 use Rattle.disk_split.proofs.CostLemmas.{own_split}
 use Rattle.disk_split.proofs.DeckLemmas.{deck_sums, length-chunks_in, length-deck_sums, split_rest}
-use Rattle.disk_split.proofs.DeckNumbers.{are_deck_chunks, are_deck_sums, chunks_below, chunks_some, few_disks, some_disks}
+use Rattle.disk_split.proofs.DeckNumbers.{are_deck_chunks, are_deck_sums, chunks_below, chunks_some, few_disks, few_items, some_disks}
 use Rattle.disk_split.proofs.RestLemmas.{slots_few, weight_small}
 use Rattle.disk_split.proofs.SearchLemmas.{best_is, cost_small, cost_walk, few_minors, least_few, least_many, none_short, too_long}
 use Rattle.disk_split.proofs.splits.best_split.Goals as goal
@@ -42,7 +42,7 @@ pub overflow_mul-slots : goal.overflow_mul-slots
 overflow_mul-slots c =
     let deck = c.args.deck.now in
     let few = least_few (deck_sums deck) (chunks_in deck) c.least_minor.result (chunks_some deck c.shows_well_made.ensures.made) (least_is c) in
-    let long = length-deck_sums deck in let most = c.shows_well_made.ensures.made.most in
+    let long = length-deck_sums deck in let most = few_items deck c.shows_well_made.ensures.made in
     let grows : c.minors-minors.result * c.least_minor.result ≤ c.minors-minors.result * 1024 = mul-le-mul_left c.minors-minors.result (omega arith) in
     let top = c.minors-minors.ensures.few in omega arith
 
@@ -132,7 +132,7 @@ returns-clause-given c = let deck = c.args.deck.now in let made = c.shows_well_m
 small : (c : After-drop-chunks-2) (sizes : List ℕ) → IsSplitRest (deck_sums c.args.deck.now) (chunks_in c.args.deck.now) 0 sizes → cost_from (deck_sums c.args.deck.now) (chunks_in c.args.deck.now) sizes < 2 ^ 64
 small c sizes all =
     let deck = c.args.deck.now in let a = (goal.at.returns-clause-best c).After-deref-3 in
-    let few = slots_few (deck_sums deck) (chunks_in deck) 0 sizes (cut a).some all in let long = length-deck_sums deck in let most = c.shows_well_made.ensures.made.most in
+    let few = slots_few (deck_sums deck) (chunks_in deck) 0 sizes (cut a).some all in let long = length-deck_sums deck in let most = few_items deck c.shows_well_made.ensures.made in
     cost_small (minor_from (chunks_in deck) sizes) (weight_from (deck_sums deck) (chunks_in deck) 0 sizes) (omega arith) (weight_small (deck_sums deck) (chunks_in deck) 0 sizes (sums a) (cut a) all)
 
 pub returns-clause-narrow : goal.returns-clause-narrow

@@ -214,6 +214,7 @@ pub fn settings_in(set: &[Setting]) -> Settings
 {
     Settings {
         policy: policy_in(set),
+        version: 1,
         cycles: number_in(Name::Cycles, set) as u32,
         seed: number_in(Name::Seed, set),
         loss: number_in(Name::Loss, set) as u32,

@@ -4,4 +4,4 @@ use Rattle.listeners.proofs.ReaderLemmas.{HeardUpTo}
 use Rattle.listeners.proofs.readers.all_hear.Given as goal
 
 abbrev pub invariant-loop-listener : goal.invariant-loop-listener
-invariant-loop-listener l = HeardUpTo (hears_one (result_ok l.heard)) l.listener-index l.fn.listeners l.listeners
+invariant-loop-listener l = HeardUpTo (hears_one (result_ok l.heard)) l.listener-index l.fn.listeners.items l.listener-items

@@ -14,7 +14,7 @@ pix-requires-clause-item c =
 
 pub loop-item-preserved : goal.loop-item-preserved
 loop-item-preserved c =
-    let own = c.program-program.ensures.told ∙ ap disks_in (sym c.deck-deck.ensures.told) in
+    let own = c.program-program.ensures.told ∙ ap (λ d. disks_in d 0) (sym c.deck-deck.ensures.told) in
     record {
       made = c.in_ok-push.ensures.items ∙ ap (λ ns. ns ++ c.pix.result ∷ []) c.loop-item.invariant.made
           ∙ sym (pix_more c.deck-deck.result.now c.program-program.result.now c.loop-item.item c.rate.result c.pix.result own (let below = c.loop-item.invariant.all in omega arith) c.rate.ensures.told c.pix.ensures);

@@ -3,8 +3,8 @@ use Rattle.std.specs.List.{range_with_len}
 use Rattle.air_model.specs.Buckets.{bucket_in}
 use Rattle.air_model.specs.Decks.{Deck}
 use Rattle.air_model.specs.Reports.{counts_lines, verdict_lines}
-use Rattle.listeners.specs.Listeners.{AreNumbered, end_state}
-use Rattle.listeners.proofs.ReaderLemmas.{HasRoom, are_numbered, heard_whole, room_at_first, sessions_are}
+use Rattle.listeners.specs.Listeners.{AreNumbered, end_state, hears}
+use Rattle.listeners.proofs.ReaderLemmas.{HasRoom, are_numbered, room_at_first, sessions_are}
 use Rattle.air_cli.specs.Hearings.{IsHearAnswer, IsHeardOnEar, TakesUpTo}
 use Rattle.air_cli.specs.declared.commands.hearings.HearFault.TheVariants as fault
 use Rattle.air_cli.proofs.EarLemmas.{just_taken}
@@ -17,16 +17,14 @@ all_hear_ear-requires-clause-counts g c =
     let most = c.deck.ensures.limits.settings.hears in
     let same = ap (λ s. s.hears) c.settings-hears.ensures ∙ ap (λ (d : Deck). d.settings.hears) c.deck.ensures.told in
     let few : n < 2 ^ 64 = omega (arith, same, most) in
-    subst (All (HasRoom n)) (sym (c.deref_mut.ensures.value ∙ c.in_ok-listeners.ensures)) (room_at_first deck n (range_with_len 0 (length deck.readers)) few)
+    subst (All (HasRoom n)) (sym c.in_ok-listeners.ensures) (room_at_first deck n (range_with_len 0 (length deck.readers)) few)
 
 pub end_all-requires : goal.end_all-requires
 end_all-requires g c =
     let deck = c.args.planned.now in
-    let h = c.in_ok-all_hear_ear.ensures.heard in
-    let now = c.all_hear_ear.new.listeners in
-    let long : length now ≡ c.in_ok-listeners.listeners.len = omega (arith, c.all_hear_ear.auto.listeners, c.deref_mut.ensures.len) in
-    subst AreNumbered (sym (heard_whole deck (map bucket_in h.heard) c.in_ok-listeners.listeners.len c.in_ok-listeners.listeners.items c.deref_mut.result.now now long
-    (c.deref_mut.ensures.value ∙ c.in_ok-listeners.ensures) h.same)) (are_numbered deck (map bucket_in h.heard))
+    let h = c.in_ok-heard.ensures.heard in
+    let members = map bucket_in h.heard in
+    subst AreNumbered (sym (h.same ∙ ap (map (hears members)) c.in_ok-listeners.ensures)) (are_numbered deck members)
 
 pub returns-in_err-sessions-clause-fault : goal.returns-in_err-sessions-clause-fault
 returns-in_err-sessions-clause-fault g c =
@@ -36,24 +34,20 @@ returns-in_err-sessions-clause-fault g c =
     let tuned = E.state c.tune_in.new.self in
     let new = E.state c.all_hear_ear.new.ear in
     let calm : tuned.faults ≡ old.faults = search rules in
-    let heard = c.in_ok-all_hear_ear.ensures.heard in
+    let heard = c.in_ok-heard.ensures.heard in
     let hears = ap (λ s. s.hears) c.settings-hears.ensures ∙ ap (λ (d : Deck). d.settings.hears) c.deck.ensures.told in
     let taken : TakesUpTo most old.told new.told = subst (λ n. TakesUpTo n old.told new.told) hears (subst (λ o. TakesUpTo c.settings-hears.result.hears o new.told) c.tune_in.ensures.kept heard.is.taken) in
-    let h : IsHearAnswer most old new fault.NoMemory = (c.in_ok-all_hear_ear.ensures.calm ∙ calm, just_taken most old.told new.told taken) in
+    let h : IsHearAnswer most old new fault.NoMemory = (c.in_ok-heard.ensures.calm ∙ calm, just_taken most old.told new.told taken) in
     search (rules, h)
 
 pub returns-clause-sessions : goal.returns-clause-sessions
 returns-clause-sessions g c =
     let E = g.E.Ear in
     let deck = c.args.planned.now in
-    let h = c.in_ok-all_hear_ear.ensures.heard in
+    let h = c.in_ok-heard.ensures.heard in
     let old = (E.state c.args.ear.now).told in
-    let tuned = (E.state c.tune_in.new.self).told in
     let last = (E.state c.all_hear_ear.new.ear).told in
-    let now = c.all_hear_ear.new.listeners in
-    let long : length now ≡ c.in_ok-listeners.listeners.len = omega (arith, c.all_hear_ear.auto.listeners, c.deref_mut.ensures.len) in
-    let heard = heard_whole deck (map bucket_in h.heard) c.in_ok-listeners.listeners.len c.in_ok-listeners.listeners.items c.deref_mut.result.now now long
-    (c.deref_mut.ensures.value ∙ c.in_ok-listeners.ensures) h.same in
+    let heard = h.same ∙ ap (map (hears (map bucket_in h.heard))) c.in_ok-listeners.ensures in
     let hears = ap (λ s. s.hears) c.settings-hears.ensures ∙ ap (λ (d : Deck). d.settings.hears) c.deck.ensures.told in
     record {
       heard = h.heard;

@@ -10,10 +10,10 @@ returns-clause-items c = deck_items c.args.self.now (subst IsDeck c.self.view_is
 
 pub returns-clause-some : goal.returns-clause-some
 returns-clause-some c =
-    let same = c.self.invariant ∙ ap disks_in c.self.view_is in
+    let same = c.self.invariant ∙ ap (λ d. disks_in d 0) c.self.view_is in
     omega (arith, c.slots-slots.ensures.some, c.slots-slots.ensures.counted, ap (λ disks. length (program disks)) same)
 
 pub returns-clause-short : goal.returns-clause-short
 returns-clause-short c =
-    let same = c.self.invariant ∙ ap disks_in c.self.view_is in
+    let same = c.self.invariant ∙ ap (λ d. disks_in d 0) c.self.view_is in
     omega (arith, c.slots-slots.ensures.few, c.slots-slots.ensures.counted, ap (λ disks. length (program disks)) same)

@@ -4,11 +4,11 @@ use Rattle.air_model.specs.Programs.{program as slots_of}
 use Rattle.air_model.specs.Aired.{Air}
 use Rattle.air_devices.specs.Counts.{Rose}
 use Rattle.cycle_snapshot.specs.Batches.{batch_events}
-use Rattle.deck_runs.specs.Sendings.{FailsAfter, IsAirOf, SendsCycles}
+use Rattle.deck_runs.specs.Sendings.{CanAirIn, FailsAfter, IsAirOf, SendsCycles}
 use Rattle.deck_runs.specs.Private.CycleSteps.{SendsInCycle}
 use Rattle.deck_runs.specs.declared.jobs.conductors.ConductFault.TheVariants as fault
-use Rattle.deck_runs.proofs.CycleLemmas.{few_starts, goes_further, goes_nowhere, on_most, on_station, on_values, publishes_further, publishes_none}
-use Rattle.deck_runs.proofs.SendLemmas.{fails_as, few_sent, fails_further, seen_bytes, sends_as, sends_further, sends_none}
+use Rattle.deck_runs.proofs.CycleLemmas.{board_seen, few_starts, goes_further, goes_nowhere, on_most, on_station, on_values, publishes_further, publishes_none}
+use Rattle.deck_runs.proofs.SendLemmas.{fails_as, few_sent, fails_further, seen_bytes, seen_starts, sends_as, sends_further, sends_none}
 use Rattle.deck_runs.proofs.jobs.conductors.conduct.Goals as goal
 
 pub loop-k-init : goal.loop-k-init
@@ -40,15 +40,13 @@ conduct_cycle-requires-clause-room g c =
     let next = c.loop-k-test.true in
     (omega arith, omega arith)
 
-pub conduct_cycle-requires-clause-items : goal.conduct_cycle-requires-clause-items
-conduct_cycle-requires-clause-items g c = c.requires.items ∙ ap length (sym (on_values c.args.pass.now c.loop-k.pass c.loop-k.invariant.pass))
-
-pub conduct_cycle-requires-clause-buffer : goal.conduct_cycle-requires-clause-buffer
-conduct_cycle-requires-clause-buffer g c =
-    let values = ap length (on_values c.args.pass.now c.loop-k.pass c.loop-k.invariant.pass) in
-    let size = c.loop-k.invariant.buffer in
-    let room = c.requires.buffer in
-    omega arith
+pub conduct_cycle-requires-clause-airable : goal.conduct_cycle-requires-clause-airable
+conduct_cycle-requires-clause-airable g c =
+    let disks = c.args.means.now.program.now in
+    let values = on_values c.args.pass.now c.loop-k.pass c.loop-k.invariant.pass in
+    let form = c.args.means.now.form in
+    subst (CanAirIn form c.loop-k.pass.values disks) (sym c.loop-k.invariant.buffer)
+    (subst (λ v. CanAirIn form v disks (length c.args.buf.now)) (sym values) c.requires.airable)
 
 pub loop-k-preserved : goal.loop-k-preserved
 loop-k-preserved g c =
@@ -58,7 +56,7 @@ loop-k-preserved g c =
     let f = c.args.publisher.now in
     let l = c.loop-k.publisher in
     let values = on_values p c.loop-k.pass i.pass in
-    let one = subst (λ v. (air : Air) → IsAirOf v c.args.means.now.policy (slots_of c.args.means.now.program.now) air → SendsCycles v air 1 (batch_events l.batches) (batch_events c.conduct_cycle.new.publisher.batches) (g.M.Mast.state c.loop-k.mast).told (g.M.Mast.state c.conduct_cycle.new.mast).told) values c.in-Ok.ensures.aired in
+    let one = subst (λ v. (air : Air) → IsAirOf v c.args.means.now.form (slots_of c.args.means.now.program.now) air → SendsCycles v air 1 (batch_events l.batches) (batch_events c.conduct_cycle.new.publisher.batches) (g.M.Mast.state c.loop-k.mast).told (g.M.Mast.state c.conduct_cycle.new.mast).told) values c.in-Ok.ensures.aired in
     record {
       pass = goes_further p q c.conduct_cycle.new.pass i.pass c.conduct_cycle.ensures.pass;
       publisher = publishes_further f l c.conduct_cycle.new.publisher i.publisher c.conduct_cycle.ensures.publisher;
@@ -88,7 +86,7 @@ returns-in-Err-NoMemory-clause-conducted g c =
     let l = c.loop-k.publisher in
     let h = c.conduct_cycle.new.publisher in
     let values = on_values p c.loop-k.pass i.pass in
-    let none = subst (λ v. (air : Air) → IsAirOf v c.args.means.now.policy (slots_of c.args.means.now.program.now) air → SendsCycles v air 0 (batch_events l.batches) (batch_events h.batches) (g.M.Mast.state c.loop-k.mast).told (g.M.Mast.state c.conduct_cycle.new.mast).told) values (rw c.in-Err-NoMemory.field-0-is at c.in-Err-NoMemory.ensures.aired) in
+    let none = subst (λ v. (air : Air) → IsAirOf v c.args.means.now.form (slots_of c.args.means.now.program.now) air → SendsCycles v air 0 (batch_events l.batches) (batch_events h.batches) (g.M.Mast.state c.loop-k.mast).told (g.M.Mast.state c.conduct_cycle.new.mast).told) values (rw c.in-Err-NoMemory.field-0-is at c.in-Err-NoMemory.ensures.aired) in
     let same : c.loop-k.k + 0 ≡ c.loop-k.k = omega arith in
     let stopped = rw c.in-Err-NoMemory.field-0-is at c.in-Err-NoMemory.ensures.stopped in
     let calm = rw c.in-Err-NoMemory.field-0-is at c.in-Err-NoMemory.ensures.cause in
@@ -107,6 +105,7 @@ returns-in-Err-NoMemory-clause-conducted g c =
       );
       cause = calm ∙ i.calm;
       port = c.conduct_cycle.ensures.port ∙ i.port;
+      own_board = c.conduct_cycle.ensures.board;
     }
 
 pub returns-in-Err-Mast-clause-conducted : goal.returns-in-Err-Mast-clause-conducted
@@ -122,7 +121,7 @@ returns-in-Err-Mast-clause-conducted g c =
     let now = c.conduct_cycle.new.mast in
     let sent = c.in-Err-Mast.sent in
     let values = on_values p c.loop-k.pass i.pass in
-    let cycle = subst (λ v. (air : Air) → IsAirOf v c.args.means.now.policy (slots_of c.args.means.now.program.now) air → SendsInCycle state v air (batch_events l.batches) (batch_events h.batches) c.loop-k.mast now (fault.Mast sent)) values (rw c.in-Err-Mast.field-0-is at c.in-Err-Mast.ensures.aired) in
+    let cycle = subst (λ v. (air : Air) → IsAirOf v c.args.means.now.form (slots_of c.args.means.now.program.now) air → SendsInCycle state v air (batch_events l.batches) (batch_events h.batches) c.loop-k.mast now (fault.Mast sent)) values (rw c.in-Err-Mast.field-0-is at c.in-Err-Mast.ensures.aired) in
     let stopped = rw c.in-Err-Mast.field-0-is at c.in-Err-Mast.ensures.stopped in
     let rose = rw c.in-Err-Mast.field-0-is at c.in-Err-Mast.ensures.cause in
     let slots = c.slots.ensures.counted in
@@ -134,13 +133,15 @@ returns-in-Err-Mast-clause-conducted g c =
       few = let a = stopped.0 in let u = stopped.1.count in let b = i.count in let d = c.requires.step.published.count in let e = c.loop-k-test.true in omega arith;
       published = stopped.1;
       aired = λ air is.
-          let all = fails_further p.values air state c.loop-k.k sent (batch_events f.batches) (batch_events l.batches) (batch_events h.batches) before c.loop-k.mast now (i.aired air is) i.calm i.port (cycle air is) in
-          let many : length air.slots ≡ c.from-slots.result = ap length is.slots_are ∙ sym slots ∙ sym c.from-slots.ensures in
+          let all = fails_further p.values air state c.loop-k.k sent (length (slots_of c.args.means.now.program.now)) (λ at. ap length (is.slots_are at)) (batch_events f.batches) (batch_events l.batches) (batch_events h.batches) before
+          c.loop-k.mast now (i.aired air is) i.calm i.port (cycle air is) in
+          let many : length (slots_of c.args.means.now.program.now) ≡ c.from-slots.result = sym slots ∙ sym c.from-slots.ensures in
           let seen = fails_as p.values air state _ (batch_events f.batches) (batch_events h.batches) p.seen q.seen before now (seen_bytes p.values air p.seen f.batches c.requires.step.published) (seen_bytes p.values air q.seen h.batches stopped.1) all in
           subst (λ n. FailsAfter state p.values air (n * c.from-slots.result + sent) p.seen q.seen before now) (sym times)
           (subst (λ n. FailsAfter state p.values air (c.loop-k.k * n + sent) p.seen q.seen before now) many seen);
       cause = subst (λ n. Rose n (state now).faults) i.calm rose;
       port = c.conduct_cycle.ensures.port ∙ i.port;
+      own_board = c.conduct_cycle.ensures.board;
     }
 
 pub returns-clause-conducted : goal.returns-clause-conducted
@@ -159,7 +160,9 @@ returns-clause-conducted g c =
       few = tt;
       published = tt;
       aired = λ air is. subst (λ n. SendsCycles p.values air n p.seen q.seen (g.M.Mast.state c.args.mast.now).told (g.M.Mast.state c.loop-k.mast).told) all
-          (sends_as p.values air c.loop-k.k (batch_events f.batches) (batch_events l.batches) p.seen q.seen _ _ (seen_bytes p.values air p.seen f.batches c.requires.step.published) (seen_bytes p.values air q.seen l.batches i.step.published) (i.aired air is));
+          (sends_as p.values air c.loop-k.k (batch_events f.batches) (batch_events l.batches) p.seen q.seen _ _ (seen_bytes p.values air p.seen f.batches c.requires.step.published) (seen_bytes p.values air q.seen l.batches i.step.published)
+          (seen_starts p.seen f.batches c.requires.step.published) (seen_starts q.seen l.batches i.step.published) (i.aired air is));
       cause = i.calm;
       port = i.port;
+      own_board = board_seen q l c.loop-k.board i.step;
     }

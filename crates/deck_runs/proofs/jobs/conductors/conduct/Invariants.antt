@@ -13,7 +13,7 @@ invariant-loop-k g l = record {
   publisher : PublishesOn l.initial.publisher l.publisher;
   step : AreInStep l.pass l.publisher l.board;
   count : length l.publisher.batches ≡ length l.initial.publisher.batches + l.k;
-  aired : (air : Air) → IsAirOf l.initial.pass.values l.means.policy (slots_of l.means.program.now) air →
+  aired : (air : Air) → IsAirOf l.initial.pass.values l.means.form (slots_of l.means.program.now) air →
       SendsCycles l.initial.pass.values air l.k (batch_events l.initial.publisher.batches) (batch_events l.publisher.batches) (g.M.Mast.state l.initial.mast).told (g.M.Mast.state l.mast).told;
   calm : (g.M.Mast.state l.mast).faults ≡ (g.M.Mast.state l.initial.mast).faults;
   port : (g.M.Mast.state l.mast).port ≡ (g.M.Mast.state l.initial.mast).port;

@@ -2,10 +2,11 @@ use Rattle.std.proofs.Common.{◌≡◌, ◌∙◌, All, length, sym, ap, subst,
 use Rattle.air_history.specs.Histories.{starts, ItemsFit}
 use Rattle.air_history.specs.Tables.{BasesRead}
 use Rattle.cycle_snapshot.specs.Batches.{IsBatch}
+use Rattle.cycle_snapshot.specs.Private.BoardRuns.{step_all}
 use Rattle.cycle_snapshot.proofs.BatchLemmas.{batch_starts}
 use Rattle.deck_runs.specs.PublishedBatches.{IsUpTo}
 use Rattle.air_sender.specs.BoardBuckets.{EntriesBelow}
-use Rattle.deck_runs.proofs.CycleLemmas.{board_cycle, board_sized, in_step}
+use Rattle.deck_runs.proofs.CycleLemmas.{board_ahead, board_cycle, board_kept, board_seen, board_sized, in_step}
 use Rattle.deck_runs.proofs.SendLemmas.{front, last, started}
 use Rattle.cycle_snapshot.specs.Batches.{batch_events}
 use Rattle.std.specs.Prelude.{Result, Ok, Err, OnErr}
@@ -53,9 +54,12 @@ returns-clause-begun g c =
     let lent = c.deref.ensures.value in
     let bases = subst (All BasesRead) lent c.apply_all.ensures.bases in (
       in_step p c.start_fresh.new.pass f c.publish.new.self c.args.board.now c.apply_all.new.board fresh step c.start_fresh.ensures.on c.in_ok-publish.ensures
-          (c.apply_all.ensures.stepped ∙ ap (Rattle.cycle_snapshot.specs.Private.BoardRuns.step_all c.args.board.now) lent) s.0 bases s.2,
+          (c.apply_all.ensures.stepped ∙ ap (step_all c.args.board.now) lent) s.0 bases s.2,
       (fresh, c.in_ok-publish.ensures, subst (λ v. IsBatch (length v) fresh) (sym step.values) s.0),
     )
+
+pub returns-clause-board : goal.returns-clause-board
+returns-clause-board g c = let b = returns-clause-begun g c in board_seen c.start_fresh.new.pass c.publish.new.self c.apply_all.new.board b.0
 
 pub returns-clause-started : goal.returns-clause-started
 returns-clause-started g c =
@@ -79,6 +83,20 @@ returns-clause-sized g c =
     let p = c.args.pass.now in
     let board = c.apply_all.new.board in
     board_sized p.values board _ (last p c.start_fresh.new.pass c.args.publisher.now c.publish.new.self board c.start_fresh.ensures.on b.0 b.1)
+
+pub returns-in_err-fresh-clause-board : goal.returns-in_err-fresh-clause-board
+returns-in_err-fresh-clause-board g c =
+    let f = c.args.publisher.now in
+    board_kept c.args.pass.now c.start_fresh.new.pass f c.args.board.now c.requires.step c.start_fresh.ensures.on (c.in_err-fresh.ensures.started f.batches c.requires.step.published)
+
+pub returns-in_err-publish-clause-board : goal.returns-in_err-publish-clause-board
+returns-in_err-publish-clause-board g c =
+    let f = c.args.publisher.now in
+    let fresh = c.in_ok-fresh.fresh.items in
+    let s = c.in_ok-fresh.ensures.started f.batches c.requires.step.published in
+    let lent = c.deref.ensures.value in
+    board_ahead c.args.pass.now c.start_fresh.new.pass f c.args.board.now c.apply_all.new.board fresh c.requires.step c.start_fresh.ensures.on
+    (c.apply_all.ensures.stepped ∙ ap (step_all c.args.board.now) lent) s.0 (subst (All BasesRead) lent c.apply_all.ensures.bases) s.2
 
 pub returns-in_err-publish-clause-stopped : goal.returns-in_err-publish-clause-stopped
 returns-in_err-publish-clause-stopped g c =

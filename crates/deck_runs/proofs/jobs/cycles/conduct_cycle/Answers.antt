@@ -14,9 +14,9 @@ returns-in-Ok-clause-aired g c = λ air is.
     let h = c.begin_cycle.new.publisher in
     let board = c.begin_cycle.new.board in
     let on = c.begin_cycle.ensures.pass in
-    let policy = c.args.means.now.policy in
+    let form = c.args.means.now.form in
     let slots = slots_of c.args.means.now.program.now in
-    cycle_sent p q f h board on b.0 b.1 air policy slots is _ _ (c.in-Ok.ensures.history p.values air (front p q f h board on b.0 b.1) (last_board p q f h board on b.0 b.1 air policy slots is))
+    cycle_sent p q f h board on b.0 b.1 air form slots is _ _ (c.in-Ok.ensures.history p.values air (front p q f h board on b.0 b.1) (last_board p q f h board on b.0 b.1 air form slots is))
 
 pub returns-in-Err-clause-aired : goal.returns-in-Err-clause-aired
 returns-in-Err-clause-aired g c = λ air is.
@@ -27,14 +27,14 @@ returns-in-Err-clause-aired g c = λ air is.
     let h = c.begin_cycle.new.publisher in
     let board = c.begin_cycle.new.board in
     let on = c.begin_cycle.ensures.pass in
-    let policy = c.args.means.now.policy in
+    let form = c.args.means.now.form in
     let slots = slots_of c.args.means.now.program.now in
-    cycle_failed_by p q f h board on b.0 b.1 air policy slots is g.M.Mast.state _ c.from.result c.args.mast.now c.air_cycle.new.mast (c.from.ensures ∙ c.slot_of.ensures)
-    (c.in-Err.ensures.history p.values air (front p q f h board on b.0 b.1) (last_board p q f h board on b.0 b.1 air policy slots is)) c.in-Err.ensures.fault
+    cycle_failed_by p q f h board on b.0 b.1 air form slots is g.M.Mast.state _ c.from.result c.args.mast.now c.air_cycle.new.mast (c.from.ensures ∙ c.slot_of.ensures)
+    (c.in-Err.ensures.history p.values air (front p q f h board on b.0 b.1) (last_board p q f h board on b.0 b.1 air form slots is)) c.in-Err.ensures.fault
 
 pub returns-in-Err-clause-short : goal.returns-in-Err-clause-short
 returns-in-Err-clause-short g c =
-    within_cycle g.M.Mast.state c.args.means.now.policy (slots_of c.args.means.now.program.now) c.begin_cycle.new.board _ c.from.result c.args.mast.now c.air_cycle.new.mast (c.from.ensures ∙ c.slot_of.ensures) c.in-Err.ensures.fault
+    within_cycle g.M.Mast.state c.args.means.now.form (slots_of c.args.means.now.program.now) c.begin_cycle.new.board _ c.from.result c.args.mast.now c.air_cycle.new.mast (c.from.ensures ∙ c.slot_of.ensures) c.in-Err.ensures.fault
 
 pub returns-in-Err-clause-cause : goal.returns-in-Err-clause-cause
 returns-in-Err-clause-cause g c = rose_by g.M.Mast.state _ _ c.args.mast.now c.air_cycle.new.mast c.in-Err.ensures.fault

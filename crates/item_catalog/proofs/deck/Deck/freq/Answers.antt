@@ -27,7 +27,7 @@ returns-in-Some-clause-told c =
 pub returns-in-Some-clause-some : goal.returns-in-Some-clause-some
 returns-in-Some-clause-some c =
     rw c.in-Some.is at
-    ((freqs_all (λ d. (0 < d.size) × (0 < d.freq)) c.self.inside.delta c.self.inside.disks.items c.args.d c.index.result.now (within (goal.at.returns-in-Some-clause-some c).After-index) c.index.ensures c.self.invariant.made.aired).1)
+    ((freqs_all (λ d. (0 < d.size) × (0 < d.freq)) c.self.inside.delta c.self.inside.disks.items c.args.d c.index.result.now (within (goal.at.returns-in-Some-clause-some c).After-index) c.index.ensures (c.self.invariant.made.aired 0 (omega arith))).1)
 
 pub returns-in-Some-clause-few : goal.returns-in-Some-clause-few
 returns-in-Some-clause-few c =

@@ -16,8 +16,8 @@ returns-clause-told c = rw (← c.self.view_is, freqs_at c.self.inside.delta c.s
 
 pub returns-clause-some : goal.returns-clause-some
 returns-clause-some c =
-    (freqs_all (λ d. (0 < d.size) × (0 < d.freq)) c.self.inside.delta c.self.inside.disks.items c.args.d c.index.result.now (within c) c.index.ensures c.self.invariant.made.aired).0
+    (freqs_all (λ d. (0 < d.size) × (0 < d.freq)) c.self.inside.delta c.self.inside.disks.items c.args.d c.index.result.now (within c) c.index.ensures (c.self.invariant.made.aired 0 (omega arith))).0
 
 pub returns-clause-few : goal.returns-clause-few
 returns-clause-few c =
-    (freqs_all DiskWithin c.self.inside.delta c.self.inside.disks.items c.args.d c.index.result.now (within c) c.index.ensures c.self.invariant.limits.disk).size
+    let few = (freqs_all DiskWithin c.self.inside.delta c.self.inside.disks.items c.args.d c.index.result.now (within c) c.index.ensures c.self.invariant.limits.disk).size in omega arith

@@ -6,11 +6,11 @@ use Rattle.item_catalog.proofs.deck.drill.draw_all_queries.Goals as goal
 
 pub loop-r-init : goal.loop-r-init
 loop-r-init c =
-    drawn_none (λ (r : ℕ). draw_each c.args.count (λ (q : ℕ). draw_query c.args.n)) c.args.generator.now ∙ ap (λ xs. (xs, c.args.generator.now)) (sym c.new-lists.ensures.items)
+    drawn_none (λ (r : ℕ). draw_each c.args.count (λ (q : ℕ). draw_query c.args.n)) c.args.generator ∙ ap (λ xs. (xs, c.args.generator)) (sym c.new-lists.ensures.items)
 
 pub loop-r-preserved : goal.loop-r-preserved
 loop-r-preserved c =
-    let after = c.draw_queries.new.generator in
-    drawn_more (λ (r : ℕ). draw_each c.args.count (λ (q : ℕ). draw_query c.args.n)) c.loop-r._r c.args.generator.now c.loop-r.generator after c.loop-r.lists.items c.in_ok-draw_queries.field-0
-    c.loop-r.invariant c.in_ok-draw_queries.ensures
+    let after = c.in_ok-queries.left in
+    drawn_more (λ (r : ℕ). draw_each c.args.count (λ (q : ℕ). draw_query c.args.n)) c.loop-r._r c.args.generator c.loop-r.generator after c.loop-r.lists.items c.in_ok-queries.queries
+    c.loop-r.invariant c.in_ok-queries.ensures
     ∙ ap (λ xs. (xs, after)) (sym c.in_ok-push.ensures.items)

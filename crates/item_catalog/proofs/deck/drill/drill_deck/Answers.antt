@@ -3,7 +3,7 @@ use Rattle.rand_pcg.specs.Lcg.{Lcg}
 use Rattle.air_history.specs.UpdateLists.{UpdateLists}
 use Rattle.air_model.specs.Decks.{IsDeck, Item}
 use Rattle.air_model.specs.Draws.{Draw, draw_each}
-use Rattle.air_model.specs.Drills.{draw_item, draw_update, drill_deck, drill_items}
+use Rattle.air_model.specs.Drills.{draw_item, draw_query, draw_update, drill_deck, drill_items}
 use Rattle.item_catalog.specs.DeckLimits.{WithinLimits}
 use Rattle.item_catalog.specs.DeckView.{deck_seen}
 use Rattle.item_catalog.specs.Decks.{plain_item}
@@ -33,13 +33,14 @@ seen c =
     let size = c.args.size in let n = drill_items size in
     let item : ℕ → Draw Item = λ i. draw_item in
     let one : ℕ → Draw UpdateLists = λ u. draw_update n in
-    let first = c.draw_items.new.generator in let second = c.draw_updates.new.generator in
+    let first = c.draw_items.new.generator in let second = c.in_ok-updates.left in
     let updates = (draw_each (10 * size) one first).0 in
+    let left = (draw_each 8 (λ (r : ℕ). draw_each size (λ (q : ℕ). draw_query n)) second).1 in
     same_parts c.in_ok-disks.ensures c.in_ok-updates.ensures.dealt c.in_ok-readers.ensures (c.into_events-script.ensures.events ∙ c.in_ok-drill_script.ensures) c.drill_settings.ensures
-    ∙ sym (deck_drawn c.args.seed size (map plain_item c.in_ok-items.items.items) updates c.in_ok-queries.queries.items first second c.draw_all_queries.new.generator
+    ∙ sym (deck_drawn c.args.seed size (map plain_item c.in_ok-items.items.items) updates c.in_ok-queries.queries.items first second left
     (ap (draw_each n item) (sym c.new-generator.ensures) ∙ c.in_ok-items.ensures)
     (ap (λ (g : Lcg). (updates, g)) (sym c.in_ok-updates.ensures.left))
-    c.in_ok-queries.ensures)
+    (ap (λ queries. (queries, left)) (sym c.in_ok-queries.ensures)))
 
 pub invariant_of-result : goal.invariant_of-result
 unfolding fields

@@ -7,10 +7,10 @@ use Rattle.item_catalog.proofs.drills.draws.draw_update.Goals as goal
 use Rattle.item_catalog.proofs.drills.draws.draw_update.Goals.{After-deref-2}
 
 -- What was drawn.
-told : (c : After-deref-2) → draw_update c.args.n c.args.generator.now
+told : (c : After-deref-2) → draw_update c.args.n c.args.generator
     ≡ (record { reads = around c.args.n c.draw_place-first.result 1 c.draw-count.result; writes = c.in_ok-writes.writes.items }, c.draw_writes.new.generator)
 told c = update_told c.args.n c.draw-count.result c.draw_place-first.result c.draw-more.result c.draw_place.result c.in_ok-writes.writes.items
-    c.args.generator.now c.draw-count.new.generator c.draw_place-first.new.generator c.draw-more.new.generator c.draw_place.new.generator c.draw_writes.new.generator
+    c.args.generator c.draw-count.new.generator c.draw_place-first.new.generator c.draw-more.new.generator c.draw_place.new.generator c.draw_writes.new.generator
     c.draw-count.ensures.drawn c.draw_place-first.ensures.drawn c.draw-more.ensures.drawn c.draw_place.ensures.drawn c.in_ok-writes.ensures
 
 pub of_lists-requires : goal.of_lists-requires
@@ -18,7 +18,7 @@ of_lists-requires c =
     let reads = around c.args.n c.draw_place-first.result 1 c.draw-count.result in
     ap (λ xs. update_fault xs c.deref-2.result.now) (c.deref.ensures.value ∙ c.in_ok-reads.ensures)
     ∙ ap (update_fault reads) c.deref-2.ensures.value
-    ∙ drawn_keeps c.args.n reads c.in_ok-writes.writes.items c.args.generator.now c.draw_writes.new.generator c.requires (told c)
+    ∙ drawn_keeps c.args.n reads c.in_ok-writes.writes.items c.args.generator c.draw_writes.new.generator c.requires (told c)
 
 pub returns : goal.returns
 returns c =

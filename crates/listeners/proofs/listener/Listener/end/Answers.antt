@@ -10,8 +10,8 @@ pub returns : goal.returns
 returns c =
     let told = c.in_ok-lines.ensures in
     let number = ap (λ (l : Listener). l.number) c.self.view_is in
-    let verdicts = c.args.verdicts.now.items in
-    let line : ℕ → Counts → List CountsLine = λ reader counts. let l : CountsLine = record { reader = reader; counts = counts } in c.args.counts.now.items ++ l ∷ [] in
+    let verdicts = c.args.sessions.verdicts.items in
+    let line : ℕ → Counts → List CountsLine = λ reader counts. let l : CountsLine = record { reader = reader; counts = counts } in c.args.sessions.counts.items ++ l ∷ [] in
     record {
       verdicts = c.in_ok-add_lines.ensures ∙ ap (λ (p : List Line × Counts). verdicts ++ map (line_by c.self.inside.number) p.0) told
           ∙ ap (λ n. verdicts ++ map (line_by n) (end_state c.args.self).lines) number;

@@ -6,16 +6,23 @@ use Rattle.pix_cache.specs.Caches.{Cache}
 use Rattle.receiver_core.specs.LinesGiven.{lines_of}
 use Rattle.receiver_core.specs.Receivers.{Receiver}
 use Rattle.receiver_core.specs.ReceiverView.{receiver_in}
+use Rattle.receiver_core.proofs.KeepsLemmas.{emptied}
 use Rattle.receiver_core.proofs.StateLemmas.{still_left}
 use Rattle.receiver_core.proofs.StepLemmas.{bare_settled, ended, ended_copies, ended_left, ended_past, ended_waits, given_bare, last_ended, past, without_copies}
 use Rattle.receiver_core.proofs.HeldCalls.{ends}
 use Rattle.receiver_core.proofs.receivers.Receiver.end.Goals as goal
 
 pub drop_all-requires-clause-numbers : goal.drop_all-requires-clause-numbers
-drop_all-requires-clause-numbers c = ap length c.self.invariant.cache.pix ∙ c.self.invariant.deck.numbers ∙ sym c.items.ensures
+drop_all-requires-clause-numbers c = ap length (c.self.invariant.cache.pix 0) ∙ c.self.invariant.deck.numbers 0 ∙ sym c.items.ensures
 
 pub drop_all-requires-clause-within : goal.drop_all-requires-clause-within
 drop_all-requires-clause-within c = λ i d l. let below = (c.self.invariant.cache.copies i d l).within in let all = c.items.ensures in omega arith
+
+pub invariant_of-self-2 : goal.invariant_of-self-2
+invariant_of-self-2 c = emptied c.self.inside c.drop_all.new.copies c.self.invariant c.drop_all.ensures
+
+pub invariant_of-self : goal.invariant_of-self
+invariant_of-self c = emptied c.self.inside c.drop_all.new.copies c.self.invariant c.drop_all.ensures
 
 pub returns-then-not-has-clause-state : goal.returns-then-not-has-clause-state
 returns-then-not-has-clause-state c =

@@ -1,4 +1,4 @@
-use Rattle.std.proofs.Common.{◌≡◌, Some, ◌∙◌, ap, subst, sym}
+use Rattle.std.proofs.Common.{◌≡◌, Some, ◌∙◌, ap, length, subst, sym}
 use Rattle.std.specs.Vec.{with_items}
 use Rattle.air_history.specs.Columns.{scheme_of}
 use Rattle.air_history.specs.HeldReads.{IsNew}
@@ -11,7 +11,7 @@ use Rattle.receiver_core.specs.LastReads.{in_state}
 use Rattle.receiver_core.specs.Receivers.{Receiver}
 use Rattle.receiver_core.specs.ReceiverView.{IsWholeRead, receiver_in}
 use Rattle.receiver_core.proofs.OpenLemmas.{bucket_read, new_read, offered_to, opened_clash, opened_clear, read_parts, room_left}
-use Rattle.receiver_core.proofs.KeepsLemmas.{clashes_within, few_opened, few_same, more_held, offered, same_held}
+use Rattle.receiver_core.proofs.KeepsLemmas.{clashes_within, few_opened, few_same, item_within, more_held, offered, same_held}
 use Rattle.receiver_core.proofs.StateLemmas.{left}
 use Rattle.receiver_core.proofs.receivers.Receiver.open.Goals as goal
 use Rattle.receiver_core.proofs.receivers.Receiver.open.Goals.{After-offer}
@@ -34,6 +34,16 @@ offer-requires-clause-clash c =
     let x = (read c.item-item.result c.cycle-cycle.result c.value-value.result c.fill.new.out) in
     clashes_within r x c.try_hold-clash.result c.self.invariant (left (receiver_in r).reader (receiver_in r).state (item_of c.args.bucket.now.body) (ap (λ (v : Receiver). wanted v.reader v.state) c.self.view_is ∙ c.requires.wanted))
     (sym (ap (λ p. (by_entries (scheme_of p)).clash r.held.reads x) c.self.invariant.held.policy) ∙ sym c.try_hold-clash.ensures.clash)
+
+pub offer-requires-clause-item : goal.offer-requires-clause-item
+offer-requires-clause-item c =
+    item_within c.self.inside c.item-item.result c.self.invariant (ap (λ (v : Receiver). wanted v.reader v.state) c.self.view_is ∙ c.requires.wanted ∙ ap Some (sym c.item-item.ensures))
+
+pub offer-requires-clause-column : goal.offer-requires-clause-column
+offer-requires-clause-column c =
+    let k = c.self.invariant in
+    let whole = bucket_read c.args.bucket.now c.self.inside.air.items c.requires.range c.requires.busy (c.requires.counted ∙ sym (ap (λ (v : Receiver). v.air.items) c.self.view_is)) in
+    ap length c.fill.ensures ∙ whole.sized ∙ sym (ap length (k.cache.pix 0) ∙ k.deck.numbers 0)
 
 -- The read that was tried, by its parts.
 abbrev told : After-offer → Read

@@ -1,5 +1,4 @@
 use Rattle.std.proofs.Common.{◌≤◌, length, ap, arith}
-use Rattle.air_model.specs.Aired.{air_of}
 use Rattle.air_model.specs.Reports.{counts_lines, verdict_lines}
 use Rattle.listeners.specs.declared.ethers.TheConstants.{MOST_TAPE_RECORDS}
 use Rattle.air_sender.specs.AiredBytes.{aired_bytes}
@@ -18,14 +17,12 @@ pub returns-clause-verdicts : goal.returns-clause-verdicts
 returns-clause-verdicts g c =
     let deck = c.args.planned.now in
     let events = c.args.self.run.events.items in
-    let slots : length ((air_of deck).slots) ≤ 16384 = omega (arith, c.shows_planned.ensures.short) in
-    ended_told deck events verdict_lines c.in_ok-sessions.sessions.verdicts.items (script_airs deck c.shows_planned.ensures.made c.shows_planned.ensures.limits.script slots) c.requires.done
+    ended_told deck events verdict_lines c.in_ok-sessions.sessions.verdicts.items (script_airs deck c.shows_planned.ensures.made c.shows_planned.ensures.limits.script c.shows_planned.ensures.short) c.requires.done
     (c.in_ok-sessions.ensures.verdicts (aired_bytes deck events) c.requires.kept.hearers)
 
 pub returns-clause-counts : goal.returns-clause-counts
 returns-clause-counts g c =
     let deck = c.args.planned.now in
     let events = c.args.self.run.events.items in
-    let slots : length ((air_of deck).slots) ≤ 16384 = omega (arith, c.shows_planned.ensures.short) in
-    ended_told deck events counts_lines c.in_ok-sessions.sessions.counts.items (script_airs deck c.shows_planned.ensures.made c.shows_planned.ensures.limits.script slots) c.requires.done
+    ended_told deck events counts_lines c.in_ok-sessions.sessions.counts.items (script_airs deck c.shows_planned.ensures.made c.shows_planned.ensures.limits.script c.shows_planned.ensures.short) c.requires.done
     (c.in_ok-sessions.ensures.counts (aired_bytes deck events) c.requires.kept.hearers)

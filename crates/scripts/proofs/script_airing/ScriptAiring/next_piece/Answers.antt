@@ -11,7 +11,7 @@ piece_aired : (g : Over) (c : After-tape g) → IsPiece c.args.planned.now (aire
 piece_aired g c =
     let now = c.next_piece.new.self.events.items in
     is_piece c.args.planned.now c.args.self.now.run.events.items now (told_by_tape c.next_piece.new.piece).buckets c.tape.result.now (length now) c.requires.few
-    c.shows_planned.ensures.made.most (c.in_ok-next_piece.ensures.kept).begun c.in_ok-next_piece.ensures.aired c.tape.ensures
+    c.shows_planned.ensures.made (c.in_ok-next_piece.ensures.kept).begun c.in_ok-next_piece.ensures.aired c.tape.ensures
 
 pub hear-requires-clause-whole : goal.hear-requires-clause-whole
 hear-requires-clause-whole g c κs within =

@@ -13,9 +13,9 @@ pub returns : goal.returns
 returns c =
     let d = c.args.planned.now in
     let told = c.program-program.ensures.told in
-    let disks = written_text c.put_disks.new.wtr in
-    let empty = c.row_writer-wtr.ensures.text ∙ c.new.ensures.items in
-    let all = plan_is (disks_in d) (rates_in d) (written_text c.put_program.new.wtr) disks (written_text c.put_minors.new.wtr) (written_text c.put_items.new.wtr)
-    (c.in_ok-put_program.ensures.text ∙ ap (λ t. t ++ row_text row_writer (program_row c.program-program.result.now)) empty ∙ ap (λ p. row_text row_writer (program_row p)) told)
-    c.in_ok-put_disks.ensures.text (c.in_ok-put_minors.ensures.text ∙ ap (λ p. disks ++ rows_text (map (minor_row p) (range_with_len 0 (num_minors p)))) told) c.in_ok-put_items.ensures.text in
-    plan_text_is d c.in_ok-text.text.items (c.in_ok-text.ensures ∙ all)
+    let disks = written_text c.in_ok-disks.disks in
+    let empty = c.row_writer-begun.ensures.text ∙ c.new.ensures.items in
+    let all = plan_is (disks_in d 0) (rates_in d) (written_text c.in_ok-headed.headed) disks (written_text c.in_ok-minors.minors) (written_text c.in_ok-whole.whole)
+    (c.in_ok-headed.ensures.text ∙ ap (λ t. t ++ row_text row_writer (program_row c.program-program.result.now)) empty ∙ ap (λ p. row_text row_writer (program_row p)) told)
+    c.in_ok-disks.ensures.text (c.in_ok-minors.ensures.text ∙ ap (λ p. disks ++ rows_text (map (minor_row p) (range_with_len 0 (num_minors p)))) told) c.in_ok-whole.ensures.text in
+    plan_text_is d c.in_ok-text.text.items c.shows_planned.ensures.made.plain.1 (c.in_ok-text.ensures ∙ all)

@@ -25,11 +25,11 @@ returns-clause-text c =
     let disks = c.program-program.result.now in
     let told = c.program-program.ensures.told in
     let d = c.args.d in
-    let old = written_text c.args.wtr.now in
-    let new = written_text c.put_numbers.new.wtr in
+    let old = written_text c.args.wtr in
+    let new = written_text c.in_ok-wtr.wtr in
     let own = subst (λ (deck : Deck). IfSome (slice_get deck.disks d) (λ disk. c.freq.result ≡ disk.freq)) c.deck-deck.ensures.told c.freq.ensures.told in
     let freq : IfSome (slice_get disks d) (λ disk. c.freq.result ≡ disk.freq) =
     subst (λ p. IfSome (slice_get p d) (λ disk. c.freq.result ≡ disk.freq)) (sym told) (disk_freq c.args.planned.now d c.freq.result own) in
     subst (λ p. IfSome (slice_get p d) (λ disk. new ≡ old ++ row_text row_writer (disk_row (num_minors p) (d, disk)))) told
     (disk_text (slice_get disks d) (num_minors disks) d c.freq.result c.chunks.result c.chunk_len.result old new
-    freq c.chunks.ensures c.chunk_len.ensures (rw (c.from.ensures, c.from-2.ensures, c.from-3.ensures, c.from-4.ensures) at c.in_ok-put_numbers.ensures.text))
+    freq c.chunks.ensures c.chunk_len.ensures (rw (c.from.ensures, c.from-2.ensures, c.from-3.ensures, c.from-4.ensures) at c.in_ok-wtr.ensures.text))

@@ -1,4 +1,4 @@
-use Rattle.std.proofs.Common.{◌≡◌, ◌∙◌, length, sym, ap, arith}
+use Rattle.std.proofs.Common.{◌≡◌, ◌∙◌, length, ap, arith}
 use Rattle.air_history.specs.Histories.{starts}
 use Rattle.air_model.specs.declared.deck.Settings.{Settings}
 use Rattle.air_model.specs.Decks.{Deck, values_in}
@@ -7,7 +7,7 @@ use Rattle.station.specs.PassStates.{PassState}
 use Rattle.cycle_snapshot.specs.SnapshotStates.{PublisherState}
 use Rattle.update_commit.proofs.EventLemmas.{starts_none}
 use Rattle.deck_runs.specs.Private.StageSteps.{HasAired}
-use Rattle.deck_runs.proofs.RunLemmas.{new_in_step, own_air, run_aired, run_batches, run_few, run_whole, values_sized}
+use Rattle.deck_runs.proofs.RunLemmas.{can_air, new_in_step, no_replans, own_air, run_aired, run_batches, run_few, run_whole, values_sized}
 use Rattle.deck_runs.proofs.SentLemmas.{run_answer}
 use Rattle.deck_runs.proofs.jobs.crews.ConductorRun.work.Goals as goal
 
@@ -30,16 +30,13 @@ conductor_job-requires-clause-room g c =
     let few = c.deck.ensures.limits.settings.cycles in
     (omega arith, omega arith)
 
-pub conductor_job-requires-clause-items : goal.conductor_job-requires-clause-items
-conductor_job-requires-clause-items g c =
-    ap (λ disks. length (all_items disks)) c.program.ensures.told ∙ c.program.ensures.items ∙ sym (values_sized c.args.planned.now) ∙ ap (λ (p : PassState). length p.values) (sym c.requires.ready.pass)
-
-pub conductor_job-requires-clause-buffer : goal.conductor_job-requires-clause-buffer
-conductor_job-requires-clause-buffer g c =
-    let values = ap (λ (p : PassState). length p.values) c.requires.ready.pass ∙ values_sized c.args.planned.now in
+pub conductor_job-requires-clause-airable : goal.conductor_job-requires-clause-airable
+conductor_job-requires-clause-airable g c =
+    let deck = c.args.planned.now in
+    let values = ap (λ (p : PassState). length p.values) c.requires.ready.pass ∙ values_sized deck in
     let size = ap length c.deref_mut.ensures.value in
     let room = c.requires.ready.buffer in
-    omega arith
+    can_air deck _ _ _ _ c.deck.ensures.made c.own_form.ensures.form values (ap (λ disks. length (all_items disks)) c.program.ensures.told ∙ c.program.ensures.items) (omega arith)
 
 pub returns : goal.returns
 unfolding HasAired
@@ -55,7 +52,7 @@ returns g c =
     let empty = ap (λ (f : PublisherState). f.batches) c.requires.publisher in
     let settings_are : c.settings-settings.result ≡ c.args.planned.now.settings = c.settings-settings.ensures ∙ ap (λ (d : Deck). d.settings) c.deck.ensures.told in
     let cycles = ap (λ (s : Settings). s.cycles) settings_are in
-    let is = own_air deck c.program.result.now p.values c.settings-settings.result.policy c.program.ensures.told values (ap (λ (s : Settings). s.policy) settings_are) in
+    let is = own_air deck c.program.result.now p.values c.own_form.result (no_replans deck c.deck.ensures.made) c.program.ensures.told values c.own_form.ensures.form in
     let aired = run_aired state deck p new.pass c.args.publisher.now new.publisher _ c.args.mast.now new.mast values none empty result (e.aired _ is) in
     record {
       pass = e.pass;

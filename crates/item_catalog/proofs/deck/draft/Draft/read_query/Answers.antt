@@ -28,7 +28,7 @@ list c =
     let reader = c.in-Some-read_u64.reader in let n = length c.args.self.now.items in
     let same : c.len-declared.result ≡ n = omega (arith, c.len-declared.ensures, ap (λ (d : DraftValue). length d.items) c.self.view_is) in
     let readers : c.len.result ≡ length c.args.self.now.readers = omega (arith, c.len.ensures, ap (λ (d : DraftValue). length d.readers) c.self.view_is) in
-    let r = read_is_some c.read.result (list_of number_of c.in-Some.asked.now) (λ items. c.read.new.self ≡ items_seen c.len-declared.result items) c.read.ensures c.if-not-read.false in
+    let r = read_is_some c.read.result (list_of number_of c.in-Some.asked.now) (λ items. c.read.new.self ≡ items_seen c.len-declared.result items) c.read.ensures.read c.if-not-read.false in
     let seen : c.read.new.self ≡ items_seen n r.0 = r.2 ∙ ap (λ k. items_seen k r.0) same in
     let given : c.self.inside.query_count ≡ c.args.self.now.query_count = ap (λ (d : DraftValue). d.query_count) c.self.view_is in
     record {

@@ -32,8 +32,8 @@ record Lists (c : After-update_kind) : Type 0 where
 
 lists : (c : After-update_kind) → Lists c
 lists c =
-    let r = read_is_some c.read.result (list_of number_of c.in-Some.reads.now) (λ items. c.read.new.self ≡ items_seen c.len-declared.result items) c.read.ensures c.if-not-read.false in
-    let w = read_is_some c.read-2.result (list_of spelled_write c.in-Some.writes.now) (λ writes. c.read-2.new.self ≡ writes_seen c.len-declared.result c.read.new.self.items writes) c.read-2.ensures c.if-not-read-2.false in
+    let r = read_is_some c.read.result (list_of number_of c.in-Some.reads.now) (λ items. c.read.new.self ≡ items_seen c.len-declared.result items) c.read.ensures.read c.if-not-read.false in
+    let w = read_is_some c.read-2.result (list_of spelled_write c.in-Some.writes.now) (λ writes. c.read-2.new.self ≡ writes_seen c.len-declared.result c.read.new.self.items writes) c.read-2.ensures.read c.if-not-read-2.false in
     let by = c.in-Some-read_u64.by in let n = length c.args.self.now.items in
     let same : c.len-declared.result ≡ n = omega (arith, c.len-declared.ensures, ap (λ (d : DraftValue). length d.items) c.self.view_is) in
     let reads : c.read.new.self ≡ items_seen n r.0 = r.2 ∙ ap (λ k. items_seen k r.0) same in

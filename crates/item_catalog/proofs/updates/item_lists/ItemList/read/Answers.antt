@@ -10,14 +10,14 @@ use Rattle.air_base.proofs.PlainNumbers.{from_place}
 use Rattle.item_catalog.proofs.SeenLemmas.{items_more, read_none, read_some}
 use Rattle.item_catalog.proofs.updates.item_lists.ItemList.read.Goals as goal
 
-pub returns-then-is_empty : goal.returns-then-is_empty
+pub returns-then-is_empty-clause-read : goal.returns-then-is_empty-clause-read
 unfolding items_seen
-returns-then-is_empty c =
+returns-then-is_empty-clause-read c =
     let none : length c.args.text.now ≡ 0 = grind (arith, nat_tests) in
     read_some (list_of number_of c.args.text.now) [] _ (list_empty number_of c.args.text.now none) c.clear.ensures
 
-pub returns-then-text-place : goal.returns-then-text-place
-returns-then-text-place c =
+pub returns-then-text-place-clause-read : goal.returns-then-text-place-clause-read
+returns-then-text-place-clause-read c =
     let to = c.read_plain-place.ensures in
     read_some (list_of number_of c.args.text.now) to.0 _ (to.2.1 c.if-text-place.true) to.1
 
@@ -26,13 +26,13 @@ loop-item-init c =
     let to = c.read_plain-place.ensures in
     (to.0, to.1, ap (λ l. prepend to.0 (part_values number_of l)) (from_place c.args.text.now c.read_plain-place.result) ∙ to.2.0 c.if-text-place.false)
 
-pub returns-in_default : goal.returns-in_default
-returns-in_default c =
+pub returns-in_default-clause-read : goal.returns-in_default-clause-read
+returns-in_default-clause-read c =
     let inv = c.loop-item.invariant in
     read_none (list_of number_of c.args.text.now) _ (list_bad number_of _ inv.0 c.loop-item.rest.now inv.2 c.in_default.ensures)
 
-pub returns-in_default-split_first : goal.returns-in_default-split_first
-returns-in_default-split_first c =
+pub returns-in_default-split_first-clause-read : goal.returns-in_default-split_first-clause-read
+returns-in_default-split_first-clause-read c =
     let inv = c.loop-item.invariant in
     let end : c.in-Some.after.now ≡ [] = nil_from_length c.in-Some.after.now c.in_default-split_first.ensures.cases in
     read_some (list_of number_of c.args.text.now) (inv.0 ++ c.in-Some.item ∷ []) _ (list_last number_of _ inv.0 c.loop-item.rest.now inv.2 c.in-Some.item c.in-Some.ensures.0 (sym c.in-Some.ensures.1 ∙ end))

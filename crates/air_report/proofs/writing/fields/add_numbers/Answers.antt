@@ -2,7 +2,7 @@ use Rattle.std.proofs.Common.{◌∷◌, [], ◌≤◌, ◌∙◌, length, map, 
 use Rattle.air_base.specs.Numbers.{number_text}
 use Rattle.air_report.specs.RowWriters.{written_text}
 use Rattle.air_report.proofs.RowSteps.{all_fields, few_fields, next_field, none_yet}
-use Rattle.air_report.proofs.writing.fields.put_numbers.Goals as goal
+use Rattle.air_report.proofs.writing.fields.add_numbers.Goals as goal
 
 pub loop-n-init : goal.loop-n-init
 loop-n-init c = c.in_ok-put_field.ensures (written_text c.args.wtr.now) [] (omega arith) (none_yet c.args.wtr.now c.requires)

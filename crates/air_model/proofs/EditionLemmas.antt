@@ -1,0 +1,90 @@
+-- The air of a deck by its editions: what it has in a cycle is what the deck says of the cycle's edition.
+use Rattle.std.proofs.Common.{◌≡◌, ℕ, ◌+◌, ◌<◌, ◌≤◌, Bool, true, false, cond, nat_le, List, [], ◌∷◌, length, map, get_or, refl, ◌∙◌, ap, arith}
+use Rattle.std.specs.Prelude.{count_by}
+use Rattle.std.specs.List.{range_with_len}
+use Rattle.std.proofs.lemmas.Bool.{leb-false, leb-true}
+use Rattle.std.proofs.lemmas.List.FromFn.{get_or-map-range_with_len}
+use Rattle.std.proofs.lemmas.List.Sums.{count_by-le-length, sum_by-cons}
+use Rattle.air_model.specs.Aired.{Air, air_of, edition_at, pix_at, pix_in, scheme_in, slots_at}
+use Rattle.air_model.specs.Decks.{Deck, IsPlain, Replan, count_editions, disks_in, edition}
+use Rattle.air_model.specs.Programs.{program}
+
+count_cycles : (rs : List Replan) (c : ℕ) → count_by (λ at. nat_le at c) (map (λ r. r.cycle) rs) ≡ count_by (λ r. nat_le r.cycle c) rs
+count_cycles [] c = refl
+count_cycles (r ∷ rs) c =
+    sum_by-cons (λ at. cond (nat_le at c) 1 0) r.cycle (map (λ r. r.cycle) rs)
+    ∙ ap (λ n. cond (nat_le r.cycle c) 1 0 + n) (count_cycles rs c)
+    ∙ (let whole = sum_by-cons (λ (r : Replan). cond (nat_le r.cycle c) 1 0) r rs in omega arith)
+
+-- The air has the deck's edition in each cycle.
+pub edition_is : (deck : Deck) (c : ℕ) → edition_at (air_of deck) c ≡ edition deck c
+edition_is deck c = count_cycles deck.replans c
+
+-- Which is one of the deck's editions.
+pub edition_within : (deck : Deck) (c : ℕ) → edition deck c < count_editions deck
+edition_within deck c = let most = count_by-le-length (λ (r : Replan). nat_le r.cycle c) deck.replans in omega arith
+
+at_edition : {X : Type 0} (f : ℕ → List X) (deck : Deck) (c : ℕ) → get_or (map f (range_with_len 0 (count_editions deck))) (edition_at (air_of deck) c) [] ≡ f (edition deck c)
+at_edition f deck c =
+    ap (λ e. get_or (map f (range_with_len 0 (count_editions deck))) e []) (edition_is deck c)
+    ∙ get_or-map-range_with_len f 0 (count_editions deck) (edition deck c) (edition deck c) [] (edition_within deck c) (omega arith)
+
+-- So its slots in a cycle are those of the edition's disks,
+pub slots_are : (deck : Deck) (c : ℕ) → slots_at (air_of deck) c ≡ program (disks_in deck (edition deck c))
+slots_are deck c = at_edition (λ e. program (disks_in deck e)) deck c
+
+-- and so are its PIX numbers.
+pub pix_are : (deck : Deck) (c : ℕ) → pix_at (air_of deck) c ≡ pix_in deck (edition deck c)
+pix_are deck c = at_edition (pix_in deck) deck c
+
+-- ---- editions of cycles
+
+count_rises : (rs : List Replan) (c d : ℕ) → c ≤ d → count_by (λ r. nat_le r.cycle c) rs ≤ count_by (λ r. nat_le r.cycle d) rs
+count_rises [] c d l = omega arith
+count_rises (r ∷ rs) c d l =
+    let here = sum_by-cons (λ (r : Replan). cond (nat_le r.cycle c) 1 0) r rs in
+    let there = sum_by-cons (λ (r : Replan). cond (nat_le r.cycle d) 1 0) r rs in
+    let rest = count_rises rs c d l in
+    let one : cond (nat_le r.cycle c) 1 0 ≤ cond (nat_le r.cycle d) 1 0 = by (nat_le r.cycle c) (nat_le r.cycle d) refl refl in
+    omega arith
+  where
+    by : (b e : Bool) → nat_le r.cycle c ≡ b → nat_le r.cycle d ≡ e → cond b 1 0 ≤ cond e 1 0
+    by true true t f = omega arith
+    by true false t f = absurd (let low = leb-true r.cycle c t in let high = leb-false r.cycle d f in omega arith)
+    by false e t f = omega arith
+
+-- Editions never fall from cycle to cycle.
+pub edition_rises : (deck : Deck) (c d : ℕ) → c ≤ d → edition deck c ≤ edition deck d
+edition_rises deck c d l = count_rises deck.replans c d l
+
+-- Without replans there is one edition.
+pub one_edition : (deck : Deck) (c : ℕ) → deck.replans ≡ [] → edition deck c ≡ 0
+one_edition deck c none = ap (count_by (λ r. nat_le r.cycle c)) none
+
+-- So the air has the program of the deck's own disks in each cycle.
+pub plain_slots : (deck : Deck) (c : ℕ) → deck.replans ≡ [] → slots_at (air_of deck) c ≡ program (disks_in deck 0)
+plain_slots deck c none = slots_are deck c ∙ ap (λ e. program (disks_in deck e)) (one_edition deck c none)
+
+abbrev air_with : Deck → ℕ → List Replan → ℕ → Air
+air_with deck version replans editions = record {
+  scheme = scheme_in deck;
+  version = version;
+  items = length deck.items;
+  replans = map (λ r. r.cycle) replans;
+  slots = map (λ e. program (disks_in deck e)) (range_with_len 0 editions);
+  pix = map (pix_in deck) (range_with_len 0 editions);
+}
+
+-- The air of a plain deck has version 1, and one list of slots and one of PIX numbers.
+pub plain_air : (deck : Deck) → IsPlain deck → air_of deck ≡ record {
+  scheme = scheme_in deck;
+  version = 1;
+  items = length deck.items;
+  replans = [];
+  slots = program (disks_in deck 0) ∷ [];
+  pix = pix_in deck 0 ∷ [];
+}
+plain_air deck (version, none) =
+    ap (λ v. air_with deck v deck.replans (count_editions deck)) version
+    ∙ ap (λ rs. air_with deck 1 rs (count_editions deck)) none
+    ∙ ap (λ rs. air_with deck 1 [] (length rs + 1)) none
