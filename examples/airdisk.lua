@@ -10,7 +10,13 @@ local airdisk = Proto("airdisk", "Broadcast bucket")
 airdisk.prefs.port = Pref.uint("UDP port", 4100, "the port to which buckets are aired; 0 for none")
 
 local kinds = { [0] = "idle", [1] = "column", [2] = "vector" }
-local IDLE, NO_ITEM, HEAD, MOST_ITEMS = 0, 65535, 24, 256
+local IDLE, NO_ITEM, HEAD = 0, 65535, 24
+
+-- The bytes of an entry, and the most items: in version 1 an entry stands as it is, in version 2 its age does
+local rows = { [1] = { width = 4, most = 256 }, [2] = { width = 1, most = 1024 } }
+
+-- The age that tells the entry 0
+local NO_WRITER = 255
 
 local fields = {
     magic = ProtoField.string("airdisk.magic", "Magic"),
@@ -23,6 +29,7 @@ local fields = {
     item = ProtoField.uint16("airdisk.item", "Item"),
     value = ProtoField.uint64("airdisk.value", "Value"),
     entry = ProtoField.uint32("airdisk.entry", "Entry"),
+    age = ProtoField.uint8("airdisk.age", "Age"),
     rest = ProtoField.bytes("airdisk.rest", "No entry"),
     fault = ProtoField.string("airdisk.fault", "Fault"),
     over = ProtoField.bool("airdisk.end", "End mark"),
@@ -38,9 +45,18 @@ local head = {
     { "cycle", 8, 4 }, { "slot", 12, 2 }, { "item", 14, 2 }, { "value", 16, 8 },
 }
 
+-- Why a row of the table doesn't allow what stands for entry i; nil where it does
+local function entry_fault(bytes, width, cycle, i)
+    local number = bytes(HEAD + width * i, width):uint()
+    if width == 4 then return number >= cycle and "entry " .. i .. " isn't below the cycle" or nil end
+    if number == 0 then return "age " .. i .. " is 0" end
+    if number ~= NO_WRITER and number >= cycle then return "age " .. i .. " isn't below the cycle" end
+    return nil
+end
+
 -- Why a row of the table doesn't allow these bytes, which have the length of a bucket; nil where each does
-local function shape_fault(bytes, kind, count, cycle, item)
-    if count < 1 or count > MOST_ITEMS then return "the count isn't 1 to 256" end
+local function shape_fault(bytes, row, kind, count, cycle, item)
+    if count < 1 or count > row.most then return "the count isn't 1 to " .. row.most end
     if cycle == 0 then return "the cycle is 0" end
     if kind == IDLE then
         if item ~= NO_ITEM then return "an idle bucket has an item" end
@@ -49,7 +65,8 @@ local function shape_fault(bytes, kind, count, cycle, item)
     end
     if item >= count then return "the item isn't below the count" end
     for i = 0, count - 1 do
-        if bytes(HEAD + 4 * i, 4):uint() >= cycle then return "entry " .. i .. " isn't below the cycle" end
+        local why = entry_fault(bytes, row.width, cycle, i)
+        if why then return why end
     end
     return nil
 end
@@ -59,22 +76,38 @@ local function fault_of(bytes)
     local length = bytes:len()
     if length < HEAD then return "Short", length .. " bytes" end
     if bytes(0, 2):uint() ~= 0x4144 then return "Magic", "the first two bytes aren't AD" end
-    if bytes(2, 1):uint() ~= 1 then return "Version", "the version isn't 1" end
+    local row = rows[bytes(2, 1):uint()]
+    if not row then return "Version", "the version is neither 1 nor 2" end
     local kind, count = bytes(3, 1):uint(), bytes(6, 2):uint()
     if kind > 2 then return "Kind", "the kind is above 2" end
-    local wanted = kind == IDLE and HEAD or HEAD + 4 * count
+    local wanted = kind == IDLE and HEAD or HEAD + row.width * count
     if length ~= wanted then return "Length", length .. " bytes in place of " .. wanted end
-    local why = shape_fault(bytes, kind, count, bytes(8, 4):uint(), bytes(14, 2):uint())
+    local why = shape_fault(bytes, row, kind, count, bytes(8, 4):uint(), bytes(14, 2):uint())
     if why then return "Shape", why end
     return nil
 end
 
--- Adds what stands behind the head: entries of four bytes, each with its item, and what is too short for one
+-- Adds the entry that an age of a cycle tells, and the age itself; where it is no age, that alone
+local function add_age(tree, byte, cycle, item)
+    local age = byte:uint()
+    local entry = age == NO_WRITER and 0 or cycle - age
+    if age == NO_WRITER or age >= 1 and entry >= 1 then
+        tree:add(fields.entry, byte, entry):set_text("Entry of item " .. item .. ": " .. entry)
+    end
+    tree:add(fields.age, byte):set_text("Age of item " .. item .. ": " .. age)
+end
+
+-- Adds what stands behind the head: entries of four bytes, or from version 2 on their ages, each with its item, and what is too short for one
 local function add_entries(tree, bytes)
     local at, item = HEAD, 0
-    while at + 4 <= bytes:len() do
-        tree:add(fields.entry, bytes(at, 4)):set_text("Entry of item " .. item .. ": " .. bytes(at, 4):uint())
-        at, item = at + 4, item + 1
+    local row = bytes:len() >= HEAD and rows[bytes(2, 1):uint()] or rows[1]
+    while at + row.width <= bytes:len() do
+        if row.width == 1 then
+            add_age(tree, bytes(at, 1), bytes(8, 4):uint(), item)
+        else
+            tree:add(fields.entry, bytes(at, 4)):set_text("Entry of item " .. item .. ": " .. bytes(at, 4):uint())
+        end
+        at, item = at + row.width, item + 1
     end
     if at < bytes:len() then tree:add(fields.rest, bytes(at)) end
 end

@@ -26,7 +26,7 @@ import sys
 from names import HEAD, NUMBERS, Names, read_rows, stop
 
 WRITES, ITEMS, WANTED, RATE, DISKS, FREQUENCY, DIGITS, UPDATES, STARTS = 16, 256, 16, 1_000_000, 8, 64, 60, 100_000, 10_000
-REPORT = {"start", "commit", "accept", "abort", "unfinished", "counts", "glance", "look", "fault"}
+REPORT = {"start", "commit", "accept", "abort", "unfinished", "aged", "counts", "glance", "look", "fault"}
 
 
 def write_rows(name, rows):

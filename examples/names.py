@@ -85,6 +85,8 @@ class Names:
             row[4] = " ".join(map(self.place, row[4].split()))
         elif row[0] == "abort" and len(row) == 7:
             row[4:] = [" ".join(map(self.place, row[4].split())), self.place(row[5]), self.called(row[6])]
+        elif row[0] == "aged" and len(row) == 6:
+            row[4:] = [" ".join(map(self.place, row[4].split())), self.place(row[5])]
         return row
 
     def note(self, line):
@@ -98,7 +100,8 @@ class Names:
 # The lines of a plan, of a report and of an audit
 READS = r"(\d+@\d+=\d+( \d+@\d+=\d+)*)?"
 LINES = re.compile(r"program(,\d+){3}|disk(,\d+){4}|minor,\d+,(\d+|-)( (\d+|-))*|item(,\d+){6}|start|commit(,\d+){2}"
-                   rf"|(accept|unfinished)(,\d+){{3}},{READS}|abort(,\d+){{3}},{READS},\d+@\d+,\d+|counts(,\d+){{7}}|(glance|look)(,\d+){{3}}"
+                   rf"|(accept|unfinished)(,\d+){{3}},{READS}|abort(,\d+){{3}},{READS},\d+@\d+,\d+"
+                   rf"|aged(,\d+){{3}},{READS},\d+@\d+|counts(,\d+){{7}}|(glance|look)(,\d+){{3}}"
                    r"|fault(,\d+)+|drill(,\d+){11}|agrees,\d+|differs,\d+,[a-z]+|audited(,\d+){2}", re.ASCII)
 
 

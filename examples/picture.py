@@ -18,13 +18,14 @@ from shapes import FAINT, INK, RULE, Picture, cut, shade, width_of
 
 LEFT, ROW, WIDE, MOST, MOST_SLOTS = 150, 26, 1100, 400, 2048
 YELLOW, GOLD = "#fff8c5", "#d4a72c"
-COLOURS = {"accept": "#1a7f37", "abort": "#cf222e", "unfinished": "#8c959f"}
+COLOURS = {"accept": "#1a7f37", "abort": "#cf222e", "unfinished": "#8c959f", "aged": "#9a6700"}
+ENDS = {"accept": "accepted", "abort": "aborted", "unfinished": "left unfinished", "aged": "aged, as its reads lie too far apart"}
 DISKS = ["#d29922", "#1a7f37", "#8250df", "#cf222e", "#0969da", "#bf3989", "#57606a", "#1b7c83"]
 # the lines of a plan and of a report: a tag, so many numbers, and lists
 READS = r"(\d+@\d+=\d+( \d+@\d+=\d+)*)?"
 PLAN = re.compile(r"program(,\d+){3}|disk(,\d+){4}|minor,\d+,(\d+|-)( (\d+|-))*|item(,\d+){6}", re.ASCII)
-REPORT = re.compile(rf"start|commit(,\d+){{2}}|(accept|unfinished)(,\d+){{3}},{READS}|abort(,\d+){{3}},{READS},\d+@\d+,\d+|counts(,\d+){{7}}"
-                    r"|(glance|look)(,\d+){3}", re.ASCII)
+REPORT = re.compile(rf"start|commit(,\d+){{2}}|(accept|unfinished)(,\d+){{3}},{READS}|abort(,\d+){{3}},{READS},\d+@\d+,\d+"
+                    rf"|aged(,\d+){{3}},{READS},\d+@\d+|counts(,\d+){{7}}|(glance|look)(,\d+){{3}}", re.ASCII)
 
 
 class Plan:
@@ -98,8 +99,13 @@ def draw_plan(picture, rows):
 
 
 def places(field):
-    """The parts `item@cycle=value` of a list of reads, or of an abort's read."""
+    """The parts `item@cycle=value` of a list of reads, or of the read that ended an attempt."""
     return [(int(part.split("@")[0]), int(part.split("@")[1].split("=")[0]), part.partition("=")[2]) for part in field.split()]
+
+
+def refused_by(row):
+    """The read that ended the attempt, where it was aborted or aged."""
+    return places(row[5]) if row[0] in ("abort", "aged") else []
 
 
 def committed(rows):
@@ -147,8 +153,8 @@ def draw_attempt(picture, row, columns, wide, after):
     """The reads of an attempt over the cycles, and what came of it."""
     kind, _, query, attempt, reads = row[:5]
     held = places(reads)
-    refused = places(row[5])[0] if kind == "abort" else None
-    every = held + [refused] * bool(refused)
+    refused = refused_by(row)
+    every = held + refused
     shares, after = spots(picture, every, after)
     y, colour = picture.height + ROW / 2, COLOURS[kind]
     points = [(LEFT + (columns[cycle] + share) * wide, y) for (_, cycle, _), share in zip(every, shares)]
@@ -160,8 +166,11 @@ def draw_attempt(picture, row, columns, wide, after):
     said = {"accept": f"accepted: {values}", "unfinished": f"unfinished: {values}" if held else "unfinished: nothing read"}
     if refused:
         picture.cross(*points[-1], colour)
-        item = "" if picture.names else "item "
-        said["abort"] = (f"aborted: {item}{picture.called(refused[0])} of cycle {refused[1]} doesn't go with {item}{picture.called(int(row[6]))} ({values})")
+        item, (named, cycle, _) = "" if picture.names else "item ", refused[0]
+        new = f"{item}{picture.called(named)} of cycle {cycle}"
+        said["aged"] = f"aged: {new} lies too far from the other reads ({values})"
+        if kind == "abort":
+            said["abort"] = f"aborted: {new} doesn't go with {item}{picture.called(int(row[6]))} ({values})"
     return said[kind], colour, after
 
 
@@ -206,7 +215,7 @@ def draw_report(picture, rows):
     """The history over the cycles, and below it the readers."""
     verdicts = [row for row in rows if row[0] in COLOURS]
     commits, starts = committed(rows), sum(row[0] == "start" for row in rows)
-    cycles = {cycle for row in verdicts for _, cycle, _ in places(row[4]) + (places(row[5]) if row[0] == "abort" else [])}
+    cycles = {cycle for row in verdicts for _, cycle, _ in places(row[4]) + refused_by(row)}
     cycles |= set(commits) | {1, starts or 1}
     # all cycles from the first to the last, or, where these are too many, those in which something was read or committed
     every = range(min(cycles), max(cycles) + 1)
@@ -214,8 +223,8 @@ def draw_report(picture, rows):
     wide = min(240.0 if picture.slots else 120.0, max(3.0, WIDE / len(columns)))
     left_out = f"; {len(every) - len(columns)} cycles in which nothing was read or committed aren't drawn" if len(columns) < len(every) else ""
     picture.heading("What the readers made of it", "time to the right, a row for each attempt" + (", each read at the next slot of its item" if picture.slots else "") + left_out)
-    picture.legend([(lambda x, y, colour=colour: picture.dot(x, y, colour), f"a read of an attempt that was {words}")
-                    for colour, words in zip(COLOURS.values(), ("accepted", "aborted", "left unfinished"))]
+    ended = [kind for kind in COLOURS if kind != "aged" or any(row[0] == kind for row in verdicts)]
+    picture.legend([(lambda x, y, colour=COLOURS[kind]: picture.dot(x, y, colour), f"a read of an attempt that was {ENDS[kind]}") for kind in ended]
                    + [(lambda x, y: picture.cross(x, y, COLOURS["abort"]), "the read that was refused"), (picture.box(YELLOW, GOLD), "commits")])
     draw_axis(picture, columns, wide)
     begin = picture.height

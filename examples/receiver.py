@@ -10,12 +10,22 @@ import struct
 import sys
 from collections import namedtuple
 
-from receiver_deck import IDLE, VECTOR, read_deck
+from receiver_deck import IDLE, OLD, VECTOR, read_deck
 
 
-class Bucket(namedtuple("Bucket", "kind edition count cycle slot item value entries")):
+class Bucket(namedtuple("Bucket", "version kind edition count cycle slot item value entries")):
     def __str__(self):
         return " ".join(f"{name}={it}" for name, it in self._asdict().items())
+
+
+def entries_of(version, cycle, data):
+    """The entries that stand behind the head, or None where one isn't of its row: as they are, or from version 2 on as ages of one byte each."""
+    if version == 1:
+        entries = struct.unpack(f">{len(data) // 4}I", data)
+        return None if any(entry >= cycle for entry in entries) else entries
+    if any(age == 0 or cycle <= age < OLD for age in data):
+        return None
+    return tuple(0 if age == OLD else cycle - age for age in data)
 
 
 def decode(data):
@@ -25,17 +35,18 @@ def decode(data):
     magic, version, kind, edition, count, cycle, slot, item, value = struct.unpack(">2sBBHHIHHQ", data[:24])
     if magic != b"AD":
         return "Magic"
-    if version != 1:
+    if version not in (1, 2):
         return "Version"
     if kind > VECTOR:
         return "Kind"
-    if len(data) != (24 if kind == IDLE else 24 + 4 * count):
+    width, most = (4, 256) if version == 1 else (1, 1024)
+    if len(data) != (24 if kind == IDLE else 24 + width * count):
         return "Length"
-    entries = struct.unpack(f">{(len(data) - 24) // 4}I", data[24:])
+    entries = entries_of(version, cycle, data[24:])
     fits_row = (item, value) == (65535, 0) if kind == IDLE else item < count
-    if not 1 <= count <= 256 or cycle == 0 or not fits_row or any(entry >= cycle for entry in entries):
+    if not 1 <= count <= most or cycle == 0 or not fits_row or entries is None:
         return "Shape"
-    return Bucket(kind, edition, count, cycle, slot, item, value, entries)
+    return Bucket(version, kind, edition, count, cycle, slot, item, value, entries)
 
 
 def records(tape):
@@ -75,7 +86,8 @@ class Reader:
     def settle(self):
         """Reads the wanted item from its copy, as long as there is one, and drops a copy that may not be read."""
         while (copy := self.copies.get(self.wanted())) is not None:
-            if self.newest - copy.cycle > self.age or self.deck.is_late(self.held, copy) or self.deck.clashes(self.held, copy):
+            unusable = self.deck.is_late(self.held, copy) or self.deck.is_aged(self.held, copy) or self.deck.clashes(self.held, copy)
+            if self.newest - copy.cycle > self.age or unusable:
                 del self.copies[copy.item]
             else:
                 self.counts["copied"] += 1
@@ -83,9 +95,11 @@ class Reader:
 
     def open(self, new):
         """Reads a wanted bucket, or ends the attempt; and keeps a copy, and of too many those of greatest worth."""
-        clashes = self.deck.clashes(self.held, new)
-        if clashes:
-            self.end("abort", f",{new.item}@{new.cycle},{min(clashes)}", again=self.attempt < self.tries)
+        again = self.attempt < self.tries
+        if self.deck.is_aged(self.held, new):
+            self.end("aged", f",{new.item}@{new.cycle}", again)
+        elif clashes := self.deck.clashes(self.held, new):
+            self.end("abort", f",{new.item}@{new.cycle},{min(clashes)}", again)
             self.copies.pop(min(clashes), None)
         else:
             self.hold(new)

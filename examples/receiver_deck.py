@@ -6,6 +6,8 @@ from functools import reduce
 from math import gcd
 
 IDLE, COLUMN, VECTOR = 0, 1, 2
+# the age that tells the entry 0; reads that lie so many cycles apart can't be judged by ages
+OLD = 255
 
 
 def program_of(rates, disks, delta):
@@ -30,20 +32,21 @@ def program_of(rates, disks, delta):
 
 
 class Deck:
-    """The readers, each with its room, age, tries and queries; the program; and the policy."""
+    """The readers, each with its room, age, tries and queries; the program; the policy; and the version."""
 
     def __init__(self, rows):
         of = lambda tag: [row[1:] for row in rows if row[0] == tag]
         settings = dict(of("set"))
         self.policy, self.hears = settings.get("policy", "F"), int(settings.get("hears", 1000000))
+        self.version = int(settings.get("version", 1))
         self.slots, self.worth = program_of([int(rate) for _, _, rate in of("item")], of("disk"), int(settings.get("delta", 0)))
         self.readers = [(int(room), int(age), int(tries), []) for room, age, tries in of("reader")]
         for reader, items in of("query"):
             self.readers[int(reader)][3].append([int(item) for item in items.split()])
 
     def fits(self, bucket):
-        """Whether a bucket belongs in its slot."""
-        if bucket.edition != 0 or bucket.slot >= len(self.slots) or bucket.count != len(self.worth):
+        """Whether a bucket belongs in its slot, and isn't of a newer version than the deck's."""
+        if bucket.version > self.version or bucket.edition != 0 or bucket.slot >= len(self.slots) or bucket.count != len(self.worth):
             return False
         item, kind = self.slots[bucket.slot], COLUMN if self.policy == "F" else VECTOR
         return bucket.kind == IDLE if item is None else (bucket.kind, bucket.item) == (kind, item)
@@ -59,6 +62,11 @@ class Deck:
         if not held or new.cycle >= last[0].cycle:
             return stale
         return [read.item for read in last] if last[0].entries[new.item] >= new.cycle else []
+
+    def is_aged(self, held, new):
+        """Whether the reads with a new one lie too far apart to be judged by ages."""
+        cycles = [read.cycle for read in held] + [new.cycle]
+        return self.version == 2 and max(cycles) - min(cycles) >= OLD
 
     def is_late(self, held, new):
         """Whether a wanted bucket isn't judged, as it is older than the last read."""
