@@ -50,7 +50,7 @@ two_is_deck = record {
   tries = pair_is_deck.tries;
   queries = pair_is_deck.queries;
   script = λ by. omega arith;
-  plain = (refl, refl);
+  plain = refl;
 }
 
 -- The history is whole: each updater made all of its updates, and the conductor both cycles.

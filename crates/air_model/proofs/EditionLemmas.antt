@@ -65,26 +65,23 @@ one_edition deck c none = ap (count_by (λ r. nat_le r.cycle c)) none
 pub plain_slots : (deck : Deck) (c : ℕ) → deck.replans ≡ [] → slots_at (air_of deck) c ≡ program (disks_in deck 0)
 plain_slots deck c none = slots_are deck c ∙ ap (λ e. program (disks_in deck e)) (one_edition deck c none)
 
-abbrev air_with : Deck → ℕ → List Replan → ℕ → Air
-air_with deck version replans editions = record {
+abbrev air_with : Deck → List Replan → ℕ → Air
+air_with deck replans editions = record {
   scheme = scheme_in deck;
-  version = version;
+  version = deck.settings.version;
   items = length deck.items;
   replans = map (λ r. r.cycle) replans;
   slots = map (λ e. program (disks_in deck e)) (range_with_len 0 editions);
   pix = map (pix_in deck) (range_with_len 0 editions);
 }
 
--- The air of a plain deck has version 1, and one list of slots and one of PIX numbers.
+-- The air of a plain deck has one list of slots and one of PIX numbers.
 pub plain_air : (deck : Deck) → IsPlain deck → air_of deck ≡ record {
   scheme = scheme_in deck;
-  version = 1;
+  version = deck.settings.version;
   items = length deck.items;
   replans = [];
   slots = program (disks_in deck 0) ∷ [];
   pix = pix_in deck 0 ∷ [];
 }
-plain_air deck (version, none) =
-    ap (λ v. air_with deck v deck.replans (count_editions deck)) version
-    ∙ ap (λ rs. air_with deck 1 rs (count_editions deck)) none
-    ∙ ap (λ rs. air_with deck 1 [] (length rs + 1)) none
+plain_air deck none = ap (λ rs. air_with deck rs (length rs + 1)) none

@@ -29,7 +29,7 @@ use Rattle.air_model.proofs.BucketExamples.{first_bytes}
 use Rattle.air_model.proofs.DeckLemmas.{air, each_edition}
 use Rattle.air_model.proofs.ScriptLemmas.{script}
 use Rattle.air_model.proofs.ReceiverLemmas.{receiver}
-use Rattle.air_model.proofs.SessionExamples.{pair, s, swapped_deck, u}
+use Rattle.air_model.proofs.SessionExamples.{aired_in, pair, s, swapped_deck, u}
 use Rattle.air_model.proofs.TapeExamples.{both}
 
 -- ---- decks and their histories
@@ -56,7 +56,27 @@ pair_is_deck = record {
     tt,
   );
   script = λ by. omega arith;
-  plain = (refl, refl);
+  plain = refl;
+}
+
+-- So it is in version 2.
+pub aged_pair_is_deck : IsDeck (aired_in 2 pair)
+aged_pair_is_deck = record {
+  some = pair_is_deck.some;
+  version = inr refl;
+  most = omega arith;
+  values = pair_is_deck.values;
+  sizes = pair_is_deck.sizes;
+  aired = pair_is_deck.aired;
+  few = pair_is_deck.few;
+  from_two = pair_is_deck.from_two;
+  rising = pair_is_deck.rising;
+  updates = pair_is_deck.updates;
+  readers = pair_is_deck.readers;
+  tries = pair_is_deck.tries;
+  queries = pair_is_deck.queries;
+  script = pair_is_deck.script;
+  plain = refl;
 }
 
 -- Two items that change between two cycles, which are all that its settings ask for.

@@ -96,12 +96,11 @@ replanned replans = record asks_both { replans = replans }
 abbrev many_items : ℕ → ℕ → Deck
 many_items version n = aired_in version (record asks_both { items = replicate n (item 10 1); replans = [] })
 
--- So far a deck is plain: the version is 1, and there is no replan.
+-- So far a deck is plain: there is no replan.
 plain : IsPlain (replanned [])
-plain = (refl, refl)
+plain = refl
 
 pub record NotMade : Type 0 where
-  aged : IsDeck (aired_in 2 (replanned [])) → ⊥
   turned : IsDeck asks_both → ⊥
   -- replans come from cycle 2 on, one after another, 16 at most
   in_the_first_cycle : IsDeck (replanned (to_two_disks 1 ∷ [])) → ⊥
@@ -118,8 +117,7 @@ pub record NotMade : Type 0 where
 
 not_made : NotMade
 not_made = record {
-  aged = λ h. let one : 2 ≡ 1 = h.plain.0 in omega (arith, one);
-  turned = λ h. let none : 1 ≡ 0 = ap length h.plain.1 in omega (arith, none);
+  turned = λ h. let none : 1 ≡ 0 = ap length h.plain in omega (arith, none);
   in_the_first_cycle = λ h. let low : 2 ≤ 1 = h.from_two 0 no_replan (omega arith) in omega arith;
   in_one_cycle = λ h. let less : 2 < 2 = h.rising 0 1 no_replan (omega arith) (omega arith) in omega arith;
   too_many = λ h. let few : 17 ≤ 16 = h.few in omega arith;

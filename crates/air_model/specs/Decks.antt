@@ -137,9 +137,9 @@ pub record IsQuery (n : ℕ) (items : List ℕ) : Type 0 where
   pub distinct : has_repeat items ≡ false
   pub within : All (λ i. i < n) items
 
--- A deck is plain where its buckets are of version 1 and it has no replan.
+-- A deck is plain where it has no replan.
 abbrev pub IsPlain : Deck → Type 0
-IsPlain deck = (deck.settings.version ≡ 1) × (deck.replans ≡ [])
+IsPlain deck = deck.replans ≡ []
 
 -- A deck is well made where it has items, as many as its version takes at most, with values of 64 bits, the disks of each edition take all of
 -- them, each disk is aired, replans are few and come in force one after another, from cycle 2 on, and updates, readers, queries and script

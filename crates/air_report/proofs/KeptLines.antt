@@ -96,15 +96,15 @@ module _ (deck : Deck) where
   kept_none : InGrammar deck (sections_of [])
   kept_none = record { events = tt; verdicts = All-nil _; counts = All-nil _; glances = All-nil _; looks = All-nil _ }
 
-  kept_row : (rows : List (List (List ℕ))) (row : List (List ℕ)) → line_kinds_after deck (sections_of (spelled_lines rows)) (spelled_line row) ≡ [] → InGrammar deck (sections_of (spelled_lines rows)) → InGrammar deck (sections_of (spelled_lines (rows ++ row ∷ [])))
-  kept_row rows row none k = by (spelled_line row) refl none
+  kept_row : (rows : List (List (List ℕ))) (row : List (List ℕ)) → line_kinds_after deck (sections_of (spelled_lines deck.settings.version rows)) (spelled_line deck.settings.version row) ≡ [] → InGrammar deck (sections_of (spelled_lines deck.settings.version rows)) → InGrammar deck (sections_of (spelled_lines deck.settings.version (rows ++ row ∷ [])))
+  kept_row rows row none k = by (spelled_line deck.settings.version row) refl none
     where
-      by : (r : Result Line FaultKind) → spelled_line row ≡ r → line_kinds_after deck (sections_of (spelled_lines rows)) r ≡ [] → InGrammar deck (sections_of (spelled_lines (rows ++ row ∷ [])))
+      by : (r : Result Line FaultKind) → spelled_line deck.settings.version row ≡ r → line_kinds_after deck (sections_of (spelled_lines deck.settings.version rows)) r ≡ [] → InGrammar deck (sections_of (spelled_lines deck.settings.version (rows ++ row ∷ [])))
       by (Err kind) e h = cc h
-      by (Ok x) e h = rw (lines_more rows row x e, sections_more (spelled_lines rows) x) (kept_more (sections_of (spelled_lines rows)) x k (none_first report_kind_number (line_tests deck (sections_of (spelled_lines rows)) x) h))
+      by (Ok x) e h = rw (lines_more deck.settings.version rows row x e, sections_more (spelled_lines deck.settings.version rows) x) (kept_more (sections_of (spelled_lines deck.settings.version rows)) x k (none_first report_kind_number (line_tests deck (sections_of (spelled_lines deck.settings.version rows)) x) h))
 
   pub spelled_kept : (rows : List (List (List ℕ))) (lines : ReportLines) → RowsSpellLines deck rows lines → InGrammar deck lines
   unfolding line_kinds_at
   spelled_kept rows lines s =
       let P : ReportLines → Type 0 = InGrammar deck in
-      subst P (sym s.sections) (along (judge deck) (λ rows. InGrammar deck (sections_of (spelled_lines rows))) kept_none (λ rows row none k. kept_row rows row none k) rows s.faultless)
+      subst P (sym s.sections) (along (judge deck) (λ rows. InGrammar deck (sections_of (spelled_lines deck.settings.version rows))) kept_none (λ rows row none k. kept_row rows row none k) rows s.faultless)

@@ -38,6 +38,6 @@ pub few_lines : (deck : Deck) (text : List ℕ) (lines : ReportLines) → Spells
 unfolding SpellsLines
 few_lines deck text lines spelled =
     let rows = records_of text in
-    let all : line_count lines ≡ length (spelled_lines rows) = ap line_count spelled.sections ∙ counted (spelled_lines rows) in
-    let kept : length (spelled_lines rows) ≤ length rows = kept_few (λ row. result_ok (spelled_line row)) rows in
+    let all : line_count lines ≡ length (spelled_lines deck.settings.version rows) = ap line_count spelled.sections ∙ counted (spelled_lines deck.settings.version rows) in
+    let kept : length (spelled_lines deck.settings.version rows) ≤ length rows = kept_few (λ row. result_ok (spelled_line deck.settings.version row)) rows in
     omega (arith, few_records text)

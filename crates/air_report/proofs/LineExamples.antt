@@ -10,9 +10,9 @@ use Rattle.air_model.specs.declared.reports.LookLine.{LookLine}
 use Rattle.air_model.specs.declared.reports.VerdictLine.{VerdictLine}
 use Rattle.item_catalog.specs.RecordKinds.{kinds_of}
 use Rattle.air_report.specs.Kinds.{report_kind_number}
-use Rattle.air_report.specs.LineTexts.{abort_by, abort_of, as_line, below, commit_by, counts_by, ended_by, line_tag, seen_by, short_of, spelled_item, spelled_line, spelled_line_by, spelled_place, spelled_read, start_by, verdict_by}
+use Rattle.air_report.specs.LineTexts.{abort_by, abort_of, aged_by, aged_of, aged_tag, as_line, below, commit_by, counts_by, ended_by, line_tag, seen_by, short_of, spelled_item, spelled_line, spelled_line_by, spelled_place, spelled_read, start_by, verdict_by}
 use Rattle.air_report.specs.RecordRows.{row_in}
-use Rattle.air_report.specs.LineFaults.{comes_after_later_section, comes_next, end_begun, follow, has_begun, is_begun, is_filled, is_known, is_next, is_tried, leads, line_kinds_after, line_place_kinds, line_tests, read_item}
+use Rattle.air_report.specs.LineFaults.{comes_after_later_section, comes_next, end_begun, follow, has_begun, is_attempt, is_begun, is_filled, is_known, is_next, is_tried, leads, line_kinds_after, line_place_kinds, line_tests, may_end, read_item}
 use Rattle.air_report.specs.ReportLines.{ReportLines, commits_by, commits_of, its_counts, its_event, its_look, sections_of, starts_cycle, starts_in}
 use Rattle.air_report.specs.declared.reading.kinds.FaultKind.TheVariants as fault
 use Rattle.air_report.specs.declared.reading.lines.EventLine.{EventLine}
@@ -20,7 +20,7 @@ use Rattle.air_report.specs.declared.reading.lines.EventLine.TheVariants.{Commit
 use Rattle.air_report.specs.declared.reading.lines.Line.{Line}
 use Rattle.air_report.specs.declared.reading.lines.Line.TheVariants as l
 use Rattle.air_report.specs.declared.reading.tags.Tag.TheVariants as t
-use Rattle.air_report.proofs.TextExamples.{deck}
+use Rattle.air_report.proofs.TextExamples.{deck, young}
 
 -- A read of an item in a cycle, with its value.
 abbrev r : ℕ → ℕ → ℕ → ReadOf
@@ -57,14 +57,22 @@ pub record Spelled : Type 0 where
   seen_form : seen_by (Some (codes "0", codes "1", [])) ≡ Err fault.Form
   as_glance : as_line l.Glance (Ok (look 0 1)) ≡ Ok (l.Glance (look 0 1))
   as_fault : as_line l.Glance (Err fault.Form) ≡ Err fault.Form
-  its_tag : line_tag (codes "glance") ≡ Some t.Glance
-  no_tag : line_tag (codes "glances") ≡ None
+  its_tag : line_tag 1 (codes "glance") ≡ Some t.Glance
+  no_tag : line_tag 2 (codes "glances") ≡ None
+  tag_of_ages : aged_tag 2 ≡ Some t.Aged
+  no_tag_in_full : aged_tag 1 ≡ None
+  aged_read : aged_of (codes "1@256") ≡ Some (kind.Aged 1 256)
+  no_aged_read : aged_of (codes "1") ≡ None
+  aged_line : aged_by (Some (codes "0", codes "1", codes "2", codes "0@1=10", codes "1@256")) ≡ Ok (l.Verdict (verdict 1 2 (kind.Aged 1 256) (r 0 1 10 ∷ [])))
+  aged_fields : aged_by None ≡ Err fault.Fields
   by_look : spelled_line_by (Some t.Look) (codes "0" ∷ codes "1" ∷ codes "30" ∷ []) ≡ Ok (l.Look (look 0 1))
   by_nothing : spelled_line_by None (codes "0" ∷ []) ≡ Err fault.Tag
-  of_row : spelled_line (codes "commit" ∷ codes "3" ∷ codes "4" ∷ []) ≡ Ok (l.Event (Commit 3 4))
-  -- No deck's attempts end aged so far, so it is no tag, whatever its fields.
-  aged : spelled_line (codes "aged" ∷ codes "0" ∷ codes "0" ∷ codes "1" ∷ codes "0@1=10" ∷ codes "1@256" ∷ []) ≡ Err fault.Tag
-  aged_alone : spelled_line (codes "aged" ∷ []) ≡ Err fault.Tag
+  of_row : spelled_line 1 (codes "commit" ∷ codes "3" ∷ codes "4" ∷ []) ≡ Ok (l.Event (Commit 3 4))
+  aged : spelled_line 2 (codes "aged" ∷ codes "0" ∷ codes "0" ∷ codes "1" ∷ codes "0@1=10" ∷ codes "1@256" ∷ []) ≡ Ok (l.Verdict (verdict 0 1 (kind.Aged 1 256) (r 0 1 10 ∷ [])))
+  aged_alone : spelled_line 2 (codes "aged" ∷ []) ≡ Err fault.Fields
+  -- Where buckets have no ages it is no tag, whatever its fields.
+  aged_in_full : spelled_line 1 (codes "aged" ∷ codes "0" ∷ codes "0" ∷ codes "1" ∷ codes "0@1=10" ∷ codes "1@256" ∷ []) ≡ Err fault.Tag
+  aged_alone_in_full : spelled_line 1 (codes "aged" ∷ []) ≡ Err fault.Tag
   row_of_look : row_in its_look 7 (Ok (l.Look (look 0 1))) ≡ Some 7
   row_of_other : row_in its_look 7 (Ok (l.Glance (look 0 1))) ≡ None
   row_of_fault : row_in its_look 7 (Err fault.Form) ≡ None
@@ -97,11 +105,19 @@ spelled = record {
   as_fault = refl;
   its_tag = refl;
   no_tag = refl;
+  tag_of_ages = refl;
+  no_tag_in_full = refl;
+  aged_read = refl;
+  no_aged_read = refl;
+  aged_line = refl;
+  aged_fields = refl;
   by_look = refl;
   by_nothing = refl;
   of_row = refl;
   aged = refl;
   aged_alone = refl;
+  aged_in_full = refl;
+  aged_alone_in_full = refl;
   row_of_look = refl;
   row_of_other = refl;
   row_of_fault = refl;
@@ -159,6 +175,10 @@ pub record Lines : Type 0 where
   no_try : is_tried deck (verdict 0 3 kind.Unfinished []) ≡ false
   before_all : is_tried deck (verdict 0 0 kind.Unfinished []) ≡ false
   no_query : is_tried deck (verdict 1 1 kind.Unfinished []) ≡ false
+  aged_attempt : is_attempt deck (verdict 0 1 (kind.Aged 1 256) (r 0 1 10 ∷ [])) ≡ true
+  aged_try : is_tried young (verdict 0 1 (kind.Aged 1 256) (r 0 1 10 ∷ [])) ≡ true
+  no_aged_try : is_tried deck (verdict 0 1 (kind.Aged 1 256) (r 0 1 10 ∷ [])) ≡ false
+  aborts_in_full : may_end 1 (kind.Abort 1 2 0) ≡ true
   only_monitor : is_known deck (l.Look (look 0 1)) ≡ true
   no_monitor : is_known deck (l.Glance (look 1 1)) ≡ false
   no_reader : is_known deck (l.Counts (record { reader = 1; counts = record { opened = 0; dozed = 0; late = 0; refused = 0; foreign = 0; copied = 0 } })) ≡ false
@@ -217,6 +237,10 @@ lines = record {
   no_try = refl;
   before_all = refl;
   no_query = refl;
+  aged_attempt = refl;
+  aged_try = refl;
+  no_aged_try = refl;
+  aborts_in_full = refl;
   only_monitor = refl;
   no_monitor = refl;
   no_reader = refl;

@@ -81,27 +81,27 @@ one_more r (l.Look line) late =
     at_end l.Look (map l.Event r.events ++ map l.Verdict r.verdicts ++ map l.Counts r.counts ++ map l.Glance r.glances) r.looks line
 
 -- Rows without fault spell the lines of their sections, one after another.
-abbrev InOrder : List (List (List ℕ)) → Type 0
-InOrder rows = map spelled_line rows ≡ map Ok (together (sections_of (spelled_lines rows)))
+abbrev InOrder : ℕ → List (List (List ℕ)) → Type 0
+InOrder version rows = map (spelled_line version) rows ≡ map Ok (together (sections_of (spelled_lines version rows)))
 
 module _ (deck : Deck) where
   in_time : (r : ReportLines) (x : Line) → first_of (line_tests deck r x) ≡ None → comes_after_later_section r x ≡ false
   in_time r x none = first_fails fault.Order (comes_after_later_section r x)
       ((fault.Update, not (comes_next deck r.events x)) ∷ (fault.Deck, not (is_known deck x)) ∷ (fault.Cycle, not (is_begun (starts_in r.events) x)) ∷ []) none
 
-  row_more : (rows : List (List (List ℕ))) (row : List (List ℕ)) → line_kinds_after deck (sections_of (spelled_lines rows)) (spelled_line row) ≡ [] → InOrder rows → InOrder (rows ++ row ∷ [])
-  row_more rows row none h = by (spelled_line row) refl none
+  row_more : (rows : List (List (List ℕ))) (row : List (List ℕ)) → line_kinds_after deck (sections_of (spelled_lines deck.settings.version rows)) (spelled_line deck.settings.version row) ≡ [] → InOrder deck.settings.version rows → InOrder deck.settings.version (rows ++ row ∷ [])
+  row_more rows row none h = by (spelled_line deck.settings.version row) refl none
     where
-      by : (o : Result Line FaultKind) → spelled_line row ≡ o → line_kinds_after deck (sections_of (spelled_lines rows)) o ≡ [] → InOrder (rows ++ row ∷ [])
+      by : (o : Result Line FaultKind) → spelled_line deck.settings.version row ≡ o → line_kinds_after deck (sections_of (spelled_lines deck.settings.version rows)) o ≡ [] → InOrder deck.settings.version (rows ++ row ∷ [])
       by (Err kind) e n = cc n
       by (Ok x) e n =
-          let r = sections_of (spelled_lines rows) in
+          let r = sections_of (spelled_lines deck.settings.version rows) in
           let late = in_time r x (none_first report_kind_number (line_tests deck r x) n) in
-          let whole : together (sections_of (spelled_lines (rows ++ row ∷ []))) ≡ together r ++ x ∷ [] =
-          ap together (ap sections_of (lines_more rows row x e) ∙ sections_more (spelled_lines rows) x) ∙ one_more r x late in
+          let whole : together (sections_of (spelled_lines deck.settings.version (rows ++ row ∷ []))) ≡ together r ++ x ∷ [] =
+          ap together (ap sections_of (lines_more deck.settings.version rows row x e) ∙ sections_more (spelled_lines deck.settings.version rows) x) ∙ one_more r x late in
           let ok : Line → Result Line FaultKind = λ m. Ok m in
-          rw (whole, map-append spelled_line rows (row ∷ []), map-append ok (together r) (x ∷ []), h, e) refl
+          rw (whole, map-append (spelled_line deck.settings.version) rows (row ∷ []), map-append ok (together r) (x ∷ []), h, e) refl
 
-  pub in_order : (rows : List (List (List ℕ))) (lines : ReportLines) → RowsSpellLines deck rows lines → map spelled_line rows ≡ map Ok (together lines)
+  pub in_order : (rows : List (List (List ℕ))) (lines : ReportLines) → RowsSpellLines deck rows lines → map (spelled_line deck.settings.version) rows ≡ map Ok (together lines)
   unfolding line_kinds_at
-  in_order rows lines s = along (judge deck) InOrder refl (λ rows row none h. row_more rows row none h) rows s.faultless ∙ ap (λ r. map Ok (together r)) (sym s.sections)
+  in_order rows lines s = along (judge deck) (λ rows. InOrder deck.settings.version rows) refl (λ rows row none h. row_more rows row none h) rows s.faultless ∙ ap (λ r. map Ok (together r)) (sym s.sections)

@@ -14,15 +14,15 @@ use Rattle.air_report.specs.RecordRows.{row_in, rows_of}
 use Rattle.air_report.proofs.LineOrder.{in_order, together}
 
 -- What is told of records hangs on what they spell.
-by_lines : {X : Type 0} (f : ℕ → Result Line FaultKind → Option X) (n : ℕ) (rows : List (List (List ℕ))) (lines : List Line) → map spelled_line rows ≡ map Ok lines →
-    filter_map (λ p. f p.0 (spelled_line p.1)) (enumerate_from n rows) ≡ filter_map (λ p. f p.0 (Ok p.1)) (enumerate_from n lines)
-by_lines f n [] [] e = refl
-by_lines f n [] (line ∷ lines) e = cc e
-by_lines f n (row ∷ rows) [] e = cc e
-by_lines f n (row ∷ rows) (line ∷ lines) e =
-    let here : spelled_line row ≡ Ok line = cc e in
-    let more : map spelled_line rows ≡ map Ok lines = cc e in
-    rw (here, by_lines f (n + 1) rows lines more) refl
+by_lines : {X : Type 0} (f : ℕ → Result Line FaultKind → Option X) (version n : ℕ) (rows : List (List (List ℕ))) (lines : List Line) → map (spelled_line version) rows ≡ map Ok lines →
+    filter_map (λ p. f p.0 (spelled_line version p.1)) (enumerate_from n rows) ≡ filter_map (λ p. f p.0 (Ok p.1)) (enumerate_from n lines)
+by_lines f version n [] [] e = refl
+by_lines f version n [] (line ∷ lines) e = cc e
+by_lines f version n (row ∷ rows) [] e = cc e
+by_lines f version n (row ∷ rows) (line ∷ lines) e =
+    let here : spelled_line version row ≡ Ok line = cc e in
+    let more : map (spelled_line version) rows ≡ map Ok lines = cc e in
+    rw (here, by_lines f version (n + 1) rows lines more) refl
 
 module _ {X : Type 0} (f : ℕ → Line → Option X) where
   abbrev pub all_of : ℕ → List Line → List X
@@ -72,9 +72,9 @@ module _ {X : Type 0} (f : ℕ → Line → Option X) where
 
 -- What is told of the records of a text that spells lines is told of these lines, in their order.
 pub by_records : {X : Type 0} (f : ℕ → Result Line FaultKind → Option X) (deck : Deck) (text : List ℕ) (lines : ReportLines) → SpellsLines deck text lines →
-    filter_map (λ p. f p.0 (spelled_line p.1)) (enumerate_from 1 (records_of text)) ≡ all_of (λ row line. f row (Ok line)) 1 (together lines)
+    filter_map (λ p. f p.0 (spelled_line deck.settings.version p.1)) (enumerate_from 1 (records_of text)) ≡ all_of (λ row line. f row (Ok line)) 1 (together lines)
 unfolding SpellsLines
-by_records f deck text lines spelled = by_lines f 1 (records_of text) (together lines) (in_order deck (records_of text) lines spelled)
+by_records f deck text lines spelled = by_lines f deck.settings.version 1 (records_of text) (together lines) (in_order deck (records_of text) lines spelled)
 
 -- ---- rows
 
@@ -93,7 +93,7 @@ module _ (deck : Deck) (text : List ℕ) (lines : ReportLines) (spelled : Spells
   told its row line = row_in its row (Ok line)
 
   -- The rows of each section are those from the number of lines before it on.
-  pub verdict_rows : rows_of its_verdict (records_of text) ≡ range_with_len (1 + length lines.events) (length lines.verdicts)
+  pub verdict_rows : rows_of its_verdict deck.settings.version (records_of text) ≡ range_with_len (1 + length lines.events) (length lines.verdicts)
   verdict_rows =
       let f = told its_verdict in
       let n = 1 + length lines.events in let m = n + length lines.verdicts in let g = m + length lines.counts in let k = g + length lines.glances in
@@ -106,7 +106,7 @@ module _ (deck : Deck) (text : List ℕ) (lines : ReportLines) (spelled : Spells
       ∙ front_none E V (nothing f l.Event 1 lines.events (λ row x. refl))
       ∙ each f l.Verdict (λ row x. row) n lines.verdicts (λ row x. refl) ∙ numbers n lines.verdicts
 
-  pub glance_rows : rows_of its_glance (records_of text) ≡ range_with_len (1 + length lines.events + length lines.verdicts + length lines.counts) (length lines.glances)
+  pub glance_rows : rows_of its_glance deck.settings.version (records_of text) ≡ range_with_len (1 + length lines.events + length lines.verdicts + length lines.counts) (length lines.glances)
   glance_rows =
       let f = told its_glance in
       let n = 1 + length lines.events in let m = n + length lines.verdicts in let g = m + length lines.counts in let k = g + length lines.glances in
@@ -119,7 +119,7 @@ module _ (deck : Deck) (text : List ℕ) (lines : ReportLines) (spelled : Spells
       ∙ nothing f l.Event 1 lines.events (λ row x. refl))
       ∙ each f l.Glance (λ row x. row) g lines.glances (λ row x. refl) ∙ numbers g lines.glances
 
-  pub look_rows : rows_of its_look (records_of text) ≡ range_with_len (1 + length lines.events + length lines.verdicts + length lines.counts + length lines.glances) (length lines.looks)
+  pub look_rows : rows_of its_look deck.settings.version (records_of text) ≡ range_with_len (1 + length lines.events + length lines.verdicts + length lines.counts + length lines.glances) (length lines.looks)
   look_rows =
       let f = told its_look in
       let n = 1 + length lines.events in let m = n + length lines.verdicts in let g = m + length lines.counts in let k = g + length lines.glances in

@@ -47,32 +47,32 @@ sections_more ls (l.Glance line) = let x : Line = l.Glance line in
 sections_more ls (l.Look line) = let x : Line = l.Look line in
     same_sections (none_more its_event ls x refl) (none_more its_verdict ls x refl) (none_more its_counts ls x refl) (none_more its_glance ls x refl) (one_more its_look ls x line refl)
 
-pub lines_more : (rows : List (List (List ℕ))) (row : List (List ℕ)) (x : Line) → spelled_line row ≡ Ok x → spelled_lines (rows ++ row ∷ []) ≡ spelled_lines rows ++ x ∷ []
-lines_more rows row x h = filter_map-append (λ row. result_ok (spelled_line row)) rows (row ∷ []) ∙ rw h refl
+pub lines_more : (version : ℕ) (rows : List (List (List ℕ))) (row : List (List ℕ)) (x : Line) → spelled_line version row ≡ Ok x → spelled_lines version (rows ++ row ∷ []) ≡ spelled_lines version rows ++ x ∷ []
+lines_more version rows row x h = filter_map-append (λ row. result_ok (spelled_line version row)) rows (row ∷ []) ∙ rw h refl
 
 -- ---- places
 
 module _ (deck : Deck) where
   -- The kinds of a record, if there is one, behind records.
   abbrev pub judge : List (List (List ℕ)) → Option (List (List ℕ)) → List ℕ
-  judge rows row = line_place_kinds deck (sections_of (spelled_lines rows)) row
+  judge rows row = line_place_kinds deck (sections_of (spelled_lines deck.settings.version rows)) row
 
   tests_rise : (before : ReportLines) (line : Line) → rising report_kind_number 0 (line_tests deck before line) ≡ true
   tests_rise before line = refl
 
   -- One more record to which no kind applies, and one to which some kind does.
   module _ (rows : List (List (List ℕ))) (row : List (List ℕ)) where
-    pub added : line_record_kind deck (sections_of (spelled_lines rows)) (spelled_line row) ≡ None → with_spelled with_one_line (sections_of (spelled_lines rows)) (spelled_line row) ≡ sections_of (spelled_lines (rows ++ row ∷ []))
-    added h = by (spelled_line row) refl h
+    pub added : line_record_kind deck (sections_of (spelled_lines deck.settings.version rows)) (spelled_line deck.settings.version row) ≡ None → with_spelled with_one_line (sections_of (spelled_lines deck.settings.version rows)) (spelled_line deck.settings.version row) ≡ sections_of (spelled_lines deck.settings.version (rows ++ row ∷ []))
+    added h = by (spelled_line deck.settings.version row) refl h
       where
-        by : (r : Result Line FaultKind) → spelled_line row ≡ r → line_record_kind deck (sections_of (spelled_lines rows)) r ≡ None → with_spelled with_one_line (sections_of (spelled_lines rows)) r ≡ sections_of (spelled_lines (rows ++ row ∷ []))
+        by : (r : Result Line FaultKind) → spelled_line deck.settings.version row ≡ r → line_record_kind deck (sections_of (spelled_lines deck.settings.version rows)) r ≡ None → with_spelled with_one_line (sections_of (spelled_lines deck.settings.version rows)) r ≡ sections_of (spelled_lines deck.settings.version (rows ++ row ∷ []))
         by (Err kind) e h = cc h
-        by (Ok x) e h = sym (ap sections_of (lines_more rows row x e) ∙ sections_more (spelled_lines rows) x)
+        by (Ok x) e h = sym (ap sections_of (lines_more deck.settings.version rows row x e) ∙ sections_more (spelled_lines deck.settings.version rows) x)
 
-    pub none_added : NoneBefore (line_kinds_at deck rows) (length rows) → line_record_kind deck (sections_of (spelled_lines rows)) (spelled_line row) ≡ None
+    pub none_added : NoneBefore (line_kinds_at deck rows) (length rows) → line_record_kind deck (sections_of (spelled_lines deck.settings.version rows)) (spelled_line deck.settings.version row) ≡ None
         → NoneBefore (line_kinds_at deck (rows ++ row ∷ [])) (length (rows ++ row ∷ []))
     unfolding line_kinds_at
-    none_added before h = places.none_more judge rows row before (none_spelled report_kind_number (line_tests deck (sections_of (spelled_lines rows))) (spelled_line row) h)
+    none_added before h = places.none_more judge rows row before (none_spelled report_kind_number (line_tests deck (sections_of (spelled_lines deck.settings.version rows))) (spelled_line deck.settings.version row) h)
 
-    pub least_after : (kind : FaultKind) → line_record_kind deck (sections_of (spelled_lines rows)) (spelled_line row) ≡ Some kind → IsLeastKind (report_kind_number kind) (line_kinds_after deck (sections_of (spelled_lines rows)) (spelled_line row))
-    least_after kind h = least_spelled report_kind_number (line_tests deck (sections_of (spelled_lines rows))) (tests_rise (sections_of (spelled_lines rows))) (spelled_line row) kind h
+    pub least_after : (kind : FaultKind) → line_record_kind deck (sections_of (spelled_lines deck.settings.version rows)) (spelled_line deck.settings.version row) ≡ Some kind → IsLeastKind (report_kind_number kind) (line_kinds_after deck (sections_of (spelled_lines deck.settings.version rows)) (spelled_line deck.settings.version row))
+    least_after kind h = least_spelled report_kind_number (line_tests deck (sections_of (spelled_lines deck.settings.version rows))) (tests_rise (sections_of (spelled_lines deck.settings.version rows))) (spelled_line deck.settings.version row) kind h

@@ -1,5 +1,5 @@
 -- The words of reports as they are printed, on small reports: what a row is to have, what lines say, and which kinds apply behind a report.
-use Rattle.std.proofs.Common.{◌≡◌, ◌<◌, ◌≤◌, ◌^◌, ◌++◌, ◌∷◌, [], ℕ, List, Some, None, refl, codes, length, arith}
+use Rattle.std.proofs.Common.{◌≡◌, ◌<◌, ◌≤◌, ◌^◌, ◌++◌, ◌∷◌, ◌∙◌, [], ℕ, List, Some, None, true, false, refl, ap, codes, length, arith}
 use Rattle.std.specs.Prelude.{⊤}
 use Rattle.std.proofs.lemmas.List.Elements.{All-cons, All-head, All-nil}
 use Rattle.air_base.specs.Numbers.{number_text}
@@ -11,23 +11,33 @@ use Rattle.air_model.specs.SessionLaws.{follows_query}
 use Rattle.air_model.specs.declared.reports.CountsLine.{CountsLine}
 use Rattle.air_model.specs.declared.reports.LookLine.{LookLine}
 use Rattle.air_model.specs.declared.reports.VerdictLine.{VerdictLine}
+use Rattle.air_report.specs.LineTexts.{spelled_line}
 use Rattle.air_report.specs.ReportGrammar.{Applies, IsLineOf, NoLine, due_length, joined, row_lengths}
-use Rattle.air_report.specs.ReportRules.{CountsWide, EndWide, EventWide, CyclesBegun, IsKnown, IsReport, IsTried, LookWide, VerdictWide, its_attempt}
+use Rattle.air_report.specs.ReportRules.{CountsWide, EndWide, EventWide, CyclesBegun, IsKnown, IsReport, IsTried, LookWide, MayEnd, VerdictWide, its_attempt}
 use Rattle.air_report.specs.declared.reading.kinds.FaultKind.TheVariants as fault
 use Rattle.air_report.proofs.PrintedReports.{line_is}
-use Rattle.air_report.proofs.PrintedFields.{Row}
+use Rattle.air_report.proofs.PrintedFields.{Row, all_told, line_spelled}
 use Rattle.air_report.proofs.SpelledExamples.{report, spells_report}
-use Rattle.air_report.proofs.TextExamples.{deck}
+use Rattle.air_report.proofs.TextExamples.{deck, young}
 
 -- ---- rows
 
-eight_tags : length row_lengths ≡ 8
+eight_tags : length (row_lengths 1) ≡ 8
 eight_tags = refl
 
-a_length : due_length (codes "abort" ∷ []) ≡ Some 7
+nine_tags : length (row_lengths 2) ≡ 9
+nine_tags = refl
+
+a_length : due_length 1 (codes "abort" ∷ []) ≡ Some 7
 a_length = refl
 
-no_length : due_length (codes "aborts" ∷ []) ≡ None
+aged_length : due_length 2 (codes "aged" ∷ []) ≡ Some 6
+aged_length = refl
+
+no_aged_length : due_length 1 (codes "aged" ∷ []) ≡ None
+no_aged_length = refl
+
+no_length : due_length 2 (codes "aborts" ∷ []) ≡ None
 no_length = refl
 
 -- A look of monitor 0 in cycle 2.
@@ -62,7 +72,9 @@ not_its_line h = let rows = h.rows in cc rows
 
 -- A row without a field has no line.
 no_line : NoLine [] (λ line. ⊤)
-no_line line is t = let found = line_is [] line is in let spelled = found.1 in cc spelled
+no_line line is t =
+    let found = line_is [] line is in
+    let spelled = ap (spelled_line 2) found.1.row_is ∙ line_spelled 2 found.0 found.1.wide (all_told found.0) in cc spelled
 
 -- ---- what lines say
 
@@ -78,7 +90,7 @@ attempt_told = refl
 -- The reader tries twice, and asks for the items 0 and 1.
 last_try : IsTried deck (verdict 2 (Abort 1 3 0) (read 0 1 ∷ []))
 unfolding follows_query
-last_try = (omega arith, record { query = omega arith; begun = omega arith; tried = omega arith; follows = refl })
+last_try = (omega arith, record { query = omega arith; begun = omega arith; tried = omega arith; follows = refl }, λ none. absurd none)
 
 no_try : IsTried deck (verdict 3 Unfinished []) → ⊥
 no_try h = let most : 3 ≤ 2 = h.1.tried in omega arith
@@ -86,6 +98,20 @@ no_try h = let most : 3 ≤ 2 = h.1.tried in omega arith
 other_item : IsTried deck (verdict 1 Unfinished (read 1 1 ∷ [])) → ⊥
 unfolding follows_query
 other_item h = let follows = h.1.follows in cc follows
+
+-- An attempt ends aged where buckets have ages.
+abbrev aged : VerdictLine
+aged = verdict 1 (Aged 1 256) (read 0 1 ∷ [])
+
+aged_try : IsTried young aged
+unfolding follows_query
+aged_try = (omega arith, record { query = omega arith; begun = omega arith; tried = omega arith; follows = refl }, λ _. refl)
+
+no_aged_try : IsTried deck aged → ⊥
+no_aged_try h = let ages : false ≡ true = h.2 tt in cc ages
+
+aborted_in_full : MayEnd 1 (Abort 1 3 0)
+aborted_in_full none = absurd none
 
 -- The look names a monitor of the deck, and its cycle is the second.
 known_look : IsKnown deck its_line
@@ -110,8 +136,11 @@ wide_end = (omega arith, omega arith, omega arith)
 not_wide_end : EndWide (Abort 65536 1 0) → ⊥
 not_wide_end h = let low : 65536 < 2 ^ 16 = h.0 in omega arith
 
-no_aged_end : EndWide (Aged 1 256) → ⊥
-no_aged_end h = h
+wide_aged_end : EndWide (Aged 65535 4294967295)
+wide_aged_end = (omega arith, omega arith)
+
+not_wide_aged_end : EndWide (Aged 1 4294967296) → ⊥
+not_wide_aged_end h = let low : 4294967296 < 2 ^ 32 = h.1 in omega arith
 
 of_the_deck : IsReport deck report
 of_the_deck = spells_report.report
@@ -129,6 +158,23 @@ unknown = refl
 
 not_unknown : Applies deck report look_row2 fault.Tag → ⊥
 not_unknown h = cc h
+
+-- What is printed of an aged attempt has a tag where buckets have ages.
+abbrev aged_row : Row
+aged_row = codes "aged" ∷ codes "0" ∷ codes "0" ∷ codes "1" ∷ codes "0@1=10" ∷ codes "1@256" ∷ []
+
+aged_unknown : Applies deck report aged_row fault.Tag
+aged_unknown = refl
+
+aged_known : Applies young report aged_row fault.Tag → ⊥
+aged_known h = cc h
+
+-- Its number of fields is no fault where it has none.
+no_aged_fields : Applies deck report (codes "aged" ∷ []) fault.Fields → ⊥
+no_aged_fields h = h.0 refl
+
+aged_fields : Applies young report (codes "aged" ∷ []) fault.Fields
+aged_fields = (λ none. cc none, λ some. let n : ◌≡◌ {A = ℕ} 6 1 = cc some in omega (arith, n))
 
 not_unformed : Applies deck report look_row2 fault.Form → ⊥
 not_unformed h = h.1 its_line line_of_look tt

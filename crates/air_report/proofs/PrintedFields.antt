@@ -1,19 +1,21 @@
 -- A record that spells a line is the row that is printed of it, and the numbers of the line fit their types: the fields behind each tag. They
 -- may spell none, for another number of fields, or for a field that isn't of its form.
-use Rattle.std.proofs.Common.{◌≡◌, ◌≢◌, ◌∷◌, [], ℕ, List, Option, Some, None, Result, Ok, Err, refl, ap, ◌∙◌, subst, codes, length, arith}
+use Rattle.std.proofs.Common.{◌≡◌, ◌≢◌, ◌∷◌, ◌⊎◌, [], ℕ, List, Option, Some, None, Result, Ok, Err, Bool, true, false, inl, inr, refl, ap, ◌∙◌, subst, codes, length, arith}
 use Rattle.air_base.specs.NumberLists.{list_of}
 use Rattle.air_base.specs.Numbers.{number_of, number_text}
 use Rattle.air_base.specs.Pieces.{three_of, two_of}
 use Rattle.air_base.specs.declared.verdicts.ReadOf.{ReadOf}
 use Rattle.air_base.specs.declared.verdicts.VerdictKind.{VerdictKind}
 use Rattle.air_base.specs.declared.verdicts.VerdictKind.TheVariants as kind
+use Rattle.air_model.specs.Buckets.{has_ages}
 use Rattle.air_model.specs.Reports.{attempt_row, counts_row, kind_row, look_row, place_text, verdict_row}
 use Rattle.air_model.specs.declared.reports.LookLine.{LookLine}
 use Rattle.air_model.specs.declared.reports.VerdictLine.{VerdictLine}
-use Rattle.item_catalog.specs.RecordFields.{◌is◌, four_of, seven_of, six_of}
+use Rattle.item_catalog.specs.RecordFields.{◌is◌, five_of, four_of, seven_of, six_of}
 use Rattle.item_catalog.specs.Spelled.{or_fault, spelled_then}
+use Rattle.air_report.specs.LineFaults.{may_end}
 use Rattle.air_report.specs.LineRules.{LineWide}
-use Rattle.air_report.specs.LineTexts.{abort_by, abort_of, as_line, commit_by, counts_by, ended_by, seen_by, short_of, spelled_item, spelled_line, spelled_place, spelled_read, start_by}
+use Rattle.air_report.specs.LineTexts.{abort_by, abort_of, aged_by, aged_of, as_line, commit_by, counts_by, ended_by, seen_by, short_of, spelled_item, spelled_line, spelled_place, spelled_read, start_by}
 use Rattle.air_report.specs.ReportRules.{CountsWide, EndWide, LookWide, VerdictWide}
 use Rattle.air_report.specs.declared.reading.kinds.FaultKind.{FaultKind}
 use Rattle.air_report.specs.declared.reading.kinds.FaultKind.TheVariants as fault
@@ -22,7 +24,7 @@ use Rattle.air_report.specs.declared.reading.lines.EventLine.TheVariants.{Commit
 use Rattle.air_report.specs.declared.reading.lines.Line.{Line}
 use Rattle.air_report.specs.declared.reading.lines.Line.TheVariants as l
 use Rattle.air_report.proofs.PrintedReads.{item_is, number_is, place_is, reads_are, same_cons, short_is}
-use Rattle.air_report.proofs.TextLemmas.{counts_spelled, glance_spelled, look_spelled, short_text, verdict_spelled}
+use Rattle.air_report.proofs.TextLemmas.{aged_untold, counts_spelled, glance_spelled, look_spelled, short_text, verdict_spelled}
 
 -- ---- the row of a line
 
@@ -52,14 +54,51 @@ pub record Printed (row : Row) (x : Line) : Type 0 where
   pub row_is : row ≡ line_row x
   pub wide : Wide x
 
+-- The version has the tag of the line.
+abbrev pub is_told : ℕ → Line → Bool
+is_told version (l.Verdict x) = may_end version x.verdict.kind
+is_told version line = true
+
 -- What the row of a line spells.
-pub line_spelled : (x : Line) → Wide x → spelled_line (line_row x) ≡ Ok x
-line_spelled (l.Event (Commit by seq)) w = rw (short_text by w.0, short_text seq w.1) refl
-line_spelled (l.Event Start) w = refl
-line_spelled (l.Verdict x) w = verdict_spelled x w
-line_spelled (l.Counts x) w = counts_spelled x w
-line_spelled (l.Glance x) w = glance_spelled x w
-line_spelled (l.Look x) w = look_spelled x w
+pub line_spelled : (version : ℕ) (x : Line) → Wide x → is_told version x ≡ true → spelled_line version (line_row x) ≡ Ok x
+line_spelled version (l.Event (Commit by seq)) w told = rw (short_text by w.0, short_text seq w.1) refl
+line_spelled version (l.Event Start) w told = refl
+line_spelled version (l.Verdict x) w told = verdict_spelled version x w told
+line_spelled version (l.Counts x) w told = counts_spelled version x w
+line_spelled version (l.Glance x) w told = glance_spelled version x w
+line_spelled version (l.Look x) w told = look_spelled version x w
+
+-- From version 2 on each line has its tag.
+pub all_told : (x : Line) → is_told 2 x ≡ true
+all_told (l.Event x) = refl
+all_told (l.Verdict x) = by x.verdict.kind
+  where
+    by : (end : VerdictKind) → may_end 2 end ≡ true
+    by kind.Accept = refl
+    by (kind.Abort item cycle clash) = refl
+    by (kind.Aged item cycle) = refl
+    by kind.Unfinished = refl
+all_told (l.Counts x) = refl
+all_told (l.Glance x) = refl
+all_told (l.Look x) = refl
+
+-- The row of a line spells it, or has no tag.
+pub spelled_or_untold : (version : ℕ) (x : Line) → Wide x → (spelled_line version (line_row x) ≡ Ok x) ⊎ (spelled_line version (line_row x) ≡ Err fault.Tag)
+spelled_or_untold version (l.Event x) w = inl (line_spelled version (l.Event x) w refl)
+spelled_or_untold version (l.Verdict x) w = by x.verdict.kind refl
+  where
+    aged : (item cycle : ℕ) (b : Bool) → x.verdict.kind ≡ kind.Aged item cycle → has_ages version ≡ b → (spelled_line version (verdict_row x) ≡ Ok (l.Verdict x)) ⊎ (spelled_line version (verdict_row x) ≡ Err fault.Tag)
+    aged item cycle true same e = inl (verdict_spelled version x w (ap (may_end version) same ∙ e))
+    aged item cycle false same e = inr (aged_untold version item cycle x same e)
+
+    by : (end : VerdictKind) → x.verdict.kind ≡ end → (spelled_line version (verdict_row x) ≡ Ok (l.Verdict x)) ⊎ (spelled_line version (verdict_row x) ≡ Err fault.Tag)
+    by kind.Accept same = inl (verdict_spelled version x w (ap (may_end version) same))
+    by (kind.Abort item cycle clash) same = inl (verdict_spelled version x w (ap (may_end version) same))
+    by (kind.Aged item cycle) same = aged item cycle (has_ages version) same refl
+    by kind.Unfinished same = inl (verdict_spelled version x w (ap (may_end version) same))
+spelled_or_untold version (l.Counts x) w = inl (line_spelled version (l.Counts x) w refl)
+spelled_or_untold version (l.Glance x) w = inl (line_spelled version (l.Glance x) w refl)
+spelled_or_untold version (l.Look x) w = inl (line_spelled version (l.Look x) w refl)
 
 -- ---- what fields tell behind a tag
 
@@ -156,6 +195,48 @@ abort_told (f ∷ g ∷ i ∷ j ∷ k ∷ m ∷ []) = by (short_of f) (short_of 
           record {
             row_is = same_cons refl (same_cons reader.0 (same_cons query.0 (same_cons attempt.0 (same_cons reads.0 (same_cons ended.place_is (same_cons ended.clash_is refl))))))
                 ∙ ap (λ e. kind_row e x) ended.end_is;
+            wide = record { reader = reader.1; query = query.1; attempt = attempt.1; reads = reads.1; end = subst EndWide ended.end_is ended.fits };
+          },
+        )
+
+-- The field of the end of an attempt whose next read lay too far.
+record AgedText (place : List ℕ) (end : VerdictKind) : Type 0 where
+  item : ℕ
+  cycle : ℕ
+  end_is : kind.Aged item cycle ≡ end
+  place_is : place ≡ place_text item cycle
+  fits : EndWide (kind.Aged item cycle)
+
+aged_is : (place : List ℕ) (end : VerdictKind) → aged_of place ≡ Some end → AgedText place end
+aged_is place end h = by (spelled_place place) refl h
+  where
+    by : (p : Option (ℕ × ℕ)) → spelled_place place ≡ p → (spelled_then p λ p. Some (kind.Aged p.0 p.1)) ≡ Some end → AgedText place end
+    by None ep h = cc h
+    by (Some p) ep h = let first = place_is place p ep in record { item = p.0; cycle = p.1; end_is = cc h; place_is = first.0; fits = (first.1, first.2) }
+
+pub aged_told : (fields : Row) → Told (codes "aged" ∷ fields) 6 (aged_by (five_of fields))
+aged_told [] = λ h. omega (arith, h)
+aged_told (f ∷ []) = λ h. omega (arith, h)
+aged_told (f ∷ g ∷ []) = λ h. omega (arith, h)
+aged_told (f ∷ g ∷ i ∷ []) = λ h. omega (arith, h)
+aged_told (f ∷ g ∷ i ∷ j ∷ []) = λ h. omega (arith, h)
+aged_told (f ∷ g ∷ i ∷ j ∷ k ∷ m ∷ more) = λ h. omega (arith, h)
+aged_told (f ∷ g ∷ i ∷ j ∷ k ∷ []) = by (short_of f) (short_of g) (short_of i) (list_of spelled_read j) (aged_of k) refl refl refl refl refl
+  where
+    by : (r q a : Option ℕ) (rs : Option (List ReadOf)) (e : Option VerdictKind) → short_of f ≡ r → short_of g ≡ q → short_of i ≡ a → list_of spelled_read j ≡ rs → aged_of k ≡ e
+        → Told (codes "aged" ∷ f ∷ g ∷ i ∷ j ∷ k ∷ []) 6 (or_fault fault.Form (spelled_then r λ r. spelled_then q λ q. spelled_then a λ a. spelled_then rs λ rs. spelled_then e λ end. Some (l.Verdict (record { reader = r; verdict = record { query = q; attempt = a; kind = end }; reads = rs }))))
+    by None q a rs e er eq ea ers ee = refl
+    by (Some r) None a rs e er eq ea ers ee = refl
+    by (Some r) (Some q) None rs e er eq ea ers ee = refl
+    by (Some r) (Some q) (Some a) None e er eq ea ers ee = refl
+    by (Some r) (Some q) (Some a) (Some rs) None er eq ea ers ee = refl
+    by (Some r) (Some q) (Some a) (Some rs) (Some end) er eq ea ers ee =
+        let x : VerdictLine = record { reader = r; verdict = record { query = q; attempt = a; kind = end }; reads = rs } in
+        let reader = short_is f r er in let query = short_is g q eq in let attempt = short_is i a ea in let reads = reads_are j rs ers in
+        let ended = aged_is k end ee in (
+          refl,
+          record {
+            row_is = same_cons refl (same_cons reader.0 (same_cons query.0 (same_cons attempt.0 (same_cons reads.0 (same_cons ended.place_is refl))))) ∙ ap (λ e. kind_row e x) ended.end_is;
             wide = record { reader = reader.1; query = query.1; attempt = attempt.1; reads = reads.1; end = subst EndWide ended.end_is ended.fits };
           },
         )

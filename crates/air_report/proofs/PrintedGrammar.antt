@@ -20,10 +20,10 @@ use Rattle.air_model.specs.SessionLaws.{decided_on, follows_query}
 use Rattle.air_model.specs.Sessions.{is_wanted}
 use Rattle.air_model.specs.declared.deck.ReaderPlan.{ReaderPlan}
 use Rattle.air_model.specs.declared.reports.VerdictLine.{VerdictLine}
-use Rattle.air_report.specs.LineFaults.{end_begun, follow, has_begun, is_begun, is_tried, leads, read_item}
+use Rattle.air_report.specs.LineFaults.{end_begun, follow, has_begun, is_begun, is_tried, leads, may_end, read_item}
 use Rattle.air_report.specs.LineRules.{InGrammar}
 use Rattle.air_report.specs.ReportLines.{ReportLines, event_in, its_line, lines_in, report_in, starts_cycle, starts_in}
-use Rattle.air_report.specs.ReportRules.{CyclesBegun, HasWidths, IsKnown, IsReport, IsTried}
+use Rattle.air_report.specs.ReportRules.{CyclesBegun, HasWidths, IsKnown, IsReport, IsTried, MayEnd}
 use Rattle.air_report.specs.declared.reading.lines.EventLine.TheVariants as line
 use Rattle.air_report.specs.declared.reading.lines.Line.TheVariants as l
 use Rattle.air_report.proofs.LegalLines.{legal}
@@ -83,6 +83,19 @@ found : {X : Type 0} (f : X → Bool) (o : Option X) → option_map_or f o false
 found f None h = absurd (false≢true h)
 found f (Some x) h = (x, refl, h)
 
+-- An attempt ends as it may.
+ends_so : (version : ℕ) (end : VerdictKind) → may_end version end ≡ true → MayEnd version end
+ends_so version Accept h = λ none. absurd none
+ends_so version (Abort item cycle clash) h = λ none. absurd none
+ends_so version (Aged item cycle) h = λ aged. h
+ends_so version Unfinished h = λ none. absurd none
+
+may_end_so : (version : ℕ) (end : VerdictKind) → MayEnd version end → may_end version end ≡ true
+may_end_so version Accept h = refl
+may_end_so version (Abort item cycle clash) h = refl
+may_end_so version (Aged item cycle) h = h tt
+may_end_so version Unfinished h = refl
+
 abbrev no_plan : ReaderPlan
 no_plan = record { room = 0; age = 0; tries = 0 }
 
@@ -101,7 +114,8 @@ module _ (deck : Deck) (x : VerdictLine) where
 
   pub tried : is_tried deck x ≡ true → IsTried deck x
   tried h =
-      let both = and_parts (option_map_or tries (slice_get deck.readers x.reader) false) (option_map_or asks (slice_get queries x.verdict.query) false) h in
+      let whole = and_parts (option_map_or tries (slice_get deck.readers x.reader) false && option_map_or asks (slice_get queries x.verdict.query) false) (may_end deck.settings.version x.verdict.kind) h in
+      let both = and_parts (option_map_or tries (slice_get deck.readers x.reader) false) (option_map_or asks (slice_get queries x.verdict.query) false) whole.0 in
       let plan = found tries (slice_get deck.readers x.reader) both.0 in
       let query = found asks (slice_get queries x.verdict.query) both.1 in
       let each = and_parts (nat_le 1 x.verdict.attempt) (nat_le x.verdict.attempt plan.0.tries) plan.2 in
@@ -114,6 +128,7 @@ module _ (deck : Deck) (x : VerdictLine) where
           tried = subst (λ (p : ReaderPlan). x.verdict.attempt ≤ p.tries) (sym same) (leb-true x.verdict.attempt plan.0.tries each.1);
           follows = ap (λ q. follows_query q x.verdict.kind items) asked ∙ sym (same_follow query.0 items x.verdict.kind) ∙ query.2;
         },
+        ends_so deck.settings.version x.verdict.kind whole.1,
       )
 
   pub is_tried_of : IsTried deck x → is_tried deck x ≡ true
@@ -122,11 +137,13 @@ module _ (deck : Deck) (x : VerdictLine) where
       let plan = slice_get-get_or deck.readers x.reader no_plan h.0 in
       let query = slice_get-get_or queries x.verdict.query [] own.query in
       let follows : asks (get_or queries x.verdict.query []) ≡ true = same_follow (get_or queries x.verdict.query []) items x.verdict.kind ∙ own.follows in
-      and_from (option_map_or tries (slice_get deck.readers x.reader) false) (option_map_or asks (slice_get queries x.verdict.query) false)
+      let both = and_from (option_map_or tries (slice_get deck.readers x.reader) false) (option_map_or asks (slice_get queries x.verdict.query) false)
       (ap (λ o. option_map_or tries o false) plan
       ∙ and_from (nat_le 1 x.verdict.attempt) (nat_le x.verdict.attempt (get_or deck.readers x.reader no_plan).tries) (le-leb 1 x.verdict.attempt own.begun)
       (le-leb x.verdict.attempt (get_or deck.readers x.reader no_plan).tries own.tried))
-      (ap (λ o. option_map_or asks o false) query ∙ follows)
+      (ap (λ o. option_map_or asks o false) query ∙ follows) in
+      and_from (option_map_or tries (slice_get deck.readers x.reader) false && option_map_or asks (slice_get queries x.verdict.query) false) (may_end deck.settings.version x.verdict.kind) both
+      (may_end_so deck.settings.version x.verdict.kind h.2)
 
 -- ---- cycles
 

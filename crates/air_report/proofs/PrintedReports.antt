@@ -1,5 +1,5 @@
 -- The rows of a report are those that are printed of its lines, section by section; and its lines are told by these rows.
-use Rattle.std.proofs.Common.{◌≡◌, ◌++◌, ◌∷◌, [], List, All, Option, Some, None, Ok, refl, sym, ap, ◌∙◌, codes, map}
+use Rattle.std.proofs.Common.{◌≡◌, ◌++◌, ◌∷◌, [], ℕ, List, All, Option, Some, None, Ok, refl, sym, ap, ◌∙◌, codes, map}
 use Rattle.std.specs.List.{filter_map}
 use Rattle.std.proofs.lemmas.List.{append-nil, map-append}
 use Rattle.std.proofs.lemmas.List.Elements.{All-append, All-cons, All-head, All-nil, All-tail, filter_map-append}
@@ -21,7 +21,7 @@ use Rattle.air_report.specs.declared.reading.lines.EventLine.TheVariants.{Commit
 use Rattle.air_report.specs.declared.reading.lines.Line.{Line}
 use Rattle.air_report.specs.declared.reading.lines.Line.TheVariants as l
 use Rattle.air_report.proofs.LineOrder.{together}
-use Rattle.air_report.proofs.PrintedFields.{Printed, Row, Wide, line_row, line_spelled}
+use Rattle.air_report.proofs.PrintedFields.{Printed, Row, Wide, all_told, line_row, line_spelled}
 use Rattle.air_report.proofs.PrintedReads.{same_append, same_cons}
 use Rattle.air_report.proofs.PrintedRows.{printed}
 
@@ -50,14 +50,18 @@ rows_of_lines r =
     (mapped l.Look (look_row (codes "look")) (λ x. refl) r.looks)
 
 -- Records that spell lines are the rows of these.
-pub lines_of_rows : (rows : List Row) (lines : List Line) → map spelled_line rows ≡ map Ok lines → (rows ≡ map line_row lines) × All Wide lines
-lines_of_rows [] [] h = (refl, All-nil Wide)
-lines_of_rows [] (x ∷ lines) h = cc h
-lines_of_rows (row ∷ rows) [] h = cc h
-lines_of_rows (row ∷ rows) (x ∷ lines) h =
-    let here : spelled_line row ≡ Ok x = cc h in let more : map spelled_line rows ≡ map Ok lines = cc h in
-    let one = printed row x here in let rest = lines_of_rows rows lines more in
+pub lines_of_rows : (version : ℕ) (rows : List Row) (lines : List Line) → map (spelled_line version) rows ≡ map Ok lines → (rows ≡ map line_row lines) × All Wide lines
+lines_of_rows version [] [] h = (refl, All-nil Wide)
+lines_of_rows version [] (x ∷ lines) h = cc h
+lines_of_rows version (row ∷ rows) [] h = cc h
+lines_of_rows version (row ∷ rows) (x ∷ lines) h =
+    let here : spelled_line version row ≡ Ok x = cc h in let more : map (spelled_line version) rows ≡ map Ok lines = cc h in
+    let one = printed version row x here in let rest = lines_of_rows version rows lines more in
     (same_cons one.row_is rest.0, All-cons Wide x lines one.wide rest.1)
+
+-- A line is told by its row: from version 2 on its row spells it.
+pub row_tells : (x y : Line) → Wide x → Wide y → line_row x ≡ line_row y → x ≡ y
+row_tells x y a b h = let told = sym (line_spelled 2 x a (all_told x)) ∙ ap (spelled_line 2) h ∙ line_spelled 2 y b (all_told y) in cc told
 
 -- Lines are told by their rows.
 pub rows_tell : (xs ys : List Line) → All Wide xs → All Wide ys → map line_row xs ≡ map line_row ys → xs ≡ ys
@@ -66,9 +70,7 @@ rows_tell [] (y ∷ ys) a b h = cc h
 rows_tell (x ∷ xs) [] a b h = cc h
 rows_tell (x ∷ xs) (y ∷ ys) a b h =
     let here : line_row x ≡ line_row y = cc h in let more : map line_row xs ≡ map line_row ys = cc h in
-    let told = sym (line_spelled x (All-head Wide x xs a)) ∙ ap spelled_line here ∙ line_spelled y (All-head Wide y ys b) in
-    let same : x ≡ y = cc told in
-    same_cons same (rows_tell xs ys (All-tail Wide x xs a) (All-tail Wide y ys b) more)
+    same_cons (row_tells x y (All-head Wide x xs a) (All-head Wide y ys b) here) (rows_tell xs ys (All-tail Wide x xs a) (All-tail Wide y ys b) more)
 
 -- ---- widths
 
@@ -190,15 +192,15 @@ lines_back deck lines = ap (λ es. record lines { events = es }) (named_back dec
 
 -- ---- single lines
 
--- The line of a row has the row's sections.
-pub line_is : (row : Row) (line : Report) → IsLineOf row line → (x : Line) × (spelled_line row ≡ Ok x) × (lines_in line ≡ sections_of (x ∷ []))
+-- The row of a line is printed of one line, which is all that stands in the report's sections.
+pub line_is : (row : Row) (line : Report) → IsLineOf row line → (x : Line) × Printed row x × (lines_in line ≡ sections_of (x ∷ []))
 line_is row line is = by (together (lines_in line)) refl (rows_of_lines line ∙ is.rows) (all_wide line is.widths)
   where
-    by : (ls : List Line) → together (lines_in line) ≡ ls → map line_row ls ≡ row ∷ [] → All Wide ls → (x : Line) × (spelled_line row ≡ Ok x) × (lines_in line ≡ sections_of (x ∷ []))
+    by : (ls : List Line) → together (lines_in line) ≡ ls → map line_row ls ≡ row ∷ [] → All Wide ls → (x : Line) × Printed row x × (lines_in line ≡ sections_of (x ∷ []))
     by [] e h w = cc h
     by (x ∷ []) e h w =
         let here : line_row x ≡ row = cc h in
-        (x, ap spelled_line (sym here) ∙ line_spelled x (All-head Wide x [] w), sym (sections_back (lines_in line)) ∙ ap sections_of e)
+        (x, record { row_is = sym here; wide = All-head Wide x [] w }, sym (sections_back (lines_in line)) ∙ ap sections_of e)
     by (x ∷ y ∷ ls) e h w = cc h
 
 -- The report of a line alone, its updates the deck's.

@@ -27,14 +27,14 @@ seen tag = tag ∷ codes "0" ∷ codes "1" ∷ codes "30" ∷ []
 abbrev report : List Row
 report = start ∷ accept0 ∷ accept0 ∷ counts0 ∷ seen (codes "glance") ∷ seen (codes "look") ∷ seen (codes "look") ∷ []
 
-verdicts : rows_of its_verdict report ≡ 2 ∷ 3 ∷ []
+verdicts : rows_of its_verdict 1 report ≡ 2 ∷ 3 ∷ []
 unfolding spelled_read spelled_place spelled_item short_of number_of all_some
 verdicts = refl
 
-glances : rows_of its_glance report ≡ 5 ∷ []
+glances : rows_of its_glance 1 report ≡ 5 ∷ []
 unfolding spelled_read spelled_place spelled_item short_of number_of all_some
 glances = refl
 
-looks : rows_of its_look report ≡ 6 ∷ 7 ∷ []
+looks : rows_of its_look 1 report ≡ 6 ∷ 7 ∷ []
 unfolding spelled_read spelled_place spelled_item short_of number_of all_some
 looks = refl

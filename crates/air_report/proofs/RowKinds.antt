@@ -28,8 +28,8 @@ use Rattle.air_report.proofs.LineOrder.{one_more, together}
 use Rattle.air_report.proofs.LineRanks.{in_time}
 use Rattle.air_report.proofs.OneLines.{begun_one, begun_told, known_one, known_told}
 use Rattle.air_report.proofs.PrintedGrammar.{starts_of}
-use Rattle.air_report.proofs.PrintedReports.{all_wide, joined_wide, line_is, lines_back, lines_joined, own_is, own_line, own_row, rows_of_lines, rows_tell}
-use Rattle.air_report.proofs.PrintedFields.{Printed, Row, Wide, line_row}
+use Rattle.air_report.proofs.PrintedReports.{all_wide, joined_wide, line_is, lines_back, lines_joined, own_is, own_line, own_row, row_tells, rows_of_lines, rows_tell}
+use Rattle.air_report.proofs.PrintedFields.{Printed, Row, Wide, line_row, spelled_or_untold}
 use Rattle.air_report.proofs.PrintedReads.{same_append}
 use Rattle.air_report.proofs.PrintedRows.{RowTold, spelled_told}
 use Rattle.air_report.proofs.SameHistories.{legal_next, legal_same, same_legal}
@@ -116,9 +116,11 @@ module _ (deck : Deck) (before : Report) (rep : IsReport deck before) where
       least = λ other h. elim (cases_lt (report_kind_number other) (report_kind_number kind)) [ inl less ↦ absurd (none other less h) | inr more ↦ more ];
     }
 
-    -- A record that spells no line.
-    no_line : (kind : FaultKind) → spelled_line row ≡ Err kind → (P : Report → Type 0) → NoLine row P
-    no_line kind e P line is holds = let found = line_is row line is in let told = sym e ∙ found.1 in cc told
+    -- A record with a field that isn't of its form is printed of no line: the row of a line spells it, or has no tag.
+    no_line : spelled_line deck.settings.version row ≡ Err fault.Form → NoLine row (λ line. ⊤)
+    no_line e line is any =
+        let found = line_is row line is in let same = sym e ∙ ap (spelled_line deck.settings.version) found.1.row_is in
+        elim (spelled_or_untold deck.settings.version found.0 found.1.wide) [ inl own ↦ let told = same ∙ own in cc told | inr none ↦ let told = same ∙ none in cc told ]
 
     no_first : (other : FaultKind) → report_kind_number other < 1 → Holds other → ⊥
     no_first fault.Fields less h = omega (arith, less)
@@ -129,7 +131,7 @@ module _ (deck : Deck) (before : Report) (rep : IsReport deck before) where
     no_first fault.Deck less h = omega (arith, less)
     no_first fault.Cycle less h = omega (arith, less)
 
-    no_second : RowTold row (Err fault.Form) → (other : FaultKind) → report_kind_number other < 2 → Holds other → ⊥
+    no_second : RowTold deck.settings.version row (Err fault.Form) → (other : FaultKind) → report_kind_number other < 2 → Holds other → ⊥
     no_second told fault.Fields less h = h.1 told.1
     no_second told fault.Form less h = omega (arith, less)
     no_second told fault.Tag less h = omega (arith, less)
@@ -138,7 +140,7 @@ module _ (deck : Deck) (before : Report) (rep : IsReport deck before) where
     no_second told fault.Deck less h = omega (arith, less)
     no_second told fault.Cycle less h = omega (arith, less)
 
-    no_third : RowTold row (Err fault.Tag) → (other : FaultKind) → report_kind_number other < 3 → Holds other → ⊥
+    no_third : RowTold deck.settings.version row (Err fault.Tag) → (other : FaultKind) → report_kind_number other < 3 → Holds other → ⊥
     no_third told fault.Fields less h = h.0 told
     no_third told fault.Form less h = h.0 told
     no_third told fault.Tag less h = omega (arith, less)
@@ -147,9 +149,9 @@ module _ (deck : Deck) (before : Report) (rep : IsReport deck before) where
     no_third told fault.Deck less h = omega (arith, less)
     no_third told fault.Cycle less h = omega (arith, less)
 
-    unspelled : (kind : FaultKind) → spelled_line row ≡ Err kind → RowTold row (Err kind) → Least kind
+    unspelled : (kind : FaultKind) → spelled_line deck.settings.version row ≡ Err kind → RowTold deck.settings.version row (Err kind) → Least kind
     unspelled fault.Fields e told = least_from fault.Fields told no_first
-    unspelled fault.Form e told = least_from fault.Form (told.0, no_line fault.Form e (λ line. ⊤)) (no_second told)
+    unspelled fault.Form e told = least_from fault.Form (told.0, no_line e) (no_second told)
     unspelled fault.Tag e told = least_from fault.Tag told (no_third told)
     unspelled fault.Order e told = absurd told
     unspelled fault.Update e told = absurd told
@@ -157,16 +159,16 @@ module _ (deck : Deck) (before : Report) (rep : IsReport deck before) where
     unspelled fault.Cycle e told = absurd told
 
     -- A record that spells a line.
-    module _ (x : Line) (e : spelled_line row ≡ Ok x) where
-      told : RowTold row (Ok x)
-      told = spelled_told row (Ok x) e
+    module _ (x : Line) (e : spelled_line deck.settings.version row ≡ Ok x) where
+      told : RowTold deck.settings.version row (Ok x)
+      told = spelled_told deck.settings.version row (Ok x) e
 
       mine : IsLineOf row (own_line deck x)
       mine = own_is deck row x told.1
 
       same : (line : Report) → IsLineOf row line → lines_in line ≡ sections_of (x ∷ [])
       same line is =
-          let found = line_is row line is in let both = sym found.1 ∙ e in let one : found.0 ≡ x = cc both in
+          let found = line_is row line is in let one : found.0 ≡ x = row_tells found.0 x found.1.wide told.1.wide (sym found.1.row_is ∙ told.1.row_is) in
           found.2 ∙ ap (λ y. sections_of (y ∷ [])) one
 
       abbrev late : Bool
@@ -242,16 +244,16 @@ module _ (deck : Deck) (before : Report) (rep : IsReport deck before) where
           by false true true true ea en ek eb h = none_holds ea en ek eb
 
     -- What the reader tells of a record.
-    pub least_kind_is : (kind : FaultKind) → line_record_kind deck lines (spelled_line row) ≡ Some kind → Least kind
-    least_kind_is kind h = by (spelled_line row) refl h
+    pub least_kind_is : (kind : FaultKind) → line_record_kind deck lines (spelled_line deck.settings.version row) ≡ Some kind → Least kind
+    least_kind_is kind h = by (spelled_line deck.settings.version row) refl h
       where
-        by : (o : Result Line FaultKind) → spelled_line row ≡ o → line_record_kind deck lines o ≡ Some kind → Least kind
-        by (Err other) e h = let one : other ≡ kind = cc h in subst Least one (unspelled other e (spelled_told row (Err other) e))
+        by : (o : Result Line FaultKind) → spelled_line deck.settings.version row ≡ o → line_record_kind deck lines o ≡ Some kind → Least kind
+        by (Err other) e h = let one : other ≡ kind = cc h in subst Least one (unspelled other e (spelled_told deck.settings.version row (Err other) e))
         by (Ok x) e h = tested x e kind h
 
-    pub no_kind_is : line_record_kind deck lines (spelled_line row) ≡ None → (other : FaultKind) → Applies deck before row other → ⊥
-    no_kind_is h = by (spelled_line row) refl h
+    pub no_kind_is : line_record_kind deck lines (spelled_line deck.settings.version row) ≡ None → (other : FaultKind) → Applies deck before row other → ⊥
+    no_kind_is h = by (spelled_line deck.settings.version row) refl h
       where
-        by : (o : Result Line FaultKind) → spelled_line row ≡ o → line_record_kind deck lines o ≡ None → (other : FaultKind) → Holds other → ⊥
+        by : (o : Result Line FaultKind) → spelled_line deck.settings.version row ≡ o → line_record_kind deck lines o ≡ None → (other : FaultKind) → Holds other → ⊥
         by (Err other) e h = cc h
         by (Ok x) e h = untested x e h

@@ -28,6 +28,10 @@ deck = record {
   settings = record { policy = FMatrix; version = 1; cycles = 1; seed = 0; loss = 0; again = 0; late = 0; monitors = 1; hears = 1 };
 }
 
+-- The same deck with buckets that have ages.
+abbrev pub young : Deck
+young = record deck { settings = record deck.settings { version = 2 } }
+
 a_read : spelled_read (codes "3@2=15") ≡ Some (record { item = 3; cycle = 2; value = 15 })
 unfolding spelled_read spelled_place spelled_item short_of number_of
 a_read = refl
@@ -52,10 +56,13 @@ accept0 = codes "accept" ∷ codes "0" ∷ codes "0" ∷ codes "1" ∷ codes "0@
 abbrev abort0 : Row
 abort0 = codes "abort" ∷ codes "0" ∷ codes "0" ∷ codes "1" ∷ codes "0@1=10" ∷ codes "1@2" ∷ codes "0" ∷ []
 
+abbrev aged0 : Row
+aged0 = codes "aged" ∷ codes "0" ∷ codes "0" ∷ codes "1" ∷ codes "0@1=10" ∷ codes "1@256" ∷ []
+
 abbrev look0 : Row
 look0 = codes "look" ∷ codes "0" ∷ codes "1" ∷ codes "30" ∷ []
 
-whole : sections_of (spelled_lines (start ∷ commit0 ∷ accept0 ∷ look0 ∷ [])) ≡ record {
+whole : sections_of (spelled_lines 1 (start ∷ commit0 ∷ accept0 ∷ look0 ∷ [])) ≡ record {
   events = Start ∷ Commit 0 0 ∷ [];
   verdicts = record {
     reader = 0;
@@ -84,6 +91,15 @@ committed_twice = refl
 two_kinds : line_kinds_at deck (look0 ∷ accept0 ∷ []) 1 ≡ 4 ∷ 7 ∷ []
 unfolding line_kinds_at spelled_read spelled_place spelled_item short_of number_of all_some
 two_kinds = refl
+
+-- An aged attempt is told where buckets have ages.
+aged_untold : line_kinds_at deck (start ∷ aged0 ∷ []) 1 ≡ 3 ∷ []
+unfolding line_kinds_at spelled_read spelled_place spelled_item short_of number_of all_some
+aged_untold = refl
+
+aged_early : line_kinds_at young (start ∷ aged0 ∷ []) 1 ≡ 7 ∷ []
+unfolding line_kinds_at spelled_read spelled_place spelled_item short_of number_of all_some
+aged_early = refl
 
 one_cycle_early : line_kinds_at deck (start ∷ abort0 ∷ []) 1 ≡ 7 ∷ []
 unfolding line_kinds_at spelled_read spelled_place spelled_item short_of number_of all_some

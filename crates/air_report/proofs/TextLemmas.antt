@@ -1,5 +1,5 @@
 -- The row that is written of a line spells that line.
-use Rattle.std.proofs.Common.{◌≡◌, ◌<◌, ◌^◌, ◌++◌, ◌∷◌, [], ℕ, List, Option, Some, Ok, Bool, true, false, not, refl, ap, ◌∙◌, append_assoc, codes, eqb, length, map, get_or, nat_lt, arith}
+use Rattle.std.proofs.Common.{◌≡◌, ◌<◌, ◌^◌, ◌++◌, ◌∷◌, [], ℕ, List, Option, Some, Ok, Err, Bool, true, false, not, refl, ap, ◌∙◌, append_assoc, codes, eqb, length, map, get_or, nat_lt, arith}
 use Rattle.std.specs.Prelude.{All}
 use Rattle.std.specs.Char.{is_ascii_digit}
 use Rattle.std.specs.List.{list_all}
@@ -18,12 +18,15 @@ use Rattle.air_base.proofs.NumberFronts.{all_such, spelled_digits}
 use Rattle.air_base.proofs.PartLemmas.{all_some-Some}
 use Rattle.air_history.specs.declared.histories.Event.{Event}
 use Rattle.air_history.specs.declared.histories.Event.TheVariants as e
+use Rattle.air_model.specs.Buckets.{has_ages}
 use Rattle.air_model.specs.Reports.{counts_row, event_row, look_row, place_text, read_text, verdict_row}
 use Rattle.air_model.specs.declared.reports.CountsLine.{CountsLine}
 use Rattle.air_model.specs.declared.reports.LookLine.{LookLine}
 use Rattle.air_model.specs.declared.reports.VerdictLine.{VerdictLine}
+use Rattle.air_report.specs.LineFaults.{may_end}
 use Rattle.air_report.specs.LineTexts.{short_of, spelled_item, spelled_line, spelled_place, spelled_read}
 use Rattle.air_report.specs.ReportLines.{its_line}
+use Rattle.air_report.specs.declared.reading.kinds.FaultKind.TheVariants as fault
 use Rattle.air_report.specs.declared.reading.lines.Line.TheVariants as l
 use Rattle.air_report.proofs.ReadLemmas.{place_made, read_made}
 use Rattle.air_report.specs.LineRules.{LineWide}
@@ -99,26 +102,32 @@ reads_spelled rs w =
 
 -- ---- lines
 
-pub event_spelled : (event : Event) → LineWide (its_line event) → spelled_line (event_row event) ≡ Ok (l.Event (its_line event))
-event_spelled (e.Commit by seq update) w = rw (short_text by w.0, short_text seq w.1) refl
-event_spelled e.Start w = refl
+pub event_spelled : (version : ℕ) (event : Event) → LineWide (its_line event) → spelled_line version (event_row event) ≡ Ok (l.Event (its_line event))
+event_spelled version (e.Commit by seq update) w = rw (short_text by w.0, short_text seq w.1) refl
+event_spelled version e.Start w = refl
 
-ended_spelled : (end : VerdictKind) (line : VerdictLine) → VerdictWide line → line.verdict.kind ≡ end → spelled_line (verdict_row line) ≡ Ok (l.Verdict line)
-ended_spelled kind.Accept line w same =
+ended_spelled : (version : ℕ) (end : VerdictKind) (line : VerdictLine) → VerdictWide line → line.verdict.kind ≡ end → may_end version end ≡ true → spelled_line version (verdict_row line) ≡ Ok (l.Verdict line)
+ended_spelled version kind.Accept line w same may =
     rw (same, short_text line.reader w.reader, short_text line.verdict.query w.query, short_text line.verdict.attempt w.attempt, reads_spelled line.reads w.reads) refl
-ended_spelled kind.Unfinished line w same =
+ended_spelled version kind.Unfinished line w same may =
     rw (same, short_text line.reader w.reader, short_text line.verdict.query w.query, short_text line.verdict.attempt w.attempt, reads_spelled line.reads w.reads) refl
-ended_spelled (kind.Aged item cycle) line w same = let none : EndWide (kind.Aged item cycle) = rw same at w.end in absurd none
-ended_spelled (kind.Abort item cycle clash) line w same =
+ended_spelled version (kind.Aged item cycle) line w same may =
+    let wide : EndWide (kind.Aged item cycle) = rw same at w.end in let ages : has_ages version ≡ true = may in
+    rw (same, ages, short_text line.reader w.reader, short_text line.verdict.query w.query, short_text line.verdict.attempt w.attempt, reads_spelled line.reads w.reads, place_spelled item cycle wide.0 wide.1) refl
+ended_spelled version (kind.Abort item cycle clash) line w same may =
     let wide : EndWide (kind.Abort item cycle clash) = rw same at w.end in
     rw (same, short_text line.reader w.reader, short_text line.verdict.query w.query, short_text line.verdict.attempt w.attempt, reads_spelled line.reads w.reads, place_spelled item cycle wide.0 wide.1, item_text clash wide.2)
     refl
 
-pub verdict_spelled : (line : VerdictLine) → VerdictWide line → spelled_line (verdict_row line) ≡ Ok (l.Verdict line)
-verdict_spelled line w = ended_spelled line.verdict.kind line w refl
+pub verdict_spelled : (version : ℕ) (line : VerdictLine) → VerdictWide line → may_end version line.verdict.kind ≡ true → spelled_line version (verdict_row line) ≡ Ok (l.Verdict line)
+verdict_spelled version line w may = ended_spelled version line.verdict.kind line w refl may
 
-pub counts_spelled : (line : CountsLine) → CountsWide line → spelled_line (counts_row line) ≡ Ok (l.Counts line)
-counts_spelled line w =
+-- An aged attempt has no tag where buckets have no ages.
+pub aged_untold : (version item cycle : ℕ) (line : VerdictLine) → line.verdict.kind ≡ kind.Aged item cycle → has_ages version ≡ false → spelled_line version (verdict_row line) ≡ Err fault.Tag
+aged_untold version item cycle line same full = rw (same, full) refl
+
+pub counts_spelled : (version : ℕ) (line : CountsLine) → CountsWide line → spelled_line version (counts_row line) ≡ Ok (l.Counts line)
+counts_spelled version line w =
     rw (
       short_text line.reader w.reader,
       text_spells line.counts.opened w.opened,
@@ -129,8 +138,8 @@ counts_spelled line w =
       text_spells line.counts.copied w.copied,
     ) refl
 
-pub glance_spelled : (line : LookLine) → LookWide line → spelled_line (look_row (codes "glance") line) ≡ Ok (l.Glance line)
-glance_spelled line w = rw (short_text line.monitor w.monitor, short_text line.cycle w.cycle, text_spells line.total w.total) refl
+pub glance_spelled : (version : ℕ) (line : LookLine) → LookWide line → spelled_line version (look_row (codes "glance") line) ≡ Ok (l.Glance line)
+glance_spelled version line w = rw (short_text line.monitor w.monitor, short_text line.cycle w.cycle, text_spells line.total w.total) refl
 
-pub look_spelled : (line : LookLine) → LookWide line → spelled_line (look_row (codes "look") line) ≡ Ok (l.Look line)
-look_spelled line w = rw (short_text line.monitor w.monitor, short_text line.cycle w.cycle, text_spells line.total w.total) refl
+pub look_spelled : (version : ℕ) (line : LookLine) → LookWide line → spelled_line version (look_row (codes "look") line) ≡ Ok (l.Look line)
+look_spelled version line w = rw (short_text line.monitor w.monitor, short_text line.cycle w.cycle, text_spells line.total w.total) refl

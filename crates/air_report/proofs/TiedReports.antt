@@ -35,7 +35,7 @@ module _ (deck : Deck) where
   -- Records that spell lines are the rows of a report of the deck.
   rows_spelled : (rows : List Row) (lines : ReportLines) → RowsSpellLines deck rows lines → (rows ≡ report_rows (report_in deck lines)) × IsReport deck (report_in deck lines)
   rows_spelled rows lines s =
-      let each = lines_of_rows rows (together lines) (in_order deck rows lines s) in (
+      let each = lines_of_rows deck.settings.version rows (together lines) (in_order deck rows lines s) in (
         each.0 ∙ ap (λ r. map line_row (together r)) (sym (lines_back deck lines)) ∙ rows_of_lines (report_in deck lines),
         report_of_lines deck lines (widths_of deck lines each.1) (spelled_kept deck rows lines s),
       )
@@ -79,11 +79,11 @@ module _ (deck : Deck) where
 
   -- The reader stands behind records without fault, and tells a kind of the next.
   pub told_after : (text : List ℕ) (rows : List Row) → NoneBefore (line_kinds_at deck rows) (length rows) → (row : Row) (left : List Row) (kind : FaultKind) → records_of text ≡ rows ++ row ∷ left
-      → line_record_kind deck (sections_of (spelled_lines rows)) (spelled_line row) ≡ Some kind → HasReportFault deck text (length rows + 1) (report_kind_number kind)
+      → line_record_kind deck (sections_of (spelled_lines deck.settings.version rows)) (spelled_line deck.settings.version row) ≡ Some kind → HasReportFault deck text (length rows + 1) (report_kind_number kind)
   told_after text rows before row left kind all h =
-      let lines = sections_of (spelled_lines rows) in let report = report_in deck lines in
+      let lines = sections_of (spelled_lines deck.settings.version rows) in let report = report_in deck lines in
       let new = rows_spelled rows lines (record { faultless = before; sections = refl }) in
-      let least = least_kind_is deck report new.1 row kind (ap (λ r. line_record_kind deck r (spelled_line row)) (lines_back deck lines) ∙ h) in
+      let least = least_kind_is deck report new.1 row kind (ap (λ r. line_record_kind deck r (spelled_line deck.settings.version row)) (lines_back deck lines) ∙ h) in
       record {
         before = report;
         faulty = row;
@@ -99,16 +99,16 @@ module _ (deck : Deck) where
 
   -- The fault that a text has is the one that the reader tells.
   pub fault_told : (text : List ℕ) (row kind : ℕ) → HasReportFault deck text row kind → HasLineFault deck text row kind
-  fault_told text row kind f = by (line_record_kind deck (lines_in f.before) (spelled_line f.faulty)) refl
+  fault_told text row kind f = by (line_record_kind deck (lines_in f.before) (spelled_line deck.settings.version f.faulty)) refl
     where
-      by : (o : Option FaultKind) → line_record_kind deck (lines_in f.before) (spelled_line f.faulty) ≡ o → HasLineFault deck text row kind
+      by : (o : Option FaultKind) → line_record_kind deck (lines_in f.before) (spelled_line deck.settings.version f.faulty) ≡ o → HasLineFault deck text row kind
       by None e = absurd (no_kind_is deck f.before f.report f.faulty e f.which f.applies)
       by (Some told) e =
           let least = least_kind_is deck f.before f.report f.faulty told e in
           let most = f.least told least.applies in let first = least.least f.which f.applies in
           let same : report_kind_number told ≡ kind = omega (arith, most, first, f.kind_number_is) in
           let s = rows_stand f.before f.report in
-          let read = read_fault deck text (report_rows f.before) s.faultless f.faulty f.behind told f.records (ap (λ r. line_record_kind deck r (spelled_line f.faulty)) s.sections ∙ e) in
+          let read = read_fault deck text (report_rows f.before) s.faultless f.faulty f.behind told f.records (ap (λ r. line_record_kind deck r (spelled_line deck.settings.version f.faulty)) s.sections ∙ e) in
           subst (λ k. HasLineFault deck text row k) same (subst (λ r. HasLineFault deck text r (report_kind_number told)) (sym f.row_number_is) read)
 
   -- What the reader comes to: the lines of all records, or the first fault.
@@ -116,13 +116,13 @@ module _ (deck : Deck) where
   Found text = (row : ℕ) × (kind : ℕ) × HasLineFault deck text row kind × HasReportFault deck text row kind
 
   walk : (text : List ℕ) (rows left : List Row) → records_of text ≡ rows ++ left → NoneBefore (line_kinds_at deck rows) (length rows) → ((lines : ReportLines) × SpellsLines deck text lines) ⊎ Found text
-  walk text rows [] all before = inl (sections_of (spelled_lines rows), read_all deck text rows before all)
+  walk text rows [] all before = inl (sections_of (spelled_lines deck.settings.version rows), read_all deck text rows before all)
   walk text rows (row ∷ left) all before =
-      by (line_record_kind deck (sections_of (spelled_lines rows)) (spelled_line row)) refl
+      by (line_record_kind deck (sections_of (spelled_lines deck.settings.version rows)) (spelled_line deck.settings.version row)) refl
       (λ e. walk text (rows ++ row ∷ []) left (all ∙ sym (append_assoc rows (row ∷ []) left)) (none_added deck rows row before e))
     where
-      by : (o : Option FaultKind) → line_record_kind deck (sections_of (spelled_lines rows)) (spelled_line row) ≡ o
-          → (line_record_kind deck (sections_of (spelled_lines rows)) (spelled_line row) ≡ None → ((lines : ReportLines) × SpellsLines deck text lines) ⊎ Found text)
+      by : (o : Option FaultKind) → line_record_kind deck (sections_of (spelled_lines deck.settings.version rows)) (spelled_line deck.settings.version row) ≡ o
+          → (line_record_kind deck (sections_of (spelled_lines deck.settings.version rows)) (spelled_line deck.settings.version row) ≡ None → ((lines : ReportLines) × SpellsLines deck text lines) ⊎ Found text)
           → ((lines : ReportLines) × SpellsLines deck text lines) ⊎ Found text
       by None e further = further e
       by (Some kind) e further = inr (length rows + 1, report_kind_number kind, read_fault deck text rows before row left kind all e, told_after text rows before row left kind all e)

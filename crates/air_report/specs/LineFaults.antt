@@ -9,6 +9,7 @@ use Rattle.std.specs.Result.{result_ok}
 use Rattle.air_base.specs.declared.verdicts.ReadOf.{ReadOf}
 use Rattle.air_base.specs.declared.verdicts.VerdictKind.{VerdictKind}
 use Rattle.air_base.specs.declared.verdicts.VerdictKind.TheVariants.{Accept, Abort, Aged, Unfinished}
+use Rattle.air_model.specs.Buckets.{has_ages}
 use Rattle.air_model.specs.Decks.{Deck, updates_by}
 use Rattle.air_model.specs.declared.reports.VerdictLine.{VerdictLine}
 use Rattle.item_catalog.specs.RecordKinds.{spelled_kinds}
@@ -70,10 +71,19 @@ follow query items (Aged item cycle) = leads items query && option_map_or (λ ne
 follow query items Unfinished = leads items query && nat_lt (length items) (length query)
 
 -- The verdict is on an attempt of the deck: its reader tries so often, and its reads follow a query of the reader.
-abbrev pub is_tried : Deck → VerdictLine → Bool
-is_tried deck line =
+abbrev pub is_attempt : Deck → VerdictLine → Bool
+is_attempt deck line =
     option_map_or (λ plan. nat_le 1 line.verdict.attempt && nat_le line.verdict.attempt plan.tries) (slice_get deck.readers line.reader) false
     && option_map_or (λ query. follow query (map read_item line.reads) line.verdict.kind) (slice_get (get_or deck.queries line.reader []) line.verdict.query) false
+
+-- An attempt ends aged only where buckets have ages.
+abbrev pub may_end : ℕ → VerdictKind → Bool
+may_end version (Aged item cycle) = has_ages version
+may_end version other = true
+
+-- The verdict is on an attempt of the deck, which may end so.
+abbrev pub is_tried : Deck → VerdictLine → Bool
+is_tried deck line = is_attempt deck line && may_end deck.settings.version line.verdict.kind
 
 -- What a line names, beside updates and cycles, is the deck's.
 abbrev pub is_known : Deck → Line → Bool
@@ -118,15 +128,15 @@ line_tests deck before line =
 abbrev pub line_kinds_after : Deck → ReportLines → Result Line FaultKind → List ℕ
 line_kinds_after deck before spelled = spelled_kinds report_kind_number (line_tests deck before) spelled
 
--- The lines that records spell; a record that spells none adds nothing.
-abbrev pub spelled_lines : List (List (List ℕ)) → List Line
-spelled_lines rows = filter_map (λ row. result_ok (spelled_line row)) rows
+-- The lines that records spell in this version; a record that spells none adds nothing.
+abbrev pub spelled_lines : ℕ → List (List (List ℕ)) → List Line
+spelled_lines version rows = filter_map (λ row. result_ok (spelled_line version row)) rows
 
 -- At the end no kind applies.
 abbrev pub line_place_kinds : Deck → ReportLines → Option (List (List ℕ)) → List ℕ
-line_place_kinds deck before (Some row) = line_kinds_after deck before (spelled_line row)
+line_place_kinds deck before (Some row) = line_kinds_after deck before (spelled_line deck.settings.version row)
 line_place_kinds deck before None = []
 
 -- The numbers of the kinds that apply to the record at a place, counted from 0, after all records before it.
 unfoldable pub line_kinds_at : Deck → List (List (List ℕ)) → ℕ → List ℕ
-line_kinds_at deck rows place = line_place_kinds deck (sections_of (spelled_lines (take place rows))) (slice_get rows place)
+line_kinds_at deck rows place = line_place_kinds deck (sections_of (spelled_lines deck.settings.version (take place rows))) (slice_get rows place)

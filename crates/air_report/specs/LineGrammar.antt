@@ -14,7 +14,7 @@ use Rattle.air_report.specs.ReportLines.{ReportLines, sections_of}
 -- The records spell the lines: no kind applies to a record, and these are the lines that they spell, by their sections.
 pub record RowsSpellLines (deck : Deck) (rows : List (List (List ℕ))) (lines : ReportLines) : Type 0 where
   pub faultless : NoneBefore (line_kinds_at deck rows) (length rows)
-  pub sections : lines ≡ sections_of (spelled_lines rows)
+  pub sections : lines ≡ sections_of (spelled_lines deck.settings.version rows)
 
 -- The text spells the lines, as a report of the deck.
 unfoldable pub SpellsLines : Deck → List ℕ → ReportLines → Type 0

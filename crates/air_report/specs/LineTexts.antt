@@ -1,7 +1,7 @@
 -- What a record of a report spells by itself: a line, or the kind of its fault.
 --
--- Three kinds need no other record and no deck: those of the number of fields, of the form of a field and of the tag. Every
--- other kind is asked of a line, so a record that spells none has the one kind told here.
+-- Three kinds need no other record, and of the deck its version alone: those of the number of fields, of the form of a field and of the tag.
+-- Where buckets have ages `aged` is a tag. Every other kind is asked of a line, so a record that spells none has the one kind told here.
 use Rattle.std.specs.Prelude.{◌^◌, ℕ, List, [], ◌∷◌, Option, Some, None, Result, Ok, Err, codes, nat_lt, if◌then◌else◌}
 use Rattle.air_base.specs.Numbers.{number_of}
 use Rattle.air_base.specs.NumberLists.{list_of}
@@ -9,8 +9,9 @@ use Rattle.air_base.specs.Pieces.{cut_at, two_of, three_of}
 use Rattle.air_base.specs.declared.verdicts.ReadOf.{ReadOf}
 use Rattle.air_base.specs.declared.verdicts.VerdictKind.{VerdictKind}
 use Rattle.air_base.specs.declared.verdicts.VerdictKind.TheVariants as kind
+use Rattle.air_model.specs.Buckets.{has_ages}
 use Rattle.air_model.specs.declared.reports.LookLine.{LookLine}
-use Rattle.item_catalog.specs.RecordFields.{◌is◌, four_of, seven_of, six_of}
+use Rattle.item_catalog.specs.RecordFields.{◌is◌, five_of, four_of, seven_of, six_of}
 use Rattle.item_catalog.specs.Spelled.{spelled_then as ◌>>=◌, or_fault}
 use Rattle.item_catalog.specs.Tags.{by_tag}
 use Rattle.air_report.specs.declared.reading.tags.Tag.{Tag}
@@ -67,6 +68,12 @@ abort_of place clash = do
   c ← spelled_item clash
   Some (kind.Abort p.0 p.1 c)
 
+-- The end of an attempt whose next read lies too far from those before it: that read.
+abbrev pub aged_of : List ℕ → Option VerdictKind
+aged_of place = do
+  p ← spelled_place place
+  Some (kind.Aged p.0 p.1)
+
 -- `commit,<by>,<seq>`
 abbrev pub commit_by : Option (List ℕ × List ℕ) → Result Line FaultKind
 commit_by None = Err fault.Fields
@@ -89,6 +96,11 @@ ended_by end (Some f) = or_fault fault.Form (verdict_by (Some end) f.0 f.1 f.2 f
 abbrev pub abort_by : Option (List ℕ × List ℕ × List ℕ × List ℕ × List ℕ × List ℕ) → Result Line FaultKind
 abort_by None = Err fault.Fields
 abort_by (Some f) = or_fault fault.Form (verdict_by (abort_of f.4 f.5) f.0 f.1 f.2 f.3)
+
+-- `aged,<reader>,<query>,<attempt>,<reads>,<item>@<cycle>`
+abbrev pub aged_by : Option (List ℕ × List ℕ × List ℕ × List ℕ × List ℕ) → Result Line FaultKind
+aged_by None = Err fault.Fields
+aged_by (Some f) = or_fault fault.Form (verdict_by (aged_of f.4) f.0 f.1 f.2 f.3)
 
 -- `counts,<reader>,<opened>,<dozed>,<late>,<refused>,<foreign>,<copied>`
 abbrev pub counts_by : Option (List ℕ × List ℕ × List ℕ × List ℕ × List ℕ × List ℕ × List ℕ) → Result Line FaultKind
@@ -115,9 +127,13 @@ seen_by (Some f) = or_fault fault.Form (do
   total ← number_of f.2
   Some (record { monitor = monitor; cycle = cycle; total = total }))
 
--- The tag of this name, if there is one.
-abbrev pub line_tag : List ℕ → Option Tag
-line_tag text =
+-- The tag `aged`, where the version has it.
+abbrev pub aged_tag : ℕ → Option Tag
+aged_tag version = if has_ages version then Some t.Aged else None
+
+-- The tag of this name, if the version has one.
+abbrev pub line_tag : ℕ → List ℕ → Option Tag
+line_tag version text =
     if text is codes "commit" then Some t.Commit
     else if text is codes "start" then Some t.Start
     else if text is codes "accept" then Some t.Accept
@@ -126,6 +142,7 @@ line_tag text =
     else if text is codes "counts" then Some t.Counts
     else if text is codes "glance" then Some t.Glance
     else if text is codes "look" then Some t.Look
+    else if text is codes "aged" then aged_tag version
     else None
 
 -- What is spelled, as a line.
@@ -139,12 +156,13 @@ spelled_line_by (Some t.Commit) fields = commit_by (two_of fields)
 spelled_line_by (Some t.Start) fields = start_by fields
 spelled_line_by (Some t.Accept) fields = ended_by kind.Accept (four_of fields)
 spelled_line_by (Some t.Abort) fields = abort_by (six_of fields)
+spelled_line_by (Some t.Aged) fields = aged_by (five_of fields)
 spelled_line_by (Some t.Unfinished) fields = ended_by kind.Unfinished (four_of fields)
 spelled_line_by (Some t.Counts) fields = counts_by (seven_of fields)
 spelled_line_by (Some t.Glance) fields = as_line Glance (seen_by (three_of fields))
 spelled_line_by (Some t.Look) fields = as_line Look (seen_by (three_of fields))
 spelled_line_by None fields = Err fault.Tag
 
--- What a record spells, by its tag.
-abbrev pub spelled_line : List (List ℕ) → Result Line FaultKind
-spelled_line row = by_tag line_tag spelled_line_by row
+-- What a record spells in this version, by its tag.
+abbrev pub spelled_line : ℕ → List (List ℕ) → Result Line FaultKind
+spelled_line version row = by_tag (line_tag version) spelled_line_by row

@@ -10,6 +10,6 @@ abbrev pub row_in : {L : Type 0} → (Line → Option L) → ℕ → Result Line
 row_in its row (Ok line) = option_map (λ x. row) (its line)
 row_in its row (Err kind) = None
 
--- The rows of the records that spell the lines of a section, in order. Rows are counted from 1.
-abbrev pub rows_of : {L : Type 0} → (Line → Option L) → List (List (List ℕ)) → List ℕ
-rows_of its records = filter_map (λ p. row_in its p.0 (spelled_line p.1)) (enumerate_from 1 records)
+-- The rows of the records that spell the lines of a section in this version, in order. Rows are counted from 1.
+abbrev pub rows_of : {L : Type 0} → (Line → Option L) → ℕ → List (List (List ℕ)) → List ℕ
+rows_of its version records = filter_map (λ p. row_in its p.0 (spelled_line version p.1)) (enumerate_from 1 records)

@@ -3,9 +3,10 @@
 -- A text spells a report of a deck where its records are the rows of the report. Else its first rows are those of a report of the deck,
 -- and behind them stands a row to which some kind of fault applies. The least of these kinds is told. By the laws of `laws/reading` a text
 -- either spells one report of a deck or has one fault.
-use Rattle.std.specs.Prelude.{◌≡◌, ◌≢◌, ◌+◌, ◌≤◌, ◌++◌, ℕ, List, [], ◌∷◌, Option, None, Some, codes, get_or, length, option_map, ⊤}
+use Rattle.std.specs.Prelude.{◌≡◌, ◌≢◌, ◌+◌, ◌≤◌, ◌++◌, ℕ, List, [], ◌∷◌, Option, None, Some, codes, get_or, if◌then◌else◌, length, option_map, ⊤}
 use Rattle.std.specs.List.{find}
 use Rattle.air_history.specs.Histories.{starts}
+use Rattle.air_model.specs.Buckets.{has_ages}
 use Rattle.air_model.specs.Decks.{Deck, IsLegal}
 use Rattle.air_model.specs.Reports.{Report, report_rows}
 use Rattle.item_catalog.specs.RecordFields.{◌is◌}
@@ -24,14 +25,14 @@ pub record SpellsReport (deck : Deck) (text : List ℕ) (r : Report) : Type 0 wh
 
 -- ---- rows
 
--- How many fields the rows of each tag have.
-abbrev pub row_lengths : List (List ℕ × ℕ)
-row_lengths = (codes "commit", 3) ∷ (codes "start", 1) ∷ (codes "accept", 5) ∷ (codes "abort", 7) ∷ (codes "unfinished", 5)
-    ∷ (codes "counts", 8) ∷ (codes "glance", 4) ∷ (codes "look", 4) ∷ []
+-- How many fields the rows of each tag of a version have: `aged` is one where buckets have ages.
+abbrev pub row_lengths : ℕ → List (List ℕ × ℕ)
+row_lengths version = (codes "commit", 3) ∷ (codes "start", 1) ∷ (codes "accept", 5) ∷ (codes "abort", 7) ∷ (codes "unfinished", 5)
+    ∷ (codes "counts", 8) ∷ (codes "glance", 4) ∷ (codes "look", 4) ∷ (if has_ages version then (codes "aged", 6) ∷ [] else [])
 
 -- How many fields a row is to have: its first field is its tag.
-abbrev pub due_length : List (List ℕ) → Option ℕ
-due_length row = option_map (λ (pair : List ℕ × ℕ). pair.1) (find (λ (pair : List ℕ × ℕ). get_or row 0 [] is pair.0) row_lengths)
+abbrev pub due_length : ℕ → List (List ℕ) → Option ℕ
+due_length version row = option_map (λ (pair : List ℕ × ℕ). pair.1) (find (λ (pair : List ℕ × ℕ). get_or row 0 [] is pair.0) (row_lengths version))
 
 -- A line of a row is a report that has this row alone, and whose numbers fit their types.
 pub record IsLineOf (row : List (List ℕ)) (line : Report) : Type 0 where
@@ -56,9 +57,9 @@ joined r s = record {
 
 -- The kinds of fault that apply to a row behind the rows of a report. Where no line has the row, those that ask for one apply too.
 abbrev pub Applies : Deck → Report → List (List ℕ) → FaultKind → Type 0
-Applies deck before row fault.Fields = (due_length row ≢ None) × (due_length row ≢ Some (length row))
-Applies deck before row fault.Form = (due_length row ≢ None) × NoLine row (λ line. ⊤)
-Applies deck before row fault.Tag = due_length row ≡ None
+Applies deck before row fault.Fields = (due_length deck.settings.version row ≢ None) × (due_length deck.settings.version row ≢ Some (length row))
+Applies deck before row fault.Form = (due_length deck.settings.version row ≢ None) × NoLine row (λ line. ⊤)
+Applies deck before row fault.Tag = due_length deck.settings.version row ≡ None
 Applies deck before row fault.Order = NoLine row (λ line. report_rows (joined before line) ≡ report_rows before ++ report_rows line)
 Applies deck before row fault.Update = NoLine row (λ line. IsLegal deck (before.history ++ line.history))
 Applies deck before row fault.Deck = NoLine row (IsKnown deck)

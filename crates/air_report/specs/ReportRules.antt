@@ -1,15 +1,16 @@
 -- What a report of a deck may say: numbers that fit their types, a legal history, and lines that name what the deck has and cycles
 -- that began.
-use Rattle.std.specs.Prelude.{◌<◌, ◌≤◌, ◌^◌, ℕ, All, length, ⊤}
+use Rattle.std.specs.Prelude.{◌<◌, ◌≤◌, ◌^◌, ℕ, All, IsTrue, length, ⊤}
 use Rattle.air_base.specs.declared.verdicts.ReadOf.{ReadOf}
 use Rattle.air_base.specs.declared.verdicts.VerdictKind.{VerdictKind}
 use Rattle.air_base.specs.declared.verdicts.VerdictKind.TheVariants.{Accept, Abort, Aged, Unfinished}
 use Rattle.air_history.specs.Histories.{starts}
 use Rattle.air_history.specs.declared.histories.Event.{Event}
 use Rattle.air_history.specs.declared.histories.Event.TheVariants.{Commit, Start}
+use Rattle.air_model.specs.Buckets.{has_ages}
 use Rattle.air_model.specs.Decks.{Deck, IsLegal}
 use Rattle.air_model.specs.Reports.{Report}
-use Rattle.air_model.specs.SessionLaws.{IsOfReader, decided_on, reads_at}
+use Rattle.air_model.specs.SessionLaws.{IsAged, IsOfReader, decided_on, reads_at}
 use Rattle.air_model.specs.Sessions.{Line, reader_of}
 use Rattle.air_model.specs.declared.reports.CountsLine.{CountsLine}
 use Rattle.air_model.specs.declared.reports.LookLine.{LookLine}
@@ -28,11 +29,11 @@ pub record ReadWide (r : ReadOf) : Type 0 where
   pub cycle : r.cycle < 2 ^ 32
   pub value : r.value < 2 ^ 64
 
--- The same of a read that was refused, and of the item with which it clashed. So far no deck's attempts end aged, and no line says so.
+-- The same of a read that was refused or lay too far from the others, and of the item with which it clashed.
 abbrev pub EndWide : VerdictKind → Type 0
 EndWide Accept = ⊤
 EndWide (Abort item cycle clash) = (item < 2 ^ 16) × (cycle < 2 ^ 32) × (clash < 2 ^ 16)
-EndWide (Aged item cycle) = ⊥
+EndWide (Aged item cycle) = (item < 2 ^ 16) × (cycle < 2 ^ 32)
 EndWide Unfinished = ⊤
 
 -- The numbers of a verdict line have 32 bits.
@@ -73,9 +74,13 @@ pub record HasWidths (r : Report) : Type 0 where
 abbrev pub its_attempt : VerdictLine → Line
 its_attempt l = record { verdict = l.verdict; reads = l.reads }
 
--- The verdict is on an attempt of one of the deck's readers.
+-- An attempt ends aged only where buckets have ages.
+abbrev pub MayEnd : ℕ → VerdictKind → Type 0
+MayEnd version kind = IsAged kind → IsTrue (has_ages version)
+
+-- The verdict is on an attempt of one of the deck's readers, which may end so.
 abbrev pub IsTried : Deck → VerdictLine → Type 0
-IsTried deck l = (l.reader < length deck.readers) × IsOfReader (reader_of deck l.reader) (its_attempt l)
+IsTried deck l = (l.reader < length deck.readers) × IsOfReader (reader_of deck l.reader) (its_attempt l) × MayEnd deck.settings.version l.verdict.kind
 
 -- What lines name, beside updates and cycles, is the deck's.
 pub record IsKnown (deck : Deck) (r : Report) : Type 0 where

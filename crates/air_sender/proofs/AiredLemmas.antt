@@ -122,10 +122,10 @@ module _ (deck : Deck) (G : List Event) (e : Event) (board : Board) (is : board 
 
   -- a deck without replans airs in edition 0
   own_edition : IsDeck deck → (c : ℕ) → 0 ≡ edition_at (air_of deck) c
-  own_edition made c = sym (edition_is deck c ∙ one_edition deck c made.plain.1)
+  own_edition made c = sym (edition_is deck c ∙ one_edition deck c made.plain)
 
   own_slots : IsDeck deck → (disks : List Disk) (c : ℕ) → disks ≡ disks_in deck 0 → program disks ≡ slots_at (air_of deck) c
-  own_slots made disks c d = ap program d ∙ sym (plain_slots deck c made.plain.1)
+  own_slots made disks c d = ap program d ∙ sym (plain_slots deck c made.plain)
 
   -- what the board airs is the new cycle of the history
   pub start_aired : OwnCycleLaw → IsDeck deck → is_start e ≡ true → (form : Form) (disks : List Disk) (before after : List (List ℕ)) → form ≡ form_of (air_of deck) → disks ≡ disks_in deck 0

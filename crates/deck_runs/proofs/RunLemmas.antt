@@ -48,7 +48,7 @@ new_in_step p f b values pv ps fv fb is = record {
 
 -- A deck has no replans.
 pub no_replans : (deck : Deck) → IsDeck deck → deck.replans ≡ []
-no_replans deck made = made.plain.1
+no_replans deck made = made.plain
 
 -- So its air is of its values, its form and its slots.
 pub own_air : (deck : Deck) (disks : List Disk) (values : List ℕ) (form : Form) → deck.replans ≡ [] → disks ≡ disks_in deck 0 → values ≡ values_in deck → form ≡ form_of (air_of deck)

@@ -277,10 +277,10 @@ deck_same : {i j : List Item} {d c : List DiskSpec} {u v : List (List UpdateList
     → ◌≡◌ {A = Deck} (record { items = i; disks = d; replans = f; updates = u; readers = r; queries = q; script = x; settings = t }) (record { items = j; disks = c; replans = g; updates = v; readers = r; queries = p; script = x; settings = s })
 deck_same h1 h2 h3 h4 h5 h6 = cc
 
--- Settings of version 1 are those that are all set.
-plain_settings : (s : Settings) → s.version ≡ 1 → settings_in (all_set s) ≡ s
-plain_settings s one = rw (← one) refl
+-- Settings are those that are all set.
+settings_back : (s : Settings) → settings_in (all_set s) ≡ s
+settings_back s = refl
 
 pub deck_back : (deck : Deck) → all_named 0 deck.updates ≡ length deck.updates → length deck.queries ≡ length deck.readers → IsPlain deck → deck_from (whole_draft deck) ≡ deck
 deck_back deck updaters_named asked plain =
-    deck_same (items_same 0 deck.items) (disks_same 0 deck.disks) (sym plain.1) (front_taken deck.updates (more_updaters deck) (max 0 (all_named 0 deck.updates)) (omega arith)) (front_taken deck.queries (more_readers deck) (length deck.readers) (sym asked)) (plain_settings deck.settings plain.0)
+    deck_same (items_same 0 deck.items) (disks_same 0 deck.disks) (sym plain) (front_taken deck.updates (more_updaters deck) (max 0 (all_named 0 deck.updates)) (omega arith)) (front_taken deck.queries (more_readers deck) (length deck.readers) (sym asked)) (settings_back deck.settings)

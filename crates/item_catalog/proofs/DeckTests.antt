@@ -1,17 +1,17 @@
 -- No kind of fault applies to the declarations of a deck that is well made and within the limits.
-use Rattle.std.proofs.Common.{◌≡◌, ◌<◌, ◌≤◌, ◌+◌, ◌^◌, ◌++◌, ◌∷◌, [], ℕ, List, Some, None, true, false, not, refl, sym, ap, ◌∙◌, length, map, nat_le, nat_lt, subst, arith, length-append}
+use Rattle.std.proofs.Common.{◌≡◌, ◌⊎◌, ◌<◌, ◌≤◌, ◌+◌, ◌^◌, ◌++◌, ◌∷◌, [], ℕ, Bool, List, Some, None, true, false, if◌then◌else◌, inl, inr, not, refl, sym, ap, ◌∙◌, length, map, nat_le, nat_lt, subst, arith, length-append}
 use Rattle.std.specs.Prelude.{◌==◌, ◌||◌, All, sum_by}
 use Rattle.std.specs.List.{enumerate_from}
 use Rattle.std.proofs.lemmas.List.{length-map}
 use Rattle.std.proofs.lemmas.List.Elements.{All-head, All-tail}
 use Rattle.std.proofs.lemmas.List.FromFn.{length-enumerate_from}
 use Rattle.std.proofs.lemmas.List.Sums.{sum_by-cons}
-use Rattle.air_base.specs.declared.limits.TheConstants.{MOST_AGE, MOST_ASKED, MOST_DISKS, MOST_FREQ, MOST_FULL_ITEMS, MOST_QUERIES, MOST_RATE, MOST_READERS, MOST_ROOM, MOST_TRIES}
+use Rattle.air_base.specs.declared.limits.TheConstants.{MOST_AGE, MOST_ASKED, MOST_DISKS, MOST_FREQ, MOST_FULL_ITEMS, MOST_ITEMS, MOST_QUERIES, MOST_RATE, MOST_READERS, MOST_ROOM, MOST_SIZE, MOST_TRIES}
 use Rattle.air_history.specs.UpdateRules.{has_repeat}
 use Rattle.air_model.specs.declared.deck.ReaderPlan.{ReaderPlan}
 use Rattle.air_model.specs.Disks.{DiskSpec}
 use Rattle.air_model.specs.Decks.{Deck, IsDeck, IsQuery, Item}
-use Rattle.air_model.specs.Buckets.{most_count}
+use Rattle.air_model.specs.Buckets.{has_ages, most_count}
 use Rattle.item_catalog.specs.ListTests.{reaches}
 use Rattle.item_catalog.specs.RecordKinds.{first_of}
 use Rattle.item_catalog.specs.Declarations as e
@@ -30,15 +30,15 @@ use Rattle.item_catalog.proofs.ScriptTests.{committed, script_none, small_events
 
 -- ---- items and disks
 
-items_pass : (items : List Item) (d : DraftValue) (k : ℕ) → length d.items ≡ k → k + length items ≤ MOST_FULL_ITEMS → All (λ i. i.value < 2 ^ 64) items → All (λ i. i.rate ≤ MOST_RATE) items
+items_pass : (items : List Item) (d : DraftValue) (k : ℕ) → length d.items ≡ k → k + length items ≤ MOST_ITEMS → All (λ i. i.value < 2 ^ 64) items → All (λ i. i.rate ≤ MOST_RATE) items
     → Passes d (map item_declaration (enumerate_from k items))
 items_pass [] d k at few values rates = tt
 items_pass (i ∷ items) d k at few values rates =
     let rate = All-head (λ (i : Item). i.rate ≤ MOST_RATE) i items rates in
     let id : (k == length d.items) ≡ true = grind arith in (
       (omega arith, All-head (λ (i : Item). i.value < 2 ^ 64) i items values, omega arith),
-      none_two fault.Id fault.Limit (not (k == length d.items)) (nat_lt MOST_RATE i.rate || nat_le MOST_FULL_ITEMS (length d.items)) (ap not id)
-          (neither (nat_lt MOST_RATE i.rate) (nat_le MOST_FULL_ITEMS (length d.items)) (not_less MOST_RATE i.rate rate) (not_reached MOST_FULL_ITEMS (length d.items) (omega arith))),
+      none_two fault.Id fault.Limit (not (k == length d.items)) (nat_lt MOST_RATE i.rate || nat_le MOST_ITEMS (length d.items)) (ap not id)
+          (neither (nat_lt MOST_RATE i.rate) (nat_le MOST_ITEMS (length d.items)) (not_less MOST_RATE i.rate rate) (not_reached MOST_ITEMS (length d.items) (omega arith))),
       items_pass items (with_declaration d (item_declaration (k, i))) (k + 1) (omega (arith, length-append d.items (record { value = i.value; rate = i.rate } ∷ []))) (omega arith)
           (All-tail (λ (i : Item). i.value < 2 ^ 64) i items values) (All-tail (λ (i : Item). i.rate ≤ MOST_RATE) i items rates),
     )
@@ -52,9 +52,9 @@ disks_pass (disk ∷ disks) d few aired within =
     let a = All-head Aired disk disks aired in let w = All-head DiskWithin disk disks within in
     let size = w.size in let freq = w.freq in (
       (omega arith, omega arith),
-      none_one fault.Limit (outside 1 MOST_FULL_ITEMS disk.size || outside 1 MOST_FREQ disk.freq || nat_le MOST_DISKS (length d.disks))
-          (neither (outside 1 MOST_FULL_ITEMS disk.size || outside 1 MOST_FREQ disk.freq) (nat_le MOST_DISKS (length d.disks))
-          (neither (outside 1 MOST_FULL_ITEMS disk.size) (outside 1 MOST_FREQ disk.freq) (not_outside 1 MOST_FULL_ITEMS disk.size (omega arith) size) (not_outside 1 MOST_FREQ disk.freq (omega arith) freq))
+      none_one fault.Limit (outside 1 MOST_SIZE disk.size || outside 1 MOST_FREQ disk.freq || nat_le MOST_DISKS (length d.disks))
+          (neither (outside 1 MOST_SIZE disk.size || outside 1 MOST_FREQ disk.freq) (nat_le MOST_DISKS (length d.disks))
+          (neither (outside 1 MOST_SIZE disk.size) (outside 1 MOST_FREQ disk.freq) (not_outside 1 MOST_SIZE disk.size (omega arith) size) (not_outside 1 MOST_FREQ disk.freq (omega arith) freq))
           (not_reached MOST_DISKS (length d.disks) (omega arith))),
       disks_pass disks (with_declaration d (disk_declaration disk)) (omega (arith, length-append d.disks (record { size = disk.size; freq = Some disk.freq } ∷ [])))
           (All-tail Aired disk disks aired) (All-tail DiskWithin disk disks within),
@@ -84,7 +84,7 @@ readers_pass (r ∷ readers) d few tries within =
 abbrev Short : List ℕ → Type 0
 Short items = length items ≤ MOST_ASKED
 
-asked_pass : (n m reader : ℕ) → n ≤ MOST_FULL_ITEMS → m ≤ MOST_READERS → reader < m → (own : List (List ℕ)) (d : DraftValue) → length d.items ≡ n → length d.readers ≡ m → d.query_count + length own ≤ MOST_QUERIES
+asked_pass : (n m reader : ℕ) → n ≤ MOST_ITEMS → m ≤ MOST_READERS → reader < m → (own : List (List ℕ)) (d : DraftValue) → length d.items ≡ n → length d.readers ≡ m → d.query_count + length own ≤ MOST_QUERIES
     → All (IsQuery n) own → All Short own → Passes d (map (e.Query reader) own)
 asked_pass n m reader few most low [] d at by room all short = tt
 asked_pass n m reader few most low (items ∷ own) d at by room all short =
@@ -105,7 +105,7 @@ asked_counts : (reader : ℕ) (own : List (List ℕ)) (d : DraftValue)
 asked_counts reader [] d = (refl, refl, omega arith)
 asked_counts reader (q ∷ own) d = let more = asked_counts reader own (with_declaration d (e.Query reader q)) in (more.0, more.1, more.2 ∙ omega arith)
 
-queries_pass : (n m : ℕ) → n ≤ MOST_FULL_ITEMS → m ≤ MOST_READERS → (lists : List (List (List ℕ))) (d : DraftValue) (from : ℕ) → length d.items ≡ n → length d.readers ≡ m → from + length lists ≤ m
+queries_pass : (n m : ℕ) → n ≤ MOST_ITEMS → m ≤ MOST_READERS → (lists : List (List (List ℕ))) (d : DraftValue) (from : ℕ) → length d.items ≡ n → length d.readers ≡ m → from + length lists ≤ m
     → d.query_count + sum_by length lists ≤ MOST_QUERIES → All (All (IsQuery n)) lists → All (All Short) lists → Passes d (query_declarations from lists)
 queries_pass n m few most [] d from at by low room all short = tt
 queries_pass n m few most (own ∷ lists) d from at by low room all short =
@@ -118,10 +118,14 @@ queries_pass n m few most (own ∷ lists) d from at by low room all short =
 
 -- ---- the settings
 
-set_passes : (deck : Deck) → SettingsWithin deck.settings → Passes (with_declaration (after_queries deck) (e.Script deck.script)) (map e.Set (all_set deck.settings))
-set_passes deck w =
+version_range : (v : ℕ) → (v ≡ 1) ⊎ (v ≡ 2) → (1 ≤ v) × (v ≤ 2)
+version_range v (inl one) = (omega arith, omega arith)
+version_range v (inr two) = (omega arith, omega arith)
+
+set_passes : (deck : Deck) → (deck.settings.version ≡ 1) ⊎ (deck.settings.version ≡ 2) → SettingsWithin deck.settings → Passes (with_declaration (after_queries deck) (e.Script deck.script)) (map e.Set (all_set deck.settings))
+set_passes deck known w =
     let seed = w.seed in
-    (tt, refl, ((omega arith, w.cycles), refl, ((omega arith, omega arith), refl, ((omega arith, w.loss), refl, ((omega arith, w.again), refl, ((omega arith, w.late), refl, ((omega arith, w.monitors), refl, ((w.some_hears, w.hears), refl, tt))))))))
+    (tt, refl, (version_range deck.settings.version known, refl, ((omega arith, w.cycles), refl, ((omega arith, omega arith), refl, ((omega arith, w.loss), refl, ((omega arith, w.again), refl, ((omega arith, w.late), refl, ((omega arith, w.monitors), refl, ((w.some_hears, w.hears), refl, tt)))))))))
 
 -- ---- the end
 
@@ -137,8 +141,12 @@ some_disk (disk ∷ disks) some = omega arith
 -- ---- the whole deck
 
 module _ (deck : Deck) (made : IsDeck deck) (within : WithinLimits deck) where
-  few_items : length deck.items ≤ MOST_FULL_ITEMS
-  few_items = let plain = made.plain.0 in subst (λ v. length deck.items ≤ most_count v) plain made.most
+  few_items : length deck.items ≤ MOST_ITEMS
+  few_items = by (has_ages deck.settings.version) made.most
+    where
+      by : (b : Bool) → length deck.items ≤ (if b then MOST_ITEMS else MOST_FULL_ITEMS) → length deck.items ≤ MOST_ITEMS
+      by true few = few
+      by false few = omega arith
 
   items_long : length (item_parts deck) ≡ length deck.items
   items_long = length-map (enumerate_from 0 deck.items) item_part ∙ length-enumerate_from 0 deck.items
@@ -146,7 +154,7 @@ module _ (deck : Deck) (made : IsDeck deck) (within : WithinLimits deck) where
   pub few_queries : length deck.queries ≤ MOST_READERS
   few_queries = let few = within.readers in let same = made.readers in omega arith
 
-  pub end_none : first_of (end_tests (length (item_parts deck)) (disk_parts deck)) ≡ None
+  pub end_none : first_of (end_tests (length (item_parts deck)) (disk_parts deck) (all_set deck.settings)) ≡ None
   end_none =
       let n = length (item_parts deck) in let sum = sum_by (λ (d : DiskPart). d.size) (disk_parts deck) in
       let some = made.some in let whole = made.sizes 0 (omega arith) in
@@ -154,7 +162,10 @@ module _ (deck : Deck) (made : IsDeck deck) (within : WithinLimits deck) where
       let items : (n == 0) ≡ false = let more : 0 < n = omega (arith, items_long) in grind arith in
       let disks : (length (disk_parts deck) == 0) ≡ false =
       let more : 0 < length (disk_parts deck) = omega (arith, length-map deck.disks disk_part, some_disk deck.disks (omega arith)) in grind arith in
-      none_two fault.Sizes fault.Limit (not (sum == n)) (n == 0 || length (disk_parts deck) == 0) (ap not sizes) (neither (n == 0) (length (disk_parts deck) == 0) items disks)
+      let most = most_count deck.settings.version in
+      let many : nat_lt most n ≡ false = not_less most n (let few = made.most in omega (arith, items_long)) in
+      none_two fault.Sizes fault.Limit (not (sum == n)) (n == 0 || length (disk_parts deck) == 0 || nat_lt most n) (ap not sizes)
+      (neither (n == 0 || length (disk_parts deck) == 0) (nat_lt most n) (neither (n == 0) (length (disk_parts deck) == 0) items disks) many)
 
   pub deck_passes : Passes (draft_of []) (deck_declarations deck)
   deck_passes =
@@ -167,7 +178,7 @@ module _ (deck : Deck) (made : IsDeck deck) (within : WithinLimits deck) where
       let u = update_declarations 0 deck.updates ++ r in
       let s = map disk_declaration deck.disks ++ u in
       let end : Passes (after_queries deck) last =
-      (small_events deck.script known, script_none deck.updates (more_updaters deck) deck.script known made.script within.script within.starts, set_passes deck within.settings) in
+      (small_events deck.script known, script_none deck.updates (more_updaters deck) deck.script known made.script within.script within.starts, set_passes deck made.version within.settings) in
       let at_queries : Passes (after_readers deck) q = passes_both (after_readers deck) (query_declarations 0 deck.queries) last
       (queries_pass n (length deck.readers) few readers deck.queries (after_readers deck) 0 items_long refl (omega arith) (omega arith) made.queries within.query)
       (subst (λ d. Passes d last) (sym (all_queries_added deck few_queries)) end) in

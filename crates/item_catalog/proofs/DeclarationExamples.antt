@@ -7,12 +7,12 @@ use Rattle.air_base.specs.declared.verdicts.Policy.TheVariants.{FMatrix, Datacyc
 use Rattle.item_catalog.specs.Declarations as e
 use Rattle.item_catalog.specs.Declarations.{Declaration, disk_by, declaration_by, item_by, query_by, reader_by, script_by, set_by, spelled_declaration, tag_of, update_by}
 use Rattle.item_catalog.specs.Fields.{freq_of, spelled_event}
-use Rattle.item_catalog.specs.RecordFields.{◌is◌, four_of, seven_of, six_of}
+use Rattle.item_catalog.specs.RecordFields.{◌is◌, five_of, four_of, seven_of, six_of}
 use Rattle.item_catalog.specs.Settings.{NumberSetting, default_of, name_of, number_in, number_said, number_set, number_setting, policy_in, range_of, same_name, same_setting, setting_of, settings_in, spelled_policy}
 use Rattle.item_catalog.specs.Spelled.{spelled_then as ◌>>=◌, or_fault}
 use Rattle.item_catalog.specs.Tags.{by_tag}
 use Rattle.item_catalog.specs.Writes.{constant, spelled_value_write, spelled_write, write_by, write_from, write_on_base}
-use Rattle.item_catalog.specs.declared.deck.draft.settings.Name.TheVariants.{Cycles, Delta, Hears, Loss, Monitors}
+use Rattle.item_catalog.specs.declared.deck.draft.settings.Name.TheVariants.{Cycles, Delta, Hears, Loss, Monitors, Version}
 use Rattle.item_catalog.specs.declared.deck.draft.settings.Setting.TheVariants as setting
 use Rattle.item_catalog.specs.declared.faults.FaultKind.TheVariants as fault
 use Rattle.item_catalog.specs.declared.reading.Tag.TheVariants as t
@@ -29,6 +29,8 @@ pub record Fields : Type 0 where
   other_letter : codes "disk" is codes "disc" ≡ false
   four : four_of {A = ℕ} (1 ∷ 2 ∷ 3 ∷ 4 ∷ []) ≡ Some (1, 2, 3, 4)
   not_four : four_of {A = ℕ} (1 ∷ 2 ∷ 3 ∷ 4 ∷ 5 ∷ []) ≡ None
+  five : five_of {A = ℕ} (1 ∷ 2 ∷ 3 ∷ 4 ∷ 5 ∷ []) ≡ Some (1, 2, 3, 4, 5)
+  not_five : five_of {A = ℕ} (1 ∷ 2 ∷ 3 ∷ 4 ∷ 5 ∷ 6 ∷ []) ≡ None
   six : six_of {A = ℕ} (1 ∷ 2 ∷ 3 ∷ 4 ∷ 5 ∷ 6 ∷ []) ≡ Some (1, 2, 3, 4, 5, 6)
   not_six : six_of {A = ℕ} (1 ∷ 2 ∷ 3 ∷ 4 ∷ 5 ∷ []) ≡ None
   seven : seven_of {A = ℕ} (1 ∷ 2 ∷ 3 ∷ 4 ∷ 5 ∷ 6 ∷ 7 ∷ []) ≡ Some (1, 2, 3, 4, 5, 6, 7)
@@ -58,6 +60,8 @@ fields = record {
   other_letter = refl;
   four = refl;
   not_four = refl;
+  five = refl;
+  not_five = refl;
   six = refl;
   not_six = refl;
   seven = refl;
@@ -141,6 +145,8 @@ pub record SettingsSet : Type 0 where
   -- Delta is 0 where it isn't set, and a disk's `-` is then 1.
   no_delta : default_of Delta ≡ 0
   ten_cycles : default_of Cycles ≡ 10
+  first_version : default_of Version ≡ 1
+  of_version : range_of Version ≡ (1, 2)
   of_monitors : range_of Monitors ≡ (0, 16)
   named : name_of (codes "monitors") ≡ Some Monitors
   not_named : name_of (codes "monitor") ≡ None
@@ -148,6 +154,9 @@ pub record SettingsSet : Type 0 where
   small_letter : spelled_policy (codes "d") ≡ None
   hears_one : number_set (Some Hears) (Some 1) ≡ Some (setting.Number Hears 1)
   hears_none : number_set (Some Hears) (Some 0) ≡ None
+  second_version : number_set (Some Version) (Some 2) ≡ Some (setting.Number Version 2)
+  third_version : number_set (Some Version) (Some 3) ≡ None
+  no_version : number_set (Some Version) (Some 0) ≡ None
   a_policy : setting_of (codes "policy") (codes "R") ≡ Some (setting.Policy RMatrix)
   a_number : setting_of (codes "delta") (codes "3") ≡ Some (setting.Number Delta 3)
   same : same_name Loss Loss ≡ true
@@ -170,6 +179,8 @@ settings = record {
   hears = refl;
   no_delta = refl;
   ten_cycles = refl;
+  first_version = refl;
+  of_version = refl;
   of_monitors = refl;
   named = refl;
   not_named = refl;
@@ -177,6 +188,9 @@ settings = record {
   small_letter = refl;
   hears_one = refl;
   hears_none = refl;
+  second_version = refl;
+  third_version = refl;
+  no_version = refl;
   a_policy = refl;
   a_number = refl;
   same = refl;

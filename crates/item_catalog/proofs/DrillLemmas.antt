@@ -62,7 +62,7 @@ made seed size items updates queries some few d =
       tries = All-replicate (λ (r : ReaderPlan). 1 ≤ r.tries) 8 (record { room = 4; age = 8; tries = 3 }) (omega arith);
       queries = subst (λ m. All (All (IsQuery m)) queries) (sym d.count) d.queries_made;
       script = λ by. script_fits updates (10 * size) by d.update_count;
-      plain = (refl, refl);
+      plain = refl;
     }
 
 pub within : (seed size : ℕ) (items : List Item) (updates : List UpdateLists) (queries : List (List (List ℕ))) →

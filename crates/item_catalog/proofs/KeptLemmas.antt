@@ -8,7 +8,7 @@ use Rattle.std.proofs.lemmas.Bool.{and_parts, cases_lt}
 use Rattle.std.proofs.lemmas.List.{set_past}
 use Rattle.std.proofs.lemmas.List.Elements.{All-append}
 use Rattle.std.proofs.lemmas.List.Sums.{sum_by-set}
-use Rattle.air_base.specs.declared.limits.TheConstants.{MOST_ASKED, MOST_DISKS, MOST_EVENTS, MOST_FREQ, MOST_FULL_ITEMS, MOST_QUERIES, MOST_RATE, MOST_READERS, MOST_STARTS, MOST_UPDATERS, MOST_UPDATES}
+use Rattle.air_base.specs.declared.limits.TheConstants.{MOST_ASKED, MOST_DISKS, MOST_EVENTS, MOST_FREQ, MOST_ITEMS, MOST_QUERIES, MOST_RATE, MOST_READERS, MOST_SIZE, MOST_STARTS, MOST_UPDATERS, MOST_UPDATES}
 use Rattle.air_history.specs.UpdateLists.{UpdateLists}
 use Rattle.air_model.specs.Decks.{IsQuery, IsUpdate, count_parts}
 use Rattle.air_model.specs.declared.deck.ReaderPlan.{ReaderPlan}
@@ -74,7 +74,7 @@ Spelt (e.Set s) = InRange s
 
 pub record DiskKept (d : DiskPart) : Type 0 where
   pub some : 1 ≤ d.size
-  pub few : d.size ≤ MOST_FULL_ITEMS
+  pub few : d.size ≤ MOST_SIZE
   pub freq : option_any (outside 1 MOST_FREQ) d.freq ≡ false
 
 pub record ReaderKept (r : ReaderPlan) : Type 0 where
@@ -87,7 +87,7 @@ pub record QueryKept (n : ℕ) (items : List ℕ) : Type 0 where
 
 pub record ItemsKept (items : List ItemPart) : Type 0 where
   pub each : All (λ i. (i.value < 2 ^ 64) × (i.rate ≤ MOST_RATE)) items
-  pub few : length items ≤ MOST_FULL_ITEMS
+  pub few : length items ≤ MOST_ITEMS
 
 pub record DisksKept (disks : List DiskPart) : Type 0 where
   pub each : All DiskKept disks

@@ -7,7 +7,7 @@ use Rattle.std.proofs.lemmas.Bool.Decides.{nat_tests}
 use Rattle.std.proofs.lemmas.List.{get_or-set_other, get_or-set_same, get_or_past, length-set, set_past}
 use Rattle.std.proofs.lemmas.List.Folds.{list_any-append}
 use Rattle.std.proofs.lemmas.List.Sums.{sum_by-cons}
-use Rattle.air_base.specs.declared.limits.TheConstants.{MOST_AGE, MOST_ASKED, MOST_DISKS, MOST_EVENTS, MOST_FREQ, MOST_FULL_ITEMS, MOST_QUERIES, MOST_RATE, MOST_READERS, MOST_ROOM, MOST_STARTS, MOST_TRIES, MOST_UPDATERS}
+use Rattle.air_base.specs.declared.limits.TheConstants.{MOST_AGE, MOST_ASKED, MOST_DISKS, MOST_EVENTS, MOST_FREQ, MOST_ITEMS, MOST_QUERIES, MOST_RATE, MOST_READERS, MOST_ROOM, MOST_SIZE, MOST_STARTS, MOST_TRIES, MOST_UPDATERS}
 use Rattle.air_history.specs.declared.updates.Write.{Write}
 use Rattle.air_history.specs.UpdateLists.{UpdateLists}
 use Rattle.air_history.specs.UpdateRules.{has_repeat}
@@ -61,10 +61,10 @@ each_push {A = A} P lists i x all here k d below = by (cases_eq k i)
 module _ (d : DraftValue) (k : Kept d) where
   kept_item : (id value rate : ℕ) → value < 2 ^ 64 → first_of (draft_tests d (e.Item id value rate)) ≡ None → Kept (with_declaration d (e.Item id value rate))
   kept_item id value rate fits none =
-      let t = none_of_two fault.Id fault.Limit (not (id == length d.items)) (nat_lt MOST_RATE rate || nat_le MOST_FULL_ITEMS (length d.items)) none in
-      let seven = or_none (nat_lt MOST_RATE rate) (nat_le MOST_FULL_ITEMS (length d.items)) t.1 in
+      let t = none_of_two fault.Id fault.Limit (not (id == length d.items)) (nat_lt MOST_RATE rate || nat_le MOST_ITEMS (length d.items)) none in
+      let seven = or_none (nat_lt MOST_RATE rate) (nat_le MOST_ITEMS (length d.items)) t.1 in
       let low : rate ≤ MOST_RATE = grind (arith, nat_tests, seven.0) in
-      let few : length d.items < MOST_FULL_ITEMS = grind (arith, nat_tests, seven.1) in
+      let few : length d.items < MOST_ITEMS = grind (arith, nat_tests, seven.1) in
       let n : length (d.items ++ record { value = value; rate = rate } ∷ []) ≡ length d.items + 1 = length-append d.items (record { value = value; rate = rate } ∷ []) in
       record {
         items = record { each = all_push (λ (i : ItemPart). (i.value < 2 ^ 64) × (i.rate ≤ MOST_RATE)) d.items (record { value = value; rate = rate }) k.items.each (fits, low); few = omega arith };
@@ -90,10 +90,10 @@ module _ (d : DraftValue) (k : Kept d) where
 
   kept_disk : (size : ℕ) (freq : Option ℕ) → first_of (draft_tests d (e.Disk size freq)) ≡ None → Kept (with_declaration d (e.Disk size freq))
   kept_disk size freq none =
-      let t = none_of_one fault.Limit ((nat_lt size 1 || nat_lt MOST_FULL_ITEMS size) || option_any (outside 1 MOST_FREQ) freq || nat_le MOST_DISKS (length d.disks)) none in
-      let all = or_none ((nat_lt size 1 || nat_lt MOST_FULL_ITEMS size) || option_any (outside 1 MOST_FREQ) freq) (nat_le MOST_DISKS (length d.disks)) t in
-      let one = or_none (nat_lt size 1 || nat_lt MOST_FULL_ITEMS size) (option_any (outside 1 MOST_FREQ) freq) all.0 in
-      let sizes = or_none (nat_lt size 1) (nat_lt MOST_FULL_ITEMS size) one.0 in
+      let t = none_of_one fault.Limit ((nat_lt size 1 || nat_lt MOST_SIZE size) || option_any (outside 1 MOST_FREQ) freq || nat_le MOST_DISKS (length d.disks)) none in
+      let all = or_none ((nat_lt size 1 || nat_lt MOST_SIZE size) || option_any (outside 1 MOST_FREQ) freq) (nat_le MOST_DISKS (length d.disks)) t in
+      let one = or_none (nat_lt size 1 || nat_lt MOST_SIZE size) (option_any (outside 1 MOST_FREQ) freq) all.0 in
+      let sizes = or_none (nat_lt size 1) (nat_lt MOST_SIZE size) one.0 in
       let few : length d.disks < MOST_DISKS = grind (arith, nat_tests, all.1) in
       record {
         items = k.items;

@@ -16,7 +16,7 @@ use Rattle.item_catalog.specs.ListTests.{is_unread, option_any, reaches, write_r
 use Rattle.item_catalog.specs.Parts.{count_queries, count_updates, disk_parts_in, greatest_number, is_query, is_update, items_in, its_disk, its_events, its_item, its_query, its_reader, its_setting, its_update, its_updaters, queries_in, readers_in, script_in, set_in, updaters_in, updates_in}
 use Rattle.item_catalog.specs.Ranges.{outside}
 use Rattle.item_catalog.specs.RecordKinds.{kinds_of, spelled_kinds}
-use Rattle.item_catalog.specs.declared.deck.draft.settings.Name.TheVariants.{Loss}
+use Rattle.item_catalog.specs.declared.deck.draft.settings.Name.TheVariants.{Loss, Version}
 use Rattle.item_catalog.specs.declared.deck.draft.settings.Setting.TheVariants as setting
 use Rattle.item_catalog.specs.declared.faults.FaultKind.{FaultKind}
 use Rattle.item_catalog.specs.declared.faults.FaultKind.TheVariants as fault
@@ -123,12 +123,12 @@ pub record Tests : Type 0 where
   holding : kinds ((fault.Id, true) ∷ (fault.Twice, false) ∷ (fault.Limit, true) ∷ []) ≡ 3 ∷ 7 ∷ []
   of_declaration : spelled_kinds {X = ℕ} deck_kind_number (λ n. (fault.Limit, n == 3) ∷ []) (Ok 3) ≡ 7 ∷ []
   of_fault : spelled_kinds {X = ℕ} deck_kind_number (λ n. []) (Err fault.Tag) ≡ 9 ∷ []
-  -- a million is the greatest rate, and 256 items are the most
+  -- a million is the greatest rate, and 1,024 items are the most
   greatest_rate : kinds (item_tests 0 0 1000000) ≡ []
   rate_above : kinds (item_tests 0 0 1000001) ≡ 7 ∷ []
-  id_and_items : kinds (item_tests 256 255 1) ≡ 3 ∷ 7 ∷ []
-  last_item : kinds (item_tests 255 255 1) ≡ []
-  greatest_disk : kinds (disk_tests 7 256 (Some 64)) ≡ []
+  id_and_items : kinds (item_tests 1024 1023 1) ≡ 3 ∷ 7 ∷ []
+  last_item : kinds (item_tests 1023 1023 1) ≡ []
+  greatest_disk : kinds (disk_tests 7 1024 (Some 64)) ≡ []
   no_size : kinds (disk_tests 0 0 None) ≡ 7 ∷ []
   freq_above : kinds (disk_tests 0 1 (Some 65)) ≡ 7 ∷ []
   freq_none : kinds (disk_tests 0 1 (Some 0)) ≡ 7 ∷ []
@@ -156,9 +156,12 @@ pub record Tests : Type 0 where
   all_drawn : kinds (script_tests (λ by. 1) (Some 0 ∷ []) (Some 1 ∷ [])) ≡ []
   set_once : kinds (set_tests (setting.Policy RMatrix ∷ []) (setting.Number Loss 1)) ≡ []
   set_twice : kinds (set_tests (setting.Number Loss 3 ∷ []) (setting.Number Loss 1)) ≡ 10 ∷ []
-  sizes : kinds (end_tests 3 (record { size = 2; freq = None } ∷ [])) ≡ 6 ∷ []
-  at_end : kinds (end_tests 2 (record { size = 2; freq = None } ∷ [])) ≡ []
-  nothing_at_end : kinds (end_tests 0 []) ≡ 7 ∷ []
+  sizes : kinds (end_tests 3 (record { size = 2; freq = None } ∷ []) []) ≡ 6 ∷ []
+  at_end : kinds (end_tests 2 (record { size = 2; freq = None } ∷ []) []) ≡ []
+  nothing_at_end : kinds (end_tests 0 [] []) ≡ 7 ∷ []
+  most_in_full : kinds (end_tests 256 (record { size = 256; freq = None } ∷ []) []) ≡ []
+  too_many_in_full : kinds (end_tests 257 (record { size = 257; freq = None } ∷ []) (setting.Number Version 1 ∷ [])) ≡ 7 ∷ []
+  by_ages : kinds (end_tests 257 (record { size = 257; freq = None } ∷ []) (setting.Number Version 2 ∷ [])) ≡ []
   by_declarations : kinds (tests_of all (e.Item 1 5 1)) ≡ 3 ∷ []
   after_declarations : kinds_after all (Ok (e.Item 2 5 1)) ≡ []
   in_place : place_kinds all (Some (codes "item" ∷ codes "3" ∷ codes "5" ∷ codes "1" ∷ [])) ≡ 3 ∷ []
@@ -217,6 +220,9 @@ tests = record {
   sizes = refl;
   at_end = refl;
   nothing_at_end = refl;
+  most_in_full = refl;
+  too_many_in_full = refl;
+  by_ages = refl;
   by_declarations = refl;
   after_declarations = refl;
   in_place = refl;

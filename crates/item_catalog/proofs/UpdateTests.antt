@@ -7,7 +7,7 @@ use Rattle.std.proofs.lemmas.Bool.Decides.{nat_tests}
 use Rattle.std.proofs.lemmas.List.Elements.{All-head, All-tail}
 use Rattle.std.proofs.lemmas.List.Folds.{list_any_none}
 use Rattle.std.proofs.lemmas.List.Sums.{sum_by-cons}
-use Rattle.air_base.specs.declared.limits.TheConstants.{MOST_FULL_ITEMS, MOST_READS, MOST_UPDATERS, MOST_UPDATES, MOST_WRITES}
+use Rattle.air_base.specs.declared.limits.TheConstants.{MOST_ITEMS, MOST_READS, MOST_UPDATERS, MOST_UPDATES, MOST_WRITES}
 use Rattle.air_history.specs.declared.updates.Write.{Write}
 use Rattle.air_history.specs.declared.updates.UpdateFault.TheVariants.{Limit, Repeated, BaseNotRead}
 use Rattle.air_history.specs.UpdateLists.{UpdateLists}
@@ -66,7 +66,7 @@ record BaseKept (n : ℕ) (reads : List ℕ) (minus : Bool) (base : Option ℕ) 
   read : option_any (λ b. not (list_any (λ r. r == b) reads)) base ≡ false
   fits : BaseFits minus base
 
-base_kept : (n : ℕ) (reads : List ℕ) (minus : Bool) (base : Option ℕ) → n ≤ MOST_FULL_ITEMS → All (λ r. r < n) reads → base_holds reads minus base ≡ true → BaseKept n reads minus base
+base_kept : (n : ℕ) (reads : List ℕ) (minus : Bool) (base : Option ℕ) → n ≤ MOST_ITEMS → All (λ r. r < n) reads → base_holds reads minus base ≡ true → BaseKept n reads minus base
 base_kept n reads minus None few all holds = record { within = refl; read = refl; fits = by minus holds }
   where
     by : (b : Bool) → not b ≡ true → b ≡ false
@@ -76,7 +76,7 @@ base_kept n reads minus (Some b) few all holds =
     let below = found_below n b reads all holds in
     record { within = not_reached n b below; read = ap not holds; fits = omega arith }
 
-module _ (n : ℕ) (u : UpdateLists) (few : n ≤ MOST_FULL_ITEMS) (is : IsUpdate n u) where
+module _ (n : ℕ) (u : UpdateLists) (few : n ≤ MOST_ITEMS) (is : IsUpdate n u) where
   kept : RulesKept u
   kept = rules_kept u is.rules
 
@@ -111,7 +111,7 @@ module _ (n : ℕ) (u : UpdateLists) (few : n ≤ MOST_FULL_ITEMS) (is : IsUpdat
           let w : Write = get_or u.writes k d in
           neither (nat_le n w.item) (option_any (nat_le n) w.base) (not_reached n w.item (is.fits.writes k d below)) (bases_kept k d below).within
 
-own_pass : (n by : ℕ) → n ≤ MOST_FULL_ITEMS → by < MOST_UPDATERS → (own : List UpdateLists) (d : DraftValue) → length d.items ≡ n → d.update_count + length own ≤ MOST_UPDATES → All (IsUpdate n) own
+own_pass : (n by : ℕ) → n ≤ MOST_ITEMS → by < MOST_UPDATERS → (own : List UpdateLists) (d : DraftValue) → length d.items ≡ n → d.update_count + length own ≤ MOST_UPDATES → All (IsUpdate n) own
     → Passes d (map (update_declaration by) own)
 own_pass n by few low [] d at room all = tt
 own_pass n by few low (u ∷ own) d at room all =
@@ -127,7 +127,7 @@ own_counts : (by : ℕ) (own : List UpdateLists) (d : DraftValue)
 own_counts by [] d = (refl, omega arith)
 own_counts by (u ∷ own) d = let more = own_counts by own (with_declaration d (update_declaration by u)) in (more.0, more.1 ∙ omega arith)
 
-pub updates_pass : (n : ℕ) → n ≤ MOST_FULL_ITEMS → (lists : List (List UpdateLists)) (d : DraftValue) (from : ℕ) → length d.items ≡ n → from + length lists ≤ MOST_UPDATERS
+pub updates_pass : (n : ℕ) → n ≤ MOST_ITEMS → (lists : List (List UpdateLists)) (d : DraftValue) (from : ℕ) → length d.items ≡ n → from + length lists ≤ MOST_UPDATERS
     → d.update_count + sum_by length lists ≤ MOST_UPDATES → All (All (IsUpdate n)) lists → Passes d (update_declarations from lists)
 updates_pass n few [] d from at low room all = tt
 updates_pass n few (own ∷ lists) d from at low room all =

@@ -1,5 +1,5 @@
 -- The deck of parts to which no kind applies is well made, and within the limits.
-use Rattle.std.proofs.Common.{◌≡◌, ◌<◌, ◌≤◌, ◌+◌, ◌*◌, ◌^◌, ◌∷◌, [], ℕ, zero, suc, List, Option, Some, None, Bool, true, false, cond, not, ◌∙◌, sym, subst, refl, ap, arith, map, get_or, length, take, nat_lt, inl, inr}
+use Rattle.std.proofs.Common.{◌≡◌, ◌⊎◌, ◌<◌, ◌≤◌, ◌+◌, ◌*◌, ◌^◌, ◌∷◌, [], ℕ, zero, suc, List, Option, Some, None, Bool, true, false, cond, not, ◌∙◌, sym, subst, refl, ap, arith, map, get_or, length, take, nat_lt, inl, inr}
 use Rattle.std.specs.Prelude.{◌==◌, ◌||◌, All, sum_by, unwrap_or}
 use Rattle.std.specs.List.{range_with_len}
 use Rattle.std.proofs.lemmas.Bool.{cases_lt}
@@ -8,7 +8,8 @@ use Rattle.std.proofs.lemmas.List.{get_or-take, length-map, length-take-le}
 use Rattle.std.proofs.lemmas.List.Elements.{All-map, All-nil}
 use Rattle.std.proofs.lemmas.List.Sums.{sum_by-cons}
 use Rattle.std.proofs.lemmas.Nat.{mul-le}
-use Rattle.air_base.specs.declared.limits.TheConstants.{MOST_ASKED, MOST_DELTA, MOST_DISKS, MOST_FREQ, MOST_FULL_ITEMS, MOST_RATE, MOST_UPDATERS}
+use Rattle.air_base.specs.declared.limits.TheConstants.{MOST_ASKED, MOST_DELTA, MOST_DISKS, MOST_FREQ, MOST_RATE, MOST_SIZE, MOST_UPDATERS}
+use Rattle.air_model.specs.Buckets.{most_count}
 use Rattle.air_model.specs.Decks.{Deck, IsDeck, IsQuery, IsUpdate, Item, count_parts}
 use Rattle.air_history.specs.UpdateLists.{UpdateLists}
 use Rattle.air_model.specs.declared.deck.ReaderPlan.{ReaderPlan}
@@ -39,6 +40,7 @@ use Rattle.item_catalog.proofs.KeptLemmas.{DiskKept, InRange, Kept}
 
 same_named : (a b : Name) → same_name a b ≡ true → range_of a ≡ range_of b
 same_named n.Delta n.Delta h = refl
+same_named n.Version n.Version h = refl
 same_named n.Cycles n.Cycles h = refl
 same_named n.Seed n.Seed h = refl
 same_named n.Loss n.Loss h = refl
@@ -50,6 +52,7 @@ same_named a b h = cc h
 
 default_fits : (name : Name) → ((range_of name).0 ≤ default_of name) × (default_of name ≤ (range_of name).1)
 default_fits n.Delta = (omega arith, omega arith)
+default_fits n.Version = (omega arith, omega arith)
 default_fits n.Cycles = (omega arith, omega arith)
 default_fits n.Seed = (omega arith, omega arith)
 default_fits n.Loss = (omega arith, omega arith)
@@ -72,6 +75,16 @@ number_fits name (s ∷ set) all = by s (all 0 s (omega arith)) (number_fits nam
         at true e = subst (λ (r : ℕ × ℕ). (r.0 ≤ v) × (v ≤ r.1)) (sym (same_named name other e)) range
         at false e = more
 
+one_or_two : (v : ℕ) → 1 ≤ v → v ≤ 2 → (v ≡ 1) ⊎ (v ≡ 2)
+one_or_two zero low high = absurd (omega arith)
+one_or_two (suc zero) low high = inl refl
+one_or_two (suc (suc zero)) low high = inr refl
+one_or_two (suc (suc (suc v))) low high = absurd (omega arith)
+
+-- The version is one that there is.
+known_version : (set : List Setting) → All InRange set → (number_in n.Version set ≡ 1) ⊎ (number_in n.Version set ≡ 2)
+known_version set all = let fits = number_fits n.Version set all in one_or_two (number_in n.Version set) fits.0 fits.1
+
 settings_fit : (set : List Setting) → All InRange set → SettingsWithin (settings_in set)
 settings_fit set all =
     let seed = (number_fits n.Seed set all).1 in
@@ -90,7 +103,7 @@ settings_fit set all =
 
 record SpecKept (d : DiskSpec) : Type 0 where
   some : 0 < d.size
-  few : d.size ≤ MOST_FULL_ITEMS
+  few : d.size ≤ MOST_SIZE
   often : 0 < d.freq
   seldom : d.freq ≤ MOST_FREQ
 
@@ -135,14 +148,18 @@ take_for_each f a (suc n) (suc m) less = ap (λ l. f a ∷ l) (take_for_each f (
 record Ended (d : DraftValue) : Type 0 where
   sizes : sum_by (λ x. x.size) d.disks ≡ length d.items
   some : 0 < length d.items
+  most : length d.items ≤ most_count (number_in n.Version d.set)
 
-ended : (d : DraftValue) → first_of (end_tests (length d.items) d.disks) ≡ None → Ended d
+ended : (d : DraftValue) → first_of (end_tests (length d.items) d.disks d.set) ≡ None → Ended d
 ended d none =
-    let t = none_of_two fault.Sizes fault.Limit (not (sum_by (λ x. x.size) d.disks == length d.items)) (length d.items == 0 || length d.disks == 0) none in
-    let items = or_none (length d.items == 0) (length d.disks == 0) t.1 in
-    record { sizes = grind (arith, nat_tests, t.0); some = grind (arith, nat_tests, items.0) }
+    let most = most_count (number_in n.Version d.set) in
+    let empty = length d.items == 0 || length d.disks == 0 in
+    let t = none_of_two fault.Sizes fault.Limit (not (sum_by (λ x. x.size) d.disks == length d.items)) (empty || nat_lt most (length d.items)) none in
+    let limits = or_none empty (nat_lt most (length d.items)) t.1 in
+    let items = or_none (length d.items == 0) (length d.disks == 0) limits.0 in
+    record { sizes = grind (arith, nat_tests, t.0); some = grind (arith, nat_tests, items.0); most = grind (arith, nat_tests, limits.1) }
 
-module _ (d : DraftValue) (k : Kept d) (end : first_of (end_tests (length d.items) d.disks) ≡ None) where
+module _ (d : DraftValue) (k : Kept d) (end : first_of (end_tests (length d.items) d.disks d.set) ≡ None) where
   pub delta_small : number_in n.Delta d.set ≤ 9
   delta_small = (number_fits n.Delta d.set k.set).1
 
@@ -169,9 +186,9 @@ module _ (d : DraftValue) (k : Kept d) (end : first_of (end_tests (length d.item
       let e = ended d end in
       record {
         some = let some = e.some in omega (arith, items_len);
-        most = let few = k.items.few in omega (arith, items_len);
+        most = let most = e.most in omega (arith, items_len);
         values = All-map (λ (i : Item). i.value < 2 ^ 64) plain_item d.items (λ i x below. (k.items.each i x below).0);
-        version = inl refl;
+        version = known_version d.set k.set;
         sizes = each_edition (λ specs. sum_by (λ d. d.size) specs ≡ length (map plain_item d.items)) (deck_from d) refl (sizes_same (number_in n.Delta d.set) d.disks ∙ e.sizes ∙ sym items_len);
         aired = each_edition (All (λ d. (0 < d.size) × (0 < d.freq))) (deck_from d) refl (λ i x below. let s = specs i x below in (s.some, s.often));
         few = omega arith;
@@ -182,7 +199,7 @@ module _ (d : DraftValue) (k : Kept d) (end : first_of (end_tests (length d.item
         tries = λ i x below. (k.readers.each i x below).some;
         queries = rw items_len (all_take (All (IsQuery (length d.items))) (length d.readers) d.queries (λ i x below. λ j y inside. (k.queries.each i x below j y inside).query));
         script = fits;
-        plain = (refl, refl);
+        plain = refl;
       }
 
   pub within : WithinLimits (deck_from d)

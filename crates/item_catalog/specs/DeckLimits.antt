@@ -1,6 +1,6 @@
 -- The limits of a deck in the grammar, beside what makes it well made (`IsDeck`).
 use Rattle.std.specs.Prelude.{ℕ, ◌^◌, ◌<◌, ◌≤◌, length, All, sum_by}
-use Rattle.air_base.specs.declared.limits.TheConstants.{MOST_AGE, MOST_ASKED, MOST_CYCLES, MOST_DISKS, MOST_EVENTS, MOST_FREQ, MOST_FULL_ITEMS, MOST_HEARS, MOST_MONITORS, MOST_QUERIES, MOST_RATE, MOST_READERS, MOST_ROOM, MOST_SHARE, MOST_STARTS, MOST_TRIES, MOST_UPDATERS, MOST_UPDATES}
+use Rattle.air_base.specs.declared.limits.TheConstants.{MOST_AGE, MOST_ASKED, MOST_CYCLES, MOST_DISKS, MOST_EVENTS, MOST_FREQ, MOST_HEARS, MOST_MONITORS, MOST_QUERIES, MOST_RATE, MOST_READERS, MOST_ROOM, MOST_SHARE, MOST_SIZE, MOST_STARTS, MOST_TRIES, MOST_UPDATERS, MOST_UPDATES}
 use Rattle.air_model.specs.declared.deck.ReaderPlan.{ReaderPlan}
 use Rattle.air_model.specs.declared.deck.Settings.{Settings}
 use Rattle.air_model.specs.Disks.{DiskSpec}
@@ -9,7 +9,7 @@ use Rattle.std.specs.Prelude.{Option, Some, None, Bool, true, false, count_by}
 
 -- A disk takes so many items at most, and a cycle airs each of them so often at most.
 pub record DiskWithin (d : DiskSpec) : Type 0 where
-  pub size : d.size ≤ MOST_FULL_ITEMS
+  pub size : d.size ≤ MOST_SIZE
   pub freq : d.freq ≤ MOST_FREQ
 
 -- A reader has room for so many copies at most, which are too old after so many cycles at most, and tries so often at most.

@@ -48,6 +48,7 @@ write_text w = number_text w.item ++ (codes "=" ++ value_text w.minus w.base w.a
 -- The name of a setting that is a number.
 abbrev pub name_text : Name → List ℕ
 name_text n.Delta = codes "delta"
+name_text n.Version = codes "version"
 name_text n.Cycles = codes "cycles"
 name_text n.Seed = codes "seed"
 name_text n.Loss = codes "loss"
@@ -108,7 +109,7 @@ query_declarations from queries = flat_map (λ (own : ℕ × List (List ℕ)). m
 -- All settings but delta.
 abbrev pub all_set : Settings → List Setting
 all_set s =
-    setting.Policy s.policy ∷ setting.Number n.Cycles s.cycles ∷ setting.Number n.Seed s.seed ∷ setting.Number n.Loss s.loss ∷ setting.Number n.Again s.again ∷
+    setting.Policy s.policy ∷ setting.Number n.Version s.version ∷ setting.Number n.Cycles s.cycles ∷ setting.Number n.Seed s.seed ∷ setting.Number n.Loss s.loss ∷ setting.Number n.Again s.again ∷
     setting.Number n.Late s.late ∷ setting.Number n.Monitors s.monitors ∷ setting.Number n.Hears s.hears ∷ []
 
 -- What a deck declares.

@@ -6,9 +6,10 @@
 use Rattle.std.specs.Prelude.{◌+◌, ◌==◌, ◌||◌, ◌++◌, ℕ, zero, suc, List, [], ◌∷◌, Bool, false, not, Option, Some, None, Result, length, take, nat_lt, nat_le, map, count_by, slice_get}
 use Rattle.std.specs.List.{list_any, filter_map, sum_by}
 use Rattle.std.specs.Result.{result_ok}
-use Rattle.air_base.specs.declared.limits.TheConstants.{MOST_AGE, MOST_ASKED, MOST_DISKS, MOST_EVENTS, MOST_FREQ, MOST_FULL_ITEMS, MOST_QUERIES, MOST_RATE, MOST_READERS, MOST_READS, MOST_ROOM, MOST_STARTS, MOST_TRIES, MOST_UPDATERS, MOST_UPDATES, MOST_WRITES}
+use Rattle.air_base.specs.declared.limits.TheConstants.{MOST_AGE, MOST_ASKED, MOST_DISKS, MOST_EVENTS, MOST_FREQ, MOST_ITEMS, MOST_QUERIES, MOST_RATE, MOST_READERS, MOST_READS, MOST_ROOM, MOST_SIZE, MOST_STARTS, MOST_TRIES, MOST_UPDATERS, MOST_UPDATES, MOST_WRITES}
 use Rattle.air_history.specs.declared.updates.Write.{Write}
 use Rattle.air_history.specs.UpdateRules.{has_repeat, written_item}
+use Rattle.air_model.specs.Buckets.{most_count}
 use Rattle.air_model.specs.Decks.{count_parts}
 use Rattle.item_catalog.specs.ListTests.{is_unread, option_any, reaches, write_reaches}
 use Rattle.item_catalog.specs.RecordKinds.{kinds_of, spelled_kinds}
@@ -17,11 +18,12 @@ use Rattle.item_catalog.specs.Ranges.{outside}
 use Rattle.item_catalog.specs.Declarations.{Declaration, spelled_declaration}
 use Rattle.item_catalog.specs.Declarations as e
 use Rattle.item_catalog.specs.Parts.{items_in, disk_parts_in, updates_in, count_updates, readers_in, count_queries, script_in, set_in}
-use Rattle.item_catalog.specs.Settings.{same_setting}
+use Rattle.item_catalog.specs.Settings.{number_in, same_setting}
 use Rattle.item_catalog.specs.Kinds.{deck_kind_number}
 use Rattle.item_catalog.specs.declared.faults.FaultKind.{FaultKind}
 use Rattle.item_catalog.specs.declared.faults.FaultKind.TheVariants as fault
 use Rattle.item_catalog.specs.declared.parts.DiskPart.{DiskPart}
+use Rattle.item_catalog.specs.declared.deck.draft.settings.Name.TheVariants.{Version}
 use Rattle.item_catalog.specs.declared.deck.draft.settings.Setting.{Setting}
 
 -- Some number below n passes the test.
@@ -37,12 +39,12 @@ count_starts events = count_by is_start_part events
 abbrev pub item_tests : ℕ → ℕ → ℕ → List (FaultKind × Bool)
 item_tests items id rate =
     (fault.Id, not (id == items)) ∷
-    (fault.Limit, nat_lt MOST_RATE rate || nat_le MOST_FULL_ITEMS items) ∷ []
+    (fault.Limit, nat_lt MOST_RATE rate || nat_le MOST_ITEMS items) ∷ []
 
 -- The tests of a disk after so many disks.
 abbrev pub disk_tests : ℕ → ℕ → Option ℕ → List (FaultKind × Bool)
 disk_tests disks size freq =
-    (fault.Limit, outside 1 MOST_FULL_ITEMS size || option_any (outside 1 MOST_FREQ) freq || nat_le MOST_DISKS disks) ∷ []
+    (fault.Limit, outside 1 MOST_SIZE size || option_any (outside 1 MOST_FREQ) freq || nat_le MOST_DISKS disks) ∷ []
 
 -- The tests of an update after so many items and updates.
 abbrev pub update_tests : ℕ → ℕ → ℕ → List ℕ → List Write → List (FaultKind × Bool)
@@ -92,11 +94,11 @@ tests_of before (e.Query reader items) = query_tests (length (items_in before)) 
 tests_of before (e.Script events) = script_tests (λ by. length (updates_in before by)) (script_in before) events
 tests_of before (e.Set setting) = set_tests (set_in before) setting
 
--- The tests of the end after so many items and these disks.
-abbrev pub end_tests : ℕ → List DiskPart → List (FaultKind × Bool)
-end_tests items disks =
+-- The tests of the end after so many items, these disks and settings.
+abbrev pub end_tests : ℕ → List DiskPart → List Setting → List (FaultKind × Bool)
+end_tests items disks set =
     (fault.Sizes, not (sum_by (λ d. d.size) disks == items)) ∷
-    (fault.Limit, items == 0 || length disks == 0) ∷ []
+    (fault.Limit, items == 0 || length disks == 0 || nat_lt (most_count (number_in Version set)) items) ∷ []
 
 -- The numbers of the kinds that apply to what a record spells, after declarations.
 abbrev pub kinds_after : List Declaration → Result Declaration FaultKind → List ℕ
@@ -109,7 +111,7 @@ declarations_in rows = filter_map (λ row. result_ok (spelled_declaration row)) 
 -- The numbers of the kinds that apply to a record after declarations, and at the end, where there is no record.
 abbrev pub place_kinds : List Declaration → Option (List (List ℕ)) → List ℕ
 place_kinds before (Some row) = kinds_after before (spelled_declaration row)
-place_kinds before None = kinds_of deck_kind_number (end_tests (length (items_in before)) (disk_parts_in before))
+place_kinds before None = kinds_of deck_kind_number (end_tests (length (items_in before)) (disk_parts_in before) (set_in before))
 
 -- The numbers of the kinds that apply at a place, counted from 0: to the record there, after all records before it, or at the end.
 unfoldable pub kinds_at : List (List (List ℕ)) → ℕ → List ℕ

@@ -4,7 +4,7 @@
 -- items, however long a list is.
 use Rattle.std.specs.Prelude.{◌≡◌, ◌==◌, ◌||◌, ◌++◌, ◌<◌, ℕ, List, [], ◌∷◌, Bool, true, false, Option, Some, None, map, fold, get_or, nat_le, if◌then◌else◌}
 use Rattle.std.specs.List.{list_any}
-use Rattle.air_base.specs.declared.limits.TheConstants.{MOST_FULL_ITEMS}
+use Rattle.air_base.specs.declared.limits.TheConstants.{MOST_ITEMS}
 use Rattle.air_history.specs.declared.updates.Write.{Write}
 use Rattle.air_history.specs.UpdateRules.{has_repeat, written_item}
 use Rattle.item_catalog.specs.ListTests.{is_unread, write_reaches}
@@ -64,6 +64,6 @@ ReadIs read (Some list) Holds = (read ≡ true) × Holds list
 
 -- These items stand once each, and an array of marks marks them.
 pub record KeptOnce (marks : List Bool) (items : List ℕ) : Type 0 where
-  pub marked : (k : ℕ) → k < MOST_FULL_ITEMS → get_or marks k false ≡ among items k
-  pub below : (k : ℕ) → among items k ≡ true → k < MOST_FULL_ITEMS
+  pub marked : (k : ℕ) → k < MOST_ITEMS → get_or marks k false ≡ among items k
+  pub below : (k : ℕ) → among items k ≡ true → k < MOST_ITEMS
   pub once : has_repeat items ≡ false

@@ -13,6 +13,11 @@ abbrev pub four_of : {A : Type 0} → List A → Option (A × A × A × A)
 four_of (a ∷ b ∷ c ∷ d ∷ []) = Some (a, b, c, d)
 four_of all = None
 
+-- The five elements, where there are just five.
+abbrev pub five_of : {A : Type 0} → List A → Option (A × A × A × A × A)
+five_of (a ∷ b ∷ c ∷ d ∷ e ∷ []) = Some (a, b, c, d, e)
+five_of all = None
+
 -- The six elements, where there are just six.
 abbrev pub six_of : {A : Type 0} → List A → Option (A × A × A × A × A × A)
 six_of (a ∷ b ∷ c ∷ d ∷ e ∷ f ∷ []) = Some (a, b, c, d, e, f)

@@ -7,8 +7,9 @@ use Rattle.air_base.specs.declared.verdicts.Policy.TheVariants.{FMatrix, Datacyc
 use Rattle.air_model.specs.declared.deck.Settings.{Settings}
 use Rattle.item_catalog.specs.Ranges.{outside}
 use Rattle.item_catalog.specs.RecordFields.{◌is◌}
+use Rattle.item_catalog.specs.declared.deck.draft.settings.TheConstants.{NEWEST_VERSION}
 use Rattle.item_catalog.specs.declared.deck.draft.settings.Name.{Name}
-use Rattle.item_catalog.specs.declared.deck.draft.settings.Name.TheVariants.{Delta, Cycles, Seed, Loss, Again, Late, Monitors, Hears}
+use Rattle.item_catalog.specs.declared.deck.draft.settings.Name.TheVariants.{Delta, Version, Cycles, Seed, Loss, Again, Late, Monitors, Hears}
 use Rattle.item_catalog.specs.declared.deck.draft.settings.Setting.{Setting}
 use Rattle.item_catalog.specs.declared.deck.draft.settings.Setting.TheVariants as setting
 
@@ -22,6 +23,7 @@ pub record NumberSetting : Type 0 where
 -- The settings that are numbers.
 abbrev pub number_setting : Name → NumberSetting
 number_setting Delta = record { word = codes "delta"; least = 0; most = MOST_DELTA; unset = 0 }
+number_setting Version = record { word = codes "version"; least = 1; most = NEWEST_VERSION; unset = 1 }
 number_setting Cycles = record { word = codes "cycles"; least = 0; most = MOST_CYCLES; unset = DEFAULT_CYCLES }
 number_setting Seed = record { word = codes "seed"; least = 0; most = 2 ^ 64 - 1; unset = 0 }
 number_setting Loss = record { word = codes "loss"; least = 0; most = MOST_SHARE; unset = 0 }
@@ -39,7 +41,7 @@ default_of name = (number_setting name).unset
 
 -- The setting of this word, if there is one.
 abbrev pub name_of : List ℕ → Option Name
-name_of text = find (λ name. text is (number_setting name).word) (Delta ∷ Cycles ∷ Seed ∷ Loss ∷ Again ∷ Late ∷ Monitors ∷ Hears ∷ [])
+name_of text = find (λ name. text is (number_setting name).word) (Delta ∷ Version ∷ Cycles ∷ Seed ∷ Loss ∷ Again ∷ Late ∷ Monitors ∷ Hears ∷ [])
 
 -- The policy of this letter, if there is one.
 abbrev pub spelled_policy : List ℕ → Option Policy
@@ -89,7 +91,7 @@ policy_in (setting.Number name n ∷ settings) = policy_in settings
 abbrev pub settings_in : List Setting → Settings
 settings_in set = record {
   policy = policy_in set;
-  version = 1;
+  version = number_in Version set;
   cycles = number_in Cycles set;
   seed = number_in Seed set;
   loss = number_in Loss set;

@@ -17,6 +17,7 @@ mod scripts;
 mod updates;
 
 pub use deck::Deck;
+pub use deck::draft::settings::NEWEST_VERSION;
 pub use deck::drill::{MOST_DRILL_SIZE, drill_deck};
 pub use drills::draws::{draw_item, draw_query, draw_update};
 pub use drills::plans::drill_settings;
@@ -26,7 +27,7 @@ pub use laws::{
 };
 pub use reading::read_deck;
 pub use records::Records;
-pub use records::fields::{four, one, seven, six, three, two};
+pub use records::fields::{five, four, one, seven, six, three, two};
 pub use records::refusals::Refusal;
 pub use updates::item_lists::ItemList;
 pub use updates::write_lists::WriteList;

@@ -66,8 +66,8 @@ pub(crate) fn read_tag(row: &ByteRecord) -> Option<Tag>
 /// The deck of the parts, where no kind applies at the end, which is the record of this number.
 fn finish(draft: Draft, row: u32) -> Result<Deck, DeckError>
     requires { CanEnd draft }
-    ensures deck { IfOk result (λ deck. (first_of (end_tests (length draft.items) draft.disks) ≡ None) × (deck ≡ deck_from draft)) }
-    ensures fault { IfErr result (EndsBy row (first_of (end_tests (length draft.items) draft.disks))) }
+    ensures deck { IfOk result (λ deck. (first_of (end_tests (length draft.items) draft.disks draft.set) ≡ None) × (deck ≡ deck_from draft)) }
+    ensures fault { IfErr result (EndsBy row (first_of (end_tests (length draft.items) draft.disks draft.set))) }
 {
     match draft.end_kind() {
         Some(kind) => Err(DeckError::at(row, kind)),

@@ -63,7 +63,7 @@ small_is_deck = record {
   tries = pair_is_deck.tries;
   queries = pair_is_deck.queries;
   script = λ by. omega arith;
-  plain = (refl, refl);
+  plain = refl;
 }
 
 -- The one history of a run of it.

@@ -61,7 +61,7 @@ line_fits : (deck : Deck) (starts : ℕ) (line : VerdictLine) → IsDeck deck �
 line_fits deck starts line is right =
     let n = length deck.items in
     let queries = get_or deck.queries line.reader [] in
-    let asked = told (λ query. follow query (map read_item line.reads) line.verdict.kind) (slice_get queries line.verdict.query) (and_parts _ _ right.known).1 in
+    let asked = told (λ query. follow query (map read_item line.reads) line.verdict.kind) (slice_get queries line.verdict.query) (and_parts _ _ (and_parts _ _ right.known).0).1 in
     let at : get_or queries line.verdict.query [] ≡ asked.0 = get_or_from_slice_get queries line.verdict.query asked.0 [] asked.1 in
     let some = slice_get_within queries line.verdict.query asked.0 asked.1 in
     let fits : All (λ i. i < n) asked.0 = (subst (IsQuery n) at (is.queries line.reader [] (reader_within line.reader some) line.verdict.query [] some)).within in

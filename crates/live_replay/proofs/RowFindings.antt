@@ -50,7 +50,7 @@ module _ (deck : Deck) (text : List ℕ) (read : ReadReport) (is : IsReportOf de
   section wrap cause rows n xs some here =
       each told wrap (λ row x. record { row = row; differs = cause x }) n xs some ∙ in_rows cause n xs ∙ ap (λ rs. found_in cause rs xs) (sym here)
 
-  pub by_rows : findings deck read ≡ filter_map (λ p. spelled_finding deck read.report.history p.0 (spelled_line p.1)) (enumerate_from 1 (records_of text))
+  pub by_rows : findings deck read ≡ filter_map (λ p. spelled_finding deck read.report.history p.0 (spelled_line deck.settings.version p.1)) (enumerate_from 1 (records_of text))
   unfolding findings
   by_rows =
       let H = read.report.history in

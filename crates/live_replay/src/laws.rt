@@ -27,10 +27,11 @@ pub fn agrees_law()
     ensures looks { (deck : Deck) (H : List Event) (line : LookLine) → (look_cause deck H line ≡ None) ↔ GivesLook deck H line }
 {}
 
-/// The findings are those of the lines that a text's records spell, in their order, each with its record's row, counted from 1.
+/// The findings are those of the lines that a text's records spell in the deck's version, in their order, each with its record's row,
+/// counted from 1.
 pub fn rows_law()
     ensures { (deck : Deck) (text : List ℕ) (read : ReadReport) → IsReportOf deck text read →
-        findings deck read ≡ filter_map (λ p. spelled_finding deck read.report.history p.0 (spelled_line p.1)) (enumerate_from 1 (records_of text)) }
+        findings deck read ≡ filter_map (λ p. spelled_finding deck read.report.history p.0 (spelled_line deck.settings.version p.1)) (enumerate_from 1 (records_of text)) }
 {}
 
 /// A replay gives each line of a session that its history judges, whatever the reader heard.

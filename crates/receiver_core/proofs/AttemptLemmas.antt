@@ -9,6 +9,7 @@ use Rattle.air_history.specs.Reads.{ReadAt}
 use Rattle.air_history.specs.Columns.{scheme_of}
 use Rattle.air_model.specs.Judges.{by_entries, heard_of, place_of}
 use Rattle.air_model.specs.Reads.{Read}
+use Rattle.air_model.specs.SessionLaws.{are_far}
 use Rattle.air_history.specs.HeldReads.{HeldReads, IsNew}
 use Rattle.receiver_core.specs.Private.Attempts.{HeldValues, columns_of, line_read}
 use Rattle.receiver_core.specs.Private.AttemptView.{KeepsBoth, held_values, with_values}
@@ -51,13 +52,21 @@ clash_at a v x k is =
     ap (λ (h : HeldReads). clash_by_entries a.policy h.reads (heard_of x)) (sym (columns_are a k))
     ∙ ap (λ (w : HeldValues). clash_by_entries w.policy (map heard_of w.reads) (heard_of x)) is
 
+-- The held reads have their places in both.
+places : (a : Inside) (v : HeldValues) → KeepsBoth a → held_values a ≡ v → map read_at a.held.reads ≡ map place_of v.reads
+places a v k is =
+    ap (map read_at) (sym (heard_from a.held.reads a.line_reads k.even)) ∙ map-map read_at heard_of (held_values a).reads
+    ∙ ap (λ (w : HeldValues). map place_of w.reads) is
+
+-- Whether a read and the reads with entries lie too far apart, and those with values.
+pub far_after : (a : Inside) (v : HeldValues) (version : ℕ) (x : ReadAt) → KeepsBoth a → held_values a ≡ v →
+    are_far version (map read_at a.held.reads ++ x ∷ []) ≡ are_far version (map place_of v.reads ++ x ∷ [])
+far_after a v version x k is = ap (λ R. are_far version (R ++ x ∷ [])) (places a v k is)
+
 -- Whether a read comes too late after the reads with entries, and after those with values.
 pub late_after : (a : Inside) (v : HeldValues) (x : ReadAt) → KeepsBoth a → held_values a ≡ v →
     is_late a.policy (map read_at a.held.reads) x ≡ is_late v.policy (map place_of v.reads) x
-late_after a v x k is =
-    ap (λ R. is_late a.policy (map read_at R) x) (sym (heard_from a.held.reads a.line_reads k.even))
-    ∙ ap (λ S. is_late a.policy S x) (map-map read_at heard_of (held_values a).reads)
-    ∙ ap (λ (w : HeldValues). is_late w.policy (map place_of w.reads) x) is
+late_after a v x k is = ap (λ R. is_late a.policy R x) (places a v k is) ∙ ap (λ (w : HeldValues). is_late w.policy (map place_of v.reads) x) is
 
 -- ---- where nothing is held
 

@@ -19,38 +19,38 @@ body_is air slot (Idle count) = refl
 body_is air slot (Column item value entries) = refl
 body_is air slot (Vector item value entries) = refl
 
--- In version 1, in the deck's edition and within the program the body decides.
-fits_in_slot : (a : Inside) (b : Bucket) → b.version ≤ 1 → b.edition ≡ 0 → b.slot < length a.slots.items →
+-- In a version that isn't above the deck's, in the deck's edition and within the program the body decides.
+fits_in_slot : (a : Inside) (b : Bucket) → b.version ≤ a.version → b.edition ≡ 0 → b.slot < length a.slots.items →
     fits (air_in a) b ≡ (kind_fits a.policy (get_or a.slots.items b.slot None) (kind_of b.body) (item_of b.body) && (count_of b.body == a.items))
 unfolding fits
 fits_in_slot a b v e l =
     let body = body_fits (air_in a) (get_or a.slots.items b.slot None) b.body in
-    ap (λ t. t && (b.edition == 0) && nat_lt b.slot (length a.slots.items) && body) (le-leb b.version 1 v)
+    ap (λ t. t && (b.edition == 0) && nat_lt b.slot (length a.slots.items) && body) (le-leb b.version a.version v)
     ∙ ap (λ n. (n == 0) && nat_lt b.slot (length a.slots.items) && body) e
     ∙ ap (λ t. t && body) (lt-ltb b.slot (length a.slots.items) l)
     ∙ body_is (air_in a) (get_or a.slots.items b.slot None) b.body
 
-pub other_version : (a : Inside) (b : Bucket) → 1 < b.version → fits (air_in a) b ≡ false
+pub newer_version : (a : Inside) (b : Bucket) → a.version < b.version → fits (air_in a) b ≡ false
 unfolding fits
-other_version a b v =
-    ap (λ t. t && (b.edition == 0) && nat_lt b.slot (length a.slots.items) && body_fits (air_in a) (get_or a.slots.items b.slot None) b.body) (lt-leb b.version 1 v)
+newer_version a b v =
+    ap (λ t. t && (b.edition == 0) && nat_lt b.slot (length a.slots.items) && body_fits (air_in a) (get_or a.slots.items b.slot None) b.body) (lt-leb b.version a.version v)
 
 pub other_edition : (a : Inside) (b : Bucket) → b.edition ≢ 0 → fits (air_in a) b ≡ false
 unfolding fits
 other_edition a b e =
     let body = body_fits (air_in a) (get_or a.slots.items b.slot None) b.body in
-    ap (λ t. nat_le b.version 1 && t && nat_lt b.slot (length a.slots.items) && body) (ne_eqb b.edition 0 e)
-    ∙ ap (λ t. t && nat_lt b.slot (length a.slots.items) && body) (and_false (nat_le b.version 1))
+    ap (λ t. nat_le b.version a.version && t && nat_lt b.slot (length a.slots.items) && body) (ne_eqb b.edition 0 e)
+    ∙ ap (λ t. t && nat_lt b.slot (length a.slots.items) && body) (and_false (nat_le b.version a.version))
 
 pub no_such_slot : (a : Inside) (b : Bucket) → length a.slots.items ≤ b.slot → fits (air_in a) b ≡ false
 unfolding fits
 no_such_slot a b l =
     let body = body_fits (air_in a) (get_or a.slots.items b.slot None) b.body in
-    ap (λ t. nat_le b.version 1 && (b.edition == 0) && t && body) (le-ltb b.slot (length a.slots.items) l)
-    ∙ ap (λ t. t && body) (and_false (nat_le b.version 1 && (b.edition == 0)))
+    ap (λ t. nat_le b.version a.version && (b.edition == 0) && t && body) (le-ltb b.slot (length a.slots.items) l)
+    ∙ ap (λ t. t && body) (and_false (nat_le b.version a.version && (b.edition == 0)))
 
 -- The same at the fields: the answer of the slot's test and the number of items.
-pub in_slot : (a : Inside) (air : Air) (b : Bucket) (s : ℕ) (item : Option ℕ) (right : Bool) (n : ℕ) → air_in a ≡ air → s ≡ b.slot → b.version ≤ 1 → b.edition ≡ 0 → s < length a.slots.items →
+pub in_slot : (a : Inside) (air : Air) (b : Bucket) (s : ℕ) (item : Option ℕ) (right : Bool) (n : ℕ) → air_in a ≡ air → s ≡ b.slot → b.version ≤ a.version → b.edition ≡ 0 → s < length a.slots.items →
     item ≡ get_or a.slots.items s item → right ≡ kind_fits a.policy item (kind_of b.body) (item_of b.body) → n ≡ count_of b.body → (right && (n == a.items)) ≡ fits air b
 in_slot a air b s item right n is at old first within carried stands counted =
     let here : get_or a.slots.items b.slot None ≡ item =

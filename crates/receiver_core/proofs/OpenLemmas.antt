@@ -1,11 +1,11 @@
 -- A read that is tried: it is new to the held ones, and what an opened bucket does is what the rule says.
-use Rattle.std.proofs.Common.{◌≡◌, ◌≢◌, ℕ, zero, suc, ◌+◌, ◌<◌, ◌≤◌, Bool, false, ◌==◌, List, [], ◌∷◌, ◌++◌, length, map, take, get_or, All, Option, Some, None, refl, sym, ◌∙◌, ap, subst, inl, inr, arith}
+use Rattle.std.proofs.Common.{◌≡◌, ◌≢◌, ℕ, zero, suc, ◌+◌, ◌<◌, ◌≤◌, Bool, true, false, ◌==◌, List, [], ◌∷◌, ◌++◌, length, map, take, get_or, All, Option, Some, None, refl, sym, ◌∙◌, ap, subst, inl, inr, arith}
 use Rattle.std.specs.List.{list_any, slice_get}
 use Rattle.std.proofs.lemmas.Bool.{eqb-false}
 use Rattle.std.proofs.lemmas.List.Elements.{All-cons, All-head, All-nil, All-tail}
 use Rattle.std.proofs.lemmas.Option.{slice_get_within}
 use Rattle.air_base.specs.declared.verdicts.Clash.{Clash}
-use Rattle.air_base.specs.declared.verdicts.VerdictKind.TheVariants.{Abort}
+use Rattle.air_base.specs.declared.verdicts.VerdictKind.TheVariants.{Abort, Aged}
 use Rattle.held_reads.specs.declared.held.TheConstants.{ROOM}
 use Rattle.air_history.specs.UpdateRules.{has_repeat}
 use Rattle.air_history.specs.Clashes.{is_late}
@@ -14,7 +14,8 @@ use Rattle.air_model.specs.Buckets.{Body, Bucket, Column, Idle, IsInRange, Vecto
 use Rattle.air_model.specs.Copies.{keep, with_copy, without_item}
 use Rattle.air_model.specs.Judges.{by_entries, heard_of, place_of}
 use Rattle.air_model.specs.Reads.{Read}
-use Rattle.air_model.specs.Sessions.{accept_if_whole, comes_late, next_attempt, open_bucket, query_of, wanted, with_line}
+use Rattle.air_model.specs.Sessions.{accept_if_whole, comes_aged, comes_late, next_attempt, open_bucket, query_of, wanted, with_line}
+use Rattle.air_model.specs.SessionLaws.{are_far}
 use Rattle.air_model.proofs.MomentLemmas.{or_false}
 use Rattle.air_history.specs.HeldReads.{IsNew}
 use Rattle.pix_cache.specs.Caches.{Cache}
@@ -25,7 +26,7 @@ use Rattle.receiver_core.specs.Receivers.{Receiver}
 use Rattle.receiver_core.specs.ReceiverView.{IsReceiver, IsWholeRead, receiver_in}
 use Rattle.receiver_core.specs.declared.receivers.Receiver.TheInside.{Inside}
 use Rattle.receiver_core.proofs.StateLemmas.{left}
-use Rattle.receiver_core.proofs.WordLemmas.{never_aged, open_clash, open_clear, with_opened}
+use Rattle.receiver_core.proofs.WordLemmas.{open_aged, open_clash, open_clear, with_opened}
 
 -- ---- the wanted item isn't held
 
@@ -89,6 +90,11 @@ bucket_read b n range busy counted = record {
   below = range.entries;
 }
 
+-- The entries of a bucket that fits are as many as there are PIX numbers.
+pub column_sized : (r : Inside) (b : Bucket) (column : List ℕ) → IsReceiver r → kind_of b.body ≢ 0 → count_of b.body ≡ r.air.items → column ≡ entries_of b.body →
+    length column ≡ length r.copies.pix
+column_sized r b column k busy counted e = ap length e ∙ entries_counted b.body busy ∙ counted ∙ sym (ap length (k.cache.pix 0) ∙ k.deck.numbers 0)
+
 -- A whole read of the wanted item is new to the held ones.
 pub new_read : (r : Inside) (x : Read) → IsReceiver r → IsWholeRead r.air.items x → wanted (receiver_in r).reader (receiver_in r).state ≡ Some x.item → IsNew (columns_of r.held) (heard_of x)
 new_read r x k whole w =
@@ -114,6 +120,11 @@ pub late_told : (r : Inside) (b : Bucket) (late : Bool) (cycle : ℕ) → IsRece
 late_told r b late cycle k told e =
     sym (late_at r (read_from_bucket b) late k (told (item_of b.body) ∙ ap (λ n. is_late r.held.policy (map place_of r.held.reads) (record { item = item_of b.body; cycle = n })) e))
 
+-- Whether a read lies too far from the held ones is told by the deck's version.
+pub far_at : (r : Inside) (x : Read) (b : Bool) (version : ℕ) → ((item : ℕ) → b ≡ are_far version (map place_of r.held.reads ++ record { item = item; cycle = x.cycle } ∷ [])) → version ≡ r.air.version →
+    comes_aged r.air (receiver_in r).state x ≡ b
+far_at r x b version told e = sym (told x.item ∙ ap (λ n. are_far n (map place_of r.held.reads ++ place_of x ∷ [])) e)
+
 -- ---- an opened bucket
 
 -- The fields with one more opened bucket.
@@ -129,24 +140,35 @@ abbrev pub offered_to : Inside → Read → Option Clash → Cache
 offered_to r x clash = record r.copies { copies = keep r.copies.room r.copies.pix (with_copy x (without_clash clash r.copies.copies)) }
 
 pub opened_clear : (r : Inside) (held : HeldValues) (cache : Cache) (x : Read) → IsReceiver r → held ≡ record r.held { reads = r.held.reads ++ x ∷ [] } →
-    cache ≡ offered_to r x None → (by_entries r.air.scheme).clash r.held.reads x ≡ None →
+    cache ≡ offered_to r x None → comes_aged r.air (receiver_in r).state x ≡ false → (by_entries r.air.scheme).clash r.held.reads x ≡ None →
     in_state (receiver_in (opened_with r held cache)) (accept_if_whole (by_entries r.air.scheme) r.air r.reader (receiver_in (opened_with r held cache)).state)
     ≡ in_state (receiver_in r) (open_bucket (by_entries r.air.scheme) r.air r.reader x (receiver_in r).state)
-opened_clear r held cache x k e f none =
+opened_clear r held cache x k e f near none =
     ap (λ h. in_state (receiver_in (opened_with r h cache)) (accept_if_whole (by_entries r.air.scheme) r.air r.reader (receiver_in (opened_with r h cache)).state)) e
     ∙ ap (λ (c : Cache). in_state (receiver_in r) (accept_if_whole (by_entries r.air.scheme) r.air r.reader (record (with_opened (receiver_in r).state) { held = r.held.reads ++ x ∷ []; copies = c.copies }))) f
     ∙ ap (λ cs. in_state (receiver_in r) (accept_if_whole (by_entries r.air.scheme) r.air r.reader (record (with_opened (receiver_in r).state) { held = r.held.reads ++ x ∷ []; copies = cs }))) (kept_at r r.copies.copies x k)
-    ∙ ap (in_state (receiver_in r)) (open_clear r.air r.reader x (receiver_in r).state (never_aged r.air (receiver_in r).state x k.deck.full) none)
+    ∙ ap (in_state (receiver_in r)) (open_clear r.air r.reader x (receiver_in r).state near none)
 
 -- The receiver after the abort, with these copies.
 abbrev after_abort : Inside → Read → Clash → List Read → Receiver
 after_abort r x c cs = in_state (receiver_in r) (next_attempt r.reader (with_line (by_entries r.air.scheme) (Abort x.item x.cycle c.item) (record (with_opened (receiver_in r).state) { copies = cs })))
 
 pub opened_clash : (r : Inside) (held : HeldValues) (cache : Cache) (x : Read) (c : Clash) → IsReceiver r → held ≡ r.held →
-    cache ≡ offered_to r x (Some c) → (by_entries r.air.scheme).clash r.held.reads x ≡ Some c →
+    cache ≡ offered_to r x (Some c) → comes_aged r.air (receiver_in r).state x ≡ false → (by_entries r.air.scheme).clash r.held.reads x ≡ Some c →
     in_state (receiver_in (opened_with r held cache)) (next_attempt r.reader (with_line (by_entries r.air.scheme) (Abort x.item x.cycle c.item) (receiver_in (opened_with r held cache)).state))
     ≡ in_state (receiver_in r) (open_bucket (by_entries r.air.scheme) r.air r.reader x (receiver_in r).state)
-opened_clash r held cache x c k e f some =
+opened_clash r held cache x c k e f near some =
     ap (λ h. in_state (receiver_in (opened_with r h cache)) (next_attempt r.reader (with_line (by_entries r.air.scheme) (Abort x.item x.cycle c.item) (receiver_in (opened_with r h cache)).state))) e
     ∙ ap (λ (t : Cache). after_abort r x c t.copies) f ∙ ap (after_abort r x c) (kept_at r (without_item c.item r.copies.copies) x k)
-    ∙ ap (in_state (receiver_in r)) (open_clash r.air r.reader x c (receiver_in r).state (never_aged r.air (receiver_in r).state x k.deck.full) some)
+    ∙ ap (in_state (receiver_in r)) (open_clash r.air r.reader x c (receiver_in r).state near some)
+
+-- The receiver after an aged attempt, with these copies.
+abbrev after_aged : Inside → Read → List Read → Receiver
+after_aged r x cs = in_state (receiver_in r) (next_attempt r.reader (with_line (by_entries r.air.scheme) (Aged x.item x.cycle) (record (with_opened (receiver_in r).state) { copies = cs })))
+
+pub opened_aged : (r : Inside) (cache : Cache) (x : Read) → IsReceiver r → cache ≡ offered_to r x None → comes_aged r.air (receiver_in r).state x ≡ true →
+    in_state (receiver_in (opened_with r r.held cache)) (next_attempt r.reader (with_line (by_entries r.air.scheme) (Aged x.item x.cycle) (receiver_in (opened_with r r.held cache)).state))
+    ≡ in_state (receiver_in r) (open_bucket (by_entries r.air.scheme) r.air r.reader x (receiver_in r).state)
+opened_aged r cache x k f far =
+    ap (λ (t : Cache). after_aged r x t.copies) f ∙ ap (after_aged r x) (kept_at r r.copies.copies x k)
+    ∙ ap (in_state (receiver_in r)) (open_aged r.air r.reader x (receiver_in r).state far)

@@ -22,14 +22,15 @@ pix_counted deck =
     length-map (enumerate_from 0 (rates_in deck)) (λ p. pix_number (disks_in deck 0) p.0 p.1) ∙ length-enumerate_from 0 (rates_in deck) ∙ length-map deck.items (λ i. i.rate)
 
 -- What receivers of a plain deck know, by its parts.
-abbrev one_air : Policy → ℕ → List (Option ℕ) → List ℕ → Air
-one_air policy items slots pix = record { scheme = scheme_of policy; version = 1; items = items; replans = []; slots = slots ∷ []; pix = pix ∷ [] }
+abbrev one_air : Policy → ℕ → ℕ → List (Option ℕ) → List ℕ → Air
+one_air policy version items slots pix = record { scheme = scheme_of policy; version = version; items = items; replans = []; slots = slots ∷ []; pix = pix ∷ [] }
 
-pub air_is : (deck : Deck) (policy : Policy) (items : ℕ) (slots : List (Option ℕ)) (pix : List ℕ) → IsPlain deck → policy ≡ deck.settings.policy → items ≡ length deck.items
-    → slots ≡ program (disks_in deck 0) → pix ≡ all_pix deck → one_air policy items slots pix ≡ air_of deck
-air_is deck policy items slots pix plain p i s x =
-    ap (λ p. one_air p items slots pix) p ∙ ap (λ n. one_air deck.settings.policy n slots pix) i ∙ ap (λ l. one_air deck.settings.policy (length deck.items) l pix) s
-    ∙ ap (one_air deck.settings.policy (length deck.items) (program (disks_in deck 0))) x ∙ sym (plain_air deck plain)
+pub air_is : (deck : Deck) (policy : Policy) (version items : ℕ) (slots : List (Option ℕ)) (pix : List ℕ) → IsPlain deck → policy ≡ deck.settings.policy → version ≡ deck.settings.version
+    → items ≡ length deck.items → slots ≡ program (disks_in deck 0) → pix ≡ all_pix deck → one_air policy version items slots pix ≡ air_of deck
+air_is deck policy version items slots pix plain p v i s x =
+    ap (λ p. one_air p version items slots pix) p ∙ ap (λ v. one_air deck.settings.policy v items slots pix) v ∙ ap (λ n. one_air deck.settings.policy deck.settings.version n slots pix) i
+    ∙ ap (λ l. one_air deck.settings.policy deck.settings.version (length deck.items) l pix) s
+    ∙ ap (one_air deck.settings.policy deck.settings.version (length deck.items) (program (disks_in deck 0))) x ∙ sym (plain_air deck plain)
 
 -- One number more, that of the next item.
 pub pix_more : (deck : Deck) (plan : List Disk) (i rate n : ℕ) → plan ≡ disks_in deck 0 → i < length deck.items → IfSome (slice_get deck.items i) (λ item. rate ≡ item.rate) →

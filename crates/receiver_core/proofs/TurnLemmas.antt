@@ -10,6 +10,7 @@ use Rattle.air_model.specs.Aired.{Air}
 use Rattle.air_model.specs.Copies.{without_item}
 use Rattle.air_model.specs.Judges.{Judge, by_entries, place_of}
 use Rattle.air_model.specs.Reads.{Read}
+use Rattle.air_model.specs.SessionLaws.{are_far}
 use Rattle.air_model.specs.Sessions
 use Rattle.air_model.specs.Sessions.{Line, Reader, State, accept_if_whole, comes_late, count_copied, drop_copy, hold, is_unusable, line_of, next_query, query_of, turn, turn_with, wanted, with_line}
 use Rattle.air_model.proofs.MomentLemmas.{cond_keeps, find_is}
@@ -27,7 +28,7 @@ use Rattle.receiver_core.specs.Private.Turns.{uses_copy}
 use Rattle.receiver_core.specs.declared.receivers.Receiver.TheInside.{Inside}
 use Rattle.receiver_core.proofs.HearLemmas.{quiet}
 use Rattle.receiver_core.proofs.SettlingLemmas.{step_given, step_on_turn, step_settled}
-use Rattle.receiver_core.proofs.WordLemmas.{copy_in, dropped, no_copy, taken}
+use Rattle.receiver_core.proofs.WordLemmas.{copy_in, dropped, is_past, no_copy, taken}
 
 abbrev J : Air → Judge
 J air = by_entries air.scheme
@@ -48,12 +49,17 @@ pub kept_whole : (r : Inside) (item : ℕ) (x : Read) → IsReceiver r → copy_
 unfolding copy_among
 kept_whole r item x k e = (find_is (IsWholeRead r.air.items) (λ y. y.item == item) r.copies.copies k.cache.copies (Some x) e).0
 
--- Whether a copy is stale is told by the reader's age and the deck's policy.
-pub stale_at : (r : Inside) (x : Read) (b : Bool) (age : ℕ) → IsReceiver r →
-    ((item : ℕ) → b ≡ (nat_lt age (r.latest - x.cycle) || is_late r.held.policy (map place_of r.held.reads) (record { item = item; cycle = x.cycle }))) → age ≡ r.reader.plan.age →
-    (nat_lt r.reader.plan.age ((receiver_in r).state.now - x.cycle) || comes_late r.air (receiver_in r).state x) ≡ b
-stale_at r x b age k told e = sym (told x.item ∙ ap (λ n. nat_lt n (r.latest - x.cycle) || is_late r.held.policy (map place_of r.held.reads) (place_of x)) e
-    ∙ ap (λ p. nat_lt r.reader.plan.age (r.latest - x.cycle) || is_late p (map place_of r.held.reads) (place_of x)) k.held.policy)
+-- Whether a copy is stale is told by the reader's age, the deck's policy and its version.
+pub stale_at : (r : Inside) (x : Read) (b : Bool) (age version : ℕ) → IsReceiver r →
+    ((item : ℕ) → b ≡ (nat_lt age (r.latest - x.cycle) || is_late r.held.policy (map place_of r.held.reads) (record { item = item; cycle = x.cycle })
+    || are_far version (map place_of r.held.reads ++ record { item = item; cycle = x.cycle } ∷ []))) → age ≡ r.reader.plan.age → version ≡ r.air.version →
+    is_past r.air r.reader x (receiver_in r).state ≡ b
+stale_at r x b age version k told e v =
+    let R = map place_of r.held.reads in
+    let far = are_far version (R ++ place_of x ∷ []) in
+    sym (told x.item ∙ ap (λ n. nat_lt n (r.latest - x.cycle) || is_late r.held.policy R (place_of x) || far) e
+    ∙ ap (λ p. nat_lt r.reader.plan.age (r.latest - x.cycle) || is_late p R (place_of x) || far) k.held.policy
+    ∙ ap (λ n. nat_lt r.reader.plan.age (r.latest - x.cycle) || comes_late r.air (receiver_in r).state x || are_far n (R ++ place_of x ∷ [])) v)
 
 -- The fields with one more read from a copy.
 abbrev pub taken_with : Inside → HeldValues → Inside

@@ -1,17 +1,15 @@
 -- The words of a session, taken apart as a receiver takes them: what is opened, what a copy does, and the end.
-use Rattle.std.proofs.Common.{◌≡◌, ℕ, ◌+◌, ◌-◌, ◌==◌, ◌<◌, ◌≤◌, Bool, true, false, cond, not, ◌&&◌, ◌||◌, nat_lt, [], ◌∷◌, ◌++◌, length, map, Option, Some, None, refl, sym, ◌∙◌, ap}
+use Rattle.std.proofs.Common.{◌≡◌, ℕ, ◌+◌, ◌-◌, ◌==◌, ◌<◌, ◌≤◌, Bool, true, false, cond, not, ◌||◌, nat_lt, [], ◌∷◌, ◌++◌, length, Option, Some, None, refl, sym, ◌∙◌, ap}
 use Rattle.std.specs.List.{find}
 use Rattle.std.specs.Option.{is_some, option_map_or}
 use Rattle.std.proofs.lemmas.Bool.{cond-false, cond-true, le-ltb, lt-ltb}
 use Rattle.air_base.specs.declared.verdicts.Clash.{Clash}
-use Rattle.air_base.specs.declared.verdicts.VerdictKind.TheVariants.{Abort, Accept, Unfinished}
-use Rattle.air_history.specs.Ages.{spans_too_far}
+use Rattle.air_base.specs.declared.verdicts.VerdictKind.TheVariants.{Abort, Accept, Aged, Unfinished}
 use Rattle.air_model.specs.Aired.{Air, pix_at}
-use Rattle.air_model.specs.Buckets.{has_ages}
 use Rattle.air_model.specs.Copies.{keep, with_copy, without_item}
-use Rattle.air_model.specs.Judges.{Judge, by_entries, place_of}
+use Rattle.air_model.specs.Judges.{Judge, by_entries}
 use Rattle.air_model.specs.Reads.{Read}
-use Rattle.air_model.specs.Sessions.{Reader, State, abort, accept_if_whole, comes_late, copy_of, count_copied, count_opened, decide, drop_copy, end_query, hold, is_unusable, next_attempt, next_query, offer, open_bucket, query_of, turn, turn_with, wanted, with_line, judge_read, comes_aged}
+use Rattle.air_model.specs.Sessions.{Reader, State, abort, accept_if_whole, comes_late, copy_of, count_copied, count_opened, decide, drop_copy, end_query, hold, is_unusable, next_attempt, next_query, offer, open_bucket, query_of, turn, turn_with, wanted, with_line, judge_read, comes_aged, end_aged}
 use Rattle.receiver_core.specs.Private.Turns.{uses_copy}
 
 abbrev J : Air → Judge
@@ -33,9 +31,20 @@ near_judged : (air : Air) (reader : Reader) (x : Read) (s : State) → comes_age
 unfolding judge_read count_opened
 near_judged air reader x s near = sym (cond-false (comes_aged air s x) _ _ near)
 
--- No read does where entries are told in full.
-pub never_aged : (air : Air) (s : State) (x : Read) → has_ages air.version ≡ false → comes_aged air s x ≡ false
-never_aged air s x full = ap (λ b. b && spans_too_far (map place_of s.held ++ place_of x ∷ [])) full
+-- One that does ends the attempt.
+far_judged : (air : Air) (reader : Reader) (x : Read) (s : State) → comes_aged air s x ≡ true →
+    end_aged (J air) air reader x (count_opened s) ≡ judge_read (J air) air reader x (count_opened s)
+unfolding judge_read count_opened
+far_judged air reader x s far = sym (cond-true (comes_aged air s x) _ _ far)
+
+-- The read is offered, and then the attempt ends.
+pub open_aged : (air : Air) (reader : Reader) (x : Read) (s : State) → comes_aged air s x ≡ true →
+    next_attempt reader (with_line (J air) (Aged x.item x.cycle) (record (with_opened s) { copies = keep reader.plan.room (pix_at air s.now) (with_copy x s.copies) })) ≡ open_bucket (J air) air reader x s
+unfolding open_bucket judge_read end_aged offer with_line next_attempt next_query count_opened
+open_aged air reader x s far =
+    let t = with_line (J air) (Aged x.item x.cycle) (count_opened s) in
+    cond_after (offer air reader x) (nat_lt s.attempt reader.plan.tries) (record t { attempt = t.attempt + 1; held = [] }) (next_query t)
+    ∙ ap (offer air reader x) (far_judged air reader x s far)
 
 -- The read is held and offered, and then the query is accepted if it is whole.
 pub open_clear : (air : Air) (reader : Reader) (x : Read) (s : State) → comes_aged air s x ≡ false → (J air).clash s.held x ≡ None →
@@ -97,17 +106,21 @@ module _ (air : Air) (reader : Reader) (x : Read) (s : State) (e : copy_of (want
 
 -- What makes a copy unusable, and what makes it usable.
 module _ (air : Air) (reader : Reader) (x : Read) (s : State) where
-  pub stale : (nat_lt reader.plan.age (s.now - x.cycle) || comes_late air s x) ≡ true → is_unusable (J air) air reader x s ≡ true
-  unfolding is_unusable
-  stale e = ap (λ b. b || comes_aged air s x || is_some ((J air).clash s.held x)) e
+  -- It is too old, or comes late or aged.
+  abbrev pub is_past : Bool
+  is_past = nat_lt reader.plan.age (s.now - x.cycle) || comes_late air s x || comes_aged air s x
 
-  pub clashing : (c : Clash) → (nat_lt reader.plan.age (s.now - x.cycle) || comes_late air s x) ≡ false → comes_aged air s x ≡ false → (J air).clash s.held x ≡ Some c → is_unusable (J air) air reader x s ≡ true
+  pub stale : is_past ≡ true → is_unusable (J air) air reader x s ≡ true
   unfolding is_unusable
-  clashing c fresh near e = ap (λ b. b || comes_aged air s x || is_some ((J air).clash s.held x)) fresh ∙ ap (λ b. b || is_some ((J air).clash s.held x)) near ∙ ap is_some e
+  stale e = ap (λ b. b || is_some ((J air).clash s.held x)) e
 
-  pub usable : (nat_lt reader.plan.age (s.now - x.cycle) || comes_late air s x) ≡ false → comes_aged air s x ≡ false → (J air).clash s.held x ≡ None → is_unusable (J air) air reader x s ≡ false
+  pub clashing : (c : Clash) → is_past ≡ false → (J air).clash s.held x ≡ Some c → is_unusable (J air) air reader x s ≡ true
   unfolding is_unusable
-  usable fresh near clear = ap (λ b. b || comes_aged air s x || is_some ((J air).clash s.held x)) fresh ∙ ap (λ b. b || is_some ((J air).clash s.held x)) near ∙ ap is_some clear
+  clashing c fresh e = ap (λ b. b || is_some ((J air).clash s.held x)) fresh ∙ ap is_some e
+
+  pub usable : is_past ≡ false → (J air).clash s.held x ≡ None → is_unusable (J air) air reader x s ≡ false
+  unfolding is_unusable
+  usable fresh clear = ap (λ b. b || is_some ((J air).clash s.held x)) fresh ∙ ap is_some clear
 
 -- ---- the end
 

@@ -1,10 +1,9 @@
 -- The fields of a receiver.
-use Rattle.std.specs.Prelude.{◌≡◌, ℕ, ◌+◌, ◌*◌, ◌<◌, ◌≤◌, false, List, [], get_or, length, map, take, All}
+use Rattle.std.specs.Prelude.{◌≡◌, ℕ, ◌+◌, ◌*◌, ◌<◌, ◌≤◌, List, [], get_or, length, map, take, All}
 use Rattle.air_base.specs.declared.verdicts.Policy.{Policy}
 use Rattle.air_base.specs.declared.limits.TheConstants.{MOST_TRIES}
 use Rattle.held_reads.specs.declared.held.TheConstants.{ROOM}
 use Rattle.air_model.specs.Aired.{Air, pix_at}
-use Rattle.air_model.specs.Buckets.{has_ages}
 use Rattle.air_model.specs.Reads.{Read}
 use Rattle.air_model.specs.Sessions.{Reader}
 use Rattle.pix_cache.specs.Caches.{Cache}
@@ -30,13 +29,12 @@ receiver_in r = record {
   last = r.last;
 }
 
--- The queries are short, and none has an item twice; their items are those of the air, which tells entries in full, and each item has a
--- PIX number in each cycle; and a query is tried as often as a deck may say at most.
+-- The queries are short, and none has an item twice; their items are those of the air, and each item has a PIX number in each cycle; and a query is
+-- tried as often as a deck may say at most.
 pub record AreOfDeck (air : Air) (reader : Reader) : Type 0 where
   pub short : HasFewQueries reader
   pub distinct : AreDistinct reader
   pub within : AreWithin air.items reader
-  pub full : has_ages air.version ≡ false
   pub numbers : (c : ℕ) → length (pix_at air c) ≡ air.items
   pub tries : reader.plan.tries ≤ MOST_TRIES
 

@@ -1,11 +1,11 @@
-//! What all receivers of a deck know: the policy, the number of items, the item of each slot, and the PIX numbers.
+//! What all receivers of a deck know: the policy, the version, the number of items, the item of each slot, and the PIX numbers.
 //!
-//! A deck is plain so far: its buckets are of version 1, and all its cycles have one program.
+//! A deck is plain so far: all its cycles have one program.
 
-ghost use Rattle.std.specs.Prelude.{◌≡◌, ◌<◌, ◌≤◌, ℕ, false, List, length, map, IfOk};
+ghost use Rattle.std.specs.Prelude.{◌≡◌, ◌<◌, ◌≤◌, ℕ, List, length, map, IfOk};
 ghost use Rattle.std.specs.List.{enumerate_from};
 ghost use Rattle.air_base.specs.declared.limits.TheConstants.{MOST_ITEMS};
-ghost use Rattle.air_model.specs.Buckets.{has_ages, item_of, kind_of};
+ghost use Rattle.air_model.specs.Buckets.{item_of, kind_of};
 ghost use Rattle.air_model.specs.Aired.{air_of, airs_columns, fits, pix_at};
 ghost use Rattle.air_model.specs.Airings.{carries, pix_number};
 ghost use Rattle.air_model.specs.Decks.{disks_in, rates_in};
@@ -18,10 +18,11 @@ use chunk_program::{PlannedRef, Program};
 use std::alloc::Global;
 use std::marker::Model;
 
-/// The policy, the number of items, the item of each slot, and each item's PIX number.
+/// The policy, the version of the buckets, the number of items, the item of each slot, and each item's PIX number.
 #[derive(Drop)]
 pub struct Air {
     policy: Policy,
+    version: u8,
     items: u16,
     slots: Vec<Option<u16>>,
     pix: Vec<u64>,
@@ -41,13 +42,14 @@ impl Air {
     /// What the receivers of a deck know.
     pub fn new(alloc: Global, planned: &PlannedRef<'_>) -> Result<Air, NoMemory>
         ensures told { IfOk result (λ a. a ≡ air_of planned.now) }
-        ensures full { IfOk result (λ a. has_ages a.version ≡ false) }
         ensures numbers { IfOk result (λ a. (c : ℕ) → length (pix_at a c) ≡ a.items) }
         ensures few { IfOk result (λ a. a.items ≤ MOST_ITEMS) }
     {
         let deck = planned.deck();
+        let settings = deck.settings();
         Ok(Air {
-            policy: deck.settings().policy,
+            policy: settings.policy,
+            version: settings.version,
             items: deck.items(),
             slots: slots(alloc, planned.program())?,
             pix: pix_numbers(alloc, planned)?,
@@ -59,6 +61,13 @@ impl Air {
         ensures { result ≡ self.now.scheme.policy }
     {
         self.policy
+    }
+
+    /// The version of the deck's buckets.
+    pub fn version(&self) -> u8
+        ensures { result ≡ self.now.version }
+    {
+        self.version
     }
 
     /// The number of items.
@@ -80,7 +89,7 @@ impl Air {
         ensures { result ≡ fits self.now bucket.now }
     {
         let slot = bucket.slot() as usize;
-        if bucket.version() > 1 || bucket.edition() != 0 || slot >= self.slots.len() {
+        if bucket.version() > self.version || bucket.edition() != 0 || slot >= self.slots.len() {
             return false;
         }
         stands_right(self.policy, self.slots[slot], bucket) && bucket.count() == self.items

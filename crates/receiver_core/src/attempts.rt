@@ -7,6 +7,7 @@ ghost use Rattle.std.specs.Prelude.{◌≡◌, ℕ, ◌<◌, [], ◌∷◌, ◌+
 ghost use Rattle.air_history.specs.Columns.{scheme_of};
 ghost use Rattle.air_history.specs.Clashes.{is_late};
 ghost use Rattle.air_model.specs.Judges.{by_entries, heard_of, place_of};
+ghost use Rattle.air_model.specs.SessionLaws.{are_far};
 ghost use Rattle.air_history.specs.HeldReads.{IsNew};
 ghost use Rattle.receiver_core.specs.Private.Attempts.{columns_of, line_read, read};
 
@@ -68,6 +69,14 @@ impl Attempt {
         ensures { (item : ℕ) → result ≡ is_late self.now.policy (map place_of self.now.reads) (record { item = item; cycle = cycle }) }
     {
         is_late_under(self.policy, &self.held, cycle)
+    }
+
+    /// Whether a read in this cycle, of whatever item, lies too far from the held ones to be judged, where buckets of this version have
+    /// ages: from 2 on.
+    pub fn is_far(&self, version: u8, cycle: u32) -> bool
+        ensures { (item : ℕ) → result ≡ are_far version (map place_of self.now.reads ++ record { item = item; cycle = cycle } ∷ []) }
+    {
+        version >= 2 && self.held.spans(cycle)
     }
 
     /// Holds the read where it clashes with no held one, and else names the clash.

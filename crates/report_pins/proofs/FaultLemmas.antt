@@ -15,7 +15,7 @@ use Rattle.air_report.specs.declared.reading.faults.ReportError.TheVariants.{Fau
 use Rattle.air_report.proofs.TiedReports.{one_fault, report_or_fault, spelled_report, told_fault}
 use Rattle.text_pins.proofs.PlaceLemmas.{first_fault, first_fault_of_two, none_before_0, none_before_1}
 use Rattle.report_pins.specs.ReportAnswers.{IsFaultOrNoMemory}
-use Rattle.report_pins.specs.SmallDeck.{commit_skipped, cut_accept, glanced_before, looked_before, small_deck, started_after, two_unknown}
+use Rattle.report_pins.specs.SmallDeck.{commit_skipped, cut_accept, glanced_before, looked_before, small_deck, started_after, two_unknown, young_deck}
 
 -- ---- a text with a fault is answered by it
 
@@ -28,14 +28,14 @@ answered deck text row kind (Err (Fault other_row other_kind)) has spells told =
     inr (ap (λ r. Err (Fault r other_kind)) same.0 ∙ ap (λ k. Err (Fault row k)) same.1)
 
 -- The deck and the text are given by equations, as a call has them.
-pub fault_of : (d : Deck) (bytes text : List ℕ) (row kind : ℕ) → d ≡ small_deck → bytes ≡ text → HasReportFault small_deck text row kind → HasReportFault d bytes row kind
-fault_of d bytes text row kind is given has =
-    subst (λ v. HasReportFault v bytes row kind) (sym is) (subst (λ t. HasReportFault small_deck t row kind) (sym given) has)
+pub fault_of : (d deck : Deck) (bytes text : List ℕ) (row kind : ℕ) → d ≡ deck → bytes ≡ text → HasReportFault deck text row kind → HasReportFault d bytes row kind
+fault_of d deck bytes text row kind is given has =
+    subst (λ v. HasReportFault v bytes row kind) (sym is) (subst (λ t. HasReportFault deck t row kind) (sym given) has)
 
-pub told : (d : Deck) (bytes text : List ℕ) (row kind : ℕ) (result : Result ReportLines ReportError) → d ≡ small_deck → bytes ≡ text
-    → HasReportFault small_deck text row kind → IfOk result (SpellsLines d bytes) → IfErr result (IsReportAnswer d bytes) → IsFaultOrNoMemory row kind result
-told d bytes text row kind result is given has spells fault =
-    answered d bytes row kind result (fault_of d bytes text row kind is given has) spells fault
+pub told : (d deck : Deck) (bytes text : List ℕ) (row kind : ℕ) (result : Result ReportLines ReportError) → d ≡ deck → bytes ≡ text
+    → HasReportFault deck text row kind → IfOk result (SpellsLines d bytes) → IfErr result (IsReportAnswer d bytes) → IsFaultOrNoMemory row kind result
+told d deck bytes text row kind result is given has spells fault =
+    answered d bytes row kind result (fault_of d deck bytes text row kind is given has) spells fault
 
 -- ---- the faults of the texts
 
@@ -46,6 +46,14 @@ query_not_ended = told_fault small_deck cut_accept 2 6 (1, refl, first_fault _ 2
 pub no_place : HasReportFault small_deck (codes "abort,0,2,1,0@1=10,1@1x,0") 1 2
 unfolding HasLineFault line_kinds_at spelled_read spelled_place spelled_item short_of number_of all_some csv_on_literals
 no_place = told_fault small_deck (codes "abort,0,2,1,0@1=10,1@1x,0") 1 2 (0, refl, first_fault _ 1 0 2 (omega arith) (none_before_0 _) refl)
+
+pub aged_in_full : HasReportFault small_deck (codes "aged,0,2,1,0@1=10,1@1") 1 3
+unfolding HasLineFault line_kinds_at csv_on_literals
+aged_in_full = told_fault small_deck (codes "aged,0,2,1,0@1=10,1@1") 1 3 (0, refl, first_fault _ 1 0 3 (omega arith) (none_before_0 _) refl)
+
+pub aged_alone : HasReportFault young_deck (codes "aged") 1 1
+unfolding HasLineFault line_kinds_at csv_on_literals
+aged_alone = told_fault young_deck (codes "aged") 1 1 (0, refl, first_fault _ 1 0 1 (omega arith) (none_before_0 _) refl)
 
 pub cycle_nought : HasReportFault small_deck (codes "accept,0,2,1,0@0=10 1@0=20") 1 7
 unfolding HasLineFault line_kinds_at spelled_read spelled_place spelled_item short_of number_of all_some csv_on_literals

@@ -1,4 +1,5 @@
 pub mod FaultLemmas
 pub mod ReadLemmas
 pub mod ReplayLemmas
+pub mod FarLemmas
 pub mod AuditLemmas

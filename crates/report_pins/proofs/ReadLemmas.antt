@@ -22,13 +22,13 @@ use Rattle.air_report.specs.declared.reading.ReadReport.{ReadReport}
 use Rattle.report_pins.specs.SmallDeck.{add_to, each_section, set_to, small_deck, two_commits}
 
 -- The lines that are read are those of the text's records.
-pub lines_read : (deck : Deck) (text : List ℕ) (read : ReadReport) → IsReportOf deck text read → lines_in read.report ≡ sections_of (spelled_lines (records_of text))
+pub lines_read : (deck : Deck) (text : List ℕ) (read : ReadReport) → IsReportOf deck text read → lines_in read.report ≡ sections_of (spelled_lines deck.settings.version (records_of text))
 unfolding SpellsLines
 lines_read deck text read is = (report_lines deck text read.report is.spelled).sections
 
 -- The history that is read is the one that the lines name.
 pub history_read : (deck : Deck) (text : List ℕ) (read : ReadReport) (events : List EventLine) → IsReportOf deck text read
-    → (sections_of (spelled_lines (records_of text))).events ≡ events → read.report.history ≡ map (event_in deck) events
+    → (sections_of (spelled_lines deck.settings.version (records_of text))).events ≡ events → read.report.history ≡ map (event_in deck) events
 history_read deck text read events is given =
     sym (legal_same deck read.report.history is.spelled.report.legal) ∙ ap (λ lines. map (event_in deck) lines) (ap (λ l. l.events) (lines_read deck text read is) ∙ given)
 
@@ -38,7 +38,7 @@ pub record RowsTold (read : ReadReport) (lines : ReportLines) : Type 0 where
   pub glances : read.glance_rows ≡ range_with_len (1 + length lines.events + length lines.verdicts + length lines.counts) (length lines.glances)
   pub looks : read.look_rows ≡ range_with_len (1 + length lines.events + length lines.verdicts + length lines.counts + length lines.glances) (length lines.looks)
 
-pub rows_told : (deck : Deck) (text : List ℕ) (read : ReadReport) (lines : ReportLines) → IsReportOf deck text read → sections_of (spelled_lines (records_of text)) ≡ lines → RowsTold read lines
+pub rows_told : (deck : Deck) (text : List ℕ) (read : ReadReport) (lines : ReportLines) → IsReportOf deck text read → sections_of (spelled_lines deck.settings.version (records_of text)) ≡ lines → RowsTold read lines
 rows_told deck text read lines is given =
     let same : lines_in read.report ≡ lines = lines_read deck text read is ∙ given in
     let r = read.report in
@@ -74,7 +74,7 @@ pub record RowsRead (read : ReadReport) : Type 0 where
 rows_of_each : (read : ReadReport) → IsReportOf small_deck each_section read → RowsRead read
 unfolding spelled_read spelled_place spelled_item short_of number_of all_some csv_on_literals
 rows_of_each read is =
-    let rows = rows_told small_deck each_section read (sections_of (spelled_lines (records_of each_section))) is refl in
+    let rows = rows_told small_deck each_section read (sections_of (spelled_lines 1 (records_of each_section))) is refl in
     record { verdicts = rows.verdicts; glances = rows.glances; looks = rows.looks }
 
 pub rows_read : (d : Deck) (bytes : List ℕ) (result : Result ReadReport ReportError) → d ≡ small_deck → bytes ≡ each_section → IfOk result (IsReportOf d bytes)

@@ -95,7 +95,7 @@ late_kept = record {
 }
 
 -- The deck and the report are given by equations, as a call has them.
-kept_given : (d deck : Deck) (r report : ReadReport) → d ≡ deck → r ≡ report → KeepsGrammar deck report → KeepsGrammar d r
+pub kept_given : (d deck : Deck) (r report : ReadReport) → d ≡ deck → r ≡ report → KeepsGrammar deck report → KeepsGrammar d r
 kept_given d deck r report is given keeps = subst (λ v. KeepsGrammar v r) (sym is) (subst (λ v. KeepsGrammar deck v) (sym given) keeps)
 
 pub read_kept : (d : Deck) (r : ReadReport) → d ≡ small_deck → r ≡ read_report → KeepsGrammar d r

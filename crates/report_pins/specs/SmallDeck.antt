@@ -29,6 +29,10 @@ small_deck = record {
   settings = record { policy = FMatrix; version = 1; cycles = 2; seed = 0; loss = 0; again = 0; late = 0; monitors = 1; hears = 1 };
 }
 
+-- The same deck with buckets of version 2.
+abbrev pub young_deck : Deck
+young_deck = record small_deck { settings = record small_deck.settings { version = 2 } }
+
 -- A line of a text.
 abbrev pub line : List ℕ → List ℕ
 line text = text ++ 10 ∷ []

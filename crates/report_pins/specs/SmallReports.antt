@@ -1,9 +1,9 @@
 -- Reports of the small deck, as they are read: three commits of updater 0 in cycle 1, then the start of cycle 2, and lines after it.
-use Rattle.std.specs.Prelude.{ℕ, List, [], ◌∷◌, Option}
+use Rattle.std.specs.Prelude.{ℕ, List, [], ◌∷◌, Option, replicate}
 use Rattle.air_base.specs.declared.verdicts.Policy.TheVariants.{RMatrix}
 use Rattle.air_base.specs.declared.verdicts.ReadOf.{ReadOf}
 use Rattle.air_base.specs.declared.verdicts.VerdictKind.{VerdictKind}
-use Rattle.air_base.specs.declared.verdicts.VerdictKind.TheVariants.{Accept, Abort}
+use Rattle.air_base.specs.declared.verdicts.VerdictKind.TheVariants.{Accept, Abort, Aged}
 use Rattle.air_history.specs.declared.histories.Event.{Event}
 use Rattle.air_history.specs.declared.histories.Event.TheVariants.{Commit, Start}
 use Rattle.air_model.specs.Decks.{Deck}
@@ -55,6 +55,21 @@ late_report = told
     []
     (6 ∷ 7 ∷ [])
     []
+
+-- Over 256 starts and no commit: an aged attempt whose next read lies 255 cycles from its first, and one whose next read lies 254 from it.
+abbrev pub far_report : ReadReport
+far_report = record {
+  report = record {
+    history = replicate 256 Start;
+    verdicts = ended (Aged 1 256) 2 (read 0 1 10 ∷ []) ∷ ended (Aged 1 256) 2 (read 0 2 10 ∷ []) ∷ [];
+    counts = [];
+    glances = [];
+    looks = [];
+  };
+  verdict_rows = 257 ∷ 258 ∷ [];
+  glance_rows = [];
+  look_rows = [];
+}
 
 -- What is found of the line in a row.
 abbrev pub found : ℕ → Option Cause → Finding

@@ -3,7 +3,7 @@
 
 ghost use Rattle.std.specs.Prelude.{◌≡◌, codes};
 ghost use Rattle.report_pins.specs.ReportAnswers.{IsFaultOrNoMemory};
-ghost use Rattle.report_pins.specs.SmallDeck.{commit_skipped, cut_accept, glanced_before, looked_before, small_deck, started_after, two_unknown};
+ghost use Rattle.report_pins.specs.SmallDeck.{commit_skipped, cut_accept, glanced_before, looked_before, small_deck, started_after, two_unknown, young_deck};
 
 use air_report::{ReadLines, ReportError, read_lines};
 use item_catalog::Deck;
@@ -18,6 +18,32 @@ pub fn accept_of_a_proper_prefix(
     requires deck { deck.now ≡ small_deck }
     requires bytes { bytes.now ≡ cut_accept }
     ensures { IsFaultOrNoMemory 2 6 result }
+{
+    read_lines(alloc, deck, bytes)
+}
+
+/// `aged` is an unknown tag where buckets have no ages.
+pub fn aged_where_buckets_have_no_ages(
+    alloc: Global,
+    deck: &Deck,
+    bytes: &[u8],
+) -> Result<ReadLines, ReportError>
+    requires deck { deck.now ≡ small_deck }
+    requires bytes { bytes.now ≡ codes "aged,0,2,1,0@1=10,1@1" }
+    ensures { IsFaultOrNoMemory 1 3 result }
+{
+    read_lines(alloc, deck, bytes)
+}
+
+/// Where they have ages it is a tag, so one alone lacks its fields.
+pub fn aged_unknown_where_buckets_have_ages(
+    alloc: Global,
+    deck: &Deck,
+    bytes: &[u8],
+) -> Result<ReadLines, ReportError>
+    requires deck { deck.now ≡ young_deck }
+    requires bytes { bytes.now ≡ codes "aged" }
+    ensures { IsFaultOrNoMemory 1 1 result }
 {
     read_lines(alloc, deck, bytes)
 }

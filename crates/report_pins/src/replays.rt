@@ -4,8 +4,8 @@
 ghost use Rattle.std.specs.Prelude.{◌≡◌, ◌⊎◌, [], ◌∷◌, Err, Some, None, IfErr, IfOk};
 ghost use Rattle.air_report.specs.KeptReports.{KeepsGrammar};
 ghost use Rattle.live_replay.specs.Audits.{replayed_in};
-ghost use Rattle.report_pins.specs.SmallDeck.{small_deck};
-ghost use Rattle.report_pins.specs.SmallReports.{r_matrix_deck, found, late_report, read_report};
+ghost use Rattle.report_pins.specs.SmallDeck.{small_deck, young_deck};
+ghost use Rattle.report_pins.specs.SmallReports.{r_matrix_deck, far_report, found, late_report, read_report};
 
 use air_report::ReadReport;
 use item_catalog::Deck;
@@ -41,6 +41,20 @@ pub fn late_read_passes(
     requires deck { deck.now ≡ r_matrix_deck }
     requires report { report.now ≡ late_report }
     ensures { IfOk result (λ list. list.items ≡ found 6 (Some Cause.Verdict) ∷ found 7 None ∷ []) }
+{
+    audit(alloc, deck, report)
+}
+
+/// The reads of an aged attempt lie 255 cycles apart with the named one. It also refuses, in row 258, that 254 cycles are too far.
+#[tactic(auto, using(crate::proofs::FarLemmas::far_findings))]
+pub fn span_without_the_named_read(
+    alloc: Global,
+    deck: &Deck,
+    report: &ReadReport,
+) -> Result<Vec<Finding>, AuditError>
+    requires deck { deck.now ≡ young_deck }
+    requires report { report.now ≡ far_report }
+    ensures { IfOk result (λ list. list.items ≡ found 257 None ∷ found 258 (Some Cause.Verdict) ∷ []) }
 {
     audit(alloc, deck, report)
 }

@@ -2,6 +2,7 @@ pub mod ListenerLemmas
 pub mod PieceLemmas
 pub mod PixLemmas
 pub mod RangeLemmas
+pub mod AgedRangeLemmas
 pub mod SessionLemmas
 pub mod SizeLemmas
 pub mod TapeCauses

@@ -2,4 +2,5 @@ pub mod SmallDecks
 pub mod SmallBuckets
 pub mod SmallReceivers
 pub mod SmallListeners
+pub mod AgedReceivers
 pub mod Refusals

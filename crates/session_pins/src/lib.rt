@@ -5,6 +5,7 @@
 //! definition. A function is named for the blunder that it refuses. `specs/` has the values: small decks, their buckets and receivers.
 #![tactic(auto)]
 
+pub mod aged_pins;
 pub mod listeners_pins;
 pub mod piece_pins;
 pub mod piece_run_pins;

@@ -35,7 +35,7 @@ lone_is_deck = record {
     tt,
   );
   script = λ by. omega arith;
-  plain = (refl, refl);
+  plain = refl;
 }
 
 -- No query asks twice for an item.

@@ -30,7 +30,7 @@ abbrev to_three : Option ℕ → Write
 to_three base = record { item = 3; base = base; minus = false; amount = 5 }
 
 pub record AtLimits : Type 0 where
-  size_above : kinds (disk_tests 0 257 None) ≡ 7 ∷ []
+  size_above : kinds (disk_tests 0 1025 None) ≡ 7 ∷ []
   one_try : kinds (reader_tests 0 0 0 1) ≡ []
   seventeen_asked : kinds (query_tests 17 1 0 0 seventeen) ≡ 7 ∷ []
   seventeen_reads : kinds (update_tests 17 0 0 seventeen (to_three None ∷ [])) ≡ 7 ∷ []

@@ -148,10 +148,10 @@ impl Draft {
         deck: &Deck,
         row: &ByteRecord,
     ) -> Result<(), Refusal<FaultKind>>
-        ensures { AddsLine result deck.now (spelled_line (fields_of row.now)) self.old self.new }
+        ensures { AddsLine result deck.now (spelled_line deck.now.settings.version (fields_of row.now)) self.old self.new }
     {
         deck.shows_well_made();
-        let line = read_line(alloc, row)?;
+        let line = read_line(alloc, deck.settings().version, row)?;
         if let Some(kind) = self.kind_of(deck, &line) {
             return Err(Refusal::Kind(kind));
         }

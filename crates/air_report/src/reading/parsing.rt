@@ -3,10 +3,10 @@
 ghost use Rattle.std.specs.Prelude.{◌≡◌, ◌<◌, drop, length};
 ghost use Rattle.air_base.specs.Pieces.{three_of, two_of};
 ghost use Rattle.csv.specs.Records.{fields_of};
-ghost use Rattle.item_catalog.specs.RecordFields.{four_of, seven_of, six_of};
+ghost use Rattle.item_catalog.specs.RecordFields.{five_of, four_of, seven_of, six_of};
 ghost use Rattle.item_catalog.specs.Private.ReadAnswers.{ReadsRecord};
 ghost use Rattle.item_catalog.specs.Spelled.{or_fault};
-ghost use Rattle.air_report.specs.LineTexts.{abort_by, abort_of, commit_by, counts_by, ended_by, seen_by, spelled_line, start_by, verdict_by};
+ghost use Rattle.air_report.specs.LineTexts.{abort_by, abort_of, aged_by, aged_of, commit_by, counts_by, ended_by, seen_by, spelled_line, start_by, verdict_by};
 ghost use Rattle.air_report.specs.declared.reading.kinds.FaultKind.TheVariants as fault;
 
 use crate::reading::kinds::FaultKind;
@@ -16,7 +16,7 @@ use crate::reading::tags::{Tag, read_tag};
 use air_base::{Counts, Verdict, VerdictKind, read_u64};
 use air_model::reports::{CountsLine, LookLine, VerdictLine};
 use csv::ByteRecord;
-use item_catalog::{Refusal, four, seven, six, three, two};
+use item_catalog::{Refusal, five, four, seven, six, three, two};
 use std::alloc::Global;
 
 /// The commit of a record.
@@ -118,6 +118,24 @@ fn read_abort(alloc: Global, row: &ByteRecord) -> Result<Line, Refusal<FaultKind
     read_verdict(alloc, abort_of(place, clash), reader, query, attempt, reads)
 }
 
+/// The end of an attempt whose next read lies too far from those before it.
+fn aged_of(place: &[u8]) -> Option<VerdictKind>
+    ensures { result ≡ aged_of place.now }
+{
+    let (item, cycle) = read_place(place)?;
+    Some(VerdictKind::Aged { item, cycle })
+}
+
+/// The aged attempt of a record.
+fn read_aged(alloc: Global, row: &ByteRecord) -> Result<Line, Refusal<FaultKind>>
+    ensures { ReadsRecord result (aged_by (five_of (drop 1 (fields_of row.now)))) }
+{
+    let Some((reader, query, attempt, reads, place)) = five(row) else {
+        return Err(Refusal::Kind(FaultKind::Fields));
+    };
+    read_verdict(alloc, aged_of(place), reader, query, attempt, reads)
+}
+
 /// The counts of a record.
 fn read_counts(row: &ByteRecord) -> Result<Line, Refusal<FaultKind>>
     ensures { ReadsRecord result (counts_by (seven_of (drop 1 (fields_of row.now)))) }
@@ -180,15 +198,16 @@ fn read_seen(row: &ByteRecord) -> Result<LookLine, Refusal<FaultKind>>
     })
 }
 
-/// The line that a record spells.
-pub fn read_line(alloc: Global, row: &ByteRecord) -> Result<Line, Refusal<FaultKind>>
-    ensures { ReadsRecord result (spelled_line (fields_of row.now)) }
+/// The line that a record spells in this version.
+pub fn read_line(alloc: Global, version: u8, row: &ByteRecord) -> Result<Line, Refusal<FaultKind>>
+    ensures { ReadsRecord result (spelled_line version (fields_of row.now)) }
 {
-    match read_tag(row) {
+    match read_tag(version, row) {
         Some(Tag::Commit) => read_commit(row),
         Some(Tag::Start) => read_start(row),
         Some(Tag::Accept) => read_ended(alloc, VerdictKind::Accept, row),
         Some(Tag::Abort) => read_abort(alloc, row),
+        Some(Tag::Aged) => read_aged(alloc, row),
         Some(Tag::Unfinished) => read_ended(alloc, VerdictKind::Unfinished, row),
         Some(Tag::Counts) => read_counts(row),
         Some(Tag::Glance) => Ok(Line::Glance(read_seen(row)?)),

@@ -2,7 +2,7 @@
 
 ghost use Rattle.std.specs.Prelude.{◌≡◌, ◌==◌, map};
 ghost use Rattle.std.specs.List.{list_all, list_any};
-ghost use Rattle.air_report.specs.LineFaults.{end_begun, follow, has_begun, is_begun, is_known, is_tried, leads, read_item};
+ghost use Rattle.air_report.specs.LineFaults.{end_begun, follow, has_begun, is_attempt, is_begun, is_known, is_tried, leads, may_end, read_item};
 
 use crate::reading::lines::Line;
 use air_base::{ReadOf, VerdictKind};
@@ -55,9 +55,9 @@ fn follow(query: &[u16], reads: &[ReadOf], end: VerdictKind) -> bool
     }
 }
 
-/// Whether a verdict is on an attempt of the deck.
-fn is_tried(deck: &Deck, line: &VerdictLine) -> bool
-    ensures { result ≡ is_tried deck.now line.now }
+/// Whether a verdict is on an attempt of the deck, however it ended.
+fn is_attempt(deck: &Deck, line: &VerdictLine) -> bool
+    ensures { result ≡ is_attempt deck.now line.now }
 {
     deck.shows_well_made();
     if line.reader >= deck.readers() {
@@ -72,6 +72,23 @@ fn is_tried(deck: &Deck, line: &VerdictLine) -> bool
     }
     let query = deck.query(line.reader, line.verdict.query);
     follow(query, line.reads.as_slice(), line.verdict.kind)
+}
+
+/// Whether an attempt may end so in this version: aged only where buckets have ages.
+fn may_end(version: u8, end: VerdictKind) -> bool
+    ensures { result ≡ may_end version end }
+{
+    match end {
+        VerdictKind::Aged { .. } => version >= 2,
+        _ => true,
+    }
+}
+
+/// Whether a verdict is on an attempt of the deck, which may end so.
+fn is_tried(deck: &Deck, line: &VerdictLine) -> bool
+    ensures { result ≡ is_tried deck.now line.now }
+{
+    is_attempt(deck, line) && may_end(deck.settings().version, line.verdict.kind)
 }
 
 /// Whether what a line names, beside updates and cycles, is the deck's.

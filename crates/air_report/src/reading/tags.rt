@@ -2,7 +2,7 @@
 
 ghost use Rattle.std.specs.Prelude.{◌≡◌, drop};
 ghost use Rattle.csv.specs.Records.{fields_of};
-ghost use Rattle.air_report.specs.LineTexts.{line_tag, spelled_line, spelled_line_by};
+ghost use Rattle.air_report.specs.LineTexts.{aged_tag, line_tag, spelled_line, spelled_line_by};
 
 use csv::ByteRecord;
 
@@ -13,15 +13,23 @@ pub enum Tag {
     Start,
     Accept,
     Abort,
+    Aged,
     Unfinished,
     Counts,
     Glance,
     Look,
 }
 
-/// The tag of this name.
-fn tag_of(text: &[u8]) -> Option<Tag>
-    ensures { result ≡ line_tag text.now }
+/// The tag `aged`, where the version has it.
+fn aged_tag(version: u8) -> Option<Tag>
+    ensures { result ≡ aged_tag version }
+{
+    if version >= 2 { Some(Tag::Aged) } else { None }
+}
+
+/// The tag of this name, if the version has one.
+fn tag_of(version: u8, text: &[u8]) -> Option<Tag>
+    ensures { result ≡ line_tag version text.now }
 {
     if text == b"commit".as_slice() {
         Some(Tag::Commit)
@@ -39,17 +47,19 @@ fn tag_of(text: &[u8]) -> Option<Tag>
         Some(Tag::Glance)
     } else if text == b"look".as_slice() {
         Some(Tag::Look)
+    } else if text == b"aged".as_slice() {
+        aged_tag(version)
     } else {
         None
     }
 }
 
-/// The tag of a record.
-pub fn read_tag(row: &ByteRecord) -> Option<Tag>
-    ensures { spelled_line (fields_of row.now) ≡ spelled_line_by result (drop 1 (fields_of row.now)) }
+/// The tag of a record, if the version has it.
+pub fn read_tag(version: u8, row: &ByteRecord) -> Option<Tag>
+    ensures { spelled_line version (fields_of row.now) ≡ spelled_line_by result (drop 1 (fields_of row.now)) }
 {
     match row.get(0) {
-        Some(text) => tag_of(text),
+        Some(text) => tag_of(version, text),
         None => None,
     }
 }

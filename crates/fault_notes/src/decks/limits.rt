@@ -6,8 +6,8 @@ use crate::records::lists::{Test, first_failing};
 use crate::records::tags::Tag;
 use crate::words::sentences::Sentence;
 use air_base::limits::{
-    MOST_DISKS, MOST_EVENTS, MOST_FULL_ITEMS, MOST_QUERIES, MOST_READERS, MOST_STARTS,
-    MOST_UPDATERS, MOST_UPDATES,
+    MOST_DISKS, MOST_EVENTS, MOST_ITEMS, MOST_QUERIES, MOST_READERS, MOST_STARTS, MOST_UPDATERS,
+    MOST_UPDATES,
 };
 
 /// A total that is above its limit; none where it isn't.
@@ -38,7 +38,7 @@ fn script_note(before: &RecordsBefore, record: &Record) -> Option<Sentence<'stat
 /// With a record a total passes a limit, or a script's updater does; none where none does.
 pub fn total_note(before: &RecordsBefore, record: &Record, tag: Tag) -> Option<Sentence<'static>> {
     let (before, name, most) = match tag {
-        Tag::Item => (before.items, "items", MOST_FULL_ITEMS as u64),
+        Tag::Item => (before.items, "items", MOST_ITEMS as u64),
         Tag::Disk => (before.disks, "disks", MOST_DISKS as u64),
         Tag::Update => (before.updates, "updates", MOST_UPDATES as u64),
         Tag::Reader => (before.readers, "readers", MOST_READERS as u64),

@@ -8,11 +8,13 @@ use crate::words::sentences::{Sentence, range};
 use crate::words::texts::{space_of, why_no_number};
 use air_base::limits::{MOST_CYCLES, MOST_DELTA, MOST_HEARS, MOST_MONITORS, MOST_SHARE};
 use air_base::read_u64;
+use item_catalog::NEWEST_VERSION;
 
 /// The settings, each with its least and its greatest value; the first has letters for values.
-const SETTINGS: [(&str, u64, u64); 9] = [
+const SETTINGS: [(&str, u64, u64); 10] = [
     ("policy", 0, 0),
     ("delta", 0, MOST_DELTA),
+    ("version", 1, NEWEST_VERSION),
     ("cycles", 0, MOST_CYCLES),
     ("seed", 0, u64::MAX),
     ("loss", 0, MOST_SHARE),
@@ -24,7 +26,7 @@ const SETTINGS: [(&str, u64, u64); 9] = [
 
 /// The place of a setting among them.
 pub fn setting_place(name: &str) -> Option<usize>
-    ensures { IfSome result (λ place. place < 9) }
+    ensures { IfSome result (λ place. place < 10) }
 {
     for place in 0..SETTINGS.len() {
         if SETTINGS[place].0 == name {
@@ -64,7 +66,7 @@ pub fn setting_note<'a>(before: &RecordsBefore, record: &'a Record) -> Option<Se
     let text = record.field(1);
     let Some(place) = setting_place(text) else {
         let wording =
-            "there is no setting #text#: #why#policy, delta, cycles, seed, loss, again, late, monitors and hears are the settings";
+            "there is no setting #text#: #why#policy, delta, version, cycles, seed, loss, again, late, monitors and hears are the settings";
         return Some(Sentence::words(wording, text, "", space_of(text)));
     };
     let (name, least, most) = SETTINGS[place];

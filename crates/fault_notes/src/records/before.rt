@@ -19,7 +19,7 @@ pub struct RecordsBefore {
     pub events: u64,
     pub starts: u64,
     pub commits_by: [u64; MOST_UPDATERS],
-    pub set: [bool; 9],
+    pub set: [bool; 10],
     pub begun: [Option<(u32, &'static str)>; 5],
 }
 
@@ -66,7 +66,7 @@ impl RecordsBefore {
             events: 0,
             starts: 0,
             commits_by: [0; MOST_UPDATERS],
-            set: [false; 9],
+            set: [false; 10],
             begun: [None; 5],
         }
     }

@@ -5,7 +5,7 @@ use crate::records::lists::parts_in;
 use crate::words::sentences::{Sentence, range};
 use crate::words::texts::{cut_at, cut_at_sign, why_no_number};
 use air_base::limits::{
-    MOST_AGE, MOST_ASKED, MOST_FREQ, MOST_FULL_ITEMS, MOST_RATE, MOST_READS, MOST_ROOM, MOST_TRIES,
+    MOST_AGE, MOST_ASKED, MOST_FREQ, MOST_RATE, MOST_READS, MOST_ROOM, MOST_SIZE, MOST_TRIES,
     MOST_UPDATERS, MOST_WRITES,
 };
 use air_base::read_u64;
@@ -36,7 +36,7 @@ const DECK: [Field; 14] = [
     ("<id>", "id", Form::Number, 0, u64::MAX),
     ("<value>", "value", Form::Number, 0, u64::MAX),
     ("<rate>", "rate", Form::Number, 0, MOST_RATE),
-    ("<size>", "size", Form::Number, 1, MOST_FULL_ITEMS as u64),
+    ("<size>", "size", Form::Number, 1, MOST_SIZE),
     ("<freq>", "frequency", Form::Frequency, 1, MOST_FREQ),
     ("<by>", "updater", Form::Number, 0, LAST_UPDATER),
     ("<reads>", "reads", Form::Items, 0, MOST_READS as u64),

@@ -1,6 +1,6 @@
 -- For private steps alone. What contracts see of a deck while it is read, and what its fields keep.
 use Rattle.std.specs.Prelude.{◌≡◌, ◌≤◌, length}
-use Rattle.air_base.specs.declared.limits.TheConstants.{MOST_DISKS, MOST_FULL_ITEMS, MOST_QUERIES, MOST_READERS, MOST_UPDATERS, MOST_UPDATES}
+use Rattle.air_base.specs.declared.limits.TheConstants.{MOST_DISKS, MOST_ITEMS, MOST_QUERIES, MOST_READERS, MOST_UPDATERS, MOST_UPDATES}
 use Rattle.item_catalog.specs.Private.Drafts.{DraftValue}
 use Rattle.item_catalog.specs.declared.deck.draft.Draft.TheInside.{Inside}
 
@@ -21,7 +21,7 @@ draft_seen d = record {
 
 -- What the fields of a draft keep to: the limits, and a list for each updater and each reader that there can be.
 pub record DraftKept (d : Inside) : Type 0 where
-  pub items : length d.items.items ≤ MOST_FULL_ITEMS
+  pub items : length d.items.items ≤ MOST_ITEMS
   pub disks : length d.disks.items ≤ MOST_DISKS
   pub updates : length d.updates.items ≡ MOST_UPDATERS
   pub updaters : d.updaters ≤ MOST_UPDATERS

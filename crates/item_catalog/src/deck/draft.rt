@@ -15,10 +15,10 @@ ghost use Rattle.item_catalog.specs.Faults.{end_tests};
 ghost use Rattle.air_base.specs.Pieces.{three_of, two_of};
 
 mod lists;
-mod settings;
+pub(crate) mod settings;
 
 use crate::deck::Deck;
-use crate::deck::draft::settings::{Name, Setting, delta_in, settings_in};
+use crate::deck::draft::settings::{Name, Setting, delta_in, most_items, settings_in};
 use crate::faults::FaultKind;
 use crate::parts::{
     DiskPart, ItemPart, Queries, Updates, is_no_freq, narrow_freq, read_freq, sizes_of,
@@ -30,7 +30,7 @@ use crate::scripts::Script;
 use crate::updates::item_lists::ItemList;
 use crate::updates::write_lists::WriteList;
 use air_base::limits::{
-    MOST_AGE, MOST_DELTA, MOST_DISKS, MOST_FULL_ITEMS, MOST_RATE, MOST_READERS, MOST_ROOM,
+    MOST_AGE, MOST_DELTA, MOST_DISKS, MOST_ITEMS, MOST_RATE, MOST_READERS, MOST_ROOM, MOST_SIZE,
     MOST_TRIES, MOST_UPDATERS,
 };
 use air_base::{NoMemory, read_u64};
@@ -129,7 +129,7 @@ impl Draft {
         if id != self.items.len() as u64 {
             return Err(Refusal::Kind(FaultKind::Id));
         }
-        if MOST_RATE < rate || MOST_FULL_ITEMS <= self.items.len() {
+        if MOST_RATE < rate || MOST_ITEMS <= self.items.len() {
             return Err(Refusal::Kind(FaultKind::Limit));
         }
         let rate = rate as u32;
@@ -150,11 +150,7 @@ impl Draft {
         let Some(freq) = read_freq(freq) else {
             return Err(Refusal::Kind(FaultKind::Form));
         };
-        if size < 1
-            || (MOST_FULL_ITEMS as u64) < size
-            || is_no_freq(freq)
-            || MOST_DISKS <= self.disks.len()
-        {
+        if size < 1 || MOST_SIZE < size || is_no_freq(freq) || MOST_DISKS <= self.disks.len() {
             return Err(Refusal::Kind(FaultKind::Limit));
         }
         self.disks.push(DiskPart {
@@ -214,12 +210,13 @@ impl Draft {
 
     /// The least kind that applies at the end.
     pub fn end_kind(&self) -> Option<FaultKind>
-        ensures { result ≡ first_of (end_tests (length self.now.items) self.now.disks) }
+        ensures { result ≡ first_of (end_tests (length self.now.items) self.now.disks self.now.set) }
     {
         if sizes_of(&self.disks) as usize != self.items.len() {
             return Some(FaultKind::Sizes);
         }
-        if self.items.is_empty() || self.disks.is_empty() {
+        let items = self.items.len();
+        if self.items.is_empty() || self.disks.is_empty() || most_items(&self.set) < items {
             return Some(FaultKind::Limit);
         }
         None

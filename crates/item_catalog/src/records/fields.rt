@@ -3,7 +3,7 @@
 ghost use Rattle.std.specs.Prelude.{◌≡◌, ◌<◌, drop, length, option_map, Some};
 ghost use Rattle.csv.specs.Records.{field_at, fields_of};
 ghost use Rattle.air_base.specs.Pieces.{one_of, three_of, two_of};
-ghost use Rattle.item_catalog.specs.RecordFields.{four_of, seven_of, six_of};
+ghost use Rattle.item_catalog.specs.RecordFields.{five_of, four_of, seven_of, six_of};
 
 use csv::ByteRecord;
 
@@ -61,6 +61,23 @@ pub fn four(row: &ByteRecord) -> Option<(&[u8], &[u8], &[u8], &[u8])>
         return None;
     }
     Some((field(row, 1), field(row, 2), field(row, 3), field(row, 4)))
+}
+
+/// The five fields.
+#[tactic(auto, using(crate::proofs::ManyFieldLemmas::five_fields, crate::proofs::ManyFieldLemmas::other_than_five))]
+pub fn five(row: &ByteRecord) -> Option<(&[u8], &[u8], &[u8], &[u8], &[u8])>
+    ensures { option_map (λ f. (f.0.now, f.1.now, f.2.now, f.3.now, f.4.now)) result ≡ five_of (drop 1 (fields_of row.now)) }
+{
+    if row.len() != 6 {
+        return None;
+    }
+    Some((
+        field(row, 1),
+        field(row, 2),
+        field(row, 3),
+        field(row, 4),
+        field(row, 5),
+    ))
 }
 
 /// The six fields.

@@ -9,7 +9,7 @@ ghost use Rattle.air_base.specs.NumberLists.{list_of};
 ghost use Rattle.air_base.specs.ReadParts.{ReadsTo};
 ghost use Rattle.item_catalog.specs.KeptLists.{ReadIs, among, items_seen, no_items, see_item};
 
-use air_base::limits::MOST_FULL_ITEMS;
+use air_base::limits::MOST_ITEMS;
 use air_base::{plain_short, read_leading_number};
 use std::marker::Model;
 
@@ -17,8 +17,8 @@ use std::marker::Model;
 /// the array are kept.
 #[derive(Debug, Drop)]
 pub struct ItemList {
-    marks: [bool; MOST_FULL_ITEMS],
-    items: [u16; MOST_FULL_ITEMS],
+    marks: [bool; MOST_ITEMS],
+    items: [u16; MOST_ITEMS],
     count: usize,
     undeclared: bool,
     repeated: bool,
@@ -26,14 +26,14 @@ pub struct ItemList {
 
 impl Model for ItemList {
     ghost use Rattle.std.specs.Prelude.{◌≤◌, take};
-    ghost use Rattle.air_base.specs.declared.limits.TheConstants.{MOST_FULL_ITEMS};
+    ghost use Rattle.air_base.specs.declared.limits.TheConstants.{MOST_ITEMS};
     ghost use Rattle.item_catalog.specs.KeptLists.{ItemsSeen, KeptOnce};
 
     ghost Value = { ItemsSeen };
 
     ghost view = { λ l. record { items = take l.count l.items; undeclared = l.undeclared; repeated = l.repeated } };
 
-    ghost invariant = { λ l. (l.count ≤ MOST_FULL_ITEMS) × KeptOnce l.marks (take l.count l.items) };
+    ghost invariant = { λ l. (l.count ≤ MOST_ITEMS) × KeptOnce l.marks (take l.count l.items) };
 }
 
 impl ItemList {
@@ -42,8 +42,8 @@ impl ItemList {
         ensures { result ≡ no_items }
     {
         ItemList {
-            marks: [false; MOST_FULL_ITEMS],
-            items: [0; MOST_FULL_ITEMS],
+            marks: [false; MOST_ITEMS],
+            items: [0; MOST_ITEMS],
             count: 0,
             undeclared: false,
             repeated: false,
@@ -73,7 +73,7 @@ impl ItemList {
 
     /// Whether the item is one of them.
     pub fn has(&self, item: u16) -> bool
-        requires { item < MOST_FULL_ITEMS }
+        requires { item < MOST_ITEMS }
         ensures { result ≡ among self.now.items item }
     {
         self.marks[item as usize]
@@ -83,7 +83,7 @@ impl ItemList {
     fn clear(&mut self)
         ensures { self.new ≡ no_items }
     {
-        self.marks = [false; MOST_FULL_ITEMS];
+        self.marks = [false; MOST_ITEMS];
         self.undeclared = false;
         self.repeated = false;
         self.count = 0;
@@ -91,7 +91,7 @@ impl ItemList {
 
     /// Whether an item is declared, and isn't one of them.
     fn is_new(&self, declared: u16, item: u64) -> bool
-        requires { declared ≤ MOST_FULL_ITEMS }
+        requires { declared ≤ MOST_ITEMS }
         ensures { result ≡ (nat_lt item declared && not (among self.now.items item)) }
     {
         item < u64::from(declared) && !self.marks[item as usize]
@@ -99,7 +99,7 @@ impl ItemList {
 
     /// Takes one more item, where those below `declared` are declared.
     fn see(&mut self, declared: u16, item: u64)
-        requires { declared ≤ MOST_FULL_ITEMS }
+        requires { declared ≤ MOST_ITEMS }
         ensures { self.new ≡ see_item declared self.old item }
     {
         if u64::from(declared) <= item {
@@ -119,7 +119,7 @@ impl ItemList {
     /// Takes the items of the plain parts at the front of a list, up to the place at which the rest begins.
     #[inline(always)]
     fn read_plain(&mut self, declared: u16, text: &[u8]) -> usize
-        requires known { declared ≤ MOST_FULL_ITEMS }
+        requires known { declared ≤ MOST_ITEMS }
         requires some { 0 < length text.now }
         requires none { self.old ≡ no_items }
         ensures { ReadsTo number_of text.now (λ items. self.new ≡ items_seen declared items) result }
@@ -145,7 +145,7 @@ impl ItemList {
     /// Reads the items of a list, where those below `declared` are declared: whether the text spells a list. Where it
     /// doesn't, no item is kept.
     pub fn read(&mut self, declared: u16, text: &[u8]) -> bool
-        requires { declared ≤ MOST_FULL_ITEMS }
+        requires { declared ≤ MOST_ITEMS }
         ensures read { ReadIs result (list_of number_of text.now) (λ items. self.new ≡ items_seen declared items) }
         ensures refused { result ≡ false → self.new ≡ no_items }
     {

@@ -13,7 +13,7 @@ ghost use Rattle.item_catalog.specs.Private.WriteParts.{write_said};
 use crate::updates::item_lists::ItemList;
 use crate::updates::leading_writes::{WritePart, leading_write};
 use crate::updates::plain_writes::{PLAIN_BYTES, plain_write};
-use air_base::limits::MOST_FULL_ITEMS;
+use air_base::limits::MOST_ITEMS;
 use air_history::Write;
 use std::marker::Model;
 
@@ -21,8 +21,8 @@ use std::marker::Model;
 /// written before, or has a base that isn't read. The first `count` of the array are kept.
 #[derive(Debug, Drop)]
 pub struct WriteList {
-    writes: [Write; MOST_FULL_ITEMS],
-    marks: [bool; MOST_FULL_ITEMS],
+    writes: [Write; MOST_ITEMS],
+    marks: [bool; MOST_ITEMS],
     count: usize,
     undeclared: bool,
     repeated: bool,
@@ -31,7 +31,7 @@ pub struct WriteList {
 
 impl Model for WriteList {
     ghost use Rattle.std.specs.Prelude.{◌≡◌, ◌≤◌, length, map, take};
-    ghost use Rattle.air_base.specs.declared.limits.TheConstants.{MOST_FULL_ITEMS};
+    ghost use Rattle.air_base.specs.declared.limits.TheConstants.{MOST_ITEMS};
     ghost use Rattle.air_history.specs.UpdateRules.{written_item};
     ghost use Rattle.item_catalog.specs.KeptLists.{KeptOnce, WritesSeen};
 
@@ -39,7 +39,7 @@ impl Model for WriteList {
 
     ghost view = { λ l. record { writes = take l.count l.writes; undeclared = l.undeclared; repeated = l.repeated; unread = l.unread } };
 
-    ghost invariant = { λ l. (length l.writes ≡ MOST_FULL_ITEMS) × (l.count ≤ MOST_FULL_ITEMS) × KeptOnce l.marks (map written_item (take l.count l.writes)) };
+    ghost invariant = { λ l. (length l.writes ≡ MOST_ITEMS) × (l.count ≤ MOST_ITEMS) × KeptOnce l.marks (map written_item (take l.count l.writes)) };
 }
 
 /// Whether a write names an item or a base that isn't below `declared`.
@@ -56,7 +56,7 @@ fn reaches(declared: u16, write: WritePart) -> bool
 
 /// Whether a write has a base that isn't among the reads.
 fn is_unread(reads: &ItemList, write: WritePart) -> bool
-    requires { IfSome write.base (λ base. base < MOST_FULL_ITEMS) }
+    requires { IfSome write.base (λ base. base < MOST_ITEMS) }
     ensures { result ≡ is_unread reads.now.items (write_said write) }
 {
     match write.base {
@@ -67,8 +67,8 @@ fn is_unread(reads: &ItemList, write: WritePart) -> bool
 
 /// A write as an update has it.
 fn narrow(write: WritePart) -> Write
-    requires item { write.item < MOST_FULL_ITEMS }
-    requires base { IfSome write.base (λ base. base < MOST_FULL_ITEMS) }
+    requires item { write.item < MOST_ITEMS }
+    requires base { IfSome write.base (λ base. base < MOST_ITEMS) }
     ensures { result ≡ write_said write }
 {
     Write {
@@ -94,8 +94,8 @@ impl WriteList {
             amount: 0,
         };
         WriteList {
-            writes: [none; MOST_FULL_ITEMS],
-            marks: [false; MOST_FULL_ITEMS],
+            writes: [none; MOST_ITEMS],
+            marks: [false; MOST_ITEMS],
             count: 0,
             undeclared: false,
             repeated: false,
@@ -136,7 +136,7 @@ impl WriteList {
         ensures { self.new ≡ no_writes }
     {
         self.count = 0;
-        self.marks = [false; MOST_FULL_ITEMS];
+        self.marks = [false; MOST_ITEMS];
         self.undeclared = false;
         self.repeated = false;
         self.unread = false;
@@ -144,7 +144,7 @@ impl WriteList {
 
     /// Takes one more write, where the items below `declared` are declared and these are read.
     fn see(&mut self, declared: u16, reads: &ItemList, write: WritePart)
-        requires { declared ≤ MOST_FULL_ITEMS }
+        requires { declared ≤ MOST_ITEMS }
         ensures { self.new ≡ see_write declared reads.now.items self.old (write_said write) }
     {
         if reaches(declared, write) {
@@ -167,7 +167,7 @@ impl WriteList {
     /// Takes the writes of the plain parts at the front of a list, up to the place at which the rest begins.
     #[inline(always)]
     fn read_plain(&mut self, declared: u16, reads: &ItemList, text: &[u8]) -> usize
-        requires known { declared ≤ MOST_FULL_ITEMS }
+        requires known { declared ≤ MOST_ITEMS }
         requires some { 0 < length text.now }
         requires none { self.old ≡ no_writes }
         ensures { ReadsTo spelled_write text.now (λ writes. self.new ≡ writes_seen declared reads.now.items writes) result }
@@ -190,7 +190,7 @@ impl WriteList {
     /// Reads the writes of a list: whether the text spells a list. Where it doesn't, no write is kept.
     #[inline(never)]
     pub fn read(&mut self, declared: u16, reads: &ItemList, text: &[u8]) -> bool
-        requires { declared ≤ MOST_FULL_ITEMS }
+        requires { declared ≤ MOST_ITEMS }
         ensures read { ReadIs result (list_of spelled_write text.now) (λ writes. self.new ≡ writes_seen declared reads.now.items writes) }
         ensures refused { result ≡ false → self.new ≡ no_writes }
     {

@@ -1,4 +1,4 @@
--- For private steps alone. The fields of what all receivers know: one program, and entries in full.
+-- For private steps alone. The fields of what all receivers know: so far one program.
 use Rattle.std.specs.Prelude.{[], ◌∷◌}
 use Rattle.air_model.specs.Aired.{Air}
 use Rattle.receiver_core.specs.declared.airs.Air.TheInside.{Inside}
@@ -6,4 +6,4 @@ use Rattle.air_history.specs.Columns.{scheme_of}
 
 -- What the fields tell.
 abbrev pub air_in : Inside → Air
-air_in a = record { scheme = scheme_of a.policy; version = 1; items = a.items; replans = []; slots = a.slots.items ∷ []; pix = a.pix.items ∷ [] }
+air_in a = record { scheme = scheme_of a.policy; version = a.version; items = a.items; replans = []; slots = a.slots.items ∷ []; pix = a.pix.items ∷ [] }

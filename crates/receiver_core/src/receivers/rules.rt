@@ -3,7 +3,7 @@
 //! Each function does to the state what words of `air_model` say.
 
 ghost use Rattle.std.specs.Prelude.{◌≡◌, ◌≢◌, ◌<◌, ◌+◌, ◌^◌, [], length, IfSome, Ok, Some};
-ghost use Rattle.air_base.specs.declared.verdicts.VerdictKind.TheVariants.{Abort};
+ghost use Rattle.air_base.specs.declared.verdicts.VerdictKind.TheVariants.{Abort, Aged};
 ghost use Rattle.air_model.specs.Buckets.{IsInRange, count_of, item_of, kind_of};
 ghost use Rattle.air_model.specs.Copies.{keep, with_copy};
 ghost use Rattle.air_model.specs.Judges.{by_entries};
@@ -59,7 +59,8 @@ impl Receiver {
         }
     }
 
-    /// The bucket's read joins the held ones, or it ends the attempt; and it is offered to the copies.
+    /// The bucket's read joins the held ones, or it ends the attempt: where it comes aged, and only else where it clashes. In all cases it is
+    /// offered to the copies.
     pub(super) fn open(&mut self, bucket: &BucketView<'_>)
         requires given { self.old.state.lines ≡ [] }
         requires counts { self.old.state.counts.opened + 1 < 2 ^ 64 }
@@ -73,6 +74,11 @@ impl Receiver {
         let column = self.column.as_mut_slice();
         bucket.fill(column);
         let (item, cycle, value) = (bucket.item(), bucket.cycle(), bucket.value());
+        if self.held.is_far(self.air.version(), cycle) {
+            self.copies.keep(item, cycle, value, column);
+            self.end_aged(item, cycle);
+            return;
+        }
         let clash = self.held.try_hold(item, cycle, value, column);
         offer(&mut self.copies, clash, item, cycle, value, column);
         match clash {
@@ -100,6 +106,16 @@ impl Receiver {
         ensures { self.new ≡ in_state self.old (next_attempt self.old.reader (with_line (by_entries self.old.air.scheme) (Abort item cycle clash) self.old.state)) }
     {
         self.give(VerdictKind::Abort { item, cycle, clash });
+        self.next_attempt();
+    }
+
+    /// The attempt ends, since the read of an item in a cycle lies too far from the held ones.
+    pub(super) fn end_aged(&mut self, item: u16, cycle: u32)
+        requires given { self.old.state.lines ≡ [] }
+        requires left { self.old.state.query < length self.old.reader.queries }
+        ensures { self.new ≡ in_state self.old (next_attempt self.old.reader (with_line (by_entries self.old.air.scheme) (Aged item cycle) self.old.state)) }
+    {
+        self.give(VerdictKind::Aged { item, cycle });
         self.next_attempt();
     }
 

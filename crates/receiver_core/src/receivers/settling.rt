@@ -1,9 +1,10 @@
 //! What the kept copies do to a receiver: a copy of the wanted item is used or dropped, turn by turn up to the next verdict.
 
-ghost use Rattle.std.specs.Prelude.{◌≡◌, ℕ, ◌-◌, ◌<◌, ◌||◌, [], length, map, nat_lt, All};
+ghost use Rattle.std.specs.Prelude.{◌≡◌, ℕ, ◌-◌, ◌<◌, ◌||◌, [], ◌∷◌, ◌++◌, length, map, nat_lt, All};
 ghost use Rattle.std.specs.Option.{is_some};
 ghost use Rattle.air_history.specs.Clashes.{is_late};
 ghost use Rattle.air_model.specs.Judges.{by_entries, place_of};
+ghost use Rattle.air_model.specs.SessionLaws.{are_far};
 ghost use Rattle.air_model.specs.Sessions.{copy_of, turn, wanted};
 ghost use Rattle.receiver_core.specs.LastReads.{in_state};
 ghost use Rattle.receiver_core.specs.ReceiverSteps.{step};
@@ -50,7 +51,8 @@ impl Receiver {
             return false;
         };
         let cycle = kept.cycle;
-        if is_stale(&self.held, cycle, self.latest, self.reader.age()) {
+        let version = self.air.version();
+        if is_stale(&self.held, version, cycle, self.latest, self.reader.age()) {
             self.copies.drop_copy(item);
             return false;
         }
@@ -68,11 +70,13 @@ impl Receiver {
     }
 }
 
-/// Whether a copy of this cycle, of whatever item, is too old now, or comes too late after the held reads.
-fn is_stale(held: &Attempt, cycle: u32, latest: u32, age: u32) -> bool
-    ensures { (item : ℕ) → result ≡ (nat_lt age (latest - cycle) || is_late held.now.policy (map place_of held.now.reads) (record { item = item; cycle = cycle })) }
+/// Whether a copy of this cycle, of whatever item, is too old now, or comes too late after the held reads, or lies too far from them
+/// in this version.
+fn is_stale(held: &Attempt, version: u8, cycle: u32, latest: u32, age: u32) -> bool
+    ensures { (item : ℕ) → result ≡ (nat_lt age (latest - cycle) || is_late held.now.policy (map place_of held.now.reads) (record { item = item; cycle = cycle })
+        || are_far version (map place_of held.now.reads ++ record { item = item; cycle = cycle } ∷ [])) }
 {
-    latest.saturating_sub(cycle) > age || held.is_late(cycle)
+    latest.saturating_sub(cycle) > age || held.is_late(cycle) || held.is_far(version, cycle)
 }
 
 /// Drops the copies of all items.

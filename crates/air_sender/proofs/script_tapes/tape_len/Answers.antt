@@ -22,4 +22,4 @@ returns c =
     ∙ ap (λ n. n * cycle_size c.own_form-form.result.version c.items.result (program (disks_in d 0))) starts
     ∙ ap (λ n. script_starts d * cycle_size c.own_form-form.result.version n (program (disks_in d 0))) items
     ∙ ap (λ (form : Form). script_starts d * cycle_size form.version (length d.items) (program (disks_in d 0))) c.own_form-form.ensures.form
-    ∙ sym (length-script_tape d c.deck-deck.ensures.made.plain.1)
+    ∙ sym (length-script_tape d c.deck-deck.ensures.made.plain)

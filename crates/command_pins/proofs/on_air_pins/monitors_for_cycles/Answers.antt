@@ -13,4 +13,4 @@ size_of_three deck None one three short = tt
 size_of_three deck (Some n) one three long = long.counted ∙ run_size deck one ∙ ap (λ k. k * cycle_size deck.settings.version (length deck.items) (slots_of (disks_in deck 0))) three
 
 pub returns : goal.returns
-returns c = size_of_three c.args.planned.now c.long_run.result c.shows_planned.ensures.made.plain.1 c.requires c.long_run.ensures
+returns c = size_of_three c.args.planned.now c.long_run.result c.shows_planned.ensures.made.plain c.requires c.long_run.ensures

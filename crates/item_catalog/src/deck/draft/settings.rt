@@ -4,6 +4,7 @@ ghost use Rattle.std.specs.Prelude.{◌≡◌, ◌≤◌, drop};
 ghost use Rattle.std.specs.List.{list_any};
 ghost use Rattle.csv.specs.Records.{fields_of};
 ghost use Rattle.air_base.specs.Pieces.{two_of};
+ghost use Rattle.air_model.specs.Buckets.{most_count};
 ghost use Rattle.item_catalog.specs.Declarations.{set_by};
 ghost use Rattle.item_catalog.specs.Private.Drafts.{AddsDeclaration};
 ghost use Rattle.item_catalog.specs.DeckLimits.{SettingsWithin};
@@ -14,16 +15,21 @@ use crate::faults::FaultKind;
 use crate::records::fields::two;
 use crate::records::refusals::Refusal;
 use air_base::limits::{
-    DEFAULT_CYCLES, DEFAULT_HEARS, MOST_CYCLES, MOST_DELTA, MOST_HEARS, MOST_MONITORS, MOST_SHARE,
+    DEFAULT_CYCLES, DEFAULT_HEARS, MOST_CYCLES, MOST_DELTA, MOST_FULL_ITEMS, MOST_HEARS,
+    MOST_ITEMS, MOST_MONITORS, MOST_SHARE,
 };
 use air_base::{Policy, read_u64};
 use air_model::deck::Settings;
 use csv::ByteRecord;
 
+/// The newest version of buckets.
+pub const NEWEST_VERSION: u64 = 2;
+
 /// The settings that are numbers.
 #[derive(Clone, Copy, Debug, PartialEq, Eq)]
 pub enum Name {
     Delta,
+    Version,
     Cycles,
     Seed,
     Loss,
@@ -46,6 +52,8 @@ fn name_of(text: &[u8]) -> Option<Name>
 {
     if text == b"delta".as_slice() {
         Some(Name::Delta)
+    } else if text == b"version".as_slice() {
+        Some(Name::Version)
     } else if text == b"cycles".as_slice() {
         Some(Name::Cycles)
     } else if text == b"seed".as_slice() {
@@ -86,6 +94,7 @@ fn range_of(name: Name) -> (u64, u64)
 {
     match name {
         Name::Delta => (0, MOST_DELTA),
+        Name::Version => (1, NEWEST_VERSION),
         Name::Cycles => (0, MOST_CYCLES),
         Name::Seed => (0, u64::MAX),
         Name::Loss | Name::Again | Name::Late => (0, MOST_SHARE),
@@ -165,6 +174,7 @@ fn default_of(name: Name) -> u64
     ensures { result ≡ default_of name }
 {
     match name {
+        Name::Version => 1,
         Name::Cycles => DEFAULT_CYCLES,
         Name::Hears => DEFAULT_HEARS,
         _ => 0,
@@ -209,12 +219,13 @@ fn policy_in(set: &[Setting]) -> Policy
 
 /// All settings, where these were set.
 pub fn settings_in(set: &[Setting]) -> Settings
-    requires { SettingsWithin (settings_in set.now) }
+    requires within { SettingsWithin (settings_in set.now) }
+    requires version { number_in Name.Version set.now ≤ NEWEST_VERSION }
     ensures { result ≡ settings_in set.now }
 {
     Settings {
         policy: policy_in(set),
-        version: 1,
+        version: number_in(Name::Version, set) as u8,
         cycles: number_in(Name::Cycles, set) as u32,
         seed: number_in(Name::Seed, set),
         loss: number_in(Name::Loss, set) as u32,
@@ -222,6 +233,17 @@ pub fn settings_in(set: &[Setting]) -> Settings
         late: number_in(Name::Late, set) as u32,
         monitors: number_in(Name::Monitors, set) as u32,
         hears: number_in(Name::Hears, set) as u32,
+    }
+}
+
+/// The most items of a deck with these settings: those of its version.
+pub fn most_items(set: &[Setting]) -> usize
+    ensures { result ≡ most_count (number_in Name.Version set.now) }
+{
+    if number_in(Name::Version, set) < NEWEST_VERSION {
+        MOST_FULL_ITEMS
+    } else {
+        MOST_ITEMS
     }
 }
 

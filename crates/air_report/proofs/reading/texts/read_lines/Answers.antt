@@ -21,11 +21,11 @@ pub loop-row-preserved : goal.loop-row-preserved
 loop-row-preserved c =
     let inv = c.loop-row.invariant in let rows = inv.0 in let row = fields_of c.next.new.row in let left = c.next.new.self in let deck = c.args.deck.now in
     let read : c.loop-row.records ≡ row ∷ left = rw c.if-not-branch.false at c.in_ok-next.ensures in
-    let none : line_record_kind deck (sections_of (spelled_lines rows)) (spelled_line row) ≡ None = ap (λ d. line_record_kind deck d (spelled_line row)) (sym inv.3) ∙ c.in-Ok.ensures.0 in (
+    let none : line_record_kind deck (sections_of (spelled_lines deck.settings.version rows)) (spelled_line deck.settings.version row) ≡ None = ap (λ d. line_record_kind deck d (spelled_line deck.settings.version row)) (sym inv.3) ∙ c.in-Ok.ensures.0 in (
       rows ++ row ∷ [],
       inv.1 ∙ ap (λ more. rows ++ more) read ∙ sym (append_assoc rows (row ∷ []) left),
       none_added deck rows row inv.2 none,
-      c.in-Ok.ensures.1 ∙ ap (λ d. with_spelled with_one_line d (spelled_line row)) inv.3 ∙ added deck rows row none,
+      c.in-Ok.ensures.1 ∙ ap (λ d. with_spelled with_one_line d (spelled_line deck.settings.version row)) inv.3 ∙ added deck rows row none,
       omega (arith, length-append rows (row ∷ []), inv.4),
     )
 
@@ -40,10 +40,10 @@ pub returns-in-Err-Kind-clause-fault : goal.returns-in-Err-Kind-clause-fault
 returns-in-Err-Kind-clause-fault c =
     let inv = c.loop-row.invariant in let rows = inv.0 in let row = fields_of c.next.new.row in let left = c.next.new.self in let deck = c.args.deck.now in
     let read : c.loop-row.records ≡ row ∷ left = rw c.if-not-branch.false at c.in_ok-next.ensures in
-    let told : line_record_kind deck c.loop-row.draft (spelled_line row) ≡ Some c.in-Err-Kind.kind = rw c.in-Err-Kind.field-0-is at c.in-Err-Kind.ensures in
+    let told : line_record_kind deck c.loop-row.draft (spelled_line deck.settings.version row) ≡ Some c.in-Err-Kind.kind = rw c.in-Err-Kind.field-0-is at c.in-Err-Kind.ensures in
     let P : ℕ → Type 0 = λ r. HasReportFault deck c.args.bytes.now r (report_kind_number c.in-Err-Kind.kind) in
     let fault : P c.loop-row.row = subst P (sym inv.4)
-    (told_after deck c.args.bytes.now rows inv.2 row left c.in-Err-Kind.kind (inv.1 ∙ ap (λ more. rows ++ more) read) (ap (λ d. line_record_kind deck d (spelled_line row)) (sym inv.3) ∙ told)) in
+    (told_after deck c.args.bytes.now rows inv.2 row left c.in-Err-Kind.kind (inv.1 ∙ ap (λ more. rows ++ more) read) (ap (λ d. line_record_kind deck d (spelled_line deck.settings.version row)) (sym inv.3) ∙ told)) in
     subst (IsReportAnswer deck c.args.bytes.now) (sym c.at.ensures) (rw c.in-Err-Kind.kind-is fault)
 
 pub unreachable-requires : goal.unreachable-requires

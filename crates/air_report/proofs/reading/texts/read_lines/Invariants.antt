@@ -8,4 +8,4 @@ use Rattle.air_report.proofs.reading.texts.read_lines.Given as goal
 -- The reader stands behind some records, no kind applies to one of them, and the draft has the lines that they spell.
 abbrev pub invariant-loop-row : goal.invariant-loop-row
 invariant-loop-row l = (rows : List (List (List ℕ))) × (records_of l.fn.bytes ≡ rows ++ l.records) × NoneBefore (line_kinds_at l.fn.deck rows) (length rows)
-    × (l.draft ≡ sections_of (spelled_lines rows)) × (l.row ≡ length rows + 1)
+    × (l.draft ≡ sections_of (spelled_lines l.fn.deck.settings.version rows)) × (l.row ≡ length rows + 1)

@@ -23,7 +23,6 @@ invariant_of-result c =
         short = reader.short;
         distinct = reader.distinct;
         within = subst (λ m. AreWithin m c.in_ok-reader.reader) (sym (ap (λ (a : Air). a.items) c.in_ok-air.ensures.told ∙ ap (λ (d : Deck). length d.items) c.of.ensures)) reader.within;
-        full = c.in_ok-air.ensures.full;
         numbers = c.in_ok-air.ensures.numbers;
         tries = reader.tries;
       };

@@ -11,7 +11,7 @@ use Rattle.receiver_core.proofs.KeepsLemmas.{dropped_one, few_same, few_taken, i
 use Rattle.receiver_core.proofs.OpenLemmas.{new_read, room_left}
 use Rattle.receiver_core.proofs.StateLemmas.{in_own_state, left}
 use Rattle.receiver_core.proofs.TurnLemmas.{dropped_at, kept_at, kept_whole, stale_at, taken_at}
-use Rattle.receiver_core.proofs.WordLemmas.{clashing, dropped_unused, never_aged, no_copy, stale, taken_used, unturned, unused, usable}
+use Rattle.receiver_core.proofs.WordLemmas.{clashing, dropped_unused, no_copy, stale, taken_used, unturned, unused, usable}
 use Rattle.receiver_core.proofs.receivers.Receiver.turn.Goals as goal
 
 pub returns-in_default-clause-state : goal.returns-in_default-clause-state
@@ -61,14 +61,14 @@ returns-then-is_stale-clause-state c =
     let r = c.self.inside in
     let x = read c.in-Some.item c.in-Some-get.kept.cycle c.in-Some-get.kept.value c.in-Some-get.kept.column.now in
     dropped_at r x (kept_at r c.in-Some.item (Some x) (ap (λ (v : Receiver). wanted v.reader v.state) c.self.view_is ∙ sym c.wanted.ensures.told ∙ c.in-Some.is) c.in-Some-get.ensures) r.held c.drop_copy.new.self (ap (λ (v : Receiver). v.state.lines) c.self.view_is ∙ c.requires.given)
-    (stale r.air r.reader x (receiver_in r).state (stale_at r x c.is_stale.result c.age.result c.self.invariant c.is_stale.ensures c.age.ensures ∙ c.if-is_stale.true)) refl c.drop_copy.ensures
+    (stale r.air r.reader x (receiver_in r).state (stale_at r x c.is_stale.result c.age.result c.version-version.result c.self.invariant c.is_stale.ensures c.age.ensures c.version-version.ensures ∙ c.if-is_stale.true)) refl c.drop_copy.ensures
     ∙ ap (λ (v : Receiver). in_state v (turn (by_entries v.air.scheme) v.air v.reader v.state)) c.self.view_is
 
 pub returns-then-is_stale-clause-used : goal.returns-then-is_stale-clause-used
 returns-then-is_stale-clause-used c =
     let r = c.self.inside in
     let x = read c.in-Some.item c.in-Some-get.kept.cycle c.in-Some-get.kept.value c.in-Some-get.kept.column.now in
-    dropped_unused r.air r.reader x (receiver_in r).state (kept_at r c.in-Some.item (Some x) (ap (λ (v : Receiver). wanted v.reader v.state) c.self.view_is ∙ sym c.wanted.ensures.told ∙ c.in-Some.is) c.in-Some-get.ensures) (stale r.air r.reader x (receiver_in r).state (stale_at r x c.is_stale.result c.age.result c.self.invariant c.is_stale.ensures c.age.ensures ∙ c.if-is_stale.true)) ∙ ap (λ (v : Receiver). uses_copy v.air v.reader v.state) c.self.view_is
+    dropped_unused r.air r.reader x (receiver_in r).state (kept_at r c.in-Some.item (Some x) (ap (λ (v : Receiver). wanted v.reader v.state) c.self.view_is ∙ sym c.wanted.ensures.told ∙ c.in-Some.is) c.in-Some-get.ensures) (stale r.air r.reader x (receiver_in r).state (stale_at r x c.is_stale.result c.age.result c.version-version.result c.self.invariant c.is_stale.ensures c.age.ensures c.version-version.ensures ∙ c.if-is_stale.true)) ∙ ap (λ (v : Receiver). uses_copy v.air v.reader v.state) c.self.view_is
 
 -- ---- a copy that is tried
 
@@ -103,7 +103,7 @@ returns-in-None-clause-state c =
     let r = c.self.inside in
     let x = read c.in-Some.item c.in-Some-get.kept.cycle c.in-Some-get.kept.value c.in-Some-get.kept.column.now in
     let clear = sym (ap (λ p. (by_entries (scheme_of p)).clash r.held.reads x) c.self.invariant.held.policy) ∙ sym c.try_hold.ensures.clash ∙ c.in-None.is in
-    c.accept_if_whole.ensures ∙ taken_at r x (kept_at r c.in-Some.item (Some x) (ap (λ (v : Receiver). wanted v.reader v.state) c.self.view_is ∙ sym c.wanted.ensures.told ∙ c.in-Some.is) c.in-Some-get.ensures) c.try_hold.new.self (usable r.air r.reader x (receiver_in r).state (stale_at r x c.is_stale.result c.age.result c.self.invariant c.is_stale.ensures c.age.ensures ∙ c.if-is_stale.false) (never_aged r.air (receiver_in r).state x c.self.invariant.deck.full) clear) c.in-None.ensures.held
+    c.accept_if_whole.ensures ∙ taken_at r x (kept_at r c.in-Some.item (Some x) (ap (λ (v : Receiver). wanted v.reader v.state) c.self.view_is ∙ sym c.wanted.ensures.told ∙ c.in-Some.is) c.in-Some-get.ensures) c.try_hold.new.self (usable r.air r.reader x (receiver_in r).state (stale_at r x c.is_stale.result c.age.result c.version-version.result c.self.invariant c.is_stale.ensures c.age.ensures c.version-version.ensures ∙ c.if-is_stale.false) clear) c.in-None.ensures.held
     ∙ ap (λ (v : Receiver). in_state v (turn (by_entries v.air.scheme) v.air v.reader v.state)) c.self.view_is
 
 pub returns-in-None-clause-used : goal.returns-in-None-clause-used
@@ -111,7 +111,7 @@ returns-in-None-clause-used c =
     let r = c.self.inside in
     let x = read c.in-Some.item c.in-Some-get.kept.cycle c.in-Some-get.kept.value c.in-Some-get.kept.column.now in
     let clear = sym (ap (λ p. (by_entries (scheme_of p)).clash r.held.reads x) c.self.invariant.held.policy) ∙ sym c.try_hold.ensures.clash ∙ c.in-None.is in
-    taken_used r.air r.reader x (receiver_in r).state (kept_at r c.in-Some.item (Some x) (ap (λ (v : Receiver). wanted v.reader v.state) c.self.view_is ∙ sym c.wanted.ensures.told ∙ c.in-Some.is) c.in-Some-get.ensures) (usable r.air r.reader x (receiver_in r).state (stale_at r x c.is_stale.result c.age.result c.self.invariant c.is_stale.ensures c.age.ensures ∙ c.if-is_stale.false) (never_aged r.air (receiver_in r).state x c.self.invariant.deck.full) clear) ∙ ap (λ (v : Receiver). uses_copy v.air v.reader v.state) c.self.view_is
+    taken_used r.air r.reader x (receiver_in r).state (kept_at r c.in-Some.item (Some x) (ap (λ (v : Receiver). wanted v.reader v.state) c.self.view_is ∙ sym c.wanted.ensures.told ∙ c.in-Some.is) c.in-Some-get.ensures) (usable r.air r.reader x (receiver_in r).state (stale_at r x c.is_stale.result c.age.result c.version-version.result c.self.invariant c.is_stale.ensures c.age.ensures c.version-version.ensures ∙ c.if-is_stale.false) clear) ∙ ap (λ (v : Receiver). uses_copy v.air v.reader v.state) c.self.view_is
 
 pub drop_copy-requires-in-Some-try_hold : goal.drop_copy-requires-in-Some-try_hold
 drop_copy-requires-in-Some-try_hold c = item_within c.self.inside c.in-Some.item c.self.invariant (ap (λ (v : Receiver). wanted v.reader v.state) c.self.view_is ∙ sym c.wanted.ensures.told ∙ c.in-Some.is)
@@ -134,7 +134,7 @@ returns-in-Some-try_hold-clause-state c =
     let x = read c.in-Some.item c.in-Some-get.kept.cycle c.in-Some-get.kept.value c.in-Some-get.kept.column.now in
     let clash = sym (ap (λ p. (by_entries (scheme_of p)).clash r.held.reads x) c.self.invariant.held.policy) ∙ sym c.try_hold.ensures.clash ∙ c.in-Some-try_hold.is in
     dropped_at r x (kept_at r c.in-Some.item (Some x) (ap (λ (v : Receiver). wanted v.reader v.state) c.self.view_is ∙ sym c.wanted.ensures.told ∙ c.in-Some.is) c.in-Some-get.ensures) c.try_hold.new.self c.drop_copy-in-Some-try_hold.new.self (ap (λ (v : Receiver). v.state.lines) c.self.view_is ∙ c.requires.given)
-    (clashing r.air r.reader x (receiver_in r).state _ (stale_at r x c.is_stale.result c.age.result c.self.invariant c.is_stale.ensures c.age.ensures ∙ c.if-is_stale.false) (never_aged r.air (receiver_in r).state x c.self.invariant.deck.full) clash) c.in-Some-try_hold.ensures.held c.drop_copy-in-Some-try_hold.ensures
+    (clashing r.air r.reader x (receiver_in r).state _ (stale_at r x c.is_stale.result c.age.result c.version-version.result c.self.invariant c.is_stale.ensures c.age.ensures c.version-version.ensures ∙ c.if-is_stale.false) clash) c.in-Some-try_hold.ensures.held c.drop_copy-in-Some-try_hold.ensures
     ∙ ap (λ (v : Receiver). in_state v (turn (by_entries v.air.scheme) v.air v.reader v.state)) c.self.view_is
 
 pub returns-in-Some-try_hold-clause-used : goal.returns-in-Some-try_hold-clause-used
@@ -142,4 +142,4 @@ returns-in-Some-try_hold-clause-used c =
     let r = c.self.inside in
     let x = read c.in-Some.item c.in-Some-get.kept.cycle c.in-Some-get.kept.value c.in-Some-get.kept.column.now in
     let clash = sym (ap (λ p. (by_entries (scheme_of p)).clash r.held.reads x) c.self.invariant.held.policy) ∙ sym c.try_hold.ensures.clash ∙ c.in-Some-try_hold.is in
-    dropped_unused r.air r.reader x (receiver_in r).state (kept_at r c.in-Some.item (Some x) (ap (λ (v : Receiver). wanted v.reader v.state) c.self.view_is ∙ sym c.wanted.ensures.told ∙ c.in-Some.is) c.in-Some-get.ensures) (clashing r.air r.reader x (receiver_in r).state _ (stale_at r x c.is_stale.result c.age.result c.self.invariant c.is_stale.ensures c.age.ensures ∙ c.if-is_stale.false) (never_aged r.air (receiver_in r).state x c.self.invariant.deck.full) clash) ∙ ap (λ (v : Receiver). uses_copy v.air v.reader v.state) c.self.view_is
+    dropped_unused r.air r.reader x (receiver_in r).state (kept_at r c.in-Some.item (Some x) (ap (λ (v : Receiver). wanted v.reader v.state) c.self.view_is ∙ sym c.wanted.ensures.told ∙ c.in-Some.is) c.in-Some-get.ensures) (clashing r.air r.reader x (receiver_in r).state _ (stale_at r x c.is_stale.result c.age.result c.version-version.result c.self.invariant c.is_stale.ensures c.age.ensures c.version-version.ensures ∙ c.if-is_stale.false) clash) ∙ ap (λ (v : Receiver). uses_copy v.air v.reader v.state) c.self.view_is

@@ -18,4 +18,4 @@ returns c =
     let all = plan_is (disks_in d 0) (rates_in d) (written_text c.in_ok-headed.headed) disks (written_text c.in_ok-minors.minors) (written_text c.in_ok-whole.whole)
     (c.in_ok-headed.ensures.text ∙ ap (λ t. t ++ row_text row_writer (program_row c.program-program.result.now)) empty ∙ ap (λ p. row_text row_writer (program_row p)) told)
     c.in_ok-disks.ensures.text (c.in_ok-minors.ensures.text ∙ ap (λ p. disks ++ rows_text (map (minor_row p) (range_with_len 0 (num_minors p)))) told) c.in_ok-whole.ensures.text in
-    plan_text_is d c.in_ok-text.text.items c.shows_planned.ensures.made.plain.1 (c.in_ok-text.ensures ∙ all)
+    plan_text_is d c.in_ok-text.text.items c.shows_planned.ensures.made.plain (c.in_ok-text.ensures ∙ all)

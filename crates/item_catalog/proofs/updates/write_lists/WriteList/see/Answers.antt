@@ -1,7 +1,7 @@
 use Rattle.std.proofs.Common.{◌≡◌, ◌≤◌, ◌+◌, ◌∙◌, ◌++◌, ◌∷◌, [], false, true, ap, length, map, set, subst, sym, take}
 use Rattle.std.specs.Prelude.{◌||◌}
 use Rattle.air_history.specs.UpdateRules.{written_item}
-use Rattle.air_base.specs.declared.limits.TheConstants.{MOST_FULL_ITEMS}
+use Rattle.air_base.specs.declared.limits.TheConstants.{MOST_ITEMS}
 use Rattle.item_catalog.specs.KeptLists.{KeptOnce, WritesSeen, among, see_write}
 use Rattle.item_catalog.specs.Private.WriteParts.{write_said}
 use Rattle.item_catalog.proofs.RepeatLemmas.{or_false}
@@ -22,7 +22,7 @@ invariant_of-self-then-is_unread c =
     let w = write_said c.args.write in
     let inside = item_inside c.args.declared w (sym c.if-reaches.ensures) c.requires in
     let kept = writes_kept l.marks l.writes l.count c.self.told c.self.invariant.0 c.self.invariant.1 c.self.invariant.2 w inside c.if-self-place.false in
-    subst (λ v. (length (set l.writes l.count v) ≡ MOST_FULL_ITEMS) × (l.count + 1 ≤ MOST_FULL_ITEMS) × KeptOnce (set l.marks c.args.write.item true) (map written_item (take (l.count + 1) (set l.writes l.count v)))) (sym c.narrow.ensures) kept
+    subst (λ v. (length (set l.writes l.count v) ≡ MOST_ITEMS) × (l.count + 1 ≤ MOST_ITEMS) × KeptOnce (set l.marks c.args.write.item true) (map written_item (take (l.count + 1) (set l.writes l.count v)))) (sym c.narrow.ensures) kept
 
 pub invariant_of-self-else-is_unread : goal.invariant_of-self-else-is_unread
 invariant_of-self-else-is_unread c =
@@ -30,7 +30,7 @@ invariant_of-self-else-is_unread c =
     let w = write_said c.args.write in
     let inside = item_inside c.args.declared w (sym c.if-reaches.ensures) c.requires in
     let kept = writes_kept l.marks l.writes l.count c.self.told c.self.invariant.0 c.self.invariant.1 c.self.invariant.2 w inside c.if-self-place.false in
-    subst (λ v. (length (set l.writes l.count v) ≡ MOST_FULL_ITEMS) × (l.count + 1 ≤ MOST_FULL_ITEMS) × KeptOnce (set l.marks c.args.write.item true) (map written_item (take (l.count + 1) (set l.writes l.count v)))) (sym c.narrow.ensures) kept
+    subst (λ v. (length (set l.writes l.count v) ≡ MOST_ITEMS) × (l.count + 1 ≤ MOST_ITEMS) × KeptOnce (set l.marks c.args.write.item true) (map written_item (take (l.count + 1) (set l.writes l.count v)))) (sym c.narrow.ensures) kept
 
 pub returns-then-is_unread : goal.returns-then-is_unread
 returns-then-is_unread c =
